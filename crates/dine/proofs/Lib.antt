@@ -1,0 +1,9 @@
+pub mod Arrays
+pub mod EntryTexts
+pub mod InputLemmas
+pub mod Keys
+pub mod OutputLemmas
+pub mod Places
+pub mod Texts
+pub mod WordsLemmas
+pub mod Worlds

@@ -1,0 +1,58 @@
+-- What ends a command before its end.
+use Rattle.std.specs.Prelude.{◌≡◌, ℕ, List, [], ◌∷◌, ◌++◌, Option, Some, None, IfSome, codes}
+use Rattle.dine_plan.specs.declared.faults.PlanFault.{PlanFault}
+use Rattle.dine_plan.specs.declared.faults.PlanFault.TheVariants as text
+use Rattle.dine.specs.Output.{WritesPrefix}
+use Rattle.dine.specs.declared.status.Fault.{Fault}
+use Rattle.dine.specs.declared.status.Fault.TheVariants as fault
+use Rattle.dine.specs.declared.status.Status.{Status}
+use Rattle.dine.specs.declared.status.Status.TheVariants as status
+use Rattle.dine.specs.declared.words.WordsFault.{WordsFault}
+use Rattle.dine.specs.declared.words.WordsFault.TheVariants as words
+use Rattle.dine.specs.declared.input.InputFault.{InputFault}
+use Rattle.dine.specs.declared.input.InputFault.TheVariants as input
+use Rattle.dine.specs.declared.read_pair.ReadFault.{ReadFault}
+use Rattle.dine.specs.declared.read_pair.ReadFault.TheVariants as plan
+
+-- the status that a fault ends the program with
+abbrev pub status_of : Fault → Status
+status_of fault.Usage = status.Usage
+status_of fault.PlanRefused = status.PlanRefused
+status_of (fault.NoPlan cause) = status.PlanRefused
+status_of fault.OutOfMemory = status.OutOfMemory
+status_of fault.ReadingFailed = status.InputOutput
+status_of fault.InputTooLong = status.InputOutput
+status_of fault.WritingFailed = status.InputOutput
+
+-- the fault that a fault of the words, of the input or of the plan is
+abbrev pub fault_of_words : WordsFault → Fault
+fault_of_words words.Usage = fault.Usage
+fault_of_words words.Memory = fault.OutOfMemory
+
+abbrev pub fault_of_input : InputFault → Fault
+fault_of_input input.Failed = fault.ReadingFailed
+fault_of_input input.TooLong = fault.InputTooLong
+fault_of_input input.Memory = fault.OutOfMemory
+
+abbrev pub fault_of_plan : ReadFault → Fault
+fault_of_plan plan.Refused = fault.PlanRefused
+fault_of_plan plan.Memory = fault.OutOfMemory
+
+-- want of memory is told apart from every other cause to refuse a text
+abbrev pub fault_of_text : PlanFault → Fault
+fault_of_text text.Memory = fault.OutOfMemory
+fault_of_text cause = fault.NoPlan cause
+
+-- the line that tells of a fault, without its line feed; that of a plan ends in its cause, as the plan's fault prints it
+abbrev pub line_of : Fault → Option (List ℕ)
+line_of fault.Usage = Some (codes "dine: usage: dine [run [--table edges|sites] | replay [--choices LIST] | check]")
+line_of fault.PlanRefused = Some (codes "dine: plan refused")
+line_of (fault.NoPlan cause) = None
+line_of fault.OutOfMemory = Some (codes "dine: out of memory")
+line_of fault.ReadingFailed = Some (codes "dine: reading failed")
+line_of fault.InputTooLong = Some (codes "dine: input too long")
+line_of fault.WritingFailed = Some (codes "dine: writing failed")
+
+-- the line was written, as far as it could be
+abbrev pub TellsLine : Option (List ℕ) → Option (List ℕ) → Option (List ℕ) → Type 0
+TellsLine line before after = IfSome line (λ text. WritesPrefix before after (text ++ 10 ∷ []))

@@ -1,0 +1,7 @@
+-- What a reading of the input does to the bytes that a reader has left.
+use Rattle.std.specs.Prelude.{◌≤◌, ℕ, List, Option, length}
+use Rattle.std.specs.Io.KnownBytes.{Consumes}
+
+-- known bytes lose at most n at their front
+abbrev pub TakesAtMost : ℕ → Option (List ℕ) → Option (List ℕ) → Type 0
+TakesAtMost n old new = (bs : List ℕ) × Consumes old new bs × (length bs ≤ n)

@@ -1,0 +1,60 @@
+//! The output, written whole, and the lines that tell of faults.
+ghost use Rattle.std.specs.Prelude.{◌∷◌, ◌++◌, [], OnOk};
+ghost use Rattle.std.specs.Io.KnownBytes.{Appends};
+ghost use Rattle.dine.specs.Output.{WritesPrefix};
+
+use std::io::{ErrorKind, Write};
+use thiserror::Error;
+
+#[cfg(test)]
+mod tests;
+
+const LINE_FEED: u8 = b'\n';
+
+/// A text could not be written whole: a write or the flush failed, or a write took no byte.
+#[derive(Clone, Copy, Debug, PartialEq, Eq, Error)]
+#[error("writing failed")]
+pub struct WriteFault;
+
+/// Writes the whole `text` and flushes.
+///
+/// An interrupted write is tried again. Whatever happens, what goes out is a prefix of `text`.
+pub fn write_out<W: Write>(output: &mut W, text: &[u8]) -> Result<(), WriteFault>
+    ensures whole { OnOk result (Appends (W.contents output.old) (W.contents output.new) text.now) }
+    ensures prefix { WritesPrefix (W.contents output.old) (W.contents output.new) text.now }
+{
+    write_whole(output, text)?;
+    output.flush().map_err(|_| WriteFault)
+}
+
+/// Tries to write `line` and a line feed to `faults`. That this fails is told to nobody.
+pub fn print_fault<F: Write>(faults: &mut F, line: &str)
+    ensures { WritesPrefix (F.contents faults.old) (F.contents faults.new) (line.now ++ LINE_FEED ∷ []) }
+{
+    if write_whole(faults, line.as_bytes()).is_ok() {
+        let _ = write_out(faults, &[LINE_FEED]);
+    }
+}
+
+// Writes the whole `text`, piece by piece.
+fn write_whole<W: Write>(output: &mut W, text: &[u8]) -> Result<(), WriteFault>
+    ensures whole { OnOk result (Appends (W.contents output.old) (W.contents output.new) text.now) }
+    ensures prefix { WritesPrefix (W.contents output.old) (W.contents output.new) text.now }
+{
+    let mut written = 0;
+    for _ in 0..u64::MAX {
+        if written >= text.len() {
+            return Ok(());
+        }
+        match output.write(&text[written..]) {
+            Ok(0) => return Err(WriteFault),
+            Ok(count) => written += count,
+            Err(error) => {
+                if error.kind() != ErrorKind::Interrupted {
+                    return Err(WriteFault);
+                }
+            }
+        }
+    }
+    Err(WriteFault)
+}

@@ -1,0 +1,83 @@
+-- A site core as contracts see it, and the states of whole lists that it stands for.
+use Rattle.std.specs.Prelude.{◌≡◌, ℕ, ◌<◌, ◌==◌, List, [], ◌∷◌, length, slice_index_or, Option, Some, None, if◌then◌else◌}
+use Rattle.dine_token.specs.Log.{meals_of}
+use Rattle.dine_token.specs.Fork.{SeenFork}
+use Rattle.dine_plan.specs.Plan.{SeenPlan, job_count, lo_of, hi_of}
+use Rattle.dine_core.specs.declared.phase.Phase.{Phase}
+use Rattle.dine_core.specs.declared.places.Place.{Place}
+use Rattle.dine_core.specs.declared.places.ForkSlot.{ForkSlot}
+use Rattle.dine_core.specs.declared.places.ForkSlot.TheVariants.{Away, Here, InMeal}
+use Rattle.dine_core.specs.Letters.{has_done, has_close}
+use Rattle.dine_core.specs.Local.{LocalState, Traffic, traffic_at, edge_at, other_end, is_eating}
+use Rattle.dine_core.specs.Holdings.{forks_held, tokens_held, hand, fork_at, token_at, hand_at}
+use Rattle.dine_core.specs.Steps.{fork_with}
+
+-- the site, how many jobs it has, what it does, how many meals it began, and what it keeps at each place, in edge order
+pub record SeenCore : Type 0 where
+  pub site : ℕ
+  pub due : ℕ
+  pub phase : Phase
+  pub ate : ℕ
+  pub places : List Place
+
+-- What a core keeps at the place of an edge, for a site in this phase that ate so many meals, with these letters put and taken.
+module _ (plan : SeenPlan) (s : ℕ) (phase : Phase) (ate edge : ℕ) (traffic : Traffic) where
+  -- The fork: in hand with the log that the whole lists give, in the meal, or not held. Of a fork in the meal the core keeps
+  -- how many meals of the other end it has.
+  abbrev pub fork_kept : ForkSlot
+  fork_kept = if forks_held plan s edge traffic == 1
+      then (if is_eating phase then InMeal (meals_of (other_end plan s edge) (hand s ate traffic)) else Here (fork_with plan edge (hand s ate traffic)))
+      else Away
+
+  -- the token, where it is held
+  abbrev pub token_kept : Option ℕ
+  token_kept = if tokens_held plan s edge traffic == 1 then Some edge else None
+
+  -- all: the edge, the ends and their due meals, fork and token, and what was said
+  abbrev pub kept_of : Place
+  kept_of = record {
+    edge = edge;
+    ends = (lo_of plan edge, hi_of plan edge);
+    due = (job_count plan (lo_of plan edge), job_count plan (hi_of plan edge));
+    fork = fork_kept;
+    token = token_kept;
+    done_put = has_done traffic.put;
+    done_taken = has_done traffic.taken;
+    close_put = has_close traffic.put;
+    close_taken = has_close traffic.taken;
+  }
+
+-- the same at place i of a state
+abbrev pub kept_at : SeenPlan → ℕ → LocalState → ℕ → Place
+kept_at plan s state i = kept_of plan s state.phase state.ate (edge_at plan s i) (traffic_at state i)
+
+-- The core stands for the state: the phase and the meals are the state's, and at each place is kept what the state gives.
+pub record StandsFor (plan : SeenPlan) (state : LocalState) (core : SeenCore) : Type 0 where
+  pub due : core.due ≡ job_count plan core.site
+  pub phase : core.phase ≡ state.phase
+  pub ate : core.ate ≡ state.ate
+  pub degree : length core.places ≡ length state.traffic
+  pub places : (i : ℕ) (past : Place) → i < length core.places → slice_index_or core.places i past ≡ kept_at plan core.site state i
+
+-- the forks in hand, or in the meal, of a state: those of these places, in order
+abbrev pub forks_in_hand : SeenPlan → ℕ → LocalState → List ℕ → List SeenFork
+forks_in_hand plan s state [] = []
+forks_in_hand plan s state (i ∷ places) = if fork_at plan s state i == 1
+    then fork_with plan (edge_at plan s i) (hand_at s state i) ∷ forks_in_hand plan s state places
+    else forks_in_hand plan s state places
+
+-- the tokens held, in order
+abbrev pub tokens_in_hand : SeenPlan → ℕ → LocalState → List ℕ → List ℕ
+tokens_in_hand plan s state [] = []
+tokens_in_hand plan s state (i ∷ places) = if token_at plan s state i == 1
+    then edge_at plan s i ∷ tokens_in_hand plan s state places
+    else tokens_in_hand plan s state places
+
+-- the forks that a site has at the start, as they are opened, and its tokens: of these edges, in order
+abbrev pub fresh_forks : SeenPlan → ℕ → List ℕ → List SeenFork
+fresh_forks plan s [] = []
+fresh_forks plan s (edge ∷ edges) = if lo_of plan edge == s then fork_with plan edge [] ∷ fresh_forks plan s edges else fresh_forks plan s edges
+
+abbrev pub fresh_tokens : SeenPlan → ℕ → List ℕ → List ℕ
+fresh_tokens plan s [] = []
+fresh_tokens plan s (edge ∷ edges) = if hi_of plan edge == s then edge ∷ fresh_tokens plan s edges else fresh_tokens plan s edges

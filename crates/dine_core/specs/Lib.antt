@@ -1,0 +1,16 @@
+pub mod Letters
+pub mod Local
+pub mod Holdings
+pub mod Breach
+pub mod Steps
+pub mod Streams
+pub mod Runs
+pub mod Core
+pub mod Places
+pub mod Kept
+pub mod Standing
+pub mod World
+pub mod Precedence
+pub mod Bound
+pub mod Schedules
+pub mod Examples

@@ -1,0 +1,253 @@
+-- What a site core reads off a place, and what it does there.
+use Rattle.std.specs.Prelude.{◌≡◌, ◌⊎◌, ℕ, ◌+◌, ◌<◌, ◌≤◌, ◌==◌, ◌&&◌, ◌||◌, not, nat_lt, nat_le, Bool, true, false, List, [], ◌∷◌, ◌++◌, length, map, All, slice_index_or, slice_set, Option, Some, None, is_some, option_to_list, if◌then◌else◌}
+use Rattle.std.specs.List.{list_all}
+use Rattle.dine_token.specs.Log.{is_dirty, location_of, meals_of}
+use Rattle.dine_token.specs.Lawful.{due_at}
+use Rattle.dine_token.specs.Fork.{SeenFork, IsEnd}
+use Rattle.dine_token.specs.Meal.{SeenMeal}
+use Rattle.dine_core.specs.declared.phase.Phase.TheVariants as phase
+use Rattle.dine_core.specs.declared.letters.Letter.{Letter}
+use Rattle.dine_core.specs.declared.letters.Letter.TheVariants as letter
+use Rattle.dine_core.specs.declared.breach.Breach.{Breach}
+use Rattle.dine_core.specs.declared.breach.Breach.TheVariants.{AfterClose, RequestOutOfTurn, ForkOutOfTurn, StrangeFork, DoneOutOfTurn, ClosedEarly}
+use Rattle.dine_core.specs.declared.places.Place.{Place}
+use Rattle.dine_core.specs.declared.places.ForkSlot.{ForkSlot}
+use Rattle.dine_core.specs.declared.places.ForkSlot.TheVariants.{Away, Here, InMeal}
+use Rattle.dine_core.specs.Local.{is_thinking, is_hungry, is_eating}
+use Rattle.dine_core.specs.Breach.{ends_at}
+use Rattle.dine_core.specs.Core.{SeenCore}
+
+-- a place past the end
+abbrev pub no_place : Place
+no_place = record { edge = 0; ends = (0, 0); due = (0, 0); fork = Away; token = None; done_put = false; done_taken = false; close_put = false; close_taken = false }
+
+abbrev pub place_at : SeenCore → ℕ → Place
+place_at core i = slice_index_or core.places i no_place
+
+-- the site at the other end, and how many meals it has due
+abbrev pub neighbour_of : ℕ → Place → ℕ
+neighbour_of s place = if place.ends.0 == s then place.ends.1 else place.ends.0
+
+abbrev pub due_of_neighbour : ℕ → Place → ℕ
+due_of_neighbour s place = due_at place.ends place.due (neighbour_of s place)
+
+-- the fork is held, in hand or in the meal; it is in hand, and dirty; how many meals of an end it has
+abbrev pub is_held : ForkSlot → Bool
+is_held Away = false
+is_held (Here fork) = true
+is_held (InMeal meals) = true
+
+abbrev pub is_dirty_in_hand : ForkSlot → Bool
+is_dirty_in_hand Away = false
+is_dirty_in_hand (Here fork) = is_dirty fork.log
+is_dirty_in_hand (InMeal meals) = false
+
+abbrev pub meals_in : ℕ → ForkSlot → ℕ
+meals_in end Away = 0
+meals_in end (Here fork) = meals_of end fork.log
+meals_in end (InMeal meals) = meals
+
+-- the fork in hand is clean, or was not asked for
+abbrev pub is_ready_at : Place → Bool
+is_ready_at place = is_held place.fork && (not (is_dirty_in_hand place.fork) || not (is_some place.token))
+
+-- the other end has had all its meals with the fork
+abbrev pub has_all : ℕ → Place → Bool
+has_all s place = meals_in (neighbour_of s place) place.fork == due_of_neighbour s place
+
+-- What each event needs.
+abbrev pub can_give_at : Place → Bool
+can_give_at place = is_dirty_in_hand place.fork && is_some place.token && not place.close_put
+
+abbrev pub can_give : SeenCore → ℕ → Bool
+can_give core i = not (is_eating core.phase) && can_give_at (place_at core i)
+
+abbrev pub can_ask : SeenCore → ℕ → Bool
+can_ask core i = is_hungry core.phase && (is_some (place_at core i).token && not (is_held (place_at core i).fork) && not (place_at core i).close_put)
+
+abbrev pub can_hunger : SeenCore → Bool
+can_hunger core = is_thinking core.phase && nat_lt core.ate core.due
+
+abbrev pub can_begin : SeenCore → Bool
+can_begin core = is_hungry core.phase && list_all is_ready_at core.places
+
+abbrev pub can_end_done : SeenCore → ℕ → Bool
+can_end_done core i = is_thinking core.phase && core.ate == core.due && (not (place_at core i).done_put && not (place_at core i).close_put)
+
+abbrev pub can_close : SeenCore → ℕ → Bool
+can_close core i = (place_at core i).done_put && (place_at core i).done_taken && not (place_at core i).close_put
+
+-- the fork is that of the place
+abbrev pub is_own_fork : Place → SeenFork → Bool
+is_own_fork place fork = fork.edge == place.edge && (fork.ends.0 == place.ends.0 && fork.ends.1 == place.ends.1)
+    && (fork.due.0 == place.due.0 && fork.due.1 == place.due.1)
+
+-- Why a letter is not in turn at the place: of a site that ate so many meals.
+abbrev pub breach_of_request : ℕ → Place → ℕ → Option Breach
+breach_of_request s place edge =
+    if is_some place.token || not (is_held place.fork) || place.done_taken || not (edge == place.edge)
+    || nat_le (due_of_neighbour s place) (meals_in (neighbour_of s place) place.fork)
+    then Some RequestOutOfTurn else None
+
+abbrev pub breach_of_fork : ℕ → ℕ → Place → SeenFork → Option Breach
+breach_of_fork s ate place fork =
+    if is_held place.fork || is_some place.token then Some ForkOutOfTurn
+    else (if not (is_own_fork place fork) || not (ends_at place.ends.0 s fork.log) || not (meals_of s fork.log == ate)
+    || (place.done_taken && not (meals_of (neighbour_of s place) fork.log == due_of_neighbour s place))
+    then Some StrangeFork else None)
+
+abbrev pub breach_of_done : ℕ → Place → Option Breach
+breach_of_done s place = if place.done_taken || (is_held place.fork && not (has_all s place)) then Some DoneOutOfTurn else None
+
+abbrev pub breach_of_close : Place → Option Breach
+breach_of_close place = if not place.done_taken || not place.done_put then Some ClosedEarly else None
+
+abbrev pub breach_at : ℕ → ℕ → Place → Letter → Option Breach
+breach_at s ate place (letter.Fork fork) = if place.close_taken then Some AfterClose else breach_of_fork s ate place fork
+breach_at s ate place (letter.Request edge) = if place.close_taken then Some AfterClose else breach_of_request s place edge
+breach_at s ate place letter.Done = if place.close_taken then Some AfterClose else breach_of_done s place
+breach_at s ate place letter.Close = if place.close_taken then Some AfterClose else breach_of_close place
+
+-- the place with the letter noted
+abbrev pub noted : Letter → Place → Place
+noted (letter.Fork fork) place = record place { fork = Here fork }
+noted (letter.Request edge) place = record place { token = Some edge }
+noted letter.Done place = record place { done_taken = true }
+noted letter.Close place = record place { close_taken = true }
+
+-- the forks in hand and the tokens of the places, in order
+abbrev pub fork_in_hand : ForkSlot → List SeenFork
+fork_in_hand Away = []
+fork_in_hand (Here fork) = fork ∷ []
+fork_in_hand (InMeal meals) = []
+
+abbrev pub forks_of : List Place → List SeenFork
+forks_of [] = []
+forks_of (place ∷ places) = fork_in_hand place.fork ++ forks_of places
+
+abbrev pub tokens_of : List Place → List ℕ
+tokens_of [] = []
+tokens_of (place ∷ places) = option_to_list place.token ++ tokens_of places
+
+-- the slot when the fork goes into the meal
+abbrev pub in_meal : ℕ → ForkSlot → ForkSlot
+in_meal end slot = InMeal (meals_in end slot)
+
+abbrev pub lifted : ℕ → Place → Place
+lifted s place = record place { fork = in_meal (neighbour_of s place) place.fork }
+
+-- the place with another fork
+abbrev pub with_fork : ForkSlot → Place → Place
+with_fork slot place = record place { fork = slot }
+
+-- all was said at the place
+abbrev pub is_over_at : Place → Bool
+is_over_at place = place.done_put && place.done_taken && place.close_put && place.close_taken
+
+-- Close was put at every place; everything was said, and all meals are eaten
+abbrev pub is_closed_at : Place → Bool
+is_closed_at place = place.close_put
+
+abbrev pub has_all_closed : SeenCore → Bool
+has_all_closed core = list_all is_closed_at core.places
+
+abbrev pub has_all_said : SeenCore → Bool
+has_all_said core = is_thinking core.phase && core.ate == core.due && list_all is_over_at core.places
+
+-- a place before the first step
+abbrev pub slot_from : Option SeenFork → ForkSlot
+slot_from None = Away
+slot_from (Some fork) = Here fork
+
+abbrev pub opened : ℕ → ℕ × ℕ → ℕ × ℕ → Option SeenFork → Option ℕ → Place
+opened edge ends due fork token = record { edge = edge; ends = ends; due = due; fork = slot_from fork; token = token; done_put = false; done_taken = false; close_put = false; close_taken = false }
+
+-- the number is an end of the fork in the slot, where that is in hand
+abbrev pub EndsOf : ForkSlot → ℕ → Type 0
+EndsOf Away end = Unit {0}
+EndsOf (Here fork) end = IsEnd fork end
+EndsOf (InMeal meals) end = Unit {0}
+
+-- the slot has a fork in hand, and that is so of it
+abbrev pub OnHere : (SeenFork → Type 0) → ForkSlot → Type 0
+OnHere P Away = ⊥
+OnHere P (Here fork) = P fork
+OnHere P (InMeal meals) = ⊥
+
+-- the fork is in hand, and the site is an end of it
+abbrev pub IsLiftable : ℕ → Place → Type 0
+IsLiftable s place = OnHere (λ fork. IsEnd fork (neighbour_of s place)) place.fork
+
+-- the core with another place i
+abbrev pub with_place : ℕ → Place → SeenCore → SeenCore
+with_place i place core = record core { places = slice_set core.places i place }
+
+-- A fork that is in hand at a place: of the place's edge, at the site, with all meals that the site ate; where it was asked
+-- for, the other end has meals left.
+pub record FitsPlace (s ate : ℕ) (place : Place) (fork : SeenFork) : Type 0 where
+  pub edge : fork.edge ≡ place.edge
+  pub ends : fork.ends ≡ place.ends
+  pub due : fork.due ≡ place.due
+  pub here : location_of fork.ends.0 fork.log ≡ s
+  pub eaten : meals_of s fork.log ≡ ate
+
+-- the slot is right for a site that eats, or does not
+abbrev pub FitsSlot : ℕ → ℕ → Bool → Place → ForkSlot → Type 0
+FitsSlot s ate eating place Away = eating ≡ false
+FitsSlot s ate eating place (Here fork) = (eating ≡ false) × FitsPlace s ate place fork
+FitsSlot s ate eating place (InMeal meals) = eating ≡ true
+
+pub record IsSoundPlace (core : SeenCore) (place : Place) : Type 0 where
+  pub ordered : place.ends.0 < place.ends.1
+  pub end : (core.site ≡ place.ends.0) ⊎ (core.site ≡ place.ends.1)
+  pub own_due : due_at place.ends place.due core.site ≡ core.due
+  pub slot : FitsSlot core.site core.ate (is_eating core.phase) place place.fork
+  pub asked : is_held place.fork ≡ true → is_some place.token ≡ true → meals_in (neighbour_of core.site place) place.fork < due_of_neighbour core.site place
+  pub token : (edge : ℕ) → place.token ≡ Some edge → edge ≡ place.edge
+
+pub record IsSound (core : SeenCore) : Type 0 where
+  pub places : All (IsSoundPlace core) core.places
+  pub within : core.ate ≤ core.due
+  pub hungry : is_hungry core.phase ≡ true → core.ate < core.due
+
+-- the meal is the core's: of its site, with its number, and with the forks of its places
+pub record FitsMeal (core : SeenCore) (i : ℕ) (fork : SeenFork) : Type 0 where
+  pub fits : FitsPlace core.site core.ate (place_at core i) fork
+  pub meals : meals_of (neighbour_of core.site (place_at core i)) fork.log ≡ meals_in (neighbour_of core.site (place_at core i)) (place_at core i).fork
+
+pub record IsMealOf (core : SeenCore) (meal : SeenMeal) : Type 0 where
+  pub site : meal.site ≡ core.site
+  pub k : meal.k ≡ core.ate
+  pub count : length meal.forks ≡ length core.places
+  pub forks : (i : ℕ) (past : SeenFork) → i < length core.places → FitsMeal core i (slice_index_or meal.forks i past)
+
+-- the places with these forks in hand, in order
+abbrev pub laid_down : List Place → List SeenFork → List Place
+laid_down [] forks = []
+laid_down (place ∷ places) [] = place ∷ places
+laid_down (place ∷ places) (fork ∷ forks) = with_fork (Here fork) place ∷ laid_down places forks
+
+-- What each event changes.
+abbrev pub hungered : SeenCore → SeenCore
+hungered core = record core { phase = phase.Hungry }
+
+abbrev pub asked : ℕ → SeenCore → SeenCore
+asked i core = let place = place_at core i in with_place i (record place { token = None }) core
+
+abbrev pub gave : ℕ → SeenCore → SeenCore
+gave i core = let place = place_at core i in with_place i (record place { fork = Away }) core
+
+abbrev pub begun : SeenCore → SeenCore
+begun core = record core { phase = phase.Eating; ate = core.ate + 1; places = map (lifted core.site) core.places }
+
+abbrev pub ended : List SeenFork → SeenCore → SeenCore
+ended forks core = record core { phase = phase.Thinking; places = laid_down core.places forks }
+
+abbrev pub said_done : ℕ → SeenCore → SeenCore
+said_done i core = let place = place_at core i in with_place i (record place { done_put = true }) core
+
+abbrev pub closed : ℕ → SeenCore → SeenCore
+closed i core = let place = place_at core i in with_place i (record place { close_put = true }) core
+
+abbrev pub took : ℕ → Letter → SeenCore → SeenCore
+took i l core = with_place i (noted l (place_at core i)) core

@@ -1,0 +1,53 @@
+-- What the calls of a site core say of each state for which the core stands.
+use Rattle.std.specs.Prelude.{◌≡◌, ℕ, ◌==◌, ◌&&◌, Bool, List, length, Option}
+use Rattle.std.specs.List.{list_all, range_with_len}
+use Rattle.dine_token.specs.Fork.{SeenFork}
+use Rattle.dine_plan.specs.Plan.{SeenPlan, job_count}
+use Rattle.dine_core.specs.declared.letters.Letter.{Letter}
+use Rattle.dine_core.specs.declared.breach.Breach.{Breach}
+use Rattle.dine_core.specs.Letters.{has_done, has_close}
+use Rattle.dine_core.specs.Local.{LocalState, traffic_at, is_thinking}
+use Rattle.dine_core.specs.Breach.{first_breach}
+use Rattle.dine_core.specs.Steps.{Step, may, after, with_put}
+use Rattle.dine_core.specs.Streams.{KeepsStreams}
+use Rattle.dine_core.specs.Core.{SeenCore, StandsFor, forks_in_hand, tokens_in_hand}
+
+-- so it is for each state that keeps the streams and for which the core stands
+abbrev pub ForEachState : SeenCore → (SeenPlan → LocalState → Type 0) → Type 0
+ForEachState core P = (plan : SeenPlan) (state : LocalState) → KeepsStreams plan core.site state → StandsFor plan state core → P plan state
+
+-- the test tells whether the site may do the step
+abbrev pub TellsMay : SeenCore → Step → Bool → Type 0
+TellsMay core step test = ForEachState core (λ plan state. test ≡ may plan core.site state step)
+
+-- the new core stands for the state after the step
+abbrev pub Steps : Step → SeenCore → SeenCore → Type 0
+Steps step old new = ForEachState old (λ plan state. StandsFor plan (after plan old.site state step) new)
+
+-- so it does, and the step puts the letter at place i
+abbrev pub Puts : ℕ → Step → SeenCore → SeenCore → Letter → Type 0
+Puts i step old new l = ForEachState old (λ plan state. (after plan old.site state step ≡ with_put i l state) × StandsFor plan (with_put i l state) new)
+
+-- the answer is the first breach of the letter
+abbrev pub TellsBreach : SeenCore → ℕ → Letter → Option Breach → Type 0
+TellsBreach core i l answer = ForEachState core (λ plan state. answer ≡ first_breach plan core.site state i l)
+
+-- the forks are those in hand by the whole lists, in edge order
+abbrev pub all_places : LocalState → List ℕ
+all_places state = range_with_len 0 (length state.traffic)
+
+abbrev pub AreForksInHand : SeenCore → List SeenFork → Type 0
+AreForksInHand core forks = ForEachState core (λ plan state. forks ≡ forks_in_hand plan core.site state (all_places state))
+
+abbrev pub AreTokensInHand : SeenCore → List ℕ → Type 0
+AreTokensInHand core tokens = ForEachState core (λ plan state. tokens ≡ tokens_in_hand plan core.site state (all_places state))
+
+-- the site did all: it thinks, ate all its meals, and Done and Close are put and taken at every place
+abbrev pub has_finished : SeenPlan → ℕ → LocalState → Bool
+has_finished plan s state = is_thinking state.phase && state.ate == job_count plan s && list_all (λ i.
+    has_done (traffic_at state i).put && has_done (traffic_at state i).taken && has_close (traffic_at state i).put && has_close (traffic_at state i).taken)
+    (all_places state)
+
+-- Close was put at every place
+abbrev pub has_closed : LocalState → Bool
+has_closed state = list_all (λ i. has_close (traffic_at state i).put) (all_places state)

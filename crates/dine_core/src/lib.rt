@@ -1,0 +1,20 @@
+//! The rules of the hygienic solution at one site, and the world of all sites in one thread.
+#![tactic(auto)]
+
+mod breach;
+mod events;
+pub mod laws;
+mod letters;
+mod meals;
+mod opening;
+mod phase;
+mod places;
+mod site_core;
+#[cfg(test)]
+mod tests;
+
+pub use breach::Breach;
+pub use events::{Event, EventKind};
+pub use letters::{Kind4, Letter};
+pub use phase::Phase;
+pub use site_core::{Parts, SiteCore};

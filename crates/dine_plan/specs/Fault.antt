@@ -1,0 +1,33 @@
+-- The number of each cause, and the position that it carries.
+use Rattle.std.specs.Prelude.{ℕ}
+use Rattle.dine_plan.specs.declared.faults.PlanFault.{PlanFault}
+use Rattle.dine_plan.specs.declared.faults.PlanFault.TheVariants.{NotToml, Version, UnknownKey, MissingKey, WrongKind, BadName, SiteTwice, NoSite, TooManySites, TooManyJobs, TurnsTooLarge, UnknownEnd, Loop, EdgeTwice, TooManyEdges, Memory}
+
+abbrev pub number_of_fault : PlanFault → ℕ
+number_of_fault NotToml = 1
+number_of_fault Version = 2
+number_of_fault UnknownKey = 3
+number_of_fault MissingKey = 4
+number_of_fault WrongKind = 5
+number_of_fault (BadName site) = 6
+number_of_fault (SiteTwice site) = 7
+number_of_fault NoSite = 8
+number_of_fault TooManySites = 9
+number_of_fault (TooManyJobs site) = 10
+number_of_fault (TurnsTooLarge site) = 11
+number_of_fault (UnknownEnd edge) = 12
+number_of_fault (Loop edge) = 13
+number_of_fault (EdgeTwice edge) = 14
+number_of_fault TooManyEdges = 15
+number_of_fault Memory = 16
+
+-- the position that a fault carries, 0 where it carries none
+abbrev pub position_of_fault : PlanFault → ℕ
+position_of_fault (BadName site) = site
+position_of_fault (SiteTwice site) = site
+position_of_fault (TooManyJobs site) = site
+position_of_fault (TurnsTooLarge site) = site
+position_of_fault (UnknownEnd edge) = edge
+position_of_fault (Loop edge) = edge
+position_of_fault (EdgeTwice edge) = edge
+position_of_fault _ = 0

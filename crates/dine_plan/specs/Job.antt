@@ -1,0 +1,7 @@
+-- What clauses see of a job.
+use Rattle.std.specs.Prelude.{string_bytes}
+use Rattle.dine_plan.specs.Plan.{SeenJob}
+use Rattle.dine_plan.specs.declared.plans.Job.{Job}
+
+abbrev pub seen_job : Job → SeenJob
+seen_job job = record { name = string_bytes job.name; turns = job.turns; fails = job.fails }

@@ -1,0 +1,9 @@
+pub mod Plan
+pub mod Job
+pub mod Site
+pub mod Fields
+pub mod Document
+pub mod Fault
+pub mod Refusals
+pub mod Refuses
+pub mod PlanOf

@@ -1,0 +1,101 @@
+-- What a plan is: sites with their jobs, and edges between two sites, each list in the order of the plan text.
+use Rattle.std.specs.Prelude.{◌≢◌, ℕ, ◌-◌, ◌<◌, ◌≤◌, Bool, false, ◌&&◌, ◌||◌, ◌==◌, nat_le, IsTrue, List, [], length, filter, slice_index_or, if◌then◌else◌}
+use Rattle.std.specs.Char.{is_ascii_alphanumeric}
+use Rattle.std.specs.List.{range_with_len, list_all}
+
+-- a job: its name, the turns that it takes and whether it fails
+pub record SeenJob : Type 0 where
+  pub name : List ℕ
+  pub turns : ℕ
+  pub fails : Bool
+
+-- a site: its name and its jobs
+pub record SeenSite : Type 0 where
+  pub name : List ℕ
+  pub jobs : List SeenJob
+
+-- a plan: its sites, and for each edge the numbers of its lower and its higher end
+pub record SeenPlan : Type 0 where
+  pub sites : List SeenSite
+  pub edges : List (ℕ × ℕ)
+
+-- the job and the site that stand past the end of a list
+abbrev pub no_job : SeenJob
+no_job = record { name = []; turns = 0; fails = false }
+
+abbrev pub no_site : SeenSite
+no_site = record { name = []; jobs = [] }
+
+-- how many sites and edges the plan has
+abbrev pub site_count : SeenPlan → ℕ
+site_count p = length p.sites
+
+abbrev pub edge_count : SeenPlan → ℕ
+edge_count p = length p.edges
+
+-- a site's name, and its jobs
+abbrev pub name_of : SeenPlan → ℕ → List ℕ
+name_of p s = (slice_index_or p.sites s no_site).name
+
+abbrev pub jobs_of : SeenPlan → ℕ → List SeenJob
+jobs_of p s = (slice_index_or p.sites s no_site).jobs
+
+-- how many jobs a site has
+abbrev pub job_count : SeenPlan → ℕ → ℕ
+job_count p s = length (jobs_of p s)
+
+-- job k of a site, from 1
+abbrev pub job_of : SeenPlan → ℕ → ℕ → SeenJob
+job_of p s k = slice_index_or (jobs_of p s) (k - 1) no_job
+
+-- the ends of an edge: the lower, and the higher
+abbrev pub ends_of : SeenPlan → ℕ → ℕ × ℕ
+ends_of p e = slice_index_or p.edges e (0, 0)
+
+abbrev pub lo_of : SeenPlan → ℕ → ℕ
+lo_of p e = (ends_of p e).0
+
+abbrev pub hi_of : SeenPlan → ℕ → ℕ
+hi_of p e = (ends_of p e).1
+
+-- the site is one of the two ends
+abbrev pub is_one_of : ℕ × ℕ → ℕ → Bool
+is_one_of ends s = (ends.0 == s) || (ends.1 == s)
+
+-- the positions of the pairs that have the site as an end, ascending
+abbrev pub positions_at : List (ℕ × ℕ) → ℕ → List ℕ
+positions_at edges s = filter (λ e. is_one_of (slice_index_or edges e (0, 0)) s) (range_with_len 0 (length edges))
+
+-- whether a site is an end of an edge
+abbrev pub is_end : SeenPlan → ℕ → ℕ → Bool
+is_end p s e = is_one_of (ends_of p e) s
+
+-- the edges that have the site as an end, ascending
+abbrev pub edges_of : SeenPlan → ℕ → List ℕ
+edges_of p s = positions_at p.edges s
+
+-- the other end of an edge than the site
+abbrev pub other_of : SeenPlan → ℕ → ℕ → ℕ
+other_of p e s = if lo_of p e == s then hi_of p e else lo_of p e
+
+-- an ASCII letter, an ASCII digit, '_' or '-'
+abbrev pub is_name_byte : ℕ → Bool
+is_name_byte b = is_ascii_alphanumeric b || (b == 95) || (b == 45)
+
+-- a name has 1 to 32 bytes, each one of those
+abbrev pub is_name : List ℕ → Bool
+is_name bytes = nat_le 1 (length bytes) && nat_le (length bytes) 32 && list_all is_name_byte bytes
+
+-- What holds of every plan. Sites and edges are named by their numbers, and jobs from 1.
+pub record IsPlan (p : SeenPlan) : Type 0 where
+  pub has_site : 1 ≤ site_count p
+  pub few_sites : site_count p ≤ 64
+  pub few_edges : edge_count p ≤ 512
+  pub few_jobs : (s : ℕ) → s < site_count p → job_count p s ≤ 1000
+  pub few_turns : (s k : ℕ) → s < site_count p → 1 ≤ k → k ≤ job_count p s → (job_of p s k).turns ≤ 1000000
+  pub named : (s : ℕ) → s < site_count p → IsTrue (is_name (name_of p s))
+  pub jobs_named : (s k : ℕ) → s < site_count p → 1 ≤ k → k ≤ job_count p s → IsTrue (is_name (job_of p s k).name)
+  pub names_differ : (s t : ℕ) → s < t → t < site_count p → name_of p s ≢ name_of p t
+  pub ordered : (e : ℕ) → e < edge_count p → lo_of p e < hi_of p e
+  pub within : (e : ℕ) → e < edge_count p → hi_of p e < site_count p
+  pub edges_differ : (e f : ℕ) → e < f → f < edge_count p → ends_of p e ≢ ends_of p f

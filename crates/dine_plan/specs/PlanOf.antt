@@ -1,0 +1,35 @@
+-- The plan of a document.
+use Rattle.std.specs.Prelude.{◌≡◌, ℕ, min, max, List, map, Some}
+use Rattle.std.specs.List.{position_or_len}
+use Rattle.std.specs.Str.{bytes_eq}
+use Rattle.toml.specs.Data.{Data, Members, table}
+use Rattle.toml.specs.Parse.{parse_document}
+use Rattle.dine_plan.specs.Plan.{SeenJob, SeenSite, SeenPlan}
+use Rattle.dine_plan.specs.Document.{sites_in, edges_in, jobs_in, name_in, turns_in, fails_in, end_in}
+
+-- the job of a job table
+unfoldable pub job_in : Data → SeenJob
+job_in job = record { name = name_in job; turns = turns_in job; fails = fails_in job }
+
+-- the site of a site table
+unfoldable pub site_in : Data → SeenSite
+site_in site = record { name = name_in site; jobs = map job_in (jobs_in site) }
+
+-- the number of the first site of this name; the number of sites where none has it
+abbrev pub number_of : List (List ℕ) → List ℕ → ℕ
+number_of names name = position_or_len (bytes_eq name) names
+
+-- the numbers of an edge's two ends, the lower one first
+unfoldable pub ends_in : List (List ℕ) → Data → ℕ × ℕ
+ends_in names edge =
+    let a = number_of names (end_in 0 edge) in
+    let b = number_of names (end_in 1 edge) in
+    (min a b, max a b)
+
+-- the plan of its site tables and edge tables
+abbrev pub plan_in : List Data → List Data → SeenPlan
+plan_in sites edges = record { sites = map site_in sites; edges = map (ends_in (map name_in sites)) edges }
+
+-- p is the plan of the text
+abbrev pub IsPlanOf : List ℕ → SeenPlan → Type 0
+IsPlanOf text p = (doc : Members) × (parse_document text ≡ Some doc) × (p ≡ plan_in (sites_in (table doc)) (edges_in (table doc)))

@@ -1,0 +1,200 @@
+-- Why a plan text is refused: each cause as a test of the whole document, and the first that holds.
+use Rattle.std.specs.Prelude.{ℕ, ◌==◌, ℤ, pos, negsuc, Bool, true, false, not, ◌&&◌, ◌||◌, nat_lt, is_none, is_some, List, [], ◌∷◌, ◌++◌, map, length, take, position, slice_index_or, Option, Some, None, option_map, codes, if◌then◌else◌}
+use Rattle.std.specs.Option.{option_map_or, option_or}
+use Rattle.std.specs.List.{range_with_len, list_any, list_all}
+use Rattle.std.specs.Str.{bytes_eq}
+use Rattle.toml.specs.Data.{Data, table, Members, get, as_str, as_integer, as_bool, as_array, as_table}
+use Rattle.toml.specs.Parse.{parse_document}
+use Rattle.dine_plan.specs.Plan.{is_name}
+use Rattle.dine_plan.specs.Document.{items_in, keys_in, sites_in, edges_in, jobs_in, name_in, turns_in, end_in}
+use Rattle.dine_plan.specs.PlanOf.{ends_in}
+use Rattle.dine_plan.specs.declared.faults.PlanFault.{PlanFault}
+use Rattle.dine_plan.specs.declared.faults.PlanFault.TheVariants as fault
+
+-- the kinds of values that the format names
+abbrev pub is_table : Data → Bool
+is_table d = is_some (as_table d)
+
+abbrev pub is_text : Data → Bool
+is_text d = is_some (as_str d)
+
+abbrev pub is_truth : Data → Bool
+is_truth d = is_some (as_bool d)
+
+-- a number that is not below 0, and the number 1
+abbrev pub is_natural : ℤ → Bool
+is_natural (pos n) = true
+is_natural (negsuc n) = false
+
+abbrev pub is_one : ℤ → Bool
+is_one (pos n) = n == 1
+is_one (negsuc n) = false
+
+-- a whole number that is not below 0
+abbrev pub is_whole : Data → Bool
+is_whole d = option_map_or is_natural (as_integer d) false
+
+-- the whole number 1
+abbrev pub is_version : Data → Bool
+is_version d = option_map_or is_one (as_integer d) false
+
+-- an array whose items are tables
+unfoldable pub is_tables : Data → Bool
+is_tables d = is_some (as_array d) && list_all is_table (items_in d)
+
+-- an array of exactly two texts; a value that is no array has no items
+unfoldable pub is_two_texts : Data → Bool
+is_two_texts d = (length (items_in d) == 2) && list_all is_text (items_in d)
+
+-- the keys that the format names for each kind of table
+abbrev pub document_keys : List (List ℕ)
+document_keys = codes "version" ∷ codes "site" ∷ codes "edge" ∷ []
+
+abbrev pub site_keys : List (List ℕ)
+site_keys = codes "name" ∷ codes "jobs" ∷ []
+
+abbrev pub job_keys : List (List ℕ)
+job_keys = codes "name" ∷ codes "turns" ∷ codes "fails" ∷ []
+
+abbrev pub edge_keys : List (List ℕ)
+edge_keys = codes "ends" ∷ []
+
+-- the table has a key that is none of these
+unfoldable pub has_other_key : List (List ℕ) → Data → Bool
+has_other_key keys d = list_any (λ key. not (list_any (bytes_eq key) keys)) (keys_in d)
+
+-- the table has no such key
+unfoldable pub lacks_key : List ℕ → Data → Bool
+lacks_key key d = is_table d && is_none (get key d)
+
+-- the table has the key, and the value there is of another kind
+unfoldable pub is_wrong : (Data → Bool) → List ℕ → Data → Bool
+is_wrong kind key d = option_map_or (λ v. not (kind v)) (get key d) false
+
+-- The element at place i stands at an earlier place too. `none` is what stands past the end.
+unfoldable pub stands_before : {A : Type 0} → (A → A → Bool) → A → List A → ℕ → Bool
+stands_before same none xs i = list_any (same (slice_index_or xs i none)) (take i xs)
+
+-- the least place whose element stands at an earlier place too
+abbrev pub first_twice : {A : Type 0} → (A → A → Bool) → A → List A → Option ℕ
+first_twice same none xs = position (stands_before same none xs) (range_with_len 0 (length xs))
+
+-- both ends are the same numbers
+abbrev pub same_ends : ℕ × ℕ → ℕ × ℕ → Bool
+same_ends a b = (a.0 == b.0) && (a.1 == b.1)
+
+-- `version` is absent or is not the whole number 1
+unfoldable pub refuses_version : Data → Bool
+refuses_version doc = not (option_map_or is_version (get (codes "version") doc) false)
+
+-- the document, a site, a job or an edge has a key that the format does not name for it
+unfoldable pub site_has_other_key : Data → Bool
+site_has_other_key site = has_other_key site_keys site || list_any (has_other_key job_keys) (jobs_in site)
+
+unfoldable pub refuses_unknown_key : Data → Bool
+refuses_unknown_key doc = has_other_key document_keys doc || list_any site_has_other_key (sites_in doc) || list_any (has_other_key edge_keys) (edges_in doc)
+
+-- a site or a job has no name, or an edge has no ends
+unfoldable pub site_lacks_key : Data → Bool
+site_lacks_key site = lacks_key (codes "name") site || list_any (lacks_key (codes "name")) (jobs_in site)
+
+unfoldable pub refuses_missing_key : Data → Bool
+refuses_missing_key doc = list_any site_lacks_key (sites_in doc) || list_any (lacks_key (codes "ends")) (edges_in doc)
+
+-- a value is of another kind than the format names for its key
+unfoldable pub job_is_wrong : Data → Bool
+job_is_wrong job = is_wrong is_text (codes "name") job || is_wrong is_whole (codes "turns") job || is_wrong is_truth (codes "fails") job
+
+unfoldable pub site_is_wrong : Data → Bool
+site_is_wrong site = is_wrong is_text (codes "name") site || is_wrong is_tables (codes "jobs") site || list_any job_is_wrong (jobs_in site)
+
+unfoldable pub edge_is_wrong : Data → Bool
+edge_is_wrong edge = is_wrong is_two_texts (codes "ends") edge
+
+unfoldable pub refuses_wrong_kind : Data → Bool
+refuses_wrong_kind doc = is_wrong is_tables (codes "site") doc || is_wrong is_tables (codes "edge") doc || list_any site_is_wrong (sites_in doc) || list_any edge_is_wrong (edges_in doc)
+
+-- the name of the site, or of one of its jobs, is no name
+abbrev pub is_unnamed : Data → Bool
+is_unnamed d = not (is_name (name_in d))
+
+unfoldable pub has_bad_name : Data → Bool
+has_bad_name site = is_unnamed site || list_any is_unnamed (jobs_in site)
+
+-- the site has more than 1,000 jobs
+unfoldable pub has_many_jobs : Data → Bool
+has_many_jobs site = nat_lt 1000 (length (jobs_in site))
+
+-- a job of the site has turns above 1,000,000
+unfoldable pub has_many_turns : Data → Bool
+has_many_turns site = list_any (λ job. nat_lt 1000000 (turns_in job)) (jobs_in site)
+
+-- an end of the edge is the name of no site
+abbrev pub is_unknown : List (List ℕ) → List ℕ → Bool
+is_unknown names name = not (list_any (bytes_eq name) names)
+
+unfoldable pub has_unknown_end : List (List ℕ) → Data → Bool
+has_unknown_end names edge = is_unknown names (end_in 0 edge) || is_unknown names (end_in 1 edge)
+
+-- both ends are one site
+unfoldable pub is_loop : List (List ℕ) → Data → Bool
+is_loop names edge = let ends = ends_in names edge in ends.0 == ends.1
+
+-- the fault where the test holds
+abbrev pub on : Bool → PlanFault → Option PlanFault
+on holds fault = if holds then Some fault else None
+
+-- what may be refused in the form of a document, in its sites, in the ends of its edges, and in the pairs of sites
+-- that its edges join, each in order
+unfoldable pub form_refusals : Data → List (Option PlanFault)
+form_refusals doc =
+    on (refuses_version doc) fault.Version
+    ∷ on (refuses_unknown_key doc) fault.UnknownKey
+    ∷ on (refuses_missing_key doc) fault.MissingKey
+    ∷ on (refuses_wrong_kind doc) fault.WrongKind
+    ∷ []
+
+unfoldable pub site_refusals : List Data → List (Option PlanFault)
+site_refusals sites =
+    option_map fault.BadName (position has_bad_name sites)
+    ∷ option_map fault.SiteTwice (first_twice bytes_eq [] (map name_in sites))
+    ∷ on (length sites == 0) fault.NoSite
+    ∷ on (nat_lt 64 (length sites)) fault.TooManySites
+    ∷ option_map fault.TooManyJobs (position has_many_jobs sites)
+    ∷ option_map fault.TurnsTooLarge (position has_many_turns sites)
+    ∷ []
+
+unfoldable pub end_refusals : List (List ℕ) → List Data → List (Option PlanFault)
+end_refusals names edges =
+    option_map fault.UnknownEnd (position (has_unknown_end names) edges)
+    ∷ option_map fault.Loop (position (is_loop names) edges)
+    ∷ []
+
+unfoldable pub pair_refusals : List (ℕ × ℕ) → List (Option PlanFault)
+pair_refusals pairs =
+    option_map fault.EdgeTwice (first_twice same_ends (0, 0) pairs)
+    ∷ on (nat_lt 512 (length pairs)) fault.TooManyEdges
+    ∷ []
+
+-- the first of the list that is there
+abbrev pub first_some : {A : Type 0} → List (Option A) → Option A
+first_some [] = None
+first_some (o ∷ os) = option_or o (first_some os)
+
+-- the refusals of sites and edges, in order
+unfoldable pub graph_refusals : List Data → List Data → List (Option PlanFault)
+graph_refusals sites edges =
+    let names = map name_in sites in
+    site_refusals sites ++ (end_refusals names edges ++ pair_refusals (map (ends_in names) edges))
+
+-- the first refusal of a document that holds, at the least position
+unfoldable pub first_refusal : Data → Option PlanFault
+first_refusal doc = first_some (form_refusals doc ++ graph_refusals (sites_in doc) (edges_in doc))
+
+-- the first refusal of a text that holds; the text of no document is no TOML
+abbrev pub fault_of : Option Members → Option PlanFault
+fault_of None = Some fault.NotToml
+fault_of (Some doc) = first_refusal (table doc)
+
+abbrev pub first_fault : List ℕ → Option PlanFault
+first_fault text = fault_of (parse_document text)

@@ -1,0 +1,5 @@
+pub mod Log
+pub mod Lawful
+pub mod Fork
+pub mod Fields
+pub mod Meal

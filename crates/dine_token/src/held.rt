@@ -1,0 +1,62 @@
+ghost use Rattle.std.specs.Prelude.{◌≡◌};
+ghost use Rattle.dine_token.specs.Fork.{IsFork, MayMove, MayEat, moved, eaten};
+
+use crate::fork::Fork;
+use std::marker::Model;
+
+/// A fork in the hand of the site where it is. It has to be spent: given away, kept, or eaten with.
+pub struct Held {
+    fork: Fork,
+}
+
+impl Model for Held {
+    ghost use Rattle.dine_token.specs.Fork.{SeenFork};
+
+    ghost Value = { SeenFork };
+
+    ghost view = { λ held. held.fork };
+}
+
+impl Held {
+    /// Takes a fork that came, or that was here from the start, in hand. Its log stays.
+    pub fn take(fork: Fork) -> Held
+        ensures same { result ≡ fork }
+    {
+        Held { fork }
+    }
+
+    /// The fork in hand.
+    pub fn fork(&self) -> &Fork
+        ensures { result.now ≡ self.now }
+    {
+        &self.fork
+    }
+
+    /// Sends the fork clean to the other end, which has meals left, and writes the Move. The release rule allows it
+    /// only where the fork is dirty.
+    pub fn give(self, to: u32) -> Fork
+        requires { MayMove to self }
+        ensures moved { result ≡ moved to self }
+        ensures proper { IsFork result }
+    {
+        let Held { mut fork } = self;
+        fork.move_to(to);
+        fork
+    }
+
+    /// Lays the fork down where it is. Its log stays.
+    pub fn keep(self) -> Fork
+        ensures same { result ≡ self }
+    {
+        let Held { fork } = self;
+        fork
+    }
+
+    // Writes meal k of the site into the fork.
+    pub(crate) fn eat(&mut self, site: u32, k: u32)
+        requires { MayEat site k self.old }
+        ensures eaten { self.new ≡ eaten site k self.old }
+    {
+        self.fork.eat(site, k);
+    }
+}

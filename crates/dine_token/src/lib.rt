@@ -1,0 +1,18 @@
+//! The tokens of the dining philosophers: forks that carry the log of their meals and moves, request tokens,
+//! and the hands and meals that hold forks. A fork or a token moves from one owner to the next, and can't be copied.
+#![tactic(auto)]
+
+mod entry;
+mod fork;
+mod held;
+pub mod laws;
+mod meal;
+#[cfg(test)]
+mod tests;
+mod token;
+
+pub use entry::Entry;
+pub use fork::Fork;
+pub use held::Held;
+pub use meal::Meal;
+pub use token::Token;

@@ -1,0 +1,84 @@
+ghost use Rattle.std.specs.Prelude.{◌≡◌, ◌<◌, ◌^◌, All, Some, length, map, slice_get, vec_len};
+ghost use Rattle.dine_token.specs.Fork.{MayEat, eaten};
+
+use crate::fork::Fork;
+use crate::held::Held;
+use std::marker::Model;
+
+/// All forks of a site while it eats. It has to be spent, by [`Meal::end`].
+pub struct Meal {
+    site: u32,
+    k: u32,
+    hands: Vec<Held>,
+}
+
+impl Model for Meal {
+    ghost use Rattle.dine_token.specs.Meal.{SeenMeal};
+
+    ghost Value = { SeenMeal };
+
+    ghost view = { λ meal. record { site = meal.site; k = meal.k; forks = meal.hands.items } };
+
+    ghost use Rattle.std.specs.Prelude.{◌<◌, ◌^◌, vec_len};
+
+    ghost invariant = { λ meal. vec_len meal.hands < 2 ^ 32 };
+}
+
+impl Meal {
+    /// Begins meal `k` of the site, from 1, and writes it into each fork. Each fork has to be at the site and to have
+    /// `k - 1` of its meals, and `k` is at most its due. It takes no memory.
+    pub fn begin(site: u32, k: u32, hands: Vec<Held>) -> Meal
+        requires may_eat { All (MayEat site k) hands.items }
+        requires countable { vec_len hands < 2 ^ 32 }
+        ensures site { result.site ≡ site }
+        ensures k { result.k ≡ k }
+        ensures forks { result.forks ≡ map (eaten site k) hands.items }
+    {
+        let mut hands = hands;
+        for hand in hands.iter_mut() {
+            hand.eat(site, k);
+        }
+        Meal { site, k, hands }
+    }
+
+    /// The site that eats.
+    pub fn site(&self) -> u32
+        ensures { result ≡ self.now.site }
+    {
+        self.site
+    }
+
+    /// The number of the meal, from 1.
+    pub fn k(&self) -> u32
+        ensures { result ≡ self.now.k }
+    {
+        self.k
+    }
+
+    /// How many forks the site eats with.
+    pub fn len(&self) -> u32
+        ensures { result ≡ length self.now.forks }
+    {
+        self.hands.len() as u32
+    }
+
+    /// Fork `i`, from 0, in the order in which the hands came.
+    pub fn fork(&self, i: u32) -> &Fork
+        requires { i < length self.now.forks }
+        ensures { slice_get self.now.forks i ≡ Some result.now }
+    {
+        self.hands[i as usize].fork()
+    }
+
+    /// Ends the meal. The forks come back in the same order, and their logs stay.
+    pub fn end(self) -> Vec<Held>
+        ensures { result.items ≡ self.forks }
+    {
+        let Meal {
+            site: _,
+            k: _,
+            hands,
+        } = self;
+        hands
+    }
+}
