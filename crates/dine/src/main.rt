@@ -20,6 +20,7 @@ mod words;
 
 use run_cmd::run_cmd;
 use status::Fault;
+use std::alloc::Global;
 use std::env;
 use std::io::ErrorKind;
 use std::process::ExitCode;
@@ -49,8 +50,17 @@ fn main(rt: HostRuntime) -> ExitCode {
 // The words that the process was started with. A word that is no UTF-8 is no word of the program.
 fn words_of<R: Env + AllocGlobal>(rt: &R) -> Result<Vec<String>, Fault> {
     match env::args(rt) {
-        Ok(words) => Ok(words.collect(rt.alloc())?),
+        Ok(words) => list_of(rt.alloc(), words),
         Err(error) if error.kind() == ErrorKind::OutOfMemory => Err(Fault::OutOfMemory),
         Err(_) => Err(Fault::Usage),
     }
+}
+
+// The words in a list. `collect` would pass over a refused reservation.
+fn list_of(alloc: Global, words: env::Args) -> Result<Vec<String>, Fault> {
+    let mut list = Vec::new(alloc);
+    for word in words {
+        list.push(word).map_err(|_| Fault::OutOfMemory)?;
+    }
+    Ok(list)
 }
