@@ -175,7 +175,7 @@ module _ (plan : SeenPlan) (s : ℕ) (state : LocalState) (i : ℕ) where
 abbrev made : List Entry → ℕ → ℕ × ℕ → ℕ × ℕ → SeenFork
 made log edge ends due = record { edge = edge; ends = ends; due = due; log = log }
 
-own_is : (plan : SeenPlan) (edge : ℕ) (f : SeenFork) → is_fork_of plan edge f ≡ true → f ≡ fork_with plan edge f.log
+pub own_is : (plan : SeenPlan) (edge : ℕ) (f : SeenFork) → is_fork_of plan edge f ≡ true → f ≡ fork_with plan edge f.log
 own_is plan edge f own =
     let parts = and_parts _ _ own in
     let front = and_parts _ _ parts.0 in

@@ -17,7 +17,7 @@ use Rattle.dine_core.specs.Places.{no_place, is_held, laid_down, with_fork, ende
 use Rattle.dine_core.specs.Standing.{all_places}
 use Rattle.dine_core.proofs.Eating.{slot_held, fork_of}
 
-get_or_laid : (P : List Place) (F : List SeenFork) (i : ℕ) (d : Place) (f : SeenFork) → i < length P → length F ≡ length P
+pub get_or_laid : (P : List Place) (F : List SeenFork) (i : ℕ) (d : Place) (f : SeenFork) → i < length P → length F ≡ length P
     → get_or (laid_down P F) i d ≡ with_fork (Here (get_or F i f)) (get_or P i d)
 get_or_laid [] F i d f h same = absurd (omega arith)
 get_or_laid (p ∷ P) [] i d f h same = absurd (omega arith)
@@ -36,7 +36,7 @@ held_in_meal s ate eating place (Here fork) now h = refl
 held_in_meal s ate eating place (InMeal meals) now h = refl
 
 -- where every fork is held, the forks in hand are those of the places
-hands_at : (plan : SeenPlan) (s : ℕ) (state : LocalState) (n j i : ℕ) (d : SeenFork) → ((k : ℕ) → k < j + n → (fork_at plan s state k == 1) ≡ true) → i < n
+pub hands_at : (plan : SeenPlan) (s : ℕ) (state : LocalState) (n j i : ℕ) (d : SeenFork) → ((k : ℕ) → k < j + n → (fork_at plan s state k == 1) ≡ true) → i < n
     → get_or (forks_in_hand plan s state (range_with_len j n)) i d ≡ fork_with plan (edge_at plan s (j + i)) (hand_at s state (j + i))
 hands_at plan s state zero j i d held h = absurd (omega arith)
 hands_at plan s state (suc n) j zero d held h =

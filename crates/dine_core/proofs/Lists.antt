@@ -47,10 +47,10 @@ fork_is (Here fork) held h = ap (λ (f : SeenFork). f ∷ []) (sym h)
 fork_is (InMeal meals) held h = absurd h
 
 -- behind the places that were changed stand the others as they came
-pub get_or-map_over : (f : Place → Place) (xs ys : List Place) (i : ℕ) (d : Place) → i < length xs → ys ≡ map f (take i xs) ++ drop i xs → get_or ys i d ≡ get_or xs i d
+pub get_or-map_over : {X : Type 0} (f : X → X) (xs ys : List X) (i : ℕ) (d : X) → i < length xs → ys ≡ map f (take i xs) ++ drop i xs → get_or ys i d ≡ get_or xs i d
 get_or-map_over f xs ys i d within is =
     let size : length (map f (take i xs)) ≡ i = length-map (take i xs) f ∙ length-take-le i xs (omega arith) in
-    ap (λ (l : List Place). get_or l i d) is ∙ get_or-append_right (map f (take i xs)) (drop i xs) i i d size (omega arith) ∙ get_or-drop i xs (i - i) d ∙ ap (λ (n : ℕ). get_or xs n d) (omega arith)
+    ap (λ l. get_or l i d) is ∙ get_or-append_right (map f (take i xs)) (drop i xs) i i d size (omega arith) ∙ get_or-drop i xs (i - i) d ∙ ap (λ (n : ℕ). get_or xs n d) (omega arith)
 
 -- the last fork in hand is laid down at the last place that waits for one
 pub laid_more : (m : ℕ) (places : List Place) (forks : List SeenFork) (p : Place) (f : SeenFork) → m < length places → m < length forks

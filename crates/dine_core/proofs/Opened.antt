@@ -77,7 +77,7 @@ sound_start plan s due places is_plan due_is is = record {
   hungry = λ h. absurd (false≢true h);
 }
 
-filter_few : (p : ℕ → Bool) (xs : List ℕ) → length (filter p xs) ≤ length xs
+pub filter_few : (p : ℕ → Bool) (xs : List ℕ) → length (filter p xs) ≤ length xs
 filter_few p [] = omega arith
 filter_few p (x ∷ xs) =
     let rest = filter_few p xs in

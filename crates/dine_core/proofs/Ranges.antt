@@ -39,7 +39,7 @@ ready_by Hungry true false meals fork edge h = refl
 ready_by Hungry false token meals fork edge h = refl
 ready_by Eating held token meals fork edge h = absurd (cc)
 
-not_one : (n : ℕ) → n ≤ 1 → not (n == 1) ≡ (n == 0)
+pub not_one : (n : ℕ) → n ≤ 1 → not (n == 1) ≡ (n == 0)
 not_one zero h = refl
 not_one (suc zero) h = refl
 not_one (suc (suc n)) h = absurd (omega arith)
@@ -75,7 +75,7 @@ module _ (plan : SeenPlan) (s : ℕ) (state : LocalState) where
       ∙ ap (λ (l : List ℕ). option_to_list (kept_at plan s state j).token ++ l) (tokens_by places (j + 1) (λ i within. h (suc i) (omega arith) ∙ ap (kept_at plan s state) (let e : j + suc i ≡ j + 1 + i = omega arith in e)))
       ∙ slot_tokens (token_at plan s state j == 1) (edge_at plan s j) (tokens_in_hand plan s state (range_with_len (j + 1) (length places)))
 
-and_along : (a b c : Bool) → (a ≡ true → b ≡ c) → (a && b) ≡ (a && c)
+pub and_along : (a b c : Bool) → (a ≡ true → b ≡ c) → (a && b) ≡ (a && c)
 and_along true b c h = h refl
 and_along false b c h = refl
 

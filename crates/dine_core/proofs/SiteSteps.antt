@@ -26,12 +26,12 @@ list_all-range test a (suc n) (suc i) h l =
     let same : a + 1 + i ≡ a + suc i = omega arith in
     ap test (sym same) ∙ list_all-range test (a + 1) n i (and_parts _ _ h).1 (omega arith)
 
-not_hungry_while_eating : (p : Phase) → is_eating p ≡ true → is_hungry p ≡ true → ⊥
+pub not_hungry_while_eating : (p : Phase) → is_eating p ≡ true → is_hungry p ≡ true → ⊥
 not_hungry_while_eating phase.Thinking e h = false≢true h
 not_hungry_while_eating phase.Hungry e h = false≢true e
 not_hungry_while_eating phase.Eating e h = false≢true h
 
-not_thinking_while_eating : (p : Phase) → is_eating p ≡ true → is_thinking p ≡ true → ⊥
+pub not_thinking_while_eating : (p : Phase) → is_eating p ≡ true → is_thinking p ≡ true → ⊥
 not_thinking_while_eating phase.Thinking e h = false≢true e
 not_thinking_while_eating phase.Hungry e h = false≢true h
 not_thinking_while_eating phase.Eating e h = false≢true h

@@ -24,20 +24,20 @@ use Rattle.dine_core.proofs.SiteSteps.{step_keeps}
 
 -- ---- what an event does
 
-cond_some_parts : {A : Type 0} (b : Bool) (o : Option A) (y : A) → cond b o None ≡ Some y → (b ≡ true) × (o ≡ Some y)
+pub cond_some_parts : {A : Type 0} (b : Bool) (o : Option A) (y : A) → cond b o None ≡ Some y → (b ≡ true) × (o ≡ Some y)
 cond_some_parts true o y h = (refl, h)
 cond_some_parts false o y h = absurd cc
 
-option_map_parts : {A B : Type 0} (f : A → B) (o : Option A) (y : B) → option_map f o ≡ Some y → (x : A) × (o ≡ Some x) × (f x ≡ y)
+pub option_map_parts : {A B : Type 0} (f : A → B) (o : Option A) (y : B) → option_map f o ≡ Some y → (x : A) × (o ≡ Some x) × (f x ≡ y)
 option_map_parts f None y h = absurd cc
 option_map_parts f (Some x) y h = (x, refl, cc)
 
-and_then_parts : {A B : Type 0} (f : A → Option B) (o : Option A) (y : B) → option_and_then f o ≡ Some y → (x : A) × (o ≡ Some x) × (f x ≡ Some y)
+pub and_then_parts : {A B : Type 0} (f : A → Option B) (o : Option A) (y : B) → option_and_then f o ≡ Some y → (x : A) × (o ≡ Some x) × (f x ≡ Some y)
 and_then_parts f None y h = absurd cc
 and_then_parts f (Some x) y h = (x, refl, h)
 
 -- a number of a range is within it
-in_range : (a n x : ℕ) → list_any (λ s. s == x) (range_with_len a n) ≡ true → x < a + n
+pub in_range : (a n x : ℕ) → list_any (λ s. s == x) (range_with_len a n) ≡ true → x < a + n
 in_range a zero x h = absurd cc
 in_range a (suc n) x h = elim (or_cases (a == x) (list_any (λ s. s == x) (range_with_len (a + 1) n)) h) [
   | inl w ↦ omega (arith, eqb-true a x w)
@@ -113,7 +113,7 @@ module _ (plan : SeenPlan) (s : ℕ) (state : LocalState) (offered : ℕ → Lis
 prefix_longer : (taken put new more : List Letter) → IsPrefix taken put → new ≡ put ++ more → IsPrefix taken new
 prefix_longer taken put new more h is = (h.0 ++ more, sym (append_assoc taken h.0 more) ∙ ap (λ (l : List Letter). l ++ more) h.1 ∙ sym is)
 
-next_of : (taken rest : List Letter) (l : Letter) → slice_get (taken ++ rest) (length taken) ≡ Some l → (after : List Letter) × (rest ≡ l ∷ after)
+pub next_of : (taken rest : List Letter) (l : Letter) → slice_get (taken ++ rest) (length taken) ≡ Some l → (after : List Letter) × (rest ≡ l ∷ after)
 next_of [] [] l h = absurd cc
 next_of [] (x ∷ rest) l h = (rest, cc)
 next_of (x ∷ taken) rest l h = next_of taken rest l h
@@ -135,7 +135,7 @@ pub record WorldKeeps (plan : SeenPlan) (world : WorldState) : Type 0 where
   pub links : LinksAreOrdered plan world
 
 -- the other end of a place is not the site itself
-neighbour_differs : (plan : SeenPlan) (s i : ℕ) → IsPlaced plan s i → neighbour_at plan s i ≡ s → ⊥
+pub neighbour_differs : (plan : SeenPlan) (s i : ℕ) → IsPlaced plan s i → neighbour_at plan s i ≡ s → ⊥
 neighbour_differs plan s i is_placed same = elim is_placed.sides [
   | inl w ↦ omega (arith, is_placed.ordered, w.0, w.1)
   | inr w ↦ omega (arith, is_placed.ordered, w.0, w.1)
@@ -236,7 +236,7 @@ event_keeps plan world new e is_plan kept h =
     subst (WorldKeeps plan) (sym w.changes) (new_kept plan is_plan world kept e.site w.is_site w.step is.0 is.1 w.needs)
 
 -- the start
-start_state : (plan : SeenPlan) (s : ℕ) → s < site_count plan → state_of (start plan) s ≡ start_of plan s
+pub start_state : (plan : SeenPlan) (s : ℕ) → s < site_count plan → state_of (start plan) s ≡ start_of plan s
 start_state plan s h = at 0 (site_count plan) s h ∙ ap (start_of plan) (zero-add s) where
   at : (a n i : ℕ) → i < n → get_or (map (start_of plan) (range_with_len a n)) i no_state ≡ start_of plan (a + i)
   at a zero i l = absurd (omega arith)

@@ -1,11 +1,11 @@
 -- What a site holds, counted from whole lists of letters.
-use Rattle.std.specs.Prelude.{ℕ, zero, suc, ◌+◌, ◌-◌, ◌==◌, List, [], ◌∷◌, ◌++◌, if◌then◌else◌}
+use Rattle.std.specs.Prelude.{◌≡◌, ℕ, zero, suc, true, ◌<◌, length, ◌+◌, ◌-◌, ◌==◌, List, [], ◌∷◌, ◌++◌, if◌then◌else◌}
 use Rattle.dine_token.specs.declared.entry.Entry.{Entry}
 use Rattle.dine_token.specs.declared.entry.Entry.TheVariants.{Meal}
 use Rattle.dine_token.specs.Log.{meals_of}
 use Rattle.dine_plan.specs.Plan.{SeenPlan, lo_of, hi_of}
 use Rattle.dine_core.specs.Letters.{forks_in, requests_in, last_log_or}
-use Rattle.dine_core.specs.Local.{LocalState, Traffic, traffic_at, edge_at}
+use Rattle.dine_core.specs.Local.{LocalState, Traffic, traffic_at, edge_at, is_eating}
 
 -- The fork is at the lower end at the start, and the token at the higher. A taken one comes, a put one goes.
 abbrev pub forks_held : SeenPlan → ℕ → ℕ → Traffic → ℕ
@@ -36,3 +36,7 @@ token_at plan s state i = tokens_held plan s (edge_at plan s i) (traffic_at stat
 
 abbrev pub hand_at : ℕ → LocalState → ℕ → List Entry
 hand_at s state i = hand s state.ate (traffic_at state i)
+
+-- a site that eats holds the forks of all its places
+abbrev pub EatsWithAll : SeenPlan → ℕ → LocalState → Type 0
+EatsWithAll plan s state = is_eating state.phase ≡ true → (i : ℕ) → i < length state.traffic → fork_at plan s state i ≡ 1

@@ -8,9 +8,15 @@ pub mod Runs
 pub mod Core
 pub mod Places
 pub mod Kept
+pub mod Numbers
 pub mod Standing
 pub mod World
+pub mod Links
+pub mod Seats
 pub mod Precedence
 pub mod Bound
 pub mod Schedules
+pub mod Forks
+pub mod Worlds
+pub mod WorldKept
 pub mod Examples

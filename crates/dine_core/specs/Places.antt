@@ -182,8 +182,7 @@ IsLiftable s place = OnHere (λ fork. IsEnd fork (neighbour_of s place)) place.f
 abbrev pub with_place : ℕ → Place → SeenCore → SeenCore
 with_place i place core = record core { places = slice_set core.places i place }
 
--- A fork that is in hand at a place: of the place's edge, at the site, with all meals that the site ate; where it was asked
--- for, the other end has meals left.
+-- A fork that is in hand at a place: of the place's edge, at the site, with all meals that the site ate.
 pub record FitsPlace (s ate : ℕ) (place : Place) (fork : SeenFork) : Type 0 where
   pub edge : fork.edge ≡ place.edge
   pub ends : fork.ends ≡ place.ends
@@ -197,6 +196,8 @@ FitsSlot s ate eating place Away = eating ≡ false
 FitsSlot s ate eating place (Here fork) = (eating ≡ false) × FitsPlace s ate place fork
 FitsSlot s ate eating place (InMeal meals) = eating ≡ true
 
+-- A place that is right for the core: the site is one of its ends, with the core's due meals; its slot is right, and its token
+-- is that of the edge; where the fork is held and was asked for, the other end has meals left.
 pub record IsSoundPlace (core : SeenCore) (place : Place) : Type 0 where
   pub ordered : place.ends.0 < place.ends.1
   pub end : (core.site ≡ place.ends.0) ⊎ (core.site ≡ place.ends.1)
@@ -205,16 +206,18 @@ pub record IsSoundPlace (core : SeenCore) (place : Place) : Type 0 where
   pub asked : is_held place.fork ≡ true → is_some place.token ≡ true → meals_in (neighbour_of core.site place) place.fork < due_of_neighbour core.site place
   pub token : (edge : ℕ) → place.token ≡ Some edge → edge ≡ place.edge
 
+-- All places are right, and no more meals are eaten than due, and fewer while the site is hungry.
 pub record IsSound (core : SeenCore) : Type 0 where
   pub places : All (IsSoundPlace core) core.places
   pub within : core.ate ≤ core.due
   pub hungry : is_hungry core.phase ≡ true → core.ate < core.due
 
--- the meal is the core's: of its site, with its number, and with the forks of its places
+-- the fork of a meal at place i: as one in hand there, with the meals of the other end that the core kept
 pub record FitsMeal (core : SeenCore) (i : ℕ) (fork : SeenFork) : Type 0 where
   pub fits : FitsPlace core.site core.ate (place_at core i) fork
   pub meals : meals_of (neighbour_of core.site (place_at core i)) fork.log ≡ meals_in (neighbour_of core.site (place_at core i)) (place_at core i).fork
 
+-- The meal is the core's: of its site, with its number, and with the forks of its places, in order.
 pub record IsMealOf (core : SeenCore) (meal : SeenMeal) : Type 0 where
   pub site : meal.site ≡ core.site
   pub k : meal.k ≡ core.ate

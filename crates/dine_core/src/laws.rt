@@ -1,18 +1,25 @@
 //! Laws over the definitions alone. Each function does nothing: its contract is the law.
 
-ghost use Rattle.std.specs.Prelude.{◌≡◌, ◌<◌, ◌≤◌, ◌+◌, ◌↔◌, ℕ, List, [], ◌∷◌, None, false, length, true};
+ghost use Rattle.std.specs.Prelude.{◌≡◌, ◌≢◌, ◌<◌, ◌≤◌, ◌+◌, ◌↔◌, ℕ, List, [], ◌∷◌, ◌++◌, None, Some, false, length, true};
 ghost use Rattle.std.specs.List.{list_any};
-ghost use Rattle.dine_plan.specs.Plan.{IsPlan, SeenPlan, job_count, site_count};
+ghost use Rattle.dine_plan.specs.Plan.{IsPlan, SeenPlan, edge_count, hi_of, job_count, lo_of, site_count};
+ghost use Rattle.dine_token.specs.Lawful.{IsLawful};
+ghost use Rattle.dine_token.specs.Log.{meals_of};
 ghost use Rattle.dine_token.specs.declared.entry.Entry.TheVariants.{Meal, Move};
-ghost use Rattle.dine_core.specs.Bound.{bound_of};
+ghost use Rattle.dine_core.specs.Bound.{bound_of, effects_of};
 ghost use Rattle.dine_core.specs.Examples.{alone, enabled_at_start, ends_complete, next_after, outcome_of, pair, path};
 ghost use Rattle.dine_core.specs.Breach.{first_breach, is_allowed};
 ghost use Rattle.dine_core.specs.Holdings.{fork_at, token_at};
 ghost use Rattle.dine_core.specs.Letters.{closes_in, dones_in, forks_in, requests_in};
-ghost use Rattle.dine_core.specs.Local.{LocalState, start_of, traffic_at};
+ghost use Rattle.dine_core.specs.Links.{ForEachEdge, ForEachLink, forks_of_edge, queue_to, tokens_of_edge};
+ghost use Rattle.dine_core.specs.Local.{LocalState, is_eating, neighbour_at, start_of, traffic_at};
+ghost use Rattle.dine_core.specs.Precedence.{IsAcyclic, fork_log};
 ghost use Rattle.dine_core.specs.Runs.{AreProper, LeadTo, begins_in, is_give_at};
+ghost use Rattle.dine_core.specs.Schedules.{finish_within, whole_run};
 ghost use Rattle.dine_core.specs.Steps.{LocalStep, Step};
 ghost use Rattle.dine_core.specs.Streams.{IsProper, KeepsStreams};
+ghost use Rattle.dine_core.specs.World.{IsComplete, Reaches, WorldState, enabled_events, is_enabled, put_to, state_of, world_after, next_letter};
+ghost use Rattle.dine_core.specs.declared.events.Event.{Event};
 ghost use Rattle.dine_core.specs.declared.letters.Letter.{Letter};
 ghost use Rattle.dine_core.specs.declared.events.EventKind.TheVariants.{Hungry};
 ghost use Rattle.dine_core.specs.declared.letters.Kind4.TheVariants as kind;
@@ -81,4 +88,95 @@ pub fn asker_has_precedence()
         → AreProper before → LeadTo plan s (start_of plan s) before state → i < length state.traffic
         → fork_at plan s state i ≡ 1 → token_at plan s state i ≡ 1
         → LeadTo plan s state steps new → list_any (is_give_at i) steps ≡ false → begins_in steps ≤ 1 }
+{}
+
+/// A link holds few letters, in every world that events reach from the start. What was put on it is what was taken from it and
+/// then the letters in it: at most one Fork, one Request, one Done and one Close, and so at most four.
+pub fn links_hold_few_letters()
+    ensures in_order { ForEachLink (λ plan world s i. put_to plan world s i ≡ (traffic_at (state_of world s) i).taken ++ queue_to plan world s i) }
+    ensures forks { ForEachLink (λ plan world s i. forks_in (queue_to plan world s i) ≤ 1) }
+    ensures requests { ForEachLink (λ plan world s i. requests_in (queue_to plan world s i) ≤ 1) }
+    ensures dones { ForEachLink (λ plan world s i. dones_in (queue_to plan world s i) ≤ 1) }
+    ensures closes { ForEachLink (λ plan world s i. closes_in (queue_to plan world s i) ≤ 1) }
+    ensures letters { ForEachLink (λ plan world s i. length (queue_to plan world s i) ≤ 4) }
+{}
+
+/// Each edge has exactly one fork and one token, in every world that events reach from the start: those held at its two ends and
+/// those in the links between them come to one.
+pub fn edges_have_one_fork_and_one_token()
+    ensures fork { ForEachEdge (λ plan world edge. forks_of_edge plan world edge ≡ 1) }
+    ensures token { ForEachEdge (λ plan world edge. tokens_of_edge plan world edge ≡ 1) }
+{}
+
+/// Neighbours never eat at the same time, in every world that events reach from the start: a site that eats holds the fork of
+/// each of its edges.
+pub fn neighbours_never_eat_together()
+    ensures holds_all { ForEachLink (λ plan world s i. is_eating (state_of world s).phase ≡ true → fork_at plan s (state_of world s) i ≡ 1) }
+    ensures alone { ForEachLink (λ plan world s i. is_eating (state_of world s).phase ≡ true → is_eating (state_of world (neighbour_at plan s i)).phase ≡ false) }
+{}
+
+/// The effects of a world that events reach from the start are as many as the events.
+pub fn events_are_counted()
+    ensures { (plan : SeenPlan) (events : List Event) (world : WorldState) → IsPlan plan → Reaches plan events world
+        → effects_of world ≡ length events }
+{}
+
+/// No more events than the bound of the plan lead from the start to a world, and its effects are within the bound.
+pub fn events_are_bounded()
+    ensures effects { (plan : SeenPlan) (events : List Event) (world : WorldState) → IsPlan plan → Reaches plan events world
+        → effects_of world ≤ bound_of plan }
+    ensures events { (plan : SeenPlan) (events : List Event) (world : WorldState) → IsPlan plan → Reaches plan events world
+        → length events ≤ bound_of plan }
+{}
+
+/// An event that is enabled in a world stays enabled after each event of another site.
+pub fn enabled_events_stay_enabled()
+    ensures { (plan : SeenPlan) (world new : WorldState) (e other : Event)
+        → is_enabled plan world e ≡ true → world_after plan world other ≡ Some new → e.site ≢ other.site → is_enabled plan new e ≡ true }
+{}
+
+/// No letter of the world meets a breach, in every world that events reach from the start: the letter that is next in a link is
+/// one that the site may take.
+pub fn next_letters_meet_no_breach()
+    ensures { ForEachLink (λ plan world s i. (letter : Letter) → next_letter plan world s i ≡ Some letter → first_breach plan s (state_of world s) i letter ≡ None) }
+{}
+
+/// Precedence is acyclic in each world that events reach from the start: some list of all sites, each once, has the
+/// preferred end of each edge before the other end.
+pub fn precedence_is_acyclic()
+    ensures { (plan : SeenPlan) (events : List Event) (world : WorldState) → IsPlan plan → Reaches plan events world
+        → IsAcyclic plan world }
+{}
+
+/// A world that is stuck is complete: where events reach a world from the start and no event is enabled in it, every site
+/// thinks and ate all its meals, and every link is closed in order and wholly taken.
+pub fn stuck_worlds_are_complete()
+    ensures { (plan : SeenPlan) (events : List Event) (world : WorldState) → IsPlan plan → Reaches plan events world
+        → enabled_events plan world ≡ [] → IsComplete plan world }
+{}
+
+/// A run that does the first enabled event again and again, at most as many times as the bound of the plan, ends in a world
+/// where no event is enabled and which is complete: from each world that events reach from the start, and as the end of a
+/// whole run, after any choices.
+pub fn finished_runs_are_complete()
+    ensures halts { (plan : SeenPlan) (events : List Event) (world : WorldState) → IsPlan plan → Reaches plan events world
+        → enabled_events plan (finish_within (bound_of plan) plan (record { world = world; events = 0 })).world ≡ [] }
+    ensures complete { (plan : SeenPlan) (events : List Event) (world : WorldState) → IsPlan plan → Reaches plan events world
+        → IsComplete plan (finish_within (bound_of plan) plan (record { world = world; events = 0 })).world }
+    ensures whole_run_halts { (plan : SeenPlan) (choices : List ℕ) → IsPlan plan → enabled_events plan (whole_run plan choices).world ≡ [] }
+    ensures whole_run_complete { (plan : SeenPlan) (choices : List ℕ) → IsPlan plan → IsComplete plan (whole_run plan choices).world }
+{}
+
+/// The log of each edge's fork is lawful, in every world that events reach from the start and wherever the fork lies: in hand, in
+/// a meal or in a link. Where the world is complete, the log has all meals of both ends. So at the end of a whole run, after any
+/// choices, each log is lawful and has all meals of both ends.
+pub fn forks_are_lawful_and_whole()
+    ensures lawful { ForEachEdge (λ plan world edge. IsLawful (lo_of plan edge, hi_of plan edge) (job_count plan (lo_of plan edge), job_count plan (hi_of plan edge)) (fork_log plan world edge)) }
+    ensures whole { ForEachEdge (λ plan world edge. IsComplete plan world
+        → (meals_of (lo_of plan edge) (fork_log plan world edge) ≡ job_count plan (lo_of plan edge)) × (meals_of (hi_of plan edge) (fork_log plan world edge) ≡ job_count plan (hi_of plan edge))) }
+    ensures run_lawful { (plan : SeenPlan) (choices : List ℕ) (edge : ℕ) → IsPlan plan → edge < edge_count plan
+        → IsLawful (lo_of plan edge, hi_of plan edge) (job_count plan (lo_of plan edge), job_count plan (hi_of plan edge)) (fork_log plan (whole_run plan choices).world edge) }
+    ensures run_whole { (plan : SeenPlan) (choices : List ℕ) (edge : ℕ) → IsPlan plan → edge < edge_count plan
+        → (meals_of (lo_of plan edge) (fork_log plan (whole_run plan choices).world edge) ≡ job_count plan (lo_of plan edge))
+        × (meals_of (hi_of plan edge) (fork_log plan (whole_run plan choices).world edge) ≡ job_count plan (hi_of plan edge)) }
 {}

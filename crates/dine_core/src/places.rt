@@ -70,6 +70,7 @@ impl ForkSlot {
 }
 
 impl Place {
+    ghost use Rattle.dine_core.specs.Forks.{hand_of};
     ghost use Rattle.dine_core.specs.Places.{neighbour_of, due_of_neighbour, is_held, is_dirty_in_hand, meals_in, has_all, is_ready_at, can_give_at, is_own_fork, breach_of_request, breach_of_fork, breach_of_done, breach_of_close, breach_at, noted, lifted, opened, is_over_at, fork_in_hand, EndsOf, OnHere, with_fork};
 
     /// The site at the other end.
@@ -270,6 +271,17 @@ impl Place {
         ensures { self.new ≡ with_fork (ForkSlot.Here held) self.old }
     {
         self.fork = ForkSlot::Here(held.keep());
+    }
+
+    /// Hands out the fork, where it is in hand.
+    pub(crate) fn take_fork(&mut self) -> Option<Fork>
+        ensures fork { result ≡ hand_of self.old.fork }
+        ensures away { self.new ≡ with_fork ForkSlot.Away self.old }
+    {
+        match mem::replace(&mut self.fork, ForkSlot::Away) {
+            ForkSlot::Here(fork) => Some(fork),
+            ForkSlot::Away | ForkSlot::InMeal(_) => None,
+        }
     }
 
     /// Hands out the fork, where it is in hand, and the token.

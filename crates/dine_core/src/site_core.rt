@@ -1,4 +1,4 @@
-ghost use Rattle.std.specs.Prelude.{◌≡◌, ◌≢◌, ℕ, ◌<◌, ◌==◌, Some, None, is_some, true, false, length, map, IfOk, MatchOption, MatchResult};
+ghost use Rattle.std.specs.Prelude.{◌≡◌, ◌≢◌, ℕ, ◌<◌, ◌==◌, Some, None, is_some, not, true, false, length, map, IfOk, MatchOption, MatchResult};
 ghost use Rattle.std.specs.List.{list_all};
 ghost use Rattle.dine_token.specs.Fork.{eaten};
 ghost use Rattle.dine_plan.specs.Plan.{SeenPlan, site_count, edges_of};
@@ -9,12 +9,14 @@ ghost use Rattle.dine_core.specs.Steps as step;
 ghost use Rattle.dine_core.specs.Steps.{after};
 ghost use Rattle.dine_core.specs.Core.{SeenCore, StandsFor, forks_in_hand, fresh_forks, fresh_tokens};
 ghost use Rattle.dine_core.specs.Places.{place_at, is_held, can_give, can_ask, can_hunger, can_begin, can_end_done, can_close, is_ready_at, is_over_at, is_closed_at, has_all_said, has_all_closed, breach_at, hungered, asked, gave, begun, ended, said_done, closed, took, forks_of, tokens_of, IsMealOf};
+ghost use Rattle.dine_core.specs.Forks.{hand_of};
+ghost use Rattle.dine_core.specs.Numbers.{link_to, link_from};
 ghost use Rattle.dine_core.specs.Standing.{ForEachState, TellsMay, Steps, Puts, TellsBreach, AreForksInHand, AreTokensInHand, all_places, has_finished, has_closed};
 
 use crate::breach::Breach;
 use crate::letters::Letter;
 use crate::phase::Phase;
-use crate::places::Place;
+use crate::places::{ForkSlot, Place};
 use crate::{meals, opening};
 use dine_plan::Plan;
 use dine_token::{Fork, Held, Meal, Token};
@@ -163,6 +165,52 @@ impl SiteCore {
         ensures by_lists { ForEachState self.now (λ plan state. result ≡ has_finished plan self.now.site state) }
     {
         self.phase == Phase::Thinking && self.ate == self.due && self.are_all_over()
+    }
+
+    /// The number of the link of the world that leads to the site at place `i`.
+    pub(crate) fn link_to(&self, i: u32) -> usize
+        requires { i < length self.now.places }
+        ensures { result ≡ link_to self.now.site (place_at self.now i) }
+    {
+        let place = &self.places[i as usize];
+        2 * (place.edge as usize) + usize::from(place.ends.0 == self.site)
+    }
+
+    /// The number of the link that leads away.
+    pub(crate) fn link_from(&self, i: u32) -> usize
+        requires { i < length self.now.places }
+        ensures { result ≡ link_from self.now.site (place_at self.now i) }
+    {
+        let place = &self.places[i as usize];
+        2 * (place.edge as usize) + usize::from(place.ends.0 != self.site)
+    }
+
+    /// Where the fork of place `i` is.
+    pub(crate) fn slot(&self, i: u32) -> &ForkSlot
+        requires { i < length self.now.places }
+        ensures { result.now ≡ (place_at self.now i).fork }
+    {
+        &self.places[i as usize].fork
+    }
+
+    /// Hands out the fork of place `i`, where it is in hand.
+    pub(crate) fn take_fork(&mut self, i: u32) -> Option<Fork>
+        requires place { i < length self.old.places }
+        requires not_eating { is_eating self.old.phase ≡ false }
+        ensures fork { result ≡ hand_of (place_at self.old i).fork }
+        ensures away { self.new ≡ gave i self.old }
+    {
+        self.places[i as usize].take_fork()
+    }
+
+    /// Whether the letter is in turn at place `i`.
+    pub(crate) fn may_take(&self, i: u32, letter: &Letter) -> bool
+        requires { i < length self.now.places }
+        ensures { result ≡ not (is_some (breach_at self.now.site self.now.ate (place_at self.now i) letter.now)) }
+    {
+        self.places[i as usize]
+            .breach_of(self.site, self.ate, letter)
+            .is_none()
     }
 
     // Whether Close is put at every place.

@@ -1,0 +1,242 @@
+-- A world that stands for a state, and an event that is enabled there: what the site may do, and that the world stands for the
+-- state after it.
+use Rattle.std.proofs.Common.{◌≡◌, ◌≢◌, ℕ, zero, suc, ◌<◌, true, List, [], ◌∷◌, ◌++◌, length, drop, get_or, slice_get, slice_set, Option, Some, None, option_map, option_and_then, refl, sym, ◌∙◌, ap, subst, inl, inr, arith}
+use Rattle.std.proofs.lemmas.Bool.{cases_eq, and_parts, false≢true, ltb-true}
+use Rattle.std.proofs.lemmas.List.{get_or-set_same, get_or-set_other, length-set}
+use Rattle.std.proofs.lemmas.Option.{same_Some, slice_get-get_or}
+use Rattle.dine_plan.specs.Plan.{SeenPlan, IsPlan, site_count, edges_of}
+use Rattle.dine_core.specs.declared.letters.Letter.{Letter}
+use Rattle.dine_core.specs.declared.events.Event.{Event}
+use Rattle.dine_core.specs.declared.events.EventKind.{EventKind}
+use Rattle.dine_core.specs.declared.events.EventKind.TheVariants as event
+use Rattle.dine_core.specs.declared.seats.Seat.{Seat}
+use Rattle.dine_core.specs.Local.{LocalState, traffic_at, edge_at, neighbour_at}
+use Rattle.dine_core.specs.Holdings.{EatsWithAll}
+use Rattle.dine_core.specs.Steps.{Step, may, after, with_put}
+use Rattle.dine_core.specs.Steps as step
+use Rattle.dine_core.specs.Streams.{KeepsStreams}
+use Rattle.dine_core.specs.Core.{SeenCore}
+use Rattle.dine_core.specs.Numbers.{link_to, link_from}
+use Rattle.dine_core.specs.Places.{place_at}
+use Rattle.dine_core.specs.World.{WorldState, no_state, place_of, put_to, state_of, next_letter, step_of, world_after, after_events, start}
+use Rattle.dine_core.specs.Links.{queue_to}
+use Rattle.dine_core.specs.Seats.{Does, PutsAt, HasRoomAt, HasRoomFor, IsSeatOf, MovesLetters, can_do, letters_in, next_in, step_in, with_letter, without_next}
+use Rattle.dine_core.specs.Worlds.{IsReached, IsWorldOf, LinksStand, SeatsStand, SeenWorld, can_at, number_to, number_from}
+use Rattle.dine_core.proofs.Across.{across}
+use Rattle.dine_core.proofs.Stands.{place_is}
+use Rattle.dine_core.proofs.WorldKept.{IsStepOf, and_then_parts, option_map_parts, WorldKeeps, event_is_step, event_keeps, reached_kept}
+use Rattle.dine_core.proofs.EatersApart.{eats_with_all}
+use Rattle.dine_core.proofs.Links.{link_letters}
+use Rattle.dine_core.proofs.LinkNumbers.{from_is_to, to_in_range}
+use Rattle.dine_core.proofs.LinkSteps.{links-put, links-same, links-taken, one_longer}
+
+-- the first letter behind those taken
+first_behind : (m : ℕ) (xs : List Letter) → slice_get (drop m xs) 0 ≡ slice_get xs m
+first_behind zero xs = refl
+first_behind (suc m) [] = refl
+first_behind (suc m) (x ∷ xs) = first_behind m xs
+
+-- what events lead to, and one event more
+pub one_more : (plan : SeenPlan) (world middle new : WorldState) (events : List Event) (e : Event) → after_events plan world events ≡ Some middle → world_after plan middle e ≡ Some new → after_events plan world (events ++ e ∷ []) ≡ Some new
+one_more plan world middle new [] e h more = ap (λ (w : WorldState). option_and_then (λ next. Some next) (world_after plan w e)) (same_Some world middle h) ∙ ap (option_and_then (λ next. Some next)) more
+one_more plan world middle new (first ∷ events) e h more =
+    let w = and_then_parts (λ next. after_events plan next events) (world_after plan world first) middle h in
+    ap (option_and_then (λ next. after_events plan next (events ++ e ∷ []))) w.1 ∙ one_more plan w.0 middle new events e w.2 more
+
+-- a seat that can do something is there
+pub seat_there : (links : List (List Letter)) (kind : EventKind) (o : Option Seat) → can_at links kind o ≡ true → (seat : Seat) × (o ≡ Some seat) × (can_do links seat.core kind ≡ true)
+seat_there links kind None h = absurd (false≢true h)
+seat_there links kind (Some seat) h = (seat, refl, h)
+
+module _ (plan : SeenPlan) (world : WorldState) (seen : SeenWorld) (stands : IsWorldOf plan world seen) where
+  abbrev pub is_plan : IsPlan plan
+  is_plan = stands.reached.is_plan
+
+  pub kept : WorldKeeps plan world
+  kept = reached_kept plan stands.reached.events world stands.reached.is_plan stands.reached.reaches
+
+  module _ (s : ℕ) (is_site : s < site_count plan) (past : Seat) where
+    abbrev seat : Seat
+    seat = get_or seen.seats s past
+
+    abbrev core : SeenCore
+    core = seat.core
+
+    site_is : core.site ≡ s
+    site_is = stands.seats.site s past is_site
+
+    core_stands : IsSeatOf plan (state_of world s) seat
+    core_stands = stands.seats.stands s past is_site
+
+    pub keeps_here : KeepsStreams plan core.site (state_of world s)
+    keeps_here = subst (λ (x : ℕ). KeepsStreams plan x (state_of world s)) (sym site_is) (kept.keeps s is_site)
+
+    pub eats_here : EatsWithAll plan core.site (state_of world s)
+    eats_here = subst (λ (x : ℕ). EatsWithAll plan x (state_of world s)) (sym site_is) (eats_with_all plan stands.reached.events world is_plan stands.reached.reaches s is_site)
+
+    -- the places of the core are those of the site
+    pub as_many_places : length core.places ≡ length (edges_of plan s)
+    as_many_places = core_stands.core.degree ∙ (kept.keeps s is_site).every_place
+
+    -- the numbers of the links at a place
+    pub to_is : (i : ℕ) → i < length core.places → link_to core.site (place_at core i) ≡ number_to plan s i
+    to_is i h = ap (link_to core.site) (place_is plan (state_of world s) core core_stands.core i h) ∙ ap (λ (x : ℕ). number_to plan x i) site_is
+
+    pub from_is : (i : ℕ) → i < length core.places → link_from core.site (place_at core i) ≡ number_from plan s i
+    from_is i h = ap (link_from core.site) (place_is plan (state_of world s) core core_stands.core i h) ∙ ap (λ (x : ℕ). number_from plan x i) site_is
+
+    -- the next letter of the link is that which was put and not taken
+    pub next_is : (i : ℕ) → i < length core.places → next_in seen.links core i ≡ next_letter plan world s i
+    next_is i h =
+        let within : i < length (edges_of plan s) = omega (arith, h, as_many_places) in
+        let n : ℕ = number_to plan s i in
+        let in_range : n < length seen.links = omega (arith, to_in_range plan s i is_plan within, stands.links.count) in
+        ap (λ (x : ℕ). option_and_then (λ (letters : List Letter). slice_get letters 0) (slice_get seen.links x)) (to_is i h)
+        ∙ ap (option_and_then (λ (letters : List Letter). slice_get letters 0)) (slice_get-get_or seen.links n [] in_range)
+        ∙ ap (λ (letters : List Letter). slice_get letters 0) (stands.links.letters s i is_site within)
+        ∙ first_behind (length (traffic_at (state_of world s) i).taken) (put_to plan world s i)
+
+    -- the step of the event, by the links as by the whole lists
+    pub step_is : (kind : EventKind) → can_do seen.links core kind ≡ true → step_in seen.links core kind ≡ step_of plan world s kind
+    step_is (event.Take i) h = ap (option_map (step.Take i)) (next_is i (ltb-true i (length core.places) (and_parts _ _ h).0))
+    step_is (event.Give i) h = refl
+    step_is event.End h = refl
+    step_is event.Begin h = refl
+    step_is event.Hungry h = refl
+    step_is (event.Ask i) h = refl
+    step_is (event.Done i) h = refl
+    step_is (event.Close i) h = refl
+
+    abbrev state : LocalState
+    state = state_of world s
+
+    -- a place of the core is one of the site
+    at_site : (i : ℕ) → i < length core.places → i < length (edges_of plan s)
+    at_site i h = omega (arith, h, as_many_places)
+
+    -- the links after a letter is put at place i
+    after_put : (i : ℕ) (l : Letter) (next : LocalState) → i < length core.places → next ≡ with_put i l state → LinksStand plan (slice_set world s next) (with_letter seen.links (number_from plan s i) l)
+    after_put i l next h is = links-put plan is_plan world kept s is_site next i (at_site i h) (record (traffic_at state i) { put = (traffic_at state i).put ++ l ∷ [] }) (ap (λ (x : LocalState). x.traffic) is) l refl refl seen.links stands.links
+
+    -- there is room for the letter: with it the link has at most four
+    room_at : (i : ℕ) (l : Letter) (next : LocalState) → i < length core.places → next ≡ with_put i l state → WorldKeeps plan (slice_set world s next) → HasRoomAt seen.links core i
+    room_at i l next h is keeps =
+        let over = across plan s i is_plan (at_site i h) in
+        let t : ℕ = neighbour_at plan s i in
+        let j : ℕ = place_of plan t (edge_at plan s i) in
+        let n : ℕ = number_from plan s i in
+        let same : n ≡ number_to plan t j = from_is_to plan s i t j over in
+        let in_range : n < length seen.links = omega (arith, same, to_in_range plan t j is_plan over.within, stands.links.count) in
+        let letters : letters_in seen.links n ++ l ∷ [] ≡ queue_to plan (slice_set world s next) t j = sym (get_or-set_same seen.links n (letters_in seen.links n ++ l ∷ []) [] in_range) ∙ ap (letters_in (with_letter seen.links n l)) same ∙ (after_put i l next h is).letters t j over.is_site over.within in
+        let few : length (letters_in seen.links n) < 4 = omega (arith, one_longer (letters_in seen.links n) l, ap length letters, link_letters plan is_plan (slice_set world s next) keeps t j over.is_site over.within) in
+        subst (λ (x : ℕ). (x < length seen.links) × (length (letters_in seen.links x) < 4)) (sym (from_is i h)) (in_range, few)
+
+    -- so the links stand after a put that the site did
+    put_done : (i : ℕ) (one : Step) (links : List (List Letter)) → i < length core.places → PutsAt plan state core i one seen.links links → LinksStand plan (slice_set world s (after plan s state one)) links
+    put_done i one links h (l, is, moves) =
+        subst (LinksStand plan (slice_set world s (after plan s state one))) (ap (λ (x : ℕ). with_letter seen.links x l) (sym (from_is i h)) ∙ sym moves)
+        (after_put i l (after plan s state one) h (ap (λ (x : ℕ). after plan x state one) (sym site_is) ∙ is))
+
+    -- and after a take
+    taken_done : (i : ℕ) (l : Letter) (links : List (List Letter)) → i < length core.places → links ≡ without_next seen.links (link_to core.site (place_at core i)) → LinksStand plan (slice_set world s (after plan s state (step.Take i l))) links
+    taken_done i l links h moves =
+        subst (LinksStand plan (slice_set world s (after plan s state (step.Take i l)))) (ap (without_next seen.links) (sym (to_is i h)) ∙ sym moves)
+        (links-taken plan is_plan world kept s is_site (after plan s state (step.Take i l)) i (at_site i h) (record (traffic_at state i) { taken = (traffic_at state i).taken ++ l ∷ [] }) refl l refl refl seen.links stands.links)
+
+    -- no letter moves
+    quiet_done : (one : Step) (links : List (List Letter)) → (after plan s state one).traffic ≡ state.traffic → links ≡ seen.links → LinksStand plan (slice_set world s (after plan s state one)) links
+    quiet_done one links same moves = subst (LinksStand plan (slice_set world s (after plan s state one))) (sym moves) (links-same plan is_plan world kept s is_site (after plan s state one) same seen.links stands.links)
+
+    plain : (first one : Step) (links : List (List Letter)) → ◌≡◌ {A = Option Step} (Some first) (Some one) → LinksStand plan (slice_set world s (after plan s state first)) links → LinksStand plan (slice_set world s (after plan s state one)) links
+    plain first one links h = subst (λ (x : Step). LinksStand plan (slice_set world s (after plan s state x)) links) (same_Some first one h)
+
+    -- what the step does to the links is what the whole lists say
+    pub links_done : (kind : EventKind) (one : Step) (links : List (List Letter)) → can_do seen.links core kind ≡ true → step_of plan world s kind ≡ Some one → MovesLetters plan state core kind one seen.links links
+        → LinksStand plan (slice_set world s (after plan s state one)) links
+    links_done (event.Take i) one links can is moves =
+        let w = option_map_parts (step.Take i) (next_letter plan world s i) one is in
+        subst (λ (x : Step). LinksStand plan (slice_set world s (after plan s state x)) links) w.2 (taken_done i w.0 links (ltb-true i (length core.places) (and_parts _ _ can).0) moves)
+    links_done (event.Give i) one links can is moves = put_done i one links (ltb-true i (length core.places) (and_parts _ _ can).0) moves
+    links_done event.End one links can is moves = plain step.End one links is (quiet_done step.End links refl moves)
+    links_done event.Begin one links can is moves = plain step.Begin one links is (quiet_done step.Begin links refl moves)
+    links_done event.Hungry one links can is moves = plain step.Hungry one links is (quiet_done step.Hungry links refl moves)
+    links_done (event.Ask i) one links can is moves = put_done i one links (ltb-true i (length core.places) (and_parts _ _ can).0) moves
+    links_done (event.Done i) one links can is moves = put_done i one links (ltb-true i (length core.places) (and_parts _ _ can).0) moves
+    links_done (event.Close i) one links can is moves = put_done i one links (ltb-true i (length core.places) (and_parts _ _ can).0) moves
+
+    -- there is room for what the event puts
+    room_by : (i : ℕ) (first one : Step) (l : Letter) → i < length core.places → ◌≡◌ {A = Option Step} (Some first) (Some one) → after plan s state first ≡ with_put i l state → WorldKeeps plan (slice_set world s (after plan s state one)) → HasRoomAt seen.links core i
+    room_by i first one l h is puts keeps = room_at i l (after plan s state one) h (ap (after plan s state) (sym (same_Some first one is)) ∙ puts) keeps
+
+    pub room_for : (kind : EventKind) (one : Step) → can_do seen.links core kind ≡ true → step_of plan world s kind ≡ Some one → WorldKeeps plan (slice_set world s (after plan s state one)) → HasRoomFor seen.links core kind
+    room_for (event.Take i) one can is keeps = tt
+    room_for (event.Give i) one can is keeps = room_by i (step.Give i) one _ (ltb-true i (length core.places) (and_parts _ _ can).0) is refl keeps
+    room_for event.End one can is keeps = tt
+    room_for event.Begin one can is keeps = tt
+    room_for event.Hungry one can is keeps = tt
+    room_for (event.Ask i) one can is keeps = room_by i (step.Ask i) one _ (ltb-true i (length core.places) (and_parts _ _ can).0) is refl keeps
+    room_for (event.Done i) one can is keeps = room_by i (step.Done i) one _ (ltb-true i (length core.places) (and_parts _ _ can).0) is refl keeps
+    room_for (event.Close i) one can is keeps = room_by i (step.Close i) one _ (ltb-true i (length core.places) (and_parts _ _ can).0) is refl keeps
+
+    module _ (kind : EventKind) (new : WorldState) (happens : world_after plan world (record { site = s; kind = kind }) ≡ Some new) where
+      abbrev e : Event
+      e = record { site = s; kind = kind }
+
+      -- the event is one step of the site
+      done : IsStepOf plan world e new
+      done = event_is_step plan world e new happens
+
+      abbrev next_state : LocalState
+      next_state = after plan s (state_of world s) done.step
+
+      new_kept : WorldKeeps plan new
+      new_kept = event_keeps plan world new e is_plan kept happens
+
+      -- the new state is one that events reach
+      pub reached_next : IsReached plan new
+      reached_next = record {
+        is_plan = is_plan;
+        events = stands.reached.events ++ e ∷ [];
+        reaches = one_more plan (start plan) world new stands.reached.events e stands.reached.reaches happens;
+      }
+
+      -- the sites stand where this site does
+      seats_next : (changed : Seat) → changed.core.site ≡ s → IsSeatOf plan next_state changed → SeatsStand plan new (slice_set seen.seats s changed)
+      seats_next changed site seat_stands = record {
+        count = length-set seen.seats s changed ∙ stands.seats.count;
+        site = λ t d is_t. elim (cases_eq t s) [
+          | inl same ↦ ap (λ (x : ℕ). (get_or (slice_set seen.seats s changed) x d).core.site) same ∙ ap (λ (x : Seat). x.core.site) (get_or-set_same seen.seats s changed d in_range) ∙ site ∙ sym same
+          | inr other ↦ ap (λ (x : Seat). x.core.site) (get_or-set_other seen.seats s t changed d other) ∙ stands.seats.site t d is_t
+        ];
+        stands = λ t d is_t. elim (cases_eq t s) [
+          | inl same ↦ subst (λ (x : ℕ). IsSeatOf plan (state_of new x) (get_or (slice_set seen.seats s changed) x d)) (sym same)
+              (subst (IsSeatOf plan (state_of new s)) (sym (get_or-set_same seen.seats s changed d in_range)) (subst (λ (x : LocalState). IsSeatOf plan x changed) (sym here) seat_stands))
+          | inr other ↦ subst (IsSeatOf plan (state_of new t)) (sym (get_or-set_other seen.seats s t changed d other))
+              (subst (λ (x : LocalState). IsSeatOf plan x (get_or seen.seats t d)) (sym (elsewhere t other)) (stands.seats.stands t d is_t))
+        ];
+      } where
+        in_range : s < length seen.seats
+        in_range = omega (arith, is_site, stands.seats.count)
+
+        here : state_of new s ≡ next_state
+        here = ap (λ (w : WorldState). state_of w s) done.changes ∙ get_or-set_same world s next_state no_state (omega (arith, is_site, kept.sites))
+
+        elsewhere : (t : ℕ) → t ≢ s → state_of new t ≡ state_of world t
+        elsewhere t other = ap (λ (w : WorldState). state_of w t) done.changes ∙ get_or-set_other world s t next_state no_state other
+
+      -- there is room for what it puts
+      pub has_room : can_do seen.links core kind ≡ true → HasRoomFor seen.links core kind
+      has_room can = room_for kind done.step can done.step_is (subst (WorldKeeps plan) done.changes new_kept)
+
+      -- the world stands for the new state, with the site and the links that the step leaves
+      pub world_next : (changed : Seat) (links : List (List Letter)) → can_do seen.links core kind ≡ true → Does kind seat changed seen.links links
+          → IsWorldOf plan new (record { seats = slice_set seen.seats s changed; links = links; edges = seen.edges; bound = seen.bound })
+      world_next changed links can does =
+          let did = does plan state done.step keeps_here eats_here core_stands (step_is kind can ∙ done.step_is) in
+          record {
+            reached = reached_next;
+            seats = seats_next changed (did.site ∙ site_is) (subst (λ (x : ℕ). IsSeatOf plan (after plan x state done.step) changed) site_is did.stands);
+            links = subst (λ (w : WorldState). LinksStand plan w links) (sym done.changes) (links_done kind done.step links can done.step_is did.letters);
+            edges = stands.edges;
+            bound = stands.bound;
+          }

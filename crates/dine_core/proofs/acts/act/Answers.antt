@@ -1,0 +1,105 @@
+use Rattle.std.proofs.Common.{◌≡◌, ◌<◌, ℕ, ◌+◌, ◌&&◌, nat_lt, true, length, Some, None, option_map, refl, sym, ◌∙◌, ap, subst, arith, slice_set}
+use Rattle.std.proofs.lemmas.Bool.{and_parts}
+use Rattle.std.proofs.lemmas.Option.{same_Some}
+use Rattle.std.proofs.lemmas.Grind.{common_steps}
+use Rattle.dine_token.specs.Meal.{SeenMeal}
+use Rattle.dine_core.specs.declared.letters.Letter.TheVariants as letter
+use Rattle.dine_core.specs.declared.events.EventKind.{EventKind}
+use Rattle.dine_core.specs.declared.events.EventKind.TheVariants as event
+use Rattle.dine_core.specs.Local.{LocalState}
+use Rattle.dine_core.specs.Steps.{Step, after, may, with_taken}
+use Rattle.dine_core.specs.Steps as step
+use Rattle.dine_core.specs.Core.{SeenCore, StandsFor, forks_in_hand}
+use Rattle.dine_core.specs.Numbers.{link_from}
+use Rattle.dine_core.specs.Places.{breach_at, can_close, can_end_done, place_at}
+use Rattle.dine_core.specs.Seats.{DoesStep, can_do, is_in_turn_at, meal_of, next_in, step_in, with_letter}
+use Rattle.dine_core.specs.Standing.{all_places}
+use Rattle.dine_core.proofs.Breaches.{breach_is, may_take}
+use Rattle.dine_core.proofs.Seated.{in_turn_none, meal-put, meal-taken, meal_is, some_of, within_of}
+use Rattle.dine_core.proofs.acts.act.Goals as goal
+
+pub returns-in-Done-clause-does : goal.returns-in-Done-clause-does
+returns-in-Done-clause-does c plan state one keeps eats seat is =
+    let core = c.args.seat.now.core in
+    let i = c.in-Done.i in
+    let same : step.Done i ≡ one = same_Some _ _ (sym (ap (step_in c.args.links.now core) c.in-Done.is) ∙ is) in
+    let can : (nat_lt i (length core.places) && can_end_done core i) ≡ true = sym (ap (can_do c.args.links.now core) c.in-Done.is) ∙ c.requires.can in
+    let did = c.done-letter.ensures.step plan state keeps seat.core in
+    let site : c.done-letter.new.self.site ≡ core.site = ap (λ (x : SeenCore). x.site) c.done-letter.ensures.core in
+    let within : i < length state.traffic = omega (arith, within_of i (length core.places) _ can, seat.core.degree) in
+    let links : slice_set c.args.links.now c.link_from-link-in-Done.result c.put-in-Done.new.self ≡ with_letter c.args.links.now (link_from core.site (place_at core i)) c.done-letter.result = grind (arith, common_steps) in
+    subst (λ (k : EventKind). DoesStep plan state k one c.args.seat.now (record { core = c.done-letter.new.self; meal = c.args.seat.now.meal }) c.args.links.now (slice_set c.args.links.now c.link_from-link-in-Done.result c.put-in-Done.new.self)) (sym c.in-Done.is)
+    (subst (λ (x : Step). DoesStep plan state (event.Done i) x c.args.seat.now (record { core = c.done-letter.new.self; meal = c.args.seat.now.meal }) c.args.links.now (slice_set c.args.links.now c.link_from-link-in-Done.result c.put-in-Done.new.self)) same (record {
+      site = site;
+      stands = record {
+        core = subst (λ (x : LocalState). StandsFor plan x c.done-letter.new.self) (sym did.0) did.1;
+        meal = seat.meal ∙ sym (meal-put plan core.site state i within letter.Done refl) ∙ ap (λ x. meal_of plan x (step.with_put i letter.Done state)) (sym site);
+      };
+      letters = (c.done-letter.result, did.0, links);
+    }))
+
+pub returns-in-Close-clause-does : goal.returns-in-Close-clause-does
+returns-in-Close-clause-does c plan state one keeps eats seat is =
+    let core = c.args.seat.now.core in
+    let i = c.in-Close.i in
+    let same : step.Close i ≡ one = same_Some _ _ (sym (ap (step_in c.args.links.now core) c.in-Close.is) ∙ is) in
+    let can : (nat_lt i (length core.places) && can_close core i) ≡ true = sym (ap (can_do c.args.links.now core) c.in-Close.is) ∙ c.requires.can in
+    let did = c.close-letter.ensures.step plan state keeps seat.core in
+    let site : c.close-letter.new.self.site ≡ core.site = ap (λ (x : SeenCore). x.site) c.close-letter.ensures.core in
+    let within : i < length state.traffic = omega (arith, within_of i (length core.places) _ can, seat.core.degree) in
+    let links : slice_set c.args.links.now c.link_from-link-in-Close.result c.put-in-Close.new.self ≡ with_letter c.args.links.now (link_from core.site (place_at core i)) c.close-letter.result = grind (arith, common_steps) in
+    subst (λ (k : EventKind). DoesStep plan state k one c.args.seat.now (record { core = c.close-letter.new.self; meal = c.args.seat.now.meal }) c.args.links.now (slice_set c.args.links.now c.link_from-link-in-Close.result c.put-in-Close.new.self)) (sym c.in-Close.is)
+    (subst (λ (x : Step). DoesStep plan state (event.Close i) x c.args.seat.now (record { core = c.close-letter.new.self; meal = c.args.seat.now.meal }) c.args.links.now (slice_set c.args.links.now c.link_from-link-in-Close.result c.put-in-Close.new.self)) same (record {
+      site = site;
+      stands = record {
+        core = subst (λ (x : LocalState). StandsFor plan x c.close-letter.new.self) (sym did.0) did.1;
+        meal = seat.meal ∙ sym (meal-put plan core.site state i within letter.Close refl) ∙ ap (λ x. meal_of plan x (step.with_put i letter.Close state)) (sym site);
+      };
+      letters = (c.close-letter.result, did.0, links);
+    }))
+
+pub returns-in-Begin-clause-does : goal.returns-in-Begin-clause-does
+returns-in-Begin-clause-does c plan state one keeps eats seat is =
+    let core = c.args.seat.now.core in
+    let new = c.begin.new.seat in
+    let links = c.args.links.now in
+    let same : step.Begin ≡ one = same_Some _ _ (sym (ap (step_in links core) c.in-Begin.is) ∙ is) in
+    let site : new.core.site ≡ core.site = ap (λ (x : SeenCore). x.site) c.begin.ensures.core in
+    let eaten = some_of new.meal _ c.begin.ensures.meal in
+    let next : LocalState = after plan core.site state step.Begin in
+    let number : eaten.0.k ≡ state.ate + 1 = eaten.2.1 ∙ ap (λ (n : ℕ). n + 1) seat.core.ate in
+    let meal : new.meal ≡ meal_of plan core.site next = eaten.1 ∙ ap (λ (m : SeenMeal). Some m) (meal_is eaten.0 core.site (state.ate + 1) (forks_in_hand plan core.site next (all_places state)) eaten.2.0 number (eaten.2.2 plan state keeps seat.core)) in
+    subst (λ (k : EventKind). DoesStep plan state k one c.args.seat.now new links links) (sym c.in-Begin.is)
+    (subst (λ (x : Step). DoesStep plan state event.Begin x c.args.seat.now new links links) same (record {
+      site = site;
+      stands = record {
+        core = c.begin.ensures.step plan state keeps seat.core;
+        meal = meal ∙ ap (λ (x : ℕ). meal_of plan x next) (sym site);
+      };
+      letters = refl;
+    }))
+
+pub returns-in-Take-clause-does : goal.returns-in-Take-clause-does
+returns-in-Take-clause-does c plan state one keeps eats seat is =
+    let core = c.args.seat.now.core in
+    let i = c.in-Take.i in
+    let new = c.take.new.seat in
+    let links = c.args.links.now in
+    let can : (nat_lt i (length core.places) && is_in_turn_at core i (next_in links core i)) ≡ true = sym (ap (can_do links core) c.in-Take.is) ∙ c.requires.can in
+    let did = some_of (next_in links core i) _ c.take.ensures.core in
+    let l = did.0 in
+    let same : step.Take i l ≡ one = same_Some _ _ (sym (ap (step_in links core) c.in-Take.is ∙ ap (option_map (step.Take i)) did.1) ∙ is) in
+    let within : i < length core.places = within_of i (length core.places) _ can in
+    let in_turn : breach_at core.site core.ate (place_at core i) l ≡ None = in_turn_none _ (sym (ap (is_in_turn_at core i) did.1) ∙ (and_parts (nat_lt i (length core.places)) _ can).1) in
+    let may_be : may plan core.site state (step.Take i l) ≡ true = may_take plan state core seat.core keeps i within l (sym (breach_is plan state core seat.core keeps i within l) ∙ in_turn) in
+    let site : new.core.site ≡ core.site = ap (λ (x : SeenCore). x.site) did.2.0 in
+    let next : LocalState = with_taken i l state in
+    subst (λ (k : EventKind). DoesStep plan state k one c.args.seat.now new links c.take.new.links) (sym c.in-Take.is)
+    (subst (λ (x : Step). DoesStep plan state (event.Take i) x c.args.seat.now new links c.take.new.links) same (record {
+      site = site;
+      stands = record {
+        core = did.2.1 plan state keeps seat.core;
+        meal = c.take.ensures.meal ∙ seat.meal ∙ sym (meal-taken plan core.site state i l eats may_be) ∙ ap (λ (x : ℕ). meal_of plan x next) (sym site);
+      };
+      letters = c.take.ensures.links;
+    }))

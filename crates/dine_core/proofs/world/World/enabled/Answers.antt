@@ -1,0 +1,21 @@
+use Rattle.std.proofs.Common.{◌≡◌, length, slice_get, arith, ap, sym, ◌∙◌}
+use Rattle.std.proofs.lemmas.Option.{slice_get_past}
+use Rattle.dine_plan.specs.Plan.{site_count}
+use Rattle.dine_core.specs.World.{enabled_events, events_at, is_enabled}
+use Rattle.dine_core.proofs.Choices.{found_at, more_sites, of_sites}
+use Rattle.dine_core.proofs.world.World.enabled.Goals as goal
+
+pub returns-in-Ok : goal.returns-in-Ok
+returns-in-Ok c plan world is =
+    sym (ap (slice_get (enabled_events plan world)) (sym (c.loop-site.invariant plan world is))
+    ∙ found_at (is_enabled plan world) (events_at plan) c.loop-site.site (site_count plan) c.loop-site.left c.in-Ok.event (omega (arith, is.seats.count)) (c.in-Ok.ensures plan world is))
+
+pub loop-site-preserved : goal.loop-site-preserved
+loop-site-preserved c plan world is =
+    omega (arith, c.loop-site.invariant plan world is, c.in-Err.ensures plan world is, more_sites (is_enabled plan world) (events_at plan) c.loop-site.site)
+
+pub returns : goal.returns
+returns c plan world is =
+    let all : site_count plan ≡ c.loop-site.site = omega (arith, is.seats.count) in
+    let passed = ap (λ n. length (of_sites (is_enabled plan world) (events_at plan) n)) all in
+    sym (slice_get_past (enabled_events plan world) c.args.n (omega (arith, passed, c.loop-site.invariant plan world is)))

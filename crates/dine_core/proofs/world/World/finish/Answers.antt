@@ -1,0 +1,56 @@
+use Rattle.std.proofs.Common.{◌≡◌, ◌-◌, ◌≤◌, ℕ, sym, ◌∙◌, ap, subst, arith}
+use Rattle.dine_core.specs.Worlds.{IsWorldOf, SeenWorld}
+use Rattle.dine_core.proofs.WorldRuns.{IsUnderWay, chosen_can, none_of, one_left, runs_to, under_way_at_start, under_way_next}
+use Rattle.dine_core.proofs.world.World.finish.Goals as goal
+
+pub loop-event-init : goal.loop-event-init
+loop-event-init c =
+    let kept = c.self.invariant in
+    let bound : c.self.inside.bound ≡ c.args.self.now.bound = ap (λ (w : SeenWorld). w.bound) c.self.view_is in
+    record {
+      within = omega arith;
+      bound = λ plan world stands. bound ∙ stands.bound;
+      plan = kept.plan;
+      world = kept.state;
+      stood = subst (IsWorldOf kept.plan kept.state) c.self.view_is kept.stands;
+      under_way = λ plan world stands. subst (λ (n : ℕ). IsUnderWay plan world n c.args.self.now) (sym (bound ∙ stands.bound)) (under_way_at_start plan world c.args.self.now stands);
+    }
+
+pub happen-requires : goal.happen-requires
+happen-requires c =
+    let kept = c.loop-event.invariant in
+    let way = kept.under_way kept.plan kept.world kept.stood in
+    chosen_can kept.plan way.now.world c.loop-event.self 0 c.in-Some.event way.stands (sym c.in-Some.is ∙ c.enabled.ensures kept.plan way.now.world way.stands)
+
+pub overflow_sub-left : goal.overflow_sub-left
+overflow_sub-left c =
+    let kept = c.loop-event.invariant in
+    one_left kept.plan kept.world c.loop-event.left c.loop-event.self c.happen.new.self c.in-Some.event (kept.under_way kept.plan kept.world kept.stood) c.happen.ensures
+
+pub loop-event-smaller : goal.loop-event-smaller
+loop-event-smaller c =
+    let kept = c.loop-event.invariant in
+    omega (arith, one_left kept.plan kept.world c.loop-event.left c.loop-event.self c.happen.new.self c.in-Some.event (kept.under_way kept.plan kept.world kept.stood) c.happen.ensures)
+
+pub loop-event-preserved : goal.loop-event-preserved
+loop-event-preserved c =
+    let kept = c.loop-event.invariant in
+    let left = c.loop-event.left in
+    let some : 1 ≤ left = one_left kept.plan kept.world left c.loop-event.self c.happen.new.self c.in-Some.event (kept.under_way kept.plan kept.world kept.stood) c.happen.ensures in
+    record {
+      within = omega (arith, kept.within);
+      bound = kept.bound;
+      plan = kept.plan;
+      world = kept.world;
+      stood = kept.stood;
+      under_way = λ plan world stands.
+          let way = kept.under_way plan world stands in
+          under_way_next plan world left (left - 1) c.loop-event.self c.happen.new.self c.in-Some.event way (omega (arith, some)) (sym c.in-Some.is ∙ c.enabled.ensures plan way.now.world way.stands) c.happen.ensures;
+    }
+
+pub returns : goal.returns
+returns c plan world stands =
+    let kept = c.loop-event.invariant in
+    let left = c.loop-event.left in
+    let way = kept.under_way plan world stands in
+    runs_to plan world left (c.self.inside.bound - left) c.loop-event.self way (none_of c.enabled.result c.in_default.not-Some ∙ c.enabled.ensures plan way.now.world way.stands) (omega (arith, kept.within, kept.bound plan world stands))

@@ -1,0 +1,103 @@
+-- The world as contracts see it, and the states of whole lists that it stands for.
+use Rattle.std.specs.Prelude.{◌≡◌, ℕ, ◌+◌, ◌*◌, ◌<◌, ◌==◌, Bool, false, List, length, map, slice_get, slice_index_or, Option, Some, None, if◌then◌else◌}
+use Rattle.std.specs.List.{range_with_len}
+use Rattle.dine_token.specs.Fork.{SeenFork}
+use Rattle.dine_plan.specs.Plan.{SeenPlan, IsPlan, site_count, edge_count, edges_of, lo_of, hi_of}
+use Rattle.dine_core.specs.declared.letters.Letter.{Letter}
+use Rattle.dine_core.specs.declared.events.Event.{Event}
+use Rattle.dine_core.specs.declared.events.EventKind.{EventKind}
+use Rattle.dine_core.specs.declared.seats.Seat.{Seat}
+use Rattle.dine_core.specs.declared.world.EdgeEnds.{EdgeEnds}
+use Rattle.dine_core.specs.Local.{edge_at}
+use Rattle.dine_core.specs.Steps.{fork_with}
+use Rattle.dine_core.specs.World.{WorldState, Reaches, state_of, place_of, world_after}
+use Rattle.dine_core.specs.Links.{queue_to}
+use Rattle.dine_core.specs.Seats.{IsSeatOf, can_do, letters_in}
+use Rattle.dine_core.specs.Precedence.{fork_log}
+use Rattle.dine_core.specs.Bound.{bound_of}
+use Rattle.dine_core.specs.Schedules.{Counted}
+
+-- the sites, the letters in the links, where the ends of each edge are, and the bound of events
+pub record SeenWorld : Type 0 where
+  pub seats : List Seat
+  pub links : List (List Letter)
+  pub edges : List EdgeEnds
+  pub bound : ℕ
+
+-- the number of the link to a site at place i, and of that which leads away
+abbrev pub number_to : SeenPlan → ℕ → ℕ → ℕ
+number_to plan s i = 2 * edge_at plan s i + (if lo_of plan (edge_at plan s i) == s then 1 else 0)
+
+abbrev pub number_from : SeenPlan → ℕ → ℕ → ℕ
+number_from plan s i = 2 * edge_at plan s i + (if lo_of plan (edge_at plan s i) == s then 0 else 1)
+
+-- each site stands for its state
+pub record SeatsStand (plan : SeenPlan) (world : WorldState) (seats : List Seat) : Type 0 where
+  pub count : length seats ≡ site_count plan
+  pub site : (s : ℕ) (past : Seat) → s < site_count plan → (slice_index_or seats s past).core.site ≡ s
+  pub stands : (s : ℕ) (past : Seat) → s < site_count plan → IsSeatOf plan (state_of world s) (slice_index_or seats s past)
+
+-- in each link lie the letters that were put and not taken
+pub record LinksStand (plan : SeenPlan) (world : WorldState) (links : List (List Letter)) : Type 0 where
+  pub count : length links ≡ 2 * edge_count plan
+  pub letters : (s i : ℕ) → s < site_count plan → i < length (edges_of plan s) → letters_in links (number_to plan s i) ≡ queue_to plan world s i
+
+-- the ends of an edge, and its place at each
+abbrev pub ends_seen : SeenPlan → ℕ → EdgeEnds
+ends_seen plan e = record { lower = lo_of plan e; lower_place = place_of plan (lo_of plan e) e; higher = hi_of plan e; higher_place = place_of plan (hi_of plan e) e }
+
+-- the state is one that some list of events reaches from the start
+pub record IsReached (plan : SeenPlan) (world : WorldState) : Type 0 where
+  pub is_plan : IsPlan plan
+  pub events : List Event
+  pub reaches : Reaches plan events world
+
+-- The world stands for a state of the plan's world, which some list of events reaches from the start.
+pub record IsWorldOf (plan : SeenPlan) (world : WorldState) (seen : SeenWorld) : Type 0 where
+  pub reached : IsReached plan world
+  pub seats : SeatsStand plan world seen.seats
+  pub links : LinksStand plan world seen.links
+  pub edges : seen.edges ≡ map (ends_seen plan) (range_with_len 0 (edge_count plan))
+  pub bound : seen.bound ≡ bound_of plan
+
+-- the world was opened for the plan: it stands for a state of the plan's world
+abbrev pub IsOpenedFor : SeenPlan → SeenWorld → Type 0
+IsOpenedFor plan seen = (state : WorldState) × IsWorldOf plan state seen
+
+-- so it is for each plan and each state that the world stands for
+abbrev pub ForEachWorld : SeenWorld → (SeenPlan → WorldState → Type 0) → Type 0
+ForEachWorld seen P = (plan : SeenPlan) (world : WorldState) → IsWorldOf plan world seen → P plan world
+
+-- the site is there, and may do that
+abbrev pub can_at : List (List Letter) → EventKind → Option Seat → Bool
+can_at links kind None = false
+can_at links kind (Some seat) = can_do links seat.core kind
+
+-- the event can happen
+abbrev pub can_happen : SeenWorld → Event → Bool
+can_happen seen e = can_at seen.links e.kind (slice_get seen.seats e.site)
+
+-- the world after the event
+pub record HappensTo (plan : SeenPlan) (world : WorldState) (e : Event) (new : SeenWorld) : Type 0 where
+  pub after : WorldState
+  pub happens : world_after plan world e ≡ Some after
+  pub stands : IsWorldOf plan after new
+
+abbrev pub Happens : Event → SeenWorld → SeenWorld → Type 0
+Happens e old new = ForEachWorld old (λ plan world. HappensTo plan world e new)
+
+-- a run that starts here
+abbrev pub from_here : WorldState → Counted
+from_here world = record { world = world; events = 0 }
+
+-- the run leads to a state that the world stands for, by so many events
+pub record RunsTo (plan : SeenPlan) (run : Counted) (events : ℕ) (new : SeenWorld) : Type 0 where
+  pub counted : run.events ≡ events
+  pub stands : IsWorldOf plan run.world new
+
+-- the forks of all edges, each with its log
+abbrev pub fork_seen : SeenPlan → WorldState → ℕ → SeenFork
+fork_seen plan world e = fork_with plan e (fork_log plan world e)
+
+abbrev pub forks_seen : SeenPlan → WorldState → List SeenFork
+forks_seen plan world = map (fork_seen plan world) (range_with_len 0 (edge_count plan))

@@ -1,0 +1,128 @@
+//! All sites of a plan in one thread.
+
+ghost use Rattle.std.specs.Prelude.{◌≡◌, IfOk, MatchResult, false, is_ok, option_map, slice_get};
+
+mod choices;
+mod forks;
+pub(crate) mod opening;
+mod runs;
+#[cfg(test)]
+mod tests;
+
+use crate::acts;
+use crate::events::Event;
+use crate::phase::Phase;
+use crate::queue::Queue;
+use crate::seats::Seat;
+use dine_plan::Plan;
+use dine_token::Fork;
+use std::alloc::{AllocError, Global};
+use std::marker::Model;
+use thiserror::Error;
+
+/// Where an edge is: its ends, the lower first, and its place at each.
+#[derive(Clone, Copy)]
+pub(crate) struct EdgeEnds {
+    pub(crate) lower: u32,
+    pub(crate) lower_place: u32,
+    pub(crate) higher: u32,
+    pub(crate) higher_place: u32,
+}
+
+/// The event is not enabled.
+#[derive(Clone, Copy, Debug, PartialEq, Eq, Error)]
+#[error("the event is not enabled")]
+pub struct NotEnabled;
+
+/// All sites of a plan and the links between them, stepped in one thread. It has to be spent, by [`World::into_forks`].
+pub struct World {
+    seats: Vec<Seat>,
+    links: Vec<Queue>,
+    edges: Vec<EdgeEnds>,
+    bound: u64,
+    // Empty, with room for the forks of all edges.
+    forks: Vec<Fork>,
+}
+
+impl Model for World {
+    ghost use Rattle.dine_core.specs.Worlds.{SeenWorld};
+
+    ghost Value = { SeenWorld };
+
+    ghost use Rattle.dine_core.specs.WorldKept.{IsKeptWorld, seen_world};
+
+    ghost view = { seen_world };
+
+    ghost invariant = { IsKeptWorld };
+}
+
+impl World {
+    ghost use Rattle.dine_core.specs.Bound.{bound_of};
+    ghost use Rattle.dine_core.specs.World.{is_enabled, start};
+    ghost use Rattle.dine_core.specs.Worlds.{ForEachWorld, Happens, IsWorldOf, can_happen};
+
+    /// The world of the plan before its first event. It takes memory for all that comes, once, and fails where that is refused.
+    pub fn open(alloc: Global, plan: &Plan) -> Result<World, AllocError>
+        ensures { IfOk result (IsWorldOf plan.now (start plan.now)) }
+    {
+        let edges = opening::ends_of(alloc, plan)?;
+        let links = opening::links_of(alloc, plan)?;
+        let forks = Vec::with_capacity(alloc, plan.edges() as usize)?;
+        let seats = opening::seats_of(alloc, plan)?;
+        let bound = opening::bound_of(plan);
+        Ok(World {
+            seats,
+            links,
+            edges,
+            bound,
+            forks,
+        })
+    }
+
+    /// How many events there can be since the start.
+    pub fn bound(&self) -> u64
+        ensures { ForEachWorld self.now (λ plan world. result ≡ bound_of plan) }
+    {
+        self.bound
+    }
+
+    /// What the site does. None where there is no such site.
+    pub fn phase(&self, site: u32) -> Option<Phase>
+        ensures { ForEachWorld self.now (λ plan world. result ≡ option_map (λ state. state.phase) (slice_get world site)) }
+    {
+        let seat = self.seats.get(site as usize)?;
+        Some(seat.core.phase())
+    }
+
+    /// How many meals the site began. None where there is no such site.
+    pub fn ate(&self, site: u32) -> Option<u32>
+        ensures { ForEachWorld self.now (λ plan world. result ≡ option_map (λ state. state.ate) (slice_get world site)) }
+    {
+        let seat = self.seats.get(site as usize)?;
+        Some(seat.core.ate())
+    }
+
+    /// Does the event. Where it is not enabled it is refused, and the world is unchanged.
+    pub fn step(&mut self, event: Event) -> Result<(), NotEnabled>
+        ensures exact { is_ok result ≡ can_happen self.old event }
+        ensures done { MatchResult result (λ _. Happens event self.old self.new)
+            (λ _. (self.new ≡ self.old) × ForEachWorld self.old (λ plan world. is_enabled plan world event ≡ false)) }
+    {
+        if !self.can_happen(event) {
+            return Err(NotEnabled);
+        }
+        let seat = &mut self.seats[event.site as usize];
+        acts::act(seat, self.links.as_mut_slice(), event.kind);
+        Ok(())
+    }
+
+    // Whether the event is enabled.
+    fn can_happen(&self, event: Event) -> bool
+        ensures { result ≡ can_happen self.now event }
+    {
+        match self.seats.get(event.site as usize) {
+            Some(seat) => acts::can_do(self.links.as_slice(), &seat.core, event.kind),
+            None => false,
+        }
+    }
+}

@@ -1,0 +1,339 @@
+use super::{NotEnabled, World};
+use crate::events::{Event, EventKind};
+use crate::phase::Phase;
+use dine_plan::{Plan, read_plan};
+use dine_token::{Entry, Fork};
+use std::alloc::{AllocError, Global};
+use std::fmt::Write;
+use std::process::Abort;
+
+// The text of a plan of so many sites, each with so many jobs, and of these edges.
+fn text_of(
+    alloc: Global,
+    sites: u32,
+    jobs: u32,
+    edges: &[(u32, u32)],
+) -> Result<String, AllocError> {
+    let mut text = String::from_str(alloc, "version = 1\n")?;
+    for site in 0..sites {
+        write!(text, "[[site]]\nname = \"s{site}\"\njobs = [")?;
+        for job in 0..jobs {
+            write!(text, "{{ name = \"j{job}\" }}, ")?;
+        }
+        text.push_str("]\n")?;
+    }
+    for (lower, higher) in edges {
+        write!(text, "[[edge]]\nends = [\"s{lower}\", \"s{higher}\"]\n")?;
+    }
+    Ok(text)
+}
+
+fn plan_of(rt: &impl Abort, alloc: Global, sites: u32, jobs: u32, edges: &[(u32, u32)]) -> Plan {
+    let text = text_of(alloc, sites, jobs, edges).expect(rt, "memory");
+    read_plan(alloc, text.as_str()).expect(rt, "a plan")
+}
+
+// Two sites with an edge, and a job each.
+fn pair(rt: &impl Abort, alloc: Global) -> Plan {
+    plan_of(rt, alloc, 2, 1, [(0, 1)].as_slice())
+}
+
+fn opened(rt: &impl Abort, alloc: Global, plan: &Plan) -> World {
+    World::open(alloc, plan).expect(rt, "memory")
+}
+
+fn entry_at(rt: &impl Abort, fork: &Fork, i: u32) -> Entry {
+    assert!(rt; i < fork.len());
+    fork.entry(i)
+}
+
+// The event is refused, and as many are enabled as before.
+fn refuse(rt: &impl Abort, world: &mut World, site: u32, kind: EventKind) {
+    let before = world.count();
+    assert_eq!(rt; world.step(Event { site, kind }), Err(NotEnabled));
+    assert_eq!(rt; world.count(), before);
+}
+
+// Each site ate all its jobs and thinks, and nothing is enabled.
+fn is_complete(rt: &impl Abort, plan: &Plan, world: &World) {
+    assert_eq!(rt; world.count(), 0);
+    assert_eq!(rt; world.enabled(0), None);
+    for site in 0..plan.sites() {
+        assert_eq!(rt; world.ate(site), Some(plan.jobs(site)));
+        assert_eq!(rt; world.phase(site), Some(Phase::Thinking));
+    }
+}
+
+// The forks that come out are those of all edges, in edge order.
+fn spend(rt: &impl Abort, plan: &Plan, world: World) -> Vec<Fork> {
+    let forks = world.into_forks();
+    assert_eq!(rt; forks.len(), plan.edges() as usize);
+    for edge in 0..plan.edges() {
+        let fork = forks.get(edge as usize).expect(rt, "a fork");
+        assert_eq!(rt; fork.edge(), edge);
+        assert_eq!(rt; fork.ends(), plan.ends(edge));
+    }
+    forks
+}
+
+// Each fork has all meals of both its ends.
+fn has_all_meals(rt: &impl Abort, plan: &Plan, forks: &[Fork]) {
+    for fork in forks {
+        let (lower, higher) = fork.ends();
+        assert!(rt; lower < plan.sites() && higher < plan.sites());
+        assert_eq!(rt; fork.meals_of(lower), plan.jobs(lower));
+        assert_eq!(rt; fork.meals_of(higher), plan.jobs(higher));
+    }
+}
+
+// No two neighbours eat, and each edge has its fork.
+fn is_safe(rt: &impl Abort, plan: &Plan, world: &World) {
+    let eating = Some(Phase::Eating);
+    for edge in 0..plan.edges() {
+        let (lower, higher) = plan.ends(edge);
+        assert!(rt; world.phase(lower) != eating || world.phase(higher) != eating);
+        let fork = world.fork(edge).expect(rt, "a fork");
+        assert_eq!(rt; fork.edge(), edge);
+    }
+    assert!(rt; world.fork(plan.edges()).is_none());
+}
+
+// So many events are enabled as `count` says.
+fn count_is_exact(rt: &impl Abort, world: &World) -> u32 {
+    let count = world.count();
+    for n in 0..count {
+        assert!(rt; world.enabled(n).is_some());
+    }
+    assert_eq!(rt; world.enabled(count), None);
+    count
+}
+
+// Does at most so many events, as a fixed generator of choices has them, and answers how many there were.
+fn wander(rt: &impl Abort, plan: &Plan, world: &mut World, seed: u32, limit: u64) -> u64 {
+    let mut draw = seed;
+    for events in 0..limit {
+        is_safe(rt, plan, world);
+        let count = count_is_exact(rt, world);
+        if count == 0 {
+            return events;
+        }
+        draw = draw.wrapping_mul(1_664_525).wrapping_add(1_013_904_223);
+        let event = world.enabled((draw >> 16) % count).expect(rt, "an event");
+        assert_eq!(rt; world.step(event), Ok(()));
+    }
+    limit
+}
+
+// Some runs of the plan's world to the end.
+fn wander_to_the_end(rt: &impl Abort, alloc: Global, plan: &Plan) {
+    for seed in 0..8u32 {
+        let mut world = opened(rt, alloc, plan);
+        let bound = world.bound();
+        let events = wander(rt, plan, &mut world, seed, bound);
+        assert!(rt; events <= bound);
+        is_safe(rt, plan, &world);
+        is_complete(rt, plan, &world);
+        let forks = spend(rt, plan, world);
+        has_all_meals(rt, plan, forks.as_slice());
+    }
+}
+
+#[test]
+fn pair_opens_with_two_events(rt: HostRuntime) {
+    let plan = pair(&rt, rt.alloc());
+    let mut world = opened(&rt, rt.alloc(), &plan);
+    let kind = EventKind::Hungry;
+    assert_eq!(rt; world.count(), 2);
+    assert_eq!(rt; world.enabled(0), Some(Event { site: 0, kind }));
+    assert_eq!(rt; world.enabled(1), Some(Event { site: 1, kind }));
+    assert_eq!(rt; world.enabled(2), None);
+    refuse(&rt, &mut world, 1, EventKind::Take(0));
+    refuse(&rt, &mut world, 1, EventKind::Take(1));
+    refuse(&rt, &mut world, 0, EventKind::Begin);
+    refuse(&rt, &mut world, 2, kind);
+    assert_eq!(rt; world.count(), 2);
+    assert_eq!(rt;
+        (world.phase(1), world.phase(2)),
+        (Some(Phase::Thinking), None)
+    );
+    assert_eq!(rt; (world.ate(1), world.ate(2)), (Some(0), None));
+    assert!(rt; world.fork(0).is_some() && world.fork(1).is_none());
+    let _forks = spend(&rt, &plan, world);
+}
+
+#[test]
+fn pair_finishes(rt: HostRuntime) {
+    let plan = pair(&rt, rt.alloc());
+    let mut world = opened(&rt, rt.alloc(), &plan);
+    assert_eq!(rt; world.finish(), 18);
+    is_complete(&rt, &plan, &world);
+    assert_eq!(rt; world.finish(), 0);
+    assert_eq!(rt; (world.ate(0), world.ate(1)), (Some(1), Some(1)));
+    assert_eq!(rt; world.bound(), 22);
+    let fork = world.fork(0).expect(&rt, "a fork");
+    assert_eq!(rt; fork.len(), 3);
+    assert_eq!(rt; entry_at(&rt, fork, 0), Entry::Meal { site: 0, k: 1 });
+    assert_eq!(rt; entry_at(&rt, fork, 1), Entry::Move { to: 1 });
+    assert_eq!(rt; entry_at(&rt, fork, 2), Entry::Meal { site: 1, k: 1 });
+    let forks = spend(&rt, &plan, world);
+    assert_eq!(rt; forks.len(), 1);
+    has_all_meals(&rt, &plan, forks.as_slice());
+}
+
+// The choices, each with the site and the kind of its event, where the higher site asks first.
+const HIGHER_FIRST: [(u32, u32, EventKind); 22] = [
+    (1, 1, EventKind::Hungry),
+    (1, 1, EventKind::Ask(0)),
+    (0, 0, EventKind::Take(0)),
+    (0, 0, EventKind::Give(0)),
+    (0, 0, EventKind::Hungry),
+    (0, 0, EventKind::Ask(0)),
+    (0, 1, EventKind::Take(0)),
+    (0, 1, EventKind::Take(0)),
+    (0, 1, EventKind::Begin),
+    (0, 1, EventKind::End),
+    (0, 1, EventKind::Give(0)),
+    (0, 0, EventKind::Take(0)),
+    (0, 0, EventKind::Begin),
+    (0, 0, EventKind::End),
+    (0, 0, EventKind::Done(0)),
+    (0, 1, EventKind::Take(0)),
+    (0, 1, EventKind::Done(0)),
+    (0, 0, EventKind::Take(0)),
+    (0, 0, EventKind::Close(0)),
+    (0, 1, EventKind::Take(0)),
+    (0, 1, EventKind::Close(0)),
+    (0, 0, EventKind::Take(0)),
+];
+
+// The higher site ate first, with the fork that the lower gave it.
+fn higher_ate_first(rt: &impl Abort, plan: &Plan, world: World) {
+    is_complete(rt, plan, &world);
+    let forks = spend(rt, plan, world);
+    let fork = forks.get(0).expect(rt, "a fork");
+    assert_eq!(rt; fork.len(), 4);
+    assert_eq!(rt; entry_at(rt, fork, 0), Entry::Move { to: 1 });
+    assert_eq!(rt; entry_at(rt, fork, 1), Entry::Meal { site: 1, k: 1 });
+    assert_eq!(rt; entry_at(rt, fork, 2), Entry::Move { to: 0 });
+    assert_eq!(rt; entry_at(rt, fork, 3), Entry::Meal { site: 0, k: 1 });
+}
+
+#[test]
+fn higher_site_asks_first(rt: HostRuntime) {
+    let plan = pair(&rt, rt.alloc());
+    let mut world = opened(&rt, rt.alloc(), &plan);
+    for (choice, site, kind) in HIGHER_FIRST {
+        let event = Event { site, kind };
+        assert_eq!(rt; world.enabled(choice), Some(event));
+        assert_eq!(rt; world.step(event), Ok(()));
+        is_safe(&rt, &plan, &world);
+    }
+    higher_ate_first(&rt, &plan, world);
+}
+
+#[test]
+fn choices_are_replayed(rt: HostRuntime) {
+    let plan = pair(&rt, rt.alloc());
+    let mut world = opened(&rt, rt.alloc(), &plan);
+    assert_eq!(rt; world.replay([].as_slice()), 0);
+    assert_eq!(rt; world.replay([1, 1, 0, 0].as_slice()), 4);
+    assert_eq!(rt; world.finish(), 18);
+    higher_ate_first(&rt, &plan, world);
+}
+
+#[test]
+fn choices_of_no_event_are_passed_over(rt: HostRuntime) {
+    let plan = pair(&rt, rt.alloc());
+    let mut world = opened(&rt, rt.alloc(), &plan);
+    assert_eq!(rt; world.replay([9, 2].as_slice()), 0);
+    assert_eq!(rt; world.count(), 2);
+    assert_eq!(rt; world.replay([1, 1, 2, 0, 0].as_slice()), 4);
+    assert_eq!(rt; world.finish(), 18);
+    higher_ate_first(&rt, &plan, world);
+}
+
+#[test]
+fn site_alone_eats_all_its_jobs(rt: HostRuntime) {
+    let plan = plan_of(&rt, rt.alloc(), 1, 2, [].as_slice());
+    let mut world = opened(&rt, rt.alloc(), &plan);
+    assert_eq!(rt; world.count(), 1);
+    assert_eq!(rt; world.bound(), 6);
+    assert_eq!(rt; world.finish(), 6);
+    assert_eq!(rt; world.ate(0), Some(2));
+    assert!(rt; world.fork(0).is_none());
+    is_complete(&rt, &plan, &world);
+    let forks = spend(&rt, &plan, world);
+    assert_eq!(rt; forks.len(), 0);
+}
+
+#[test]
+fn row_of_three_finishes(rt: HostRuntime) {
+    let plan = plan_of(&rt, rt.alloc(), 3, 1, [(0, 1), (1, 2)].as_slice());
+    let mut world = opened(&rt, rt.alloc(), &plan);
+    assert_eq!(rt; world.bound(), 41);
+    assert_eq!(rt; world.finish(), 33);
+    is_complete(&rt, &plan, &world);
+    let forks = spend(&rt, &plan, world);
+    has_all_meals(&rt, &plan, forks.as_slice());
+}
+
+#[test]
+fn sites_without_jobs_only_say_so(rt: HostRuntime) {
+    let plan = plan_of(&rt, rt.alloc(), 2, 0, [(0, 1)].as_slice());
+    let mut world = opened(&rt, rt.alloc(), &plan);
+    assert_eq!(rt; world.bound(), 8);
+    assert_eq!(rt; world.finish(), 8);
+    is_complete(&rt, &plan, &world);
+    let forks = spend(&rt, &plan, world);
+    has_all_meals(&rt, &plan, forks.as_slice());
+}
+
+// Whatever event is the last, the forks come out of the hands of sites, of meals and of links.
+#[test]
+fn forks_come_out_at_any_moment(rt: HostRuntime) {
+    let plan = plan_of(&rt, rt.alloc(), 3, 1, [(0, 1), (1, 2), (0, 2)].as_slice());
+    for limit in 0..40u64 {
+        for seed in 0..4u32 {
+            let mut world = opened(&rt, rt.alloc(), &plan);
+            let events = wander(&rt, &plan, &mut world, seed, limit);
+            assert!(rt; events <= limit);
+            let _forks = spend(&rt, &plan, world);
+        }
+    }
+}
+
+#[test]
+fn all_eat_whatever_is_chosen(rt: HostRuntime) {
+    let alloc = rt.alloc();
+    let rows = plan_of(&rt, alloc, 4, 3, [(0, 1), (1, 2), (2, 3)].as_slice());
+    wander_to_the_end(&rt, alloc, &pair(&rt, alloc));
+    wander_to_the_end(&rt, alloc, &rows);
+}
+
+#[test]
+fn all_in_a_ring_eat_whatever_is_chosen(rt: HostRuntime) {
+    let alloc = rt.alloc();
+    let three = plan_of(&rt, alloc, 3, 2, [(0, 1), (1, 2), (2, 0)].as_slice());
+    let five = plan_of(
+        &rt,
+        alloc,
+        5,
+        2,
+        [(0, 1), (1, 2), (2, 3), (3, 4), (4, 0)].as_slice(),
+    );
+    wander_to_the_end(&rt, alloc, &three);
+    wander_to_the_end(&rt, alloc, &five);
+}
+
+#[test]
+fn all_in_a_star_eat_whatever_is_chosen(rt: HostRuntime) {
+    let alloc = rt.alloc();
+    let star = plan_of(
+        &rt,
+        alloc,
+        6,
+        2,
+        [(0, 1), (0, 2), (0, 3), (0, 4), (0, 5)].as_slice(),
+    );
+    wander_to_the_end(&rt, alloc, &star);
+}
