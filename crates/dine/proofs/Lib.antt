@@ -1,9 +1,5 @@
-pub mod Arrays
 pub mod EntryTexts
 pub mod InputLemmas
-pub mod Keys
 pub mod OutputLemmas
-pub mod Places
-pub mod Texts
 pub mod WordsLemmas
-pub mod Worlds
+pub mod WorldTexts

@@ -1,8 +1,7 @@
 -- What the command `check` writes, and which input it refuses.
-use Rattle.std.specs.Prelude.{◌≡◌, ℕ, List, ◌++◌, Option, Some, None, IfSome, length, map, sum, codes, take, if◌then◌else◌}
+use Rattle.std.specs.Prelude.{◌≡◌, ℕ, List, ◌++◌, Option, Some, None, length, map, sum, codes, if◌then◌else◌}
 use Rattle.std.specs.Fmt.{decimal}
 use Rattle.std.specs.Str.{is_utf8}
-use Rattle.std.specs.Io.KnownBytes.{Appends}
 use Rattle.dine_plan.specs.Plan.{SeenPlan, SeenSite, site_count, edge_count}
 use Rattle.dine_plan.specs.PlanOf.{IsPlanOf}
 use Rattle.dine_plan.specs.Refusals.{first_fault}
@@ -29,16 +28,3 @@ fault_of_bytes bytes = if is_utf8 bytes then first_fault bytes else Some fault.N
 pub record IsPlanBytes (bytes : List ℕ) (plan : SeenPlan) : Type 0 where
   pub unrefused : fault_of_bytes bytes ≡ None
   pub plan_of_text : IsPlanOf bytes plan
-
--- a plan was read, and its text was written whole
-pub record WritesCheck (left before after : Option (List ℕ)) : Type 0 where
-  pub plan : SeenPlan
-  pub reads : IfSome left (λ bytes. IsPlanBytes bytes plan)
-  pub writes : Appends before after (check_text plan)
-
--- a plan was read, and the first bytes of its text were written
-pub record WritesPartOfCheck (left before after : Option (List ℕ)) : Type 0 where
-  pub plan : SeenPlan
-  pub count : ℕ
-  pub reads : IfSome left (λ bytes. IsPlanBytes bytes plan)
-  pub writes : Appends before after (take count (check_text plan))

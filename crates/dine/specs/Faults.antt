@@ -11,13 +11,10 @@ use Rattle.dine.specs.declared.words.WordsFault.{WordsFault}
 use Rattle.dine.specs.declared.words.WordsFault.TheVariants as words
 use Rattle.dine.specs.declared.input.InputFault.{InputFault}
 use Rattle.dine.specs.declared.input.InputFault.TheVariants as input
-use Rattle.dine.specs.declared.read_pair.ReadFault.{ReadFault}
-use Rattle.dine.specs.declared.read_pair.ReadFault.TheVariants as plan
 
 -- the status that a fault ends the program with
 abbrev pub status_of : Fault → Status
 status_of fault.Usage = status.Usage
-status_of fault.PlanRefused = status.PlanRefused
 status_of (fault.NoPlan cause) = status.PlanRefused
 status_of fault.OutOfMemory = status.OutOfMemory
 status_of fault.ReadingFailed = status.InputOutput
@@ -34,10 +31,6 @@ fault_of_input input.Failed = fault.ReadingFailed
 fault_of_input input.TooLong = fault.InputTooLong
 fault_of_input input.Memory = fault.OutOfMemory
 
-abbrev pub fault_of_plan : ReadFault → Fault
-fault_of_plan plan.Refused = fault.PlanRefused
-fault_of_plan plan.Memory = fault.OutOfMemory
-
 -- want of memory is told apart from every other cause to refuse a text
 abbrev pub fault_of_text : PlanFault → Fault
 fault_of_text text.Memory = fault.OutOfMemory
@@ -46,7 +39,6 @@ fault_of_text cause = fault.NoPlan cause
 -- the line that tells of a fault, without its line feed; that of a plan ends in its cause, as the plan's fault prints it
 abbrev pub line_of : Fault → Option (List ℕ)
 line_of fault.Usage = Some (codes "dine: usage: dine [run [--table edges|sites] | replay [--choices LIST] | check]")
-line_of fault.PlanRefused = Some (codes "dine: plan refused")
 line_of (fault.NoPlan cause) = None
 line_of fault.OutOfMemory = Some (codes "dine: out of memory")
 line_of fault.ReadingFailed = Some (codes "dine: reading failed")

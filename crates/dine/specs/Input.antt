@@ -2,6 +2,10 @@
 use Rattle.std.specs.Prelude.{◌≤◌, ℕ, List, Option, length}
 use Rattle.std.specs.Io.KnownBytes.{Consumes}
 
+-- how many bytes an input may have
+abbrev pub input_limit : ℕ
+input_limit = 8_388_608
+
 -- known bytes lose at most n at their front
 abbrev pub TakesAtMost : ℕ → Option (List ℕ) → Option (List ℕ) → Type 0
 TakesAtMost n old new = (bs : List ℕ) × Consumes old new bs × (length bs ≤ n)

@@ -1,17 +1,9 @@
 pub mod Check
 pub mod Commands
-pub mod Eating
-pub mod Ends
 pub mod Faults
 pub mod Input
-pub mod Name
-pub mod Names
 pub mod Output
-pub mod PairDocument
-pub mod PairWorld
-pub mod PairWorlds
 pub mod Replay
-pub mod SeenPair
 pub mod Status
 pub mod Text
 pub mod Words

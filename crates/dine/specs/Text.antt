@@ -1,14 +1,18 @@
 -- The text of `replay`.
-use Rattle.std.specs.Prelude.{ℕ, List, [], ◌∷◌, ◌++◌, codes}
+use Rattle.std.specs.Prelude.{ℕ, zero, suc, ◌+◌, List, [], ◌∷◌, ◌++◌, codes}
 use Rattle.std.specs.Fmt.{decimal}
 use Rattle.dine_token.specs.declared.entry.Entry.{Entry}
 use Rattle.dine_token.specs.declared.entry.Entry.TheVariants.{Meal, Move}
+use Rattle.dine_plan.specs.Plan.{SeenPlan, edge_count, ends_of, name_of}
+use Rattle.dine_core.specs.Bound.{bound_of}
+use Rattle.dine_core.specs.Precedence.{fork_log}
+use Rattle.dine_core.specs.World.{WorldState}
 
-module _ (name_of : ℕ → List ℕ) where
+module _ (named : ℕ → List ℕ) where
   -- meal k of a site is its name, `#` and k, and a Move is `to` and the name of the site
   abbrev pub entry_text : Entry → List ℕ
-  entry_text (Meal site k) = name_of site ++ codes "#" ++ decimal k
-  entry_text (Move to) = codes "to " ++ name_of to
+  entry_text (Meal site k) = named site ++ codes "#" ++ decimal k
+  entry_text (Move to) = codes "to " ++ named to
 
   -- each entry behind a separator
   abbrev pub entries_text : List ℕ → List Entry → List ℕ
@@ -17,8 +21,21 @@ module _ (name_of : ℕ → List ℕ) where
 
   -- the line of an edge: its number, the names of its ends and, after a colon, its log
   abbrev pub edge_line : ℕ → ℕ × ℕ → List Entry → List ℕ
-  edge_line edge ends log = codes "edge " ++ decimal edge ++ codes " " ++ name_of ends.0 ++ codes " " ++ name_of ends.1 ++ codes ":" ++ entries_text (codes " ") log ++ codes "\n"
+  edge_line edge ends log = codes "edge " ++ decimal edge ++ codes " " ++ named ends.0 ++ codes " " ++ named ends.1 ++ codes ":" ++ entries_text (codes " ") log ++ codes "\n"
 
 -- the last line: how many events took effect, and their bound
 abbrev pub events_line : ℕ → ℕ → List ℕ
 events_line events bound = codes "events " ++ decimal events ++ codes " of " ++ decimal bound ++ codes "\n"
+
+-- the line of an edge of the plan, by the log of its fork
+abbrev pub line_of_edge : SeenPlan → WorldState → ℕ → List ℕ
+line_of_edge plan world edge = edge_line (name_of plan) edge (ends_of plan edge) (fork_log plan world edge)
+
+-- the lines of so many edges, from one on
+abbrev pub lines_from : SeenPlan → WorldState → ℕ → ℕ → List ℕ
+lines_from plan world edge zero = []
+lines_from plan world edge (suc n) = line_of_edge plan world edge ++ lines_from plan world (edge + 1) n
+
+-- the text of a world: the line of each edge in order, and the last line
+abbrev pub world_text : SeenPlan → WorldState → ℕ → List ℕ
+world_text plan world events = lines_from plan world 0 (edge_count plan) ++ events_line events (bound_of plan)

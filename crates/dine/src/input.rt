@@ -1,7 +1,7 @@
 //! The input, read to its end.
 ghost use Rattle.std.specs.Prelude.{◌≡◌, ◌≤◌, ◌<◌, ◌+◌, IfOk, IfSome, IsErrOf, OnOk, length, vec_len};
 ghost use Rattle.std.specs.Io.KnownBytes.{IsAtEnd};
-ghost use Rattle.dine.specs.Input.{TakesAtMost};
+ghost use Rattle.dine.specs.Input.{TakesAtMost, input_limit};
 
 use std::alloc::Global;
 use std::io::{ErrorKind, Read};
@@ -37,10 +37,10 @@ pub enum InputFault {
 pub fn read_input<R: Read>(alloc: Global, input: &mut R) -> Result<Vec<u8>, InputFault>
     ensures bytes { IfOk result (λ taken. IfSome (R.remaining input.old) (λ left. taken.items ≡ left)) }
     ensures end { OnOk result (IsAtEnd (R.remaining input.new)) }
-    ensures within { IfOk result (λ taken. vec_len taken ≤ INPUT_LIMIT) }
+    ensures within { IfOk result (λ taken. vec_len taken ≤ input_limit) }
     ensures too_long { IsErrOf result InputFault.TooLong
-        → IfSome (R.remaining input.old) (λ left. INPUT_LIMIT < length left) }
-    ensures takes { TakesAtMost (INPUT_LIMIT + 1) (R.remaining input.old) (R.remaining input.new) }
+        → IfSome (R.remaining input.old) (λ left. input_limit < length left) }
+    ensures takes { TakesAtMost (input_limit + 1) (R.remaining input.old) (R.remaining input.new) }
 {
     let mut taken = Vec::new(alloc);
     let mut chunk = [0u8; CHUNK];

@@ -2,20 +2,14 @@
 #![tactic(auto)]
 
 mod check;
-mod ends;
 mod input;
-mod links;
 mod output;
-mod pair_plan;
-mod pair_world;
-mod read_pair;
 mod replay;
 mod run_cmd;
 mod status;
 #[cfg(test)]
 mod tests;
 mod text;
-mod whereabouts;
 mod words;
 
 use run_cmd::run_cmd;

@@ -1,24 +1,20 @@
 //! From words and input to bytes and status.
-ghost use Rattle.std.specs.Prelude.{◌≡◌, ◌≢◌, ◌<◌, ◌≤◌, IfErr, IfSome, IsErrOf, None, OnErr, OnOk, Some, false, length, map, true, string_bytes};
+ghost use Rattle.std.specs.Prelude.{◌≡◌, ◌≢◌, ◌<◌, ◌≤◌, IfErr, IfOk, IfSome, IsErrOf, None, OnErr, OnOk, Some, false, length, map, true, string_bytes};
 ghost use Rattle.std.specs.Io.KnownBytes.{IsAtEnd};
 ghost use Rattle.clap.specs.Words.{takes};
-ghost use Rattle.dine_plan.specs.declared.faults.PlanFault.{PlanFault};
-ghost use Rattle.dine.specs.declared.input.TheConstants.{INPUT_LIMIT};
-ghost use Rattle.dine.specs.Check.{WritesCheck, WritesPartOfCheck, fault_of_bytes};
-ghost use Rattle.dine.specs.Commands.{EndsByFault, IsDone, IsPartDone, IsPlanLeft, IsRefused};
+ghost use Rattle.dine.specs.Commands.{EndsByFault, IsDone, IsPartDone, IsPlanLeft, IsRefused, Writes, WritesPart, text_of};
 ghost use Rattle.dine.specs.Faults.{status_of};
-ghost use Rattle.dine.specs.PairDocument.{pair_of_text};
-ghost use Rattle.dine.specs.Replay.{WritesPartOfReplay, WritesReplay};
+ghost use Rattle.dine.specs.Input.{input_limit};
 ghost use Rattle.dine.specs.Words.{HasNoFault, command_in, dine_app};
 
 use crate::check::{check_text, plan_of_bytes};
 use crate::input::read_input;
 use crate::output::write_out;
-use crate::read_pair::read_pair;
 use crate::replay::replay_text;
 use crate::status::{Fault, Status};
 use crate::words::{Command, command_of};
-use std::alloc::Global;
+use dine_plan::Plan;
+use std::alloc::{AllocError, Global};
 use std::io::{Read, Write};
 use std::sync::Wait;
 use std::thread::Threads;
@@ -41,14 +37,14 @@ pub fn run_cmd<H: Threads + Wait, R: Read, W: Write, F: Write>(
     ensures accepted { result ≡ Status.Success → HasNoFault dine_app (map string_bytes words.now) }
     ensures done { result ≡ Status.Success → IsDone (command_in dine_app (map string_bytes words.now)) (R.remaining input.old) (W.contents output.old) (W.contents output.new) }
     ensures read_to_end { result ≡ Status.Success → IsAtEnd (R.remaining input.new) }
-    ensures within { result ≡ Status.Success → IfSome (R.remaining input.old) (λ bytes. length bytes ≤ INPUT_LIMIT) }
+    ensures within { result ≡ Status.Success → IfSome (R.remaining input.old) (λ bytes. length bytes ≤ input_limit) }
     ensures quiet { result ≡ Status.Success → faults.new ≡ faults.old }
 
     // When a fault may come.
     ensures usage { result ≡ Status.Usage → takes dine_app (map string_bytes words.now) ≡ false }
-    ensures plan_refused { result ≡ Status.PlanRefused → IfSome (R.remaining input.old) (IsRefused (command_in dine_app (map string_bytes words.now))) }
+    ensures plan_refused { result ≡ Status.PlanRefused → IfSome (R.remaining input.old) IsRefused }
     ensures words_taken { takes dine_app (map string_bytes words.now) ≡ true → result ≢ Status.Usage }
-    ensures plan_taken { IsPlanLeft (command_in dine_app (map string_bytes words.now)) (R.remaining input.old) → result ≢ Status.PlanRefused }
+    ensures plan_taken { IsPlanLeft (R.remaining input.old) → result ≢ Status.PlanRefused }
     ensures no_threads { result ≢ Status.RunFailed }
 
     // What a fault leaves.
@@ -76,53 +72,49 @@ fn command<R: Read, W: Write>(
     ensures accepted { OnOk result (HasNoFault dine_app (map string_bytes words.now)) }
     ensures done { OnOk result (IsDone (command_in dine_app (map string_bytes words.now)) (R.remaining input.old) (W.contents output.old) (W.contents output.new)) }
     ensures end { OnOk result (IsAtEnd (R.remaining input.new)) }
-    ensures within { OnOk result (IfSome (R.remaining input.old) (λ bytes. length bytes ≤ INPUT_LIMIT)) }
-    ensures too_long { IsErrOf result Fault.InputTooLong → IfSome (R.remaining input.old) (λ bytes. INPUT_LIMIT < length bytes) }
+    ensures within { OnOk result (IfSome (R.remaining input.old) (λ bytes. length bytes ≤ input_limit)) }
+    ensures too_long { IsErrOf result Fault.InputTooLong → IfSome (R.remaining input.old) (λ bytes. input_limit < length bytes) }
     ensures usage { IsErrOf result Fault.Usage → takes dine_app (map string_bytes words.now) ≡ false }
     ensures unread { IsErrOf result Fault.Usage → input.new ≡ input.old }
-    ensures refused { IfErr result (λ fault. status_of fault ≡ Status.PlanRefused → IfSome (R.remaining input.old) (IsRefused (command_in dine_app (map string_bytes words.now)))) }
+    ensures refused { IfErr result (λ fault. status_of fault ≡ Status.PlanRefused → IfSome (R.remaining input.old) IsRefused) }
     ensures unwritten { result ≢ Err Fault.WritingFailed → OnErr result (output.new ≡ output.old) }
     ensures part { IsErrOf result Fault.WritingFailed → IsPartDone (command_in dine_app (map string_bytes words.now)) (R.remaining input.old) (W.contents output.old) (W.contents output.new) }
 {
-    match command_of(alloc, words)? {
-        Command::Replay => replay(alloc, input, output),
-        Command::Check => check(alloc, input, output),
-    }
+    let command = command_of(alloc, words)?;
+    apply(alloc, command, input, output)
 }
 
-// Reads a plan of two sites and one edge, and writes the text of its events.
-fn replay<R: Read, W: Write>(alloc: Global, input: &mut R, output: &mut W) -> Result<(), Fault>
-    ensures done { OnOk result (WritesReplay (R.remaining input.old) (W.contents output.old) (W.contents output.new)) }
+// Reads a plan, and writes the text that the command makes of it.
+fn apply<R: Read, W: Write>(
+    alloc: Global,
+    command: Command,
+    input: &mut R,
+    output: &mut W,
+) -> Result<(), Fault>
+    ensures done { OnOk result (Writes (text_of command) (R.remaining input.old) (W.contents output.old) (W.contents output.new)) }
     ensures end { OnOk result (IsAtEnd (R.remaining input.new)) }
-    ensures within { OnOk result (IfSome (R.remaining input.old) (λ bytes. length bytes ≤ INPUT_LIMIT)) }
-    ensures too_long { IsErrOf result Fault.InputTooLong → IfSome (R.remaining input.old) (λ bytes. INPUT_LIMIT < length bytes) }
+    ensures within { OnOk result (IfSome (R.remaining input.old) (λ bytes. length bytes ≤ input_limit)) }
+    ensures too_long { IsErrOf result Fault.InputTooLong → IfSome (R.remaining input.old) (λ bytes. input_limit < length bytes) }
     ensures words { result ≢ Err Fault.Usage }
-    ensures refused { IfErr result (λ fault. status_of fault ≡ Status.PlanRefused → IfSome (R.remaining input.old) (λ bytes. pair_of_text bytes ≡ None)) }
+    ensures refused { IfErr result (λ fault. status_of fault ≡ Status.PlanRefused → IfSome (R.remaining input.old) IsRefused) }
     ensures unwritten { result ≢ Err Fault.WritingFailed → OnErr result (output.new ≡ output.old) }
-    ensures part { IsErrOf result Fault.WritingFailed → WritesPartOfReplay (R.remaining input.old) (W.contents output.old) (W.contents output.new) }
-{
-    let bytes = read_input(alloc, input)?;
-    let plan = read_pair(alloc, bytes.as_slice())?;
-    let text = replay_text(alloc, &plan)?;
-    Ok(write_out(output, text.as_bytes())?)
-}
-
-// Reads a plan, and writes how large it is.
-fn check<R: Read, W: Write>(alloc: Global, input: &mut R, output: &mut W) -> Result<(), Fault>
-    ensures done { OnOk result (WritesCheck (R.remaining input.old) (W.contents output.old) (W.contents output.new)) }
-    ensures end { OnOk result (IsAtEnd (R.remaining input.new)) }
-    ensures within { OnOk result (IfSome (R.remaining input.old) (λ bytes. length bytes ≤ INPUT_LIMIT)) }
-    ensures too_long { IsErrOf result Fault.InputTooLong → IfSome (R.remaining input.old) (λ bytes. INPUT_LIMIT < length bytes) }
-    ensures words { result ≢ Err Fault.Usage }
-    ensures refused { IfErr result (λ fault. status_of fault ≡ Status.PlanRefused → IfSome (R.remaining input.old) (λ bytes. (cause : PlanFault) × (fault_of_bytes bytes ≡ Some cause))) }
-    ensures unwritten { result ≢ Err Fault.WritingFailed → OnErr result (output.new ≡ output.old) }
-    ensures part { IsErrOf result Fault.WritingFailed → WritesPartOfCheck (R.remaining input.old) (W.contents output.old) (W.contents output.new) }
+    ensures part { IsErrOf result Fault.WritingFailed → WritesPart (text_of command) (R.remaining input.old) (W.contents output.old) (W.contents output.new) }
 {
     let bytes = read_input(alloc, input)?;
     let plan = match plan_of_bytes(alloc, bytes.as_slice()) {
         Ok(plan) => plan,
         Err(fault) => return Err(Fault::from(fault)),
     };
-    let text = check_text(alloc, &plan)?;
-    Ok(write_out(output, text.as_bytes())?)
+    let text = text_of(alloc, command, &plan)?;
+    Ok(write_out(output, text.as_slice())?)
+}
+
+// The text that the command makes of the plan.
+fn text_of(alloc: Global, command: Command, plan: &Plan) -> Result<Vec<u8>, AllocError>
+    ensures { IfOk result (λ text. text.items ≡ text_of command plan.now) }
+{
+    match command {
+        Command::Replay => replay_text(alloc, plan),
+        Command::Check => Ok(check_text(alloc, plan)?.into_bytes()),
+    }
 }

@@ -3,7 +3,6 @@ ghost use Rattle.std.specs.Prelude.{◌≡◌, IfSome};
 
 use crate::input::InputFault;
 use crate::output::{WriteFault, print_fault};
-use crate::read_pair::ReadFault;
 use crate::words::WordsFault;
 use dine_plan::PlanFault;
 use std::alloc::AllocError;
@@ -48,8 +47,6 @@ impl Status {
 #[derive(Clone, Copy, Debug, PartialEq, Eq)]
 pub enum Fault {
     Usage,
-    /// The input is no plan for `replay`.
-    PlanRefused,
     /// The input is no plan, for this cause.
     NoPlan(PlanFault),
     OutOfMemory,
@@ -67,7 +64,6 @@ impl Fault {
     {
         match self {
             Fault::Usage => Status::Usage,
-            Fault::PlanRefused => Status::PlanRefused,
             Fault::NoPlan(_) => Status::PlanRefused,
             Fault::OutOfMemory => Status::OutOfMemory,
             Fault::ReadingFailed => Status::InputOutput,
@@ -96,7 +92,7 @@ impl Fault {
             Fault::Usage => {
                 "dine: usage: dine [run [--table edges|sites] | replay [--choices LIST] | check]"
             }
-            Fault::PlanRefused | Fault::NoPlan(_) => "dine: plan refused",
+            Fault::NoPlan(_) => "dine: plan refused",
             Fault::OutOfMemory => "dine: out of memory",
             Fault::ReadingFailed => "dine: reading failed",
             Fault::InputTooLong => "dine: input too long",
@@ -128,19 +124,6 @@ impl From<InputFault> for Fault {
             InputFault::Failed => Fault::ReadingFailed,
             InputFault::TooLong => Fault::InputTooLong,
             InputFault::Memory => Fault::OutOfMemory,
-        }
-    }
-}
-
-impl From<ReadFault> for Fault {
-    ghost use Rattle.dine.specs.Faults.{fault_of_plan};
-
-    ghost from_gives = { λ fault made. made ≡ fault_of_plan fault };
-
-    fn from(fault: ReadFault) -> Fault {
-        match fault {
-            ReadFault::Refused => Fault::PlanRefused,
-            ReadFault::Memory => Fault::OutOfMemory,
         }
     }
 }

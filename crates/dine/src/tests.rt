@@ -1,7 +1,7 @@
 //! Whole runs: from words and input to what is printed.
 //!
-//! A run that ends well has taken memory in each call that may: for the words, the input, the plan with its names, the
-//! world with its fork and hand, and the text. So the runs of the first two tests are also these calls with memory left.
+//! A run that ends well has taken memory in each call that may: for the words, the input, the plan, the world and the
+//! text. So the runs of the first two tests are also these calls with memory left.
 use crate::run_cmd::run_cmd;
 use crate::status::Status;
 use std::alloc::{AllocError, Global};
@@ -233,23 +233,20 @@ fn refused_words_leave_the_input_unread(rt: HostRuntime) -> Result<(), Fail> {
 }
 
 #[test]
-fn what_is_no_plan_of_two_sites_is_refused(rt: HostRuntime) -> Result<(), Fail> {
-    let three = format!(in rt.alloc(); "{PAIR}[[site]]\nname = \"c\"\n")?;
-    for text in [
-        b"".as_slice(),
-        b"version = 1\n\xFF".as_slice(),
-        b"[[site".as_slice(),
-        three.as_bytes(),
-    ] {
-        let mut input = text;
-        leaves(
-            &rt,
-            "dine replay",
-            &mut input,
-            3,
-            "",
-            "dine: plan refused\n",
-        )?;
+fn what_is_no_plan_is_refused_for_its_cause(rt: HostRuntime) -> Result<(), Fail> {
+    let same = format!(in rt.alloc(); "{PAIR}[[site]]\nname = \"a\"\n")?;
+    let cases = [
+        (b"".as_slice(), "2 Version"),
+        (b"version = 1\n\xFF".as_slice(), "1 NotToml"),
+        (b"[[site".as_slice(), "1 NotToml"),
+        (same.as_bytes(), "7 SiteTwice at site 2"),
+    ];
+    for (text, cause) in cases {
+        for line in ["dine replay", "dine check"] {
+            let mut input = text;
+            let told = format!(in rt.alloc(); "dine: plan refused: {cause}\n")?;
+            leaves(&rt, line, &mut input, 3, "", told.as_str())?;
+        }
     }
     let mut longest = LineFeeds { left: 8_388_608 };
     leaves(
@@ -258,8 +255,75 @@ fn what_is_no_plan_of_two_sites_is_refused(rt: HostRuntime) -> Result<(), Fail> 
         &mut longest,
         3,
         "",
-        "dine: plan refused\n",
+        "dine: plan refused: 2 Version\n",
     )
+}
+
+// The text of a plan of sites in a row of names, each with so many jobs, and edges between pairs of them.
+fn graph_text(
+    alloc: Global,
+    names: &[&str],
+    jobs: u32,
+    edges: &[(&str, &str)],
+) -> Result<String, AllocError> {
+    let mut text = String::from_str(alloc, "version = 1\n")?;
+    for name in names {
+        let site = site_text(alloc, name, jobs)?;
+        text.push_str(site.as_str())?;
+    }
+    for (one, other) in edges {
+        write!(&mut text, "[[edge]]\nends = [\"{one}\", \"{other}\"]\n")?;
+    }
+    Ok(text)
+}
+
+#[test]
+fn plans_of_any_graph_are_replayed(rt: HostRuntime) -> Result<(), Fail> {
+    let alone = graph_text(rt.alloc(), &["a"], 2, &[])?;
+    let path = graph_text(rt.alloc(), &["a", "b", "c"], 1, &[("a", "b"), ("b", "c")])?;
+    let triangle = graph_text(
+        rt.alloc(),
+        &["a", "b", "c"],
+        1,
+        &[("c", "a"), ("a", "b"), ("b", "c")],
+    )?;
+    let cases = [
+        (alone.as_str(), "events 6 of 6\n"),
+        (
+            path.as_str(),
+            "edge 0 a b: a#1, to b, b#1\nedge 1 b c: b#1, to c, c#1\nevents 33 of 41\n",
+        ),
+        (
+            triangle.as_str(),
+            "edge 0 a c: a#1, to c, c#1\nedge 1 a b: a#1, to b, b#1\nedge 2 b c: b#1, to c, c#1\nevents 45 of 57\n",
+        ),
+    ];
+    for (text, wanted) in cases {
+        let mut input = text.as_bytes();
+        leaves(&rt, "dine replay", &mut input, 0, wanted, "")?;
+    }
+    Ok(())
+}
+
+#[test]
+fn a_star_of_64_sites_is_replayed(rt: HostRuntime) -> Result<(), Fail> {
+    let mut plan = format!(in rt.alloc();
+        "version = 1\n[[site]]\nname = \"h\"\njobs = [{{ name = \"x\" }}]\n"
+    )?;
+    let mut edges = String::new(rt.alloc());
+    let mut wanted = String::new(rt.alloc());
+    for j in 1..64u32 {
+        let name = format!(in rt.alloc(); "l{j}")?;
+        let site = site_text(rt.alloc(), name.as_str(), 1)?;
+        plan.push_str(site.as_str())?;
+        write!(&mut edges, "[[edge]]\nends = [\"h\", \"l{j}\"]\n")?;
+        let edge = j - 1;
+        write!(&mut wanted, "edge {edge} h l{j}: h#1, to l{j}, l{j}#1\n")?;
+    }
+    plan.push_str(edges.as_str())?;
+    wanted.push_str("events 948 of 1200\n")?;
+    let mut input = plan.as_bytes();
+    leaves(&rt, "dine replay", &mut input, 0, wanted.as_str(), "")
 }
 
 #[test]

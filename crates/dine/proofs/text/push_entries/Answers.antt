@@ -1,14 +1,14 @@
 use Rattle.std.proofs.Common.{◌≡◌, ◌++◌, ◌+◌, ℕ, List, codes, cond, eqb, drop, string_bytes, sym, ◌∙◌, ap, arith, rules}
 use Rattle.std.proofs.lemmas.Bool.{eq-eqb, ne_eqb, cond-true, cond-false}
 use Rattle.dine.specs.Text.{entries_text}
-use Rattle.dine.specs.Names.{name_in}
+use Rattle.dine_plan.specs.Plan.{name_of}
 use Rattle.dine.proofs.EntryTexts.{entries_step}
 use Rattle.dine.proofs.text.push_entries.Goals as goal
 use Rattle.dine.proofs.text.push_entries.Goals.{then-i-eq0, else-i-eq0}
 
 pub loop-i-preserved : goal.loop-i-preserved
 loop-i-preserved c =
-    let name = name_in c.args.names.lower.now c.args.names.higher.now in
+    let name = name_of c.args.plan.now in
     let i = c.loop-i.i in
     let separator : c.if-i-eq0.separator.now ≡ cond (eqb i 0) (codes " ") (codes ", ") = elim c.if-i-eq0.branch [
       | then-i-eq0 w ↦ search rules ∙ sym (cond-true (eqb i 0) (codes " ") (codes ", ") (eq-eqb i 0 w.if-i-eq0.true))
