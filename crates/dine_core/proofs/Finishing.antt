@@ -36,7 +36,7 @@ some_of None h = absurd cc
 some_of (Some x) h = (x, refl)
 
 -- a list with no first element is empty
-none_first : {A : Type 0} (xs : List A) → slice_get xs 0 ≡ None → xs ≡ []
+pub none_first : {A : Type 0} (xs : List A) → slice_get xs 0 ≡ None → xs ≡ []
 none_first [] h = refl
 none_first (x ∷ xs) h = absurd cc
 

@@ -18,7 +18,7 @@ ghost use Rattle.dine_core.specs.Runs.{AreProper, LeadTo, begins_in, is_give_at}
 ghost use Rattle.dine_core.specs.Schedules.{finish_within, whole_run};
 ghost use Rattle.dine_core.specs.Steps.{LocalStep, Step};
 ghost use Rattle.dine_core.specs.Streams.{IsProper, KeepsStreams};
-ghost use Rattle.dine_core.specs.World.{IsComplete, Reaches, WorldState, enabled_events, is_enabled, put_to, state_of, world_after, next_letter};
+ghost use Rattle.dine_core.specs.World.{LinksAreOrdered, IsComplete, Reaches, WorldState, enabled_events, is_enabled, put_to, state_of, world_after, next_letter};
 ghost use Rattle.dine_core.specs.declared.events.Event.{Event};
 ghost use Rattle.dine_core.specs.declared.letters.Letter.{Letter};
 ghost use Rattle.dine_core.specs.declared.events.EventKind.TheVariants.{Hungry};
@@ -88,6 +88,15 @@ pub fn asker_has_precedence()
         → AreProper before → LeadTo plan s (start_of plan s) before state → i < length state.traffic
         → fork_at plan s state i ≡ 1 → token_at plan s state i ≡ 1
         → LeadTo plan s state steps new → list_any (is_give_at i) steps ≡ false → begins_in steps ≤ 1 }
+{}
+
+/// In every world that events reach from the start there is one state for each site, each site keeps its streams, and what an end
+/// took is a prefix of what the other end put.
+pub fn reached_worlds_keep_their_streams()
+    ensures sites { (plan : SeenPlan) (events : List Event) (world : WorldState) → IsPlan plan → Reaches plan events world → length world ≡ site_count plan }
+    ensures streams { (plan : SeenPlan) (events : List Event) (world : WorldState) → IsPlan plan → Reaches plan events world
+        → (s : ℕ) → s < site_count plan → KeepsStreams plan s (state_of world s) }
+    ensures links { (plan : SeenPlan) (events : List Event) (world : WorldState) → IsPlan plan → Reaches plan events world → LinksAreOrdered plan world }
 {}
 
 /// A link holds few letters, in every world that events reach from the start. What was put on it is what was taken from it and

@@ -1,6 +1,6 @@
 //! All sites of a plan in one thread.
 
-ghost use Rattle.std.specs.Prelude.{◌≡◌, IfOk, MatchResult, false, is_ok, option_map, slice_get};
+ghost use Rattle.std.specs.Prelude.{◌≡◌, IfOk, MatchResult, is_ok, option_map, slice_get, true};
 
 mod choices;
 mod forks;
@@ -104,16 +104,23 @@ impl World {
 
     /// Does the event. Where it is not enabled it is refused, and the world is unchanged.
     pub fn step(&mut self, event: Event) -> Result<(), NotEnabled>
-        ensures exact { is_ok result ≡ can_happen self.old event }
-        ensures done { MatchResult result (λ _. Happens event self.old self.new)
-            (λ _. (self.new ≡ self.old) × ForEachWorld self.old (λ plan world. is_enabled plan world event ≡ false)) }
+        ensures exact { ForEachWorld self.old (λ plan world. is_ok result ≡ is_enabled plan world event) }
+        ensures done { MatchResult result (λ _. Happens event self.old self.new) (λ _. self.new ≡ self.old) }
     {
         if !self.can_happen(event) {
             return Err(NotEnabled);
         }
+        self.happen(event);
+        Ok(())
+    }
+
+    // Does an event that is enabled.
+    fn happen(&mut self, event: Event)
+        requires { can_happen self.old event ≡ true }
+        ensures { Happens event self.old self.new }
+    {
         let seat = &mut self.seats[event.site as usize];
         acts::act(seat, self.links.as_mut_slice(), event.kind);
-        Ok(())
     }
 
     // Whether the event is enabled.

@@ -1,13 +1,12 @@
 // Schedules: events one after the other.
-ghost use Rattle.std.specs.Prelude.{◌≡◌, true};
 
 use super::World;
-use crate::events::Event;
 
 impl World {
     ghost use Rattle.dine_core.specs.Bound.{bound_of};
     ghost use Rattle.dine_core.specs.Schedules.{finish_within, replay};
-    ghost use Rattle.dine_core.specs.Worlds.{ForEachWorld, Happens, RunsTo, can_happen, from_here};
+    ghost use Rattle.dine_core.specs.World.{IsComplete};
+    ghost use Rattle.dine_core.specs.Worlds.{ForEachWorld, RunsTo, from_here};
 
     /// Does for each choice in turn the enabled event with that number, from 0. A choice with none does nothing and is passed
     /// over. It answers how many events took effect.
@@ -25,9 +24,11 @@ impl World {
         events
     }
 
-    /// Does the first enabled event until none is enabled. It answers how many events took effect.
+    /// Does the first enabled event until none is enabled: then every site ate all its meals, and every link is closed in
+    /// order and wholly taken. It answers how many events took effect.
     pub fn finish(&mut self) -> u64
-        ensures { ForEachWorld self.old (λ plan world. RunsTo plan (finish_within (bound_of plan) plan (from_here world)) result self.new) }
+        ensures complete { ForEachWorld self.new (λ plan world. IsComplete plan world) }
+        ensures run { ForEachWorld self.old (λ plan world. RunsTo plan (finish_within (bound_of plan) plan (from_here world)) result self.new) }
     {
         let bound = self.bound;
         let mut left = bound;
@@ -36,15 +37,5 @@ impl World {
             left -= 1;
         }
         bound - left
-    }
-
-    // Does an event that is enabled.
-    fn happen(&mut self, event: Event)
-        requires { can_happen self.old event ≡ true }
-        ensures { Happens event self.old self.new }
-    {
-        if self.step(event).is_err() {
-            unreachable!();
-        }
     }
 }

@@ -1,5 +1,7 @@
 use Rattle.std.proofs.Common.{◌≡◌, ◌-◌, ◌≤◌, ℕ, sym, ◌∙◌, ap, subst, arith}
+use Rattle.dine_core.specs.World.{enabled_events}
 use Rattle.dine_core.specs.Worlds.{IsWorldOf, SeenWorld}
+use Rattle.dine_core.proofs.Finishing.{none_first, stuck_is_complete}
 use Rattle.dine_core.proofs.WorldRuns.{IsUnderWay, chosen_can, none_of, one_left, runs_to, under_way_at_start, under_way_next}
 use Rattle.dine_core.proofs.world.World.finish.Goals as goal
 
@@ -48,9 +50,14 @@ loop-event-preserved c =
           under_way_next plan world left (left - 1) c.loop-event.self c.happen.new.self c.in-Some.event way (omega (arith, some)) (sym c.in-Some.is ∙ c.enabled.ensures plan way.now.world way.stands) c.happen.ensures;
     }
 
-pub returns : goal.returns
-returns c plan world stands =
+pub returns-clause-run : goal.returns-clause-run
+returns-clause-run c plan world stands =
     let kept = c.loop-event.invariant in
     let left = c.loop-event.left in
     let way = kept.under_way plan world stands in
     runs_to plan world left (c.self.inside.bound - left) c.loop-event.self way (none_of c.enabled.result c.in_default.not-Some ∙ c.enabled.ensures plan way.now.world way.stands) (omega (arith, kept.within, kept.bound plan world stands))
+
+pub returns-clause-complete : goal.returns-clause-complete
+returns-clause-complete c plan world stands =
+    let none = none_of c.enabled.result c.in_default.not-Some ∙ c.enabled.ensures plan world stands in
+    stuck_is_complete plan stands.reached.events world stands.reached.is_plan stands.reached.reaches (none_first (enabled_events plan world) (sym none))
