@@ -50,7 +50,7 @@ pub record LeadsTo (plan : SeenPlan) (events : List Event) (world : WorldState) 
   pub event : Event
   pub reaches : Reaches plan (events ++ event ∷ []) world
 
-choice_leads : (plan : SeenPlan) (now : Counted) (events : List Event) (k : ℕ) (e : Event) → Reaches plan events now.world → slice_get (enabled_events plan now.world) k ≡ Some e → LeadsTo plan events (chosen plan now (Some e)).world
+pub choice_leads : (plan : SeenPlan) (now : Counted) (events : List Event) (k : ℕ) (e : Event) → Reaches plan events now.world → slice_get (enabled_events plan now.world) k ≡ Some e → LeadsTo plan events (chosen plan now (Some e)).world
 choice_leads plan now events k e reached is =
     let w = some_of (world_after plan now.world e) (passes_at (is_enabled plan now.world) (flat_map (events_at plan) (range_with_len 0 (site_count plan))) k e is) in
     record {

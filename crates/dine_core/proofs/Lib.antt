@@ -46,6 +46,7 @@ pub mod Ranges
 pub mod Eating
 pub mod Ending
 pub mod Opened
+pub mod RunCounts
 pub mod Seated
 pub mod LinkNumbers
 pub mod LinkSteps

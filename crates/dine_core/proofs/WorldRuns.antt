@@ -5,9 +5,9 @@ use Rattle.std.proofs.lemmas.Option.{same_Some}
 use Rattle.dine_plan.specs.Plan.{SeenPlan}
 use Rattle.dine_core.specs.declared.events.Event.{Event}
 use Rattle.dine_core.specs.Bound.{bound_of, effects_of}
-use Rattle.dine_core.specs.Schedules.{Counted, carried_on, chosen, choose, finish_within, replay}
+use Rattle.dine_core.specs.Schedules.{Counted, carried_on, chosen, choose, finish_within, replay, from_here}
 use Rattle.dine_core.specs.World.{WorldState, enabled_events, is_enabled, start, world_after}
-use Rattle.dine_core.specs.Worlds.{Happens, IsReached, IsWorldOf, RunsTo, SeenWorld, can_happen, from_here}
+use Rattle.dine_core.specs.Worlds.{Happens, IsReached, IsWorldOf, RunsTo, SeenWorld, can_happen}
 use Rattle.dine_core.proofs.CanHappen.{can_happen_is}
 use Rattle.dine_core.proofs.Effects.{events_counted}
 use Rattle.dine_core.proofs.EffectBounds.{events_bounded}

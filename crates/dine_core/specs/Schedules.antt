@@ -10,6 +10,10 @@ pub record Counted : Type 0 where
   pub world : WorldState
   pub events : ℕ
 
+-- a run that starts here
+abbrev pub from_here : WorldState → Counted
+from_here world = record { world = world; events = 0 }
+
 -- the world after its n-th enabled event, from 0; a choice with none does nothing
 abbrev pub chosen : SeenPlan → Counted → Option Event → Counted
 chosen plan now None = now
@@ -35,4 +39,8 @@ finish_within (suc n) plan now = carried_on (finish_within n plan) plan now (sli
 
 -- the run of the choices and then of the first enabled events
 abbrev pub whole_run : SeenPlan → List ℕ → Counted
-whole_run plan choices = finish_within (bound_of plan) plan (replay plan (record { world = start plan; events = 0 }) choices)
+whole_run plan choices = finish_within (bound_of plan) plan (replay plan (from_here (start plan)) choices)
+
+-- the run of the first enabled events alone, from where the choices end
+abbrev pub after_choices : SeenPlan → List ℕ → Counted
+after_choices plan choices = finish_within (bound_of plan) plan (from_here (replay plan (from_here (start plan)) choices).world)

@@ -86,10 +86,6 @@ pub record HappensTo (plan : SeenPlan) (world : WorldState) (e : Event) (new : S
 abbrev pub Happens : Event → SeenWorld → SeenWorld → Type 0
 Happens e old new = ForEachWorld old (λ plan world. HappensTo plan world e new)
 
--- a run that starts here
-abbrev pub from_here : WorldState → Counted
-from_here world = record { world = world; events = 0 }
-
 -- the run leads to a state that the world stands for, by so many events
 pub record RunsTo (plan : SeenPlan) (run : Counted) (events : ℕ) (new : SeenWorld) : Type 0 where
   pub counted : run.events ≡ events

@@ -1,6 +1,6 @@
 //! Laws over the definitions alone. Each function does nothing: its contract is the law.
 
-ghost use Rattle.std.specs.Prelude.{◌≡◌, ◌≢◌, ◌<◌, ◌≤◌, ◌+◌, ◌↔◌, ℕ, List, [], ◌∷◌, ◌++◌, None, Some, false, length, true};
+ghost use Rattle.std.specs.Prelude.{◌≡◌, ◌≢◌, ◌<◌, ◌≤◌, ◌+◌, ◌*◌, ◌↔◌, ℕ, List, [], ◌∷◌, ◌++◌, None, Some, false, length, true};
 ghost use Rattle.std.specs.List.{list_any};
 ghost use Rattle.dine_plan.specs.Plan.{IsPlan, SeenPlan, edge_count, hi_of, job_count, lo_of, site_count};
 ghost use Rattle.dine_token.specs.Lawful.{IsLawful};
@@ -15,10 +15,10 @@ ghost use Rattle.dine_core.specs.Links.{ForEachEdge, ForEachLink, forks_of_edge,
 ghost use Rattle.dine_core.specs.Local.{LocalState, is_eating, neighbour_at, start_of, traffic_at};
 ghost use Rattle.dine_core.specs.Precedence.{IsAcyclic, fork_log};
 ghost use Rattle.dine_core.specs.Runs.{AreProper, LeadTo, begins_in, is_give_at};
-ghost use Rattle.dine_core.specs.Schedules.{finish_within, whole_run};
+ghost use Rattle.dine_core.specs.Schedules.{after_choices, finish_within, from_here, replay, whole_run};
 ghost use Rattle.dine_core.specs.Steps.{LocalStep, Step};
 ghost use Rattle.dine_core.specs.Streams.{IsProper, KeepsStreams};
-ghost use Rattle.dine_core.specs.World.{LinksAreOrdered, IsComplete, Reaches, WorldState, enabled_events, is_enabled, put_to, state_of, world_after, next_letter};
+ghost use Rattle.dine_core.specs.World.{LinksAreOrdered, IsComplete, Reaches, WorldState, enabled_events, is_enabled, next_letter, put_to, start, state_of, world_after};
 ghost use Rattle.dine_core.specs.declared.events.Event.{Event};
 ghost use Rattle.dine_core.specs.declared.letters.Letter.{Letter};
 ghost use Rattle.dine_core.specs.declared.events.EventKind.TheVariants.{Hungry};
@@ -174,6 +174,21 @@ pub fn finished_runs_are_complete()
         → IsComplete plan (finish_within (bound_of plan) plan (record { world = world; events = 0 })).world }
     ensures whole_run_halts { (plan : SeenPlan) (choices : List ℕ) → IsPlan plan → enabled_events plan (whole_run plan choices).world ≡ [] }
     ensures whole_run_complete { (plan : SeenPlan) (choices : List ℕ) → IsPlan plan → IsComplete plan (whole_run plan choices).world }
+{}
+
+/// A whole run, after any choices, has as many events as the world at its end has effects, and at most the bound of the plan.
+/// No plan has a greater bound than that of 64 sites with 512 edges and 1,000 jobs each.
+pub fn whole_runs_are_bounded()
+    ensures counted { (plan : SeenPlan) (choices : List ℕ) → IsPlan plan → (whole_run plan choices).events ≡ effects_of (whole_run plan choices).world }
+    ensures bounded { (plan : SeenPlan) (choices : List ℕ) → IsPlan plan → (whole_run plan choices).events ≤ bound_of plan }
+    ensures small { (plan : SeenPlan) → IsPlan plan → bound_of plan ≤ 3 * (64 * 1000) + 512 * 8008 }
+{}
+
+/// A whole run goes on where the choices end: it ends where the first enabled events lead from there, and its events are those
+/// of the choices and those after them.
+pub fn whole_runs_go_on_after_the_choices()
+    ensures world { (plan : SeenPlan) (choices : List ℕ) → (whole_run plan choices).world ≡ (after_choices plan choices).world }
+    ensures events { (plan : SeenPlan) (choices : List ℕ) → (whole_run plan choices).events ≡ (replay plan (from_here (start plan)) choices).events + (after_choices plan choices).events }
 {}
 
 /// The log of each edge's fork is lawful, in every world that events reach from the start and wherever the fork lies: in hand, in
