@@ -1,6 +1,5 @@
 -- Texts of entries, one after another.
-use Rattle.std.proofs.Common.{◌≡◌, ℕ, zero, suc, ◌+◌, List, [], ◌∷◌, ◌++◌, drop, codes, Option, Some, None, slice_get, sym, ◌∙◌, ap, refl, append_assoc, add-one, cond, eqb, arith}
-use Rattle.std.proofs.lemmas.Bool.{ne_eqb, cond-false}
+use Rattle.std.proofs.Common.{◌≡◌, ℕ, zero, suc, ◌+◌, List, [], ◌∷◌, ◌++◌, drop, codes, Some, slice_get, sym, ◌∙◌, ap, append_assoc, add-one}
 use Rattle.dine_token.specs.declared.entry.Entry.{Entry}
 use Rattle.dine.specs.Text.{entry_text, entries_text}
 

@@ -1,3 +1,4 @@
+pub mod ChoicesLemmas
 pub mod EntryTexts
 pub mod InputLemmas
 pub mod OutputLemmas

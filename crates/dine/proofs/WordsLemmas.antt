@@ -1,7 +1,9 @@
 -- What `clap` finds in words in which it finds no fault.
-use Rattle.std.proofs.Common.{◌≡◌, ◌⊎◌, ◌∙◌, Bool, true, false, cond, List, [], ◌∷◌, Option, Some, None, is_some, Result, Ok, Err, IsErrAnd, codes, option_map, refl, ap, inl, inr}
+use Rattle.std.proofs.Common.{◌≡◌, ◌⊎◌, ◌∙◌, Bool, true, false, cond, List, [], ◌∷◌, Option, Some, None, is_some, Result, Ok, Err, IsErrAnd, codes, option_map, refl, sym, ap, inl, inr, ◌&&◌}
 use Rattle.std.specs.Prelude.{IsErrOf, find}
 use Rattle.std.specs.Box.{box_value}
+use Rattle.std.specs.Option.{option_map_or}
+use Rattle.std.proofs.lemmas.Option.{same_Some}
 use Rattle.clap.specs.Kinds.{Kinds, or_else}
 use Rattle.clap.specs.Faults.{check_fault, defaults_fault, entered_fault, level_fault, settle_fault, walk_fault}
 use Rattle.clap.specs.Matches.{found_of, subcommand_name_of}
@@ -11,7 +13,7 @@ use Rattle.clap.specs.declared.error.kind.ErrorKind.{ErrorKind}
 use Rattle.clap.specs.declared.error.kind.ErrorKind.TheVariants.{OutOfMemory}
 use Rattle.clap.specs.declared.parser.matches.ArgMatches.{ArgMatches}
 use Rattle.clap.specs.declared.parser.matches.ArgMatches.TheViews.{out-ArgMatches, out-SubCommand}
-use Rattle.dine.specs.Words.{HasNoFault, dine_app, fault_of_kind}
+use Rattle.dine.specs.Words.{HasNoFault, choices_in, dine_app, fault_of_kind, replay_app}
 use Rattle.dine.specs.declared.words.WordsFault.{WordsFault}
 use Rattle.dine.specs.declared.words.WordsFault.TheVariants.{Usage, Memory}
 
@@ -59,14 +61,14 @@ two_or_none test one two words first second =
           [ true ↦ inr (inr (ap Some second)) | false ↦ inl refl ]
     ]
 
--- a subcommand of this name, as `clap` builds it below `dine`
-abbrev built_below : Text → Shape
-built_below name = built_leaf (inherited (with_leaf_noted (marked_built dine_app.top)) (new_app name).top)
+-- a subcommand, as `clap` builds it below `dine`
+abbrev built_below : Shape → Shape
+built_below shape = built_leaf (inherited (with_leaf_noted (marked_built dine_app.top)) shape)
 
 -- no other subcommand is met
 only_known : (found : Option (Text × List Text)) → (entered (built dine_app) found ≡ None) ⊎ IsKnown (entered (built dine_app) found)
 only_known None = inl refl
-only_known (Some p) = two_or_none (λ s. answers_to p.0 (label_of s)) (built_below (codes "replay")) (built_below (codes "check")) p.1 refl refl
+only_known (Some p) = two_or_none (λ s. answers_to p.0 (label_of s)) (built_below replay_app.top) (built_below (new_app (codes "check")).top) p.1 refl refl
 
 -- words without a fault name a subcommand of the program
 pub known_is_met : (words : List Text) → HasNoFault dine_app words → IsKnown (subcommand_of dine_app words)
@@ -91,3 +93,16 @@ usage_is_refused r kind false told passes is = refl
 usage_is_refused (Ok x) kind true told passes is = absurd told
 usage_is_refused (Err fault) kind true told passes is =
     let memory : fault ≡ Memory = told ∙ ap fault_of_kind (passes refl) in cc
+
+-- the choices are none where those of the rows are none
+pub without_choices : (found : Option (Text × List Row)) (rows : List Row) → Some rows ≡ option_map (λ p. p.1) found → choices_in rows ≡ None → option_map_or (λ p. is_some (choices_in p.1)) found true ≡ false
+without_choices None rows is none = absurd cc
+without_choices (Some p) rows is none = ap (λ (rest : List Row). is_some (choices_in rest)) (sym (same_Some rows p.1 is)) ∙ ap is_some none
+
+-- a test that is false, before another and behind it
+pub false_first : (a b : Bool) → a ≡ false → (a && b) ≡ false
+false_first a b is = ap (λ (c : Bool). c && b) is
+
+pub false_behind : (a b : Bool) → b ≡ false → (a && b) ≡ false
+false_behind true b is = is
+false_behind false b is = refl

@@ -2,7 +2,7 @@
 use Rattle.std.specs.Prelude.{◌≡◌, ℕ, List, ◌++◌, Option, Some, None, length, map, sum, codes, if◌then◌else◌}
 use Rattle.std.specs.Fmt.{decimal}
 use Rattle.std.specs.Str.{is_utf8}
-use Rattle.dine_plan.specs.Plan.{SeenPlan, SeenSite, site_count, edge_count}
+use Rattle.dine_plan.specs.Plan.{SeenPlan, site_count, edge_count}
 use Rattle.dine_plan.specs.PlanOf.{IsPlanOf}
 use Rattle.dine_plan.specs.Refusals.{first_fault}
 use Rattle.dine_plan.specs.declared.faults.PlanFault.{PlanFault}

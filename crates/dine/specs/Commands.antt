@@ -3,8 +3,6 @@ use Rattle.std.specs.Prelude.{◌≡◌, ◌≢◌, ◌<◌, List, ℕ, Option, 
 use Rattle.std.specs.Io.KnownBytes.{Appends, Keeps}
 use Rattle.dine_plan.specs.Plan.{SeenPlan}
 use Rattle.dine_plan.specs.declared.faults.PlanFault.{PlanFault}
-use Rattle.dine.specs.declared.words.Command.{Command}
-use Rattle.dine.specs.declared.words.Command.TheVariants.{Check, Replay}
 use Rattle.dine.specs.declared.status.Fault.{Fault}
 use Rattle.dine.specs.declared.status.Fault.TheVariants as fault
 use Rattle.dine.specs.declared.status.Status.{Status}
@@ -12,11 +10,12 @@ use Rattle.dine.specs.Input.{input_limit}
 use Rattle.dine.specs.Faults.{TellsLine, line_of, status_of}
 use Rattle.dine.specs.Check.{IsPlanBytes, check_text, fault_of_bytes}
 use Rattle.dine.specs.Replay.{replay_text}
+use Rattle.dine.specs.Words.{Asked, Replays, Checks}
 
 -- the text that a command makes of a plan
-abbrev pub text_of : Command → SeenPlan → List ℕ
-text_of Replay = replay_text
-text_of Check = check_text
+abbrev pub text_of : Asked → SeenPlan → List ℕ
+text_of (Replays choices) = replay_text choices
+text_of Checks = check_text
 
 -- a plan was read, and its text was written whole
 pub record Writes (text : SeenPlan → List ℕ) (left before after : Option (List ℕ)) : Type 0 where
@@ -32,11 +31,11 @@ pub record WritesPart (text : SeenPlan → List ℕ) (left before after : Option
   pub writes : Appends before after (take count (text plan))
 
 -- the command wrote its text, whole or in part; without a command nothing is written
-abbrev pub IsDone : Option Command → Option (List ℕ) → Option (List ℕ) → Option (List ℕ) → Type 0
+abbrev pub IsDone : Option Asked → Option (List ℕ) → Option (List ℕ) → Option (List ℕ) → Type 0
 IsDone None left before after = ⊥
 IsDone (Some command) left before after = Writes (text_of command) left before after
 
-abbrev pub IsPartDone : Option Command → Option (List ℕ) → Option (List ℕ) → Option (List ℕ) → Type 0
+abbrev pub IsPartDone : Option Asked → Option (List ℕ) → Option (List ℕ) → Option (List ℕ) → Type 0
 IsPartDone None left before after = ⊥
 IsPartDone (Some command) left before after = WritesPart (text_of command) left before after
 
@@ -50,7 +49,7 @@ IsPlanLeft left = (bytes : List ℕ) × (left ≡ Some bytes) × (fault_of_bytes
 
 -- How a fault ended the program: its cause has the status, its line was written as far as it could be, and the output
 -- holds what it held, but where writing failed. Input was too long only where it has more bytes than the limit.
-pub record EndsByFault (command : Option Command) (ended : Status) (left before after told_before told_after : Option (List ℕ)) : Type 0 where
+pub record EndsByFault (command : Option Asked) (ended : Status) (left before after told_before told_after : Option (List ℕ)) : Type 0 where
   pub cause : Fault
   pub ends_so : status_of cause ≡ ended
   pub told : TellsLine (line_of cause) told_before told_after

@@ -1,5 +1,5 @@
 -- What ends a command before its end.
-use Rattle.std.specs.Prelude.{◌≡◌, ℕ, List, [], ◌∷◌, ◌++◌, Option, Some, None, IfSome, codes}
+use Rattle.std.specs.Prelude.{ℕ, List, [], ◌∷◌, ◌++◌, Option, Some, None, IfSome, codes}
 use Rattle.dine_plan.specs.declared.faults.PlanFault.{PlanFault}
 use Rattle.dine_plan.specs.declared.faults.PlanFault.TheVariants as text
 use Rattle.dine.specs.Output.{WritesPrefix}

@@ -1,4 +1,5 @@
 pub mod Check
+pub mod Choices
 pub mod Commands
 pub mod Faults
 pub mod Input

@@ -1,8 +1,11 @@
 -- The commands of the program, as `clap` finds them in the words of the command line.
-use Rattle.std.specs.Prelude.{◌≡◌, List, [], Option, Some, None, codes, option_and_then, true}
+use Rattle.std.specs.Prelude.{◌≡◌, ◌⊎◌, ◌&&◌, ℕ, Bool, List, [], Option, Some, None, codes, is_some, option_and_then, option_map, true}
 use Rattle.std.specs.Prelude.{if◌then◌else◌}
+use Rattle.std.specs.Option.{option_map_or}
 use Rattle.std.specs.Str.{bytes_eq}
-use Rattle.clap.specs.Words.{App, Text, fault_of, new_app, subcommand_of, with_subcommand}
+use Rattle.clap.specs.Words.{App, Row, Rule, Text, fault_of, first_of, new_app, new_rule, subcommand_of, takes, with_rule, with_subcommand}
+use Rattle.clap.specs.declared.builder.action.ArgAction.TheVariants.{Set}
+use Rattle.dine.specs.Choices.{choices_of}
 use Rattle.clap.specs.Simple.{on_top}
 use Rattle.clap.specs.declared.error.kind.ErrorKind.{ErrorKind}
 use Rattle.clap.specs.declared.error.kind.ErrorKind.TheVariants.{OutOfMemory}
@@ -19,23 +22,55 @@ program_alone = on_top (λ s. record s {
   disable_help_subcommand = true;
 }) (new_app (codes "dine"))
 
+-- the option `--choices` of `replay`, which takes a text
+abbrev pub choices_rule : Rule
+choices_rule = record (new_rule (codes "choices")) { long = Some (codes "choices"); action = Some Set }
+
+abbrev pub replay_app : App
+replay_app = with_rule (new_app (codes "replay")) choices_rule
+
 -- `dine` with its subcommands, as `clap` sees it
 abbrev pub dine_app : App
-dine_app = with_subcommand (with_subcommand program_alone (new_app (codes "replay")).top) (new_app (codes "check")).top
+dine_app = with_subcommand (with_subcommand program_alone replay_app.top) (new_app (codes "check")).top
 
--- the command of this name
-abbrev pub command_of_name : Text → Option Command
-command_of_name name =
-    if bytes_eq name (codes "replay") then Some Replay
-    else (if bytes_eq name (codes "check") then Some Check else None)
+-- what is asked for: a replay of these choices, or the plan's size
+pub data Asked : Type 0 where
+  Replays : List ℕ → Asked
+  Checks : Asked
 
--- the command whose name `clap` finds in the words
-abbrev pub command_in : App → List Text → Option Command
-command_in app words = option_and_then (λ found. command_of_name found.0) (subcommand_of app words)
+abbrev pub asked_of : Command → Asked
+asked_of (Replay choices) = Replays choices.items
+asked_of Check = Checks
+
+-- the choices that `clap` finds: none where the option is not there, and else those of its text, if it has them
+abbrev pub choices_in : List Row → Option (List ℕ)
+choices_in found = option_map_or choices_of (first_of (codes "choices") found) (Some [])
+
+-- a name of a command
+abbrev pub IsCommandName : Text → Type 0
+IsCommandName name = (name ≡ codes "replay") ⊎ (name ≡ codes "check")
+
+-- what is asked for by a command of this name, and by what `clap` finds behind the name
+abbrev pub asked_by : Text × List Row → Option Asked
+asked_by found =
+    if bytes_eq found.0 (codes "replay") then option_map Replays (choices_in found.1)
+    else (if bytes_eq found.0 (codes "check") then Some Checks else None)
+
+-- what the words ask for, as `clap` finds it
+abbrev pub command_in : App → List Text → Option Asked
+command_in app words = option_and_then asked_by (subcommand_of app words)
 
 -- `clap` finds no fault in the words
 abbrev pub HasNoFault : App → List Text → Type 0
 HasNoFault app words = fault_of app words ≡ []
+
+-- the text of `--choices`, where `clap` finds one, has choices
+abbrev pub has_choices : App → List Text → Bool
+has_choices app words = option_map_or (λ found. is_some (choices_in found.1)) (subcommand_of app words) true
+
+-- `clap` takes the words, and the text of `--choices`, where there is one, has choices
+abbrev pub are_taken : App → List Text → Bool
+are_taken app words = takes app words && has_choices app words
 
 -- want of memory is told apart from every other cause
 abbrev pub fault_of_kind : ErrorKind → WordsFault

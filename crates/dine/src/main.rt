@@ -2,6 +2,7 @@
 #![tactic(auto)]
 
 mod check;
+mod choices;
 mod input;
 mod output;
 mod replay;

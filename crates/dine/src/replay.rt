@@ -7,13 +7,15 @@ use dine_core::World;
 use dine_plan::Plan;
 use std::alloc::{AllocError, Global};
 
-/// The text of the plan's world, in which the first enabled event is done again and again until none is enabled.
-pub fn replay_text(alloc: Global, plan: &Plan) -> Result<Vec<u8>, AllocError>
-    ensures { IfOk result (λ text. text.items ≡ replay_text plan.now) }
+/// The text of the plan's world, in which the choices are done one after the other, and then the first enabled event again
+/// and again until none is enabled. A choice with no event is passed over.
+pub fn replay_text(alloc: Global, plan: &Plan, choices: &[u32]) -> Result<Vec<u8>, AllocError>
+    ensures { IfOk result (λ text. text.items ≡ replay_text choices.now plan.now) }
 {
     let mut world = World::open(alloc, plan)?;
-    let events = world.finish();
-    let text = world_text(alloc, plan, &world, events);
+    let chosen = world.replay(choices);
+    let finished = world.finish();
+    let text = world_text(alloc, plan, &world, chosen + finished);
     let _ = world.into_forks();
     text
 }

@@ -1,11 +1,10 @@
 //! From words and input to bytes and status.
 ghost use Rattle.std.specs.Prelude.{◌≡◌, ◌≢◌, ◌<◌, ◌≤◌, IfErr, IfOk, IfSome, IsErrOf, None, OnErr, OnOk, Some, false, length, map, true, string_bytes};
 ghost use Rattle.std.specs.Io.KnownBytes.{IsAtEnd};
-ghost use Rattle.clap.specs.Words.{takes};
 ghost use Rattle.dine.specs.Commands.{EndsByFault, IsDone, IsPartDone, IsPlanLeft, IsRefused, Writes, WritesPart, text_of};
 ghost use Rattle.dine.specs.Faults.{status_of};
 ghost use Rattle.dine.specs.Input.{input_limit};
-ghost use Rattle.dine.specs.Words.{HasNoFault, command_in, dine_app};
+ghost use Rattle.dine.specs.Words.{HasNoFault, are_taken, asked_of, command_in, dine_app};
 
 use crate::check::{check_text, plan_of_bytes};
 use crate::input::read_input;
@@ -22,7 +21,7 @@ use std::thread::Threads;
 /// Does what the words say with the input, and writes the text that it makes to `output`. The first word is the
 /// program's own name.
 ///
-/// The first fault ends it, and one line to `faults` tells of it: words that `clap` refuses (nothing is read), an input
+/// The first fault ends it, and one line to `faults` tells of it: words that `clap` refuses or a bad LIST (nothing is read), an input
 /// that can't be read or is too long, a text that is no plan, want of memory, an output that can't be written. That the
 /// line can't be printed is told to nobody. It may wait.
 pub fn run_cmd<H: Threads + Wait, R: Read, W: Write, F: Write>(
@@ -41,9 +40,9 @@ pub fn run_cmd<H: Threads + Wait, R: Read, W: Write, F: Write>(
     ensures quiet { result ≡ Status.Success → faults.new ≡ faults.old }
 
     // When a fault may come.
-    ensures usage { result ≡ Status.Usage → takes dine_app (map string_bytes words.now) ≡ false }
+    ensures usage { result ≡ Status.Usage → are_taken dine_app (map string_bytes words.now) ≡ false }
     ensures plan_refused { result ≡ Status.PlanRefused → IfSome (R.remaining input.old) IsRefused }
-    ensures words_taken { takes dine_app (map string_bytes words.now) ≡ true → result ≢ Status.Usage }
+    ensures words_taken { are_taken dine_app (map string_bytes words.now) ≡ true → result ≢ Status.Usage }
     ensures plan_taken { IsPlanLeft (R.remaining input.old) → result ≢ Status.PlanRefused }
     ensures no_threads { result ≢ Status.RunFailed }
 
@@ -74,7 +73,7 @@ fn command<R: Read, W: Write>(
     ensures end { OnOk result (IsAtEnd (R.remaining input.new)) }
     ensures within { OnOk result (IfSome (R.remaining input.old) (λ bytes. length bytes ≤ input_limit)) }
     ensures too_long { IsErrOf result Fault.InputTooLong → IfSome (R.remaining input.old) (λ bytes. input_limit < length bytes) }
-    ensures usage { IsErrOf result Fault.Usage → takes dine_app (map string_bytes words.now) ≡ false }
+    ensures usage { IsErrOf result Fault.Usage → are_taken dine_app (map string_bytes words.now) ≡ false }
     ensures unread { IsErrOf result Fault.Usage → input.new ≡ input.old }
     ensures refused { IfErr result (λ fault. status_of fault ≡ Status.PlanRefused → IfSome (R.remaining input.old) IsRefused) }
     ensures unwritten { result ≢ Err Fault.WritingFailed → OnErr result (output.new ≡ output.old) }
@@ -91,14 +90,14 @@ fn apply<R: Read, W: Write>(
     input: &mut R,
     output: &mut W,
 ) -> Result<(), Fault>
-    ensures done { OnOk result (Writes (text_of command) (R.remaining input.old) (W.contents output.old) (W.contents output.new)) }
+    ensures done { OnOk result (Writes (text_of (asked_of command)) (R.remaining input.old) (W.contents output.old) (W.contents output.new)) }
     ensures end { OnOk result (IsAtEnd (R.remaining input.new)) }
     ensures within { OnOk result (IfSome (R.remaining input.old) (λ bytes. length bytes ≤ input_limit)) }
     ensures too_long { IsErrOf result Fault.InputTooLong → IfSome (R.remaining input.old) (λ bytes. input_limit < length bytes) }
     ensures words { result ≢ Err Fault.Usage }
     ensures refused { IfErr result (λ fault. status_of fault ≡ Status.PlanRefused → IfSome (R.remaining input.old) IsRefused) }
     ensures unwritten { result ≢ Err Fault.WritingFailed → OnErr result (output.new ≡ output.old) }
-    ensures part { IsErrOf result Fault.WritingFailed → WritesPart (text_of command) (R.remaining input.old) (W.contents output.old) (W.contents output.new) }
+    ensures part { IsErrOf result Fault.WritingFailed → WritesPart (text_of (asked_of command)) (R.remaining input.old) (W.contents output.old) (W.contents output.new) }
 {
     let bytes = read_input(alloc, input)?;
     let plan = match plan_of_bytes(alloc, bytes.as_slice()) {
@@ -111,10 +110,10 @@ fn apply<R: Read, W: Write>(
 
 // The text that the command makes of the plan.
 fn text_of(alloc: Global, command: Command, plan: &Plan) -> Result<Vec<u8>, AllocError>
-    ensures { IfOk result (λ text. text.items ≡ text_of command plan.now) }
+    ensures { IfOk result (λ text. text.items ≡ text_of (asked_of command) plan.now) }
 {
     match command {
-        Command::Replay => replay_text(alloc, plan),
+        Command::Replay(choices) => replay_text(alloc, plan, choices.as_slice()),
         Command::Check => Ok(check_text(alloc, plan)?.into_bytes()),
     }
 }

@@ -197,6 +197,30 @@ fn a_plan_of_two_sites_is_replayed(rt: HostRuntime) -> Result<(), Fail> {
     Ok(())
 }
 
+const HIGHER_FIRST: &str = "edge 0 a b: to b, b#1, to a, a#1\nevents 22 of 22\n";
+
+#[test]
+fn choices_are_replayed_first(rt: HostRuntime) -> Result<(), Fail> {
+    let cases = [
+        ("dine replay --choices 1,1,0,0", HIGHER_FIRST),
+        ("dine replay --choices=1,1,0,0", HIGHER_FIRST),
+        ("dine replay --choices 1,1,2,0,0", HIGHER_FIRST),
+        ("dine replay --choices 9", PAIR_TEXT),
+        ("dine replay --choices 0", PAIR_TEXT),
+        ("dine replay --choices 4294967295,9999999", PAIR_TEXT),
+        ("dine replay --choices 0000000001,01,000,0", HIGHER_FIRST),
+        (
+            "dine replay --choices 1,1,0,0,0,0,0,0,0,0,0,0,0,0,0,0,0,0,0,0,0,0,0,1,2,3,0,0",
+            HIGHER_FIRST,
+        ),
+    ];
+    for (line, text) in cases {
+        let mut input = PAIR.as_bytes();
+        leaves(&rt, line, &mut input, 0, text, "")?;
+    }
+    Ok(())
+}
+
 #[test]
 fn a_thousand_jobs_at_each_site_are_replayed(rt: HostRuntime) -> Result<(), Fail> {
     let plan = plan_text(rt.alloc(), ("a", 1000), ("b", 1000))?;
@@ -223,7 +247,10 @@ fn refused_words_leave_the_input_unread(rt: HostRuntime) -> Result<(), Fail> {
         "dine eat",
         "dine run",
         "dine replay replay",
-        "dine replay --choices 1",
+        "dine replay --choices",
+        "dine replay --choices 1,x",
+        "dine replay --choices 4294967296",
+        "dine check --choices 1",
     ] {
         let mut input = fails_at(1);
         leaves(&rt, line, &mut input, 2, "", USAGE)?;

@@ -1,9 +1,10 @@
 //! The words of the command line, read by `clap`.
-ghost use Rattle.std.specs.Prelude.{◌≡◌, IfOk, IsErrOf, OnOk, Some, false, map, option_and_then, string_bytes};
-ghost use Rattle.clap.specs.Words.{app_of, kind_of, subcommand_name_of, takes};
-ghost use Rattle.dine.specs.Words.{HasNoFault, command_in, command_of_name, dine_app, fault_of_kind};
+ghost use Rattle.std.specs.Prelude.{◌≡◌, IfOk, IsErrOf, None, OnOk, Some, false, map, string_bytes};
+ghost use Rattle.clap.specs.Words.{app_of, found_of, kind_of, rows_of};
+ghost use Rattle.dine.specs.Words.{HasNoFault, IsCommandName, are_taken, asked_by, asked_of, choices_in, command_in, dine_app, fault_of_kind, has_choices};
 ghost use Rattle.dine.specs.declared.words.WordsFault.TheVariants.{Memory};
 
+use crate::choices::choices_of;
 use std::alloc::{AllocError, Global};
 use thiserror::Error;
 
@@ -14,11 +15,13 @@ const REPLAY: &str = "replay";
 
 const CHECK: &str = "check";
 
+const CHOICES: &str = "choices";
+
 /// What the program is asked to do.
-#[derive(Clone, Copy, Debug, PartialEq, Eq)]
+#[derive(Debug, Drop, PartialEq, Eq)]
 pub enum Command {
-    /// Go through the plan's events one by one, and print the logs.
-    Replay,
+    /// Go through the plan's events one by one, those of the choices first, and print the logs.
+    Replay(Vec<u32>),
     /// Read the plan, and say how large it is.
     Check,
 }
@@ -26,7 +29,7 @@ pub enum Command {
 /// Why the words name no command.
 #[derive(Clone, Copy, Debug, PartialEq, Eq, Error)]
 pub enum WordsFault {
-    /// `clap` refuses the words. A question for help or the version is refused too.
+    /// `clap` refuses the words, or LIST is none. A question for help or the version is refused too.
     #[error("usage: dine [run [--table edges|sites] | replay [--choices LIST] | check]")]
     Usage,
     /// There was no memory to read them.
@@ -55,15 +58,32 @@ impl From<AllocError> for WordsFault {
 
 /// The command that the words name, of which the first is the program's own name.
 pub fn command_of(alloc: Global, words: &[String]) -> Result<Command, WordsFault>
-    ensures ok { IfOk result (λ command. command_in dine_app (map string_bytes words.now) ≡ Some command) }
+    ensures ok { IfOk result (λ command. command_in dine_app (map string_bytes words.now) ≡ Some (asked_of command)) }
     ensures taken { OnOk result (HasNoFault dine_app (map string_bytes words.now)) }
-    ensures usage { IsErrOf result WordsFault.Usage → takes dine_app (map string_bytes words.now) ≡ false }
-    ensures fault { IsErrOf result WordsFault.Usage → ¬ HasNoFault dine_app (map string_bytes words.now) }
+    ensures usage { IsErrOf result WordsFault.Usage → are_taken dine_app (map string_bytes words.now) ≡ false }
+    ensures fault { IsErrOf result WordsFault.Usage → HasNoFault dine_app (map string_bytes words.now) → has_choices dine_app (map string_bytes words.now) ≡ false }
 {
     let matches = program(alloc)?.try_get_matches_from(words)?;
-    match command_met(&matches) {
-        Some(command) => Ok(command),
+    match matches.subcommand() {
+        Some((name, found)) => command_named(alloc, name, found),
         None => unreachable!(),
+    }
+}
+
+// The command of the name, with what the parse found behind it.
+fn command_named(
+    alloc: Global,
+    name: &str,
+    found: &clap::ArgMatches<'_>,
+) -> Result<Command, WordsFault>
+    requires known { IsCommandName name.now }
+    ensures ok { IfOk result (λ command. asked_by (name.now, rows_of (found_of found.now)) ≡ Some (asked_of command)) }
+    ensures refused { IsErrOf result WordsFault.Usage → choices_in (rows_of (found_of found.now)) ≡ None }
+{
+    match name {
+        REPLAY => Ok(Command::Replay(choices_met(alloc, found)?)),
+        CHECK => Ok(Command::Check),
+        _ => unreachable!(),
     }
 }
 
@@ -71,21 +91,25 @@ pub fn command_of(alloc: Global, words: &[String]) -> Result<Command, WordsFault
 fn program<'a>(alloc: Global) -> Result<clap::Command<'a>, AllocError>
     ensures { IfOk result (λ program. app_of program ≡ dine_app) }
 {
+    let choices = clap::Arg::new(alloc, CHOICES)
+        .long(CHOICES)
+        .action(clap::ArgAction::Set);
+    let replay = clap::Command::new(alloc, REPLAY).arg(choices)?;
     clap::Command::new(alloc, "dine")
         .subcommand_required(true)
         .disable_help_flag(true)
         .disable_help_subcommand(true)
-        .subcommand(clap::Command::new(alloc, REPLAY))?
+        .subcommand(replay)?
         .subcommand(clap::Command::new(alloc, CHECK))
 }
 
-// The command whose name the parse met.
-fn command_met(matches: &clap::ArgMatches<'_>) -> Option<Command>
-    ensures { result ≡ option_and_then command_of_name (subcommand_name_of matches.now) }
+// The choices that the parse met. Where it met none there are none.
+fn choices_met(alloc: Global, matches: &clap::ArgMatches<'_>) -> Result<Vec<u32>, WordsFault>
+    ensures choices { IfOk result (λ choices. choices_in (rows_of (found_of matches.now)) ≡ Some choices.items) }
+    ensures refused { IsErrOf result WordsFault.Usage → choices_in (rows_of (found_of matches.now)) ≡ None }
 {
-    match matches.subcommand_name()? {
-        REPLAY => Some(Command::Replay),
-        CHECK => Some(Command::Check),
-        _ => None,
+    match matches.get_str(CHOICES) {
+        Some(list) => choices_of(alloc, list),
+        None => Ok(Vec::new(alloc)),
     }
 }

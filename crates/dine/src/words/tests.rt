@@ -1,5 +1,6 @@
 use super::{Command, WordsFault, command_of};
 use std::alloc::{AllocError, Global};
+use std::process::Abort;
 use std::test::Fail;
 
 // The words of a line.
@@ -11,16 +12,40 @@ fn words_of(alloc: Global, line: &str) -> Result<Vec<String>, AllocError> {
     Ok(words)
 }
 
+// The line is taken as a replay of the choices.
+fn replays<R: Abort + AllocGlobal>(rt: &R, line: &str, wanted: &[u32]) -> Result<(), Fail> {
+    let words = words_of(rt.alloc(), line)?;
+    match command_of(rt.alloc(), words.as_slice()) {
+        Ok(Command::Replay(choices)) => assert_eq!(rt; choices.as_slice(), wanted, "at {line}"),
+        other => assert!(rt; false, "at {line}: {other:?}"),
+    }
+    Ok(())
+}
+
 #[test]
 fn replay_is_a_command(rt: HostRuntime) -> Result<(), Fail> {
     for line in ["dine replay", "/usr/bin/eat replay", "dine replay --"] {
-        let words = words_of(rt.alloc(), line)?;
-        assert_eq!(rt;
-            command_of(rt.alloc(), words.as_slice()),
-            Ok(Command::Replay)
-        );
+        replays(&rt, line, [].as_slice())?;
     }
     Ok(())
+}
+
+#[test]
+fn replay_takes_choices(rt: HostRuntime) -> Result<(), Fail> {
+    replays(&rt, "dine replay --choices 1", [1].as_slice())?;
+    replays(&rt, "dine replay --choices=1", [1].as_slice())?;
+    replays(
+        &rt,
+        "dine replay --choices 1,1,2,0,0",
+        [1, 1, 2, 0, 0].as_slice(),
+    )?;
+    replays(&rt, "dine replay --choices 007", [7].as_slice())?;
+    replays(&rt, "dine replay --choices 0000000001,9", [1, 9].as_slice())?;
+    replays(
+        &rt,
+        "dine replay --choices 4294967295",
+        [4_294_967_295].as_slice(),
+    )
 }
 
 #[test]
@@ -42,7 +67,29 @@ fn other_words_are_refused(rt: HostRuntime) -> Result<(), Fail> {
         "dine version",
         "dine replay --help",
         "dine replay -h",
-        "dine replay --choices 1",
+        "dine replay --choices",
+        "dine replay --choices=",
+        "dine replay --choices 1 --choices 2",
+        "dine replay --choice 1",
+        "dine --choices 1 replay",
+        "dine check --choices 1",
+        "dine replay --choices 4294967296",
+        "dine replay --choices 9999999999",
+        "dine replay --choices 00000000001",
+        "dine replay --choices 12345678901",
+        "dine replay --choices 1,,2",
+        "dine replay --choices ,1",
+        "dine replay --choices 1,",
+        "dine replay --choices ,",
+        "dine replay --choices +1",
+        "dine replay --choices -1",
+        "dine replay --choices=-1",
+        "dine replay --choices 1,x",
+        "dine replay --choices 1;2",
+        "dine replay --choices 0x1",
+        "dine replay --choices 1.0",
+        "dine replay --choices 1, 2",
+        "dine replay --choices 1 2",
         "dine -- replay",
         "dine - replay",
         "dine run",

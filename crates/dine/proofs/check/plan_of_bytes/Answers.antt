@@ -1,11 +1,9 @@
-use Rattle.std.proofs.Common.{◌≡◌, ◌∙◌, List, ℕ, Option, Some, true, cond, sym, subst, ap}
+use Rattle.std.proofs.Common.{◌≡◌, ◌∙◌, List, ℕ, Some, true, cond, sym, subst, ap}
 use Rattle.std.specs.Str.{is_utf8}
 use Rattle.std.proofs.lemmas.Bool.{cond-true, cond-false, false_from_ne_true}
 use Rattle.std.proofs.lemmas.Str.{is_utf8-from_IsUtf8, IsUtf8-from_is_utf8}
-use Rattle.dine_plan.specs.Plan.{SeenPlan}
 use Rattle.dine_plan.specs.PlanOf.{IsPlanOf}
 use Rattle.dine_plan.specs.Refusals.{first_fault}
-use Rattle.dine_plan.specs.declared.faults.PlanFault.{PlanFault}
 use Rattle.dine_plan.specs.declared.faults.PlanFault.TheVariants.{NotToml}
 use Rattle.dine.proofs.check.plan_of_bytes.Goals as goal
 

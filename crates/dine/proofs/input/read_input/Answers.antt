@@ -1,5 +1,5 @@
 -- What was taken before and what the last read gave is what the reader lost.
-use Rattle.std.proofs.Common.{arith, length, length-take}
+use Rattle.std.proofs.Common.{arith, length-take}
 use Rattle.dine.proofs.InputLemmas.{TakesAtMost-next}
 use Rattle.dine.proofs.input.read_input.Goals as goal
 

@@ -1,5 +1,5 @@
 -- A write takes the next bytes of the text, or leaves the writer as it was.
-use Rattle.std.proofs.Common.{◌≡◌, ◌≤◌, ◌-◌, arith, ap, drop, length, take, length-drop, subst, take_all}
+use Rattle.std.proofs.Common.{◌≡◌, ◌-◌, arith, ap, drop, length, take, length-drop, subst, take_all}
 use Rattle.std.specs.Io.KnownBytes.{Appends}
 use Rattle.std.proofs.KnownBytes.{Appends-kept}
 use Rattle.dine.proofs.OutputLemmas.{Appends-next}

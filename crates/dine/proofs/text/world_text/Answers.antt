@@ -1,4 +1,4 @@
-use Rattle.std.proofs.Common.{◌≡◌, ◌++◌, ℕ, List, string_bytes, sym, ◌∙◌, ap}
+use Rattle.std.proofs.Common.{◌++◌, ℕ, List, ◌∙◌, ap}
 use Rattle.dine_plan.specs.Plan.{edge_count}
 use Rattle.dine.specs.Text.{events_line, lines_from}
 use Rattle.dine.proofs.text.world_text.Goals as goal
