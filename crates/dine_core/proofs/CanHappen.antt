@@ -1,4 +1,4 @@
--- An event can happen exactly where it is enabled.
+-- An event can happen exactly where it is enabled. That a Take needs no test of its letter is the law of next letters.
 use Rattle.std.proofs.Common.{◌≡◌, ℕ, zero, suc, ◌+◌, ◌-◌, ◌<◌, ◌≤◌, ◌==◌, nat_lt, Bool, true, false, not, ◌&&◌, List, [], ◌∷◌, length, drop, get_or, slice_get, slice_set, option_map, option_and_then, Option, Some, None, is_some, refl, sym, ◌∙◌, ap, ap₂, subst, inl, inr, arith, if◌then◌else◌}
 use Rattle.std.specs.List.{list_any, range_with_len}
 use Rattle.std.proofs.lemmas.Bool.{cases_lt, cond-false, cond-true, eq-eqb, false_from_ne_true, ltb-true}
@@ -27,11 +27,12 @@ use Rattle.dine_core.specs.Streams.{KeepsStreams}
 use Rattle.dine_core.specs.Core.{SeenCore, StandsFor}
 use Rattle.dine_core.specs.Numbers.{link_to}
 use Rattle.dine_core.specs.Places.{breach_at, can_ask, can_close, can_end_done, can_give, can_give_at, can_hunger, is_dirty_in_hand, is_held, place_at}
-use Rattle.dine_core.specs.Seats.{IsSeatOf, can_do, is_in_turn_at, letters_in, next_in}
+use Rattle.dine_core.specs.Seats.{IsSeatOf, can_do, letters_in, next_in}
 use Rattle.dine_core.specs.World.{WorldState, is_enabled, local_after, next_letter, put_to, site_after, state_of, step_of}
 use Rattle.dine_core.specs.Worlds.{IsWorldOf, SeenWorld, can_at, can_happen, number_to}
 use Rattle.dine_core.proofs.BreachLaw.{allowed, no_breach}
 use Rattle.dine_core.proofs.Breaches.{breach_is}
+use Rattle.dine_core.proofs.NextLetters.{reached_allowed}
 use Rattle.dine_core.proofs.Ranges.{and_along, begin_by, not_one}
 use Rattle.dine_core.proofs.Stands.{place_is}
 use Rattle.dine_core.proofs.WorldKept.{WorldKeeps, in_range, reached_kept}
@@ -128,7 +129,8 @@ module _ (plan : SeenPlan) (state : LocalState) (core : SeenCore) (stands : Stan
     close_is : can_close core i ≡ (has_done (traffic_at state i).put && has_done (traffic_at state i).taken && is_open plan core.site state i)
     close_is = ap (λ (p : Place). p.done_put && p.done_taken && not p.close_put) (place_is plan state core stands i within)
 
-    take_is : (l : Letter) → not (is_some (breach_at core.site core.ate (place_at core i) l)) ≡ is_allowed plan core.site state i l
+    -- a letter is in turn where it is allowed
+    pub take_is : (l : Letter) → not (is_some (breach_at core.site core.ate (place_at core i) l)) ≡ is_allowed plan core.site state i l
     take_is l = ap (λ (b : Option Breach). not (is_some b)) (breach_is plan state core stands keeps i within l)
         ∙ no_breach_test (is_allowed plan core.site state i l) (first_breach plan core.site state i l) (no_breach plan core.site state i l) (allowed plan core.site state i l)
 
@@ -137,13 +139,14 @@ module _ (plan : SeenPlan) (state : LocalState) (core : SeenCore) (stands : Stan
   hunger_is = ap (λ (phase : Phase). is_thinking phase && nat_lt core.ate core.due) stands.phase
       ∙ ap₂ (λ (a due : ℕ). is_thinking state.phase && nat_lt a due) stands.ate stands.due
 
-  -- a letter that is there, or none
-  next_is : (i : ℕ) (o : Option Letter) → (nat_lt i (length core.places) && is_in_turn_at core i o) ≡ may_be plan core.site state (option_map (Take i) o)
-  next_is i None = none (nat_lt i (length core.places)) where
+  -- a letter that is there is allowed, or there is none
+  next_is : (i : ℕ) (o : Option Letter) → ((l : Letter) → i < length core.places → o ≡ Some l → is_allowed plan core.site state i l ≡ true)
+      → (nat_lt i (length core.places) && is_some o) ≡ may_be plan core.site state (option_map (Take i) o)
+  next_is i None law = none (nat_lt i (length core.places)) where
     none : (b : Bool) → (b && false) ≡ false
     none true = refl
     none false = refl
-  next_is i (Some l) = guarded i (length core.places) (length state.traffic) _ _ stands.degree (λ within. take_is i within l)
+  next_is i (Some l) law = guarded i (length core.places) (length state.traffic) _ _ stands.degree (λ within. sym (law l within refl))
 
 -- ---- the links
 
@@ -177,11 +180,15 @@ module _ (plan : SeenPlan) (world : WorldState) (seen : SeenWorld) (is : IsWorld
         ∙ ap (λ (letters : List Letter). slice_get letters 0) (is.links.letters core.site i is_site at)
         ∙ first_left (length (traffic_at (state_of world core.site) i).taken) (put_to plan world core.site i)
 
+    -- and it is allowed
+    next_may_come : (i : ℕ) (l : Letter) → i < length core.places → next_letter plan world core.site i ≡ Some l → is_allowed plan core.site (state_of world core.site) i l ≡ true
+    next_may_come i l within next = reached_allowed plan is.reached.events world core.site i is.reached.is_plan is.reached.reaches is_site (omega (arith, stands.degree, keeps.every_place)) l next
+
     -- what an event needs, by the core and by the state
     kind_is : (kind : EventKind) → can_do seen.links core kind ≡ may_be plan core.site (state_of world core.site) (step_of plan world core.site kind)
     kind_is (event.Take i) =
-        and_along (nat_lt i (length core.places)) _ _ (λ lt. ap (is_in_turn_at core i) (next_here i (ltb-true i (length core.places) lt)))
-        ∙ next_is plan (state_of world core.site) core stands keeps i (next_letter plan world core.site i)
+        and_along (nat_lt i (length core.places)) _ _ (λ lt. ap is_some (next_here i (ltb-true i (length core.places) lt)))
+        ∙ next_is plan (state_of world core.site) core stands keeps i (next_letter plan world core.site i) (λ l within next. next_may_come i l within next)
     kind_is (event.Give i) = guarded i (length core.places) (length (state_of world core.site).traffic) _ _ stands.degree (λ within. give_is plan (state_of world core.site) core stands keeps i within)
     kind_is event.End = ap is_eating stands.phase
     kind_is event.Begin = begin_by plan (state_of world core.site) core stands keeps

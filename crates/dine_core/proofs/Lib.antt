@@ -58,6 +58,8 @@ pub mod WorldRuns
 pub mod WorldOpened
 pub mod ForkPlaces
 pub mod Choices
+pub mod EachOnce
+pub mod Listed
 pub mod ForksOut
 pub mod Woken
 pub mod ForkLogs

@@ -7,11 +7,11 @@ use Rattle.dine_core.specs.declared.letters.Letter.{Letter}
 use Rattle.dine_core.specs.declared.events.Event.{Event}
 use Rattle.dine_core.specs.declared.seats.Seat.{Seat}
 use Rattle.dine_core.specs.World.{WorldState, state_of, world_after}
-use Rattle.dine_core.specs.Seats.{Does, FitsSeat, HasRoomFor, can_do}
+use Rattle.dine_core.specs.Seats.{Does, FitsSeat, HasRoomFor, TakesInTurn, can_do}
 use Rattle.dine_core.specs.Worlds.{HappensTo, IsWorldOf, SeenWorld, can_happen}
 use Rattle.dine_core.proofs.CanHappen.{can_happen_is}
 use Rattle.dine_core.proofs.MealFits.{fits_seat}
-use Rattle.dine_core.proofs.WorldSteps.{eats_here, has_room, is_plan, keeps_here, seat_there, world_next}
+use Rattle.dine_core.proofs.WorldSteps.{eats_here, has_room, in_turn, is_plan, keeps_here, seat_there, world_next}
 
 -- an option that is there
 there : (o : Option WorldState) → is_some o ≡ true → (new : WorldState) × (o ≡ Some new)
@@ -43,6 +43,10 @@ module _ (seen : SeenWorld) (e : Event) (can : can_happen seen e ≡ true) where
     pub site_fits : FitsSeat seat
     site_fits = subst FitsSeat (sym is) (fits_seat plan (state_of world e.site) (get_or seen.seats e.site seat) (is_plan plan world seen stands)
         (keeps_here plan world seen stands e.site is_site seat) (eats_here plan world seen stands e.site is_site seat) (stands.seats.stands e.site seat is_site))
+
+    -- what it takes is in turn
+    pub site_in_turn : TakesInTurn seen.links seat.core e.kind
+    site_in_turn = subst (λ (x : Seat). TakesInTurn seen.links x.core e.kind) (sym is) (in_turn plan world seen stands e.site is_site seat e.kind can_there)
 
     -- there is room for what it puts
     pub site_room : HasRoomFor seen.links seat.core e.kind

@@ -1,6 +1,6 @@
 -- A world that stands for a state, and an event that is enabled there: what the site may do, and that the world stands for the
 -- state after it.
-use Rattle.std.proofs.Common.{◌≡◌, ◌≢◌, ℕ, zero, suc, ◌<◌, true, List, [], ◌∷◌, ◌++◌, length, drop, get_or, slice_get, slice_set, Option, Some, None, option_map, option_and_then, refl, sym, ◌∙◌, ap, subst, inl, inr, arith}
+use Rattle.std.proofs.Common.{◌≡◌, ◌≢◌, ℕ, zero, suc, ◌<◌, true, List, [], ◌∷◌, ◌++◌, length, drop, get_or, slice_get, slice_set, Option, Some, None, is_some, option_map, option_and_then, refl, sym, ◌∙◌, ap, subst, inl, inr, arith}
 use Rattle.std.proofs.lemmas.Bool.{cases_eq, and_parts, false≢true, ltb-true}
 use Rattle.std.proofs.lemmas.List.{get_or-set_same, get_or-set_other, length-set}
 use Rattle.std.proofs.lemmas.Option.{same_Some, slice_get-get_or}
@@ -10,6 +10,7 @@ use Rattle.dine_core.specs.declared.events.Event.{Event}
 use Rattle.dine_core.specs.declared.events.EventKind.{EventKind}
 use Rattle.dine_core.specs.declared.events.EventKind.TheVariants as event
 use Rattle.dine_core.specs.declared.seats.Seat.{Seat}
+use Rattle.dine_core.specs.Breach.{is_allowed}
 use Rattle.dine_core.specs.Local.{LocalState, traffic_at, edge_at, neighbour_at}
 use Rattle.dine_core.specs.Holdings.{EatsWithAll}
 use Rattle.dine_core.specs.Steps.{Step, may, after, with_put}
@@ -20,9 +21,11 @@ use Rattle.dine_core.specs.Numbers.{link_to, link_from}
 use Rattle.dine_core.specs.Places.{place_at}
 use Rattle.dine_core.specs.World.{WorldState, no_state, place_of, put_to, state_of, next_letter, step_of, world_after, after_events, start}
 use Rattle.dine_core.specs.Links.{queue_to}
-use Rattle.dine_core.specs.Seats.{Does, PutsAt, HasRoomAt, HasRoomFor, IsSeatOf, MovesLetters, can_do, letters_in, next_in, step_in, with_letter, without_next}
+use Rattle.dine_core.specs.Seats.{Does, PutsAt, HasRoomAt, HasRoomFor, IsSeatOf, MovesLetters, TakesInTurn, can_do, is_in_turn_at, letters_in, next_in, step_in, with_letter, without_next}
 use Rattle.dine_core.specs.Worlds.{IsReached, IsWorldOf, LinksStand, SeatsStand, SeenWorld, can_at, number_to, number_from}
 use Rattle.dine_core.proofs.Across.{across}
+use Rattle.dine_core.proofs.CanHappen.{take_is}
+use Rattle.dine_core.proofs.NextLetters.{reached_allowed}
 use Rattle.dine_core.proofs.Stands.{place_is}
 use Rattle.dine_core.proofs.WorldKept.{IsStepOf, and_then_parts, option_map_parts, WorldKeeps, event_is_step, event_keeps, reached_kept}
 use Rattle.dine_core.proofs.EatersApart.{eats_with_all}
@@ -47,6 +50,11 @@ one_more plan world middle new (first ∷ events) e h more =
 pub seat_there : (links : List (List Letter)) (kind : EventKind) (o : Option Seat) → can_at links kind o ≡ true → (seat : Seat) × (o ≡ Some seat) × (can_do links seat.core kind ≡ true)
 seat_there links kind None h = absurd (false≢true h)
 seat_there links kind (Some seat) h = (seat, refl, h)
+
+-- a letter that is there
+letter_there : (o : Option Letter) → is_some o ≡ true → (l : Letter) × (o ≡ Some l)
+letter_there None h = absurd (false≢true h)
+letter_there (Some l) h = (l, refl)
 
 module _ (plan : SeenPlan) (world : WorldState) (seen : SeenWorld) (stands : IsWorldOf plan world seen) where
   abbrev pub is_plan : IsPlan plan
@@ -95,6 +103,23 @@ module _ (plan : SeenPlan) (world : WorldState) (seen : SeenWorld) (stands : IsW
         ∙ ap (option_and_then (λ (letters : List Letter). slice_get letters 0)) (slice_get-get_or seen.links n [] in_range)
         ∙ ap (λ (letters : List Letter). slice_get letters 0) (stands.links.letters s i is_site within)
         ∙ first_behind (length (traffic_at (state_of world s) i).taken) (put_to plan world s i)
+
+    -- a Take takes a letter that is in turn
+    pub in_turn : (kind : EventKind) → can_do seen.links core kind ≡ true → TakesInTurn seen.links core kind
+    in_turn (event.Take i) can =
+        let parts = and_parts _ _ can in
+        let within : i < length core.places = ltb-true i (length core.places) parts.0 in
+        let w = letter_there (next_in seen.links core i) parts.1 in
+        let allowed = reached_allowed plan stands.reached.events world s i is_plan stands.reached.reaches is_site (omega (arith, within, as_many_places)) w.0 (sym (next_is i within) ∙ w.1) in
+        ap (is_in_turn_at core i) w.1 ∙ take_is plan (state_of world s) core core_stands.core keeps_here i within w.0
+        ∙ ap (λ (x : ℕ). is_allowed plan x (state_of world s) i w.0) site_is ∙ allowed
+    in_turn (event.Give i) can = tt
+    in_turn event.End can = tt
+    in_turn event.Begin can = tt
+    in_turn event.Hungry can = tt
+    in_turn (event.Ask i) can = tt
+    in_turn (event.Done i) can = tt
+    in_turn (event.Close i) can = tt
 
     -- the step of the event, by the links as by the whole lists
     pub step_is : (kind : EventKind) → can_do seen.links core kind ≡ true → step_in seen.links core kind ≡ step_of plan world s kind

@@ -23,14 +23,14 @@ letters_in links n = slice_index_or links n []
 abbrev pub next_in : List (List Letter) → SeenCore → ℕ → Option Letter
 next_in links core i = option_and_then (λ (letters : List Letter). slice_get letters 0) (slice_get links (link_to core.site (place_at core i)))
 
--- the letter is in turn at place i
+-- there is a letter, and it is in turn at place i
 abbrev pub is_in_turn_at : SeenCore → ℕ → Option Letter → Bool
 is_in_turn_at core i None = false
 is_in_turn_at core i (Some l) = not (is_some (breach_at core.site core.ate (place_at core i) l))
 
 -- what each event needs
 abbrev pub can_do : List (List Letter) → SeenCore → EventKind → Bool
-can_do links core (event.Take i) = nat_lt i (length core.places) && is_in_turn_at core i (next_in links core i)
+can_do links core (event.Take i) = nat_lt i (length core.places) && is_some (next_in links core i)
 can_do links core (event.Give i) = nat_lt i (length core.places) && can_give core i
 can_do links core event.End = is_eating core.phase
 can_do links core event.Begin = can_begin core
@@ -38,6 +38,17 @@ can_do links core event.Hungry = can_hunger core
 can_do links core (event.Ask i) = nat_lt i (length core.places) && can_ask core i
 can_do links core (event.Done i) = nat_lt i (length core.places) && can_end_done core i
 can_do links core (event.Close i) = nat_lt i (length core.places) && can_close core i
+
+-- what a Take takes is in turn
+abbrev pub TakesInTurn : List (List Letter) → SeenCore → EventKind → Type 0
+TakesInTurn links core (event.Take i) = is_in_turn_at core i (next_in links core i) ≡ true
+TakesInTurn links core (event.Give i) = Unit {0}
+TakesInTurn links core event.End = Unit {0}
+TakesInTurn links core event.Begin = Unit {0}
+TakesInTurn links core event.Hungry = Unit {0}
+TakesInTurn links core (event.Ask i) = Unit {0}
+TakesInTurn links core (event.Done i) = Unit {0}
+TakesInTurn links core (event.Close i) = Unit {0}
 
 -- the meal of a site that eats, by the whole lists
 abbrev pub meal_of : SeenPlan → ℕ → LocalState → Option SeenMeal

@@ -1,5 +1,5 @@
 // What a site of the world may do, and does.
-ghost use Rattle.std.specs.Prelude.{◌≡◌, ◌<◌, ◌+◌, IfSome, List, MatchOption, None, length, option_and_then, option_map, slice_get, true};
+ghost use Rattle.std.specs.Prelude.{◌≡◌, ◌<◌, ◌+◌, IfSome, List, MatchOption, None, length, is_some, option_and_then, option_map, slice_get, true};
 ghost use Rattle.dine_core.specs.declared.letters.Letter.{Letter};
 ghost use Rattle.dine_core.specs.Local.{is_eating};
 ghost use Rattle.dine_core.specs.Forks.{woken};
@@ -7,7 +7,7 @@ ghost use Rattle.dine_core.specs.Numbers.{link_to};
 ghost use Rattle.dine_core.specs.Steps.{Begin, End, Take, after};
 ghost use Rattle.dine_core.specs.Core.{StandsFor, forks_in_hand};
 ghost use Rattle.dine_core.specs.Places.{begun, can_begin, ended, place_at, took};
-ghost use Rattle.dine_core.specs.Seats.{Does, FitsSeat, HasRoomFor, IsAwake, can_do, is_in_turn_at, next_in, without_next};
+ghost use Rattle.dine_core.specs.Seats.{Does, FitsSeat, HasRoomFor, IsAwake, TakesInTurn, can_do, is_in_turn_at, next_in, without_next};
 ghost use Rattle.dine_core.specs.Standing.{ForEachState, Steps, all_places};
 
 use crate::events::EventKind;
@@ -20,6 +20,7 @@ use std::mem;
 /// Does that, where it may be done.
 pub(crate) fn act(seat: &mut Seat, links: &mut [Queue], kind: EventKind)
     requires can { can_do links.old seat.old.core kind ≡ true }
+    requires in_turn { TakesInTurn links.old seat.old.core kind }
     requires meal { FitsSeat seat.old }
     requires room { HasRoomFor links.old seat.old.core kind }
     ensures count { length links.new ≡ length links.old }
@@ -126,15 +127,12 @@ pub(crate) fn can_do(links: &[Queue], core: &SiteCore, kind: EventKind) -> bool
     }
 }
 
-// Whether a letter lies in the link to the site at place i, and is in turn.
+// Whether a letter lies in the link to the site at place i.
 fn can_take(links: &[Queue], core: &SiteCore, i: u32) -> bool
     requires { i < length core.now.places }
-    ensures { result ≡ is_in_turn_at core.now i (next_in links.now core.now i) }
+    ensures { result ≡ is_some (next_in links.now core.now i) }
 {
-    match next_letter(links, core.link_to(i)) {
-        Some(letter) => core.may_take(i, letter),
-        None => false,
-    }
+    next_letter(links, core.link_to(i)).is_some()
 }
 
 // The next letter of a link.

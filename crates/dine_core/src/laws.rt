@@ -1,6 +1,6 @@
 //! Laws over the definitions alone. Each function does nothing: its contract is the law.
 
-ghost use Rattle.std.specs.Prelude.{◌≡◌, ◌≢◌, ◌<◌, ◌≤◌, ◌+◌, ◌*◌, ◌↔◌, ℕ, List, [], ◌∷◌, ◌++◌, None, Some, false, length, true};
+ghost use Rattle.std.specs.Prelude.{◌≡◌, ◌≢◌, ◌<◌, ◌≤◌, ◌+◌, ◌*◌, ◌↔◌, ℕ, List, [], ◌∷◌, ◌++◌, None, Some, false, length, slice_get, true};
 ghost use Rattle.std.specs.List.{list_any};
 ghost use Rattle.dine_plan.specs.Plan.{IsPlan, SeenPlan, edge_count, hi_of, job_count, lo_of, site_count};
 ghost use Rattle.dine_token.specs.Lawful.{IsLawful};
@@ -142,6 +142,17 @@ pub fn events_are_bounded()
 pub fn enabled_events_stay_enabled()
     ensures { (plan : SeenPlan) (world new : WorldState) (e other : Event)
         → is_enabled plan world e ≡ true → world_after plan world other ≡ Some new → e.site ≢ other.site → is_enabled plan new e ≡ true }
+{}
+
+/// The list of enabled events has each enabled event, in every world that events reach from the start. In every world it has no
+/// event that is not enabled, and none at two places.
+pub fn enabled_events_are_all_listed()
+    ensures all { (plan : SeenPlan) (events : List Event) (world : WorldState) (e : Event) → IsPlan plan → Reaches plan events world
+        → is_enabled plan world e ≡ true → (n : ℕ) × (slice_get (enabled_events plan world) n ≡ Some e) }
+    ensures only { (plan : SeenPlan) (world : WorldState) (e : Event) (n : ℕ)
+        → slice_get (enabled_events plan world) n ≡ Some e → is_enabled plan world e ≡ true }
+    ensures once { (plan : SeenPlan) (world : WorldState) (e : Event) (n m : ℕ)
+        → slice_get (enabled_events plan world) n ≡ Some e → slice_get (enabled_events plan world) m ≡ Some e → n ≡ m }
 {}
 
 /// No letter of the world meets a breach, in every world that events reach from the start: the letter that is next in a link is

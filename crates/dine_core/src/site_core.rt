@@ -1,4 +1,4 @@
-ghost use Rattle.std.specs.Prelude.{◌≡◌, ◌≢◌, ℕ, ◌<◌, ◌==◌, Some, None, is_some, not, true, false, length, map, IfOk, MatchOption, MatchResult};
+ghost use Rattle.std.specs.Prelude.{◌≡◌, ◌≢◌, ℕ, ◌<◌, ◌==◌, Some, None, is_some, true, false, length, map, IfOk, MatchOption, MatchResult};
 ghost use Rattle.std.specs.List.{list_all};
 ghost use Rattle.dine_token.specs.Fork.{eaten};
 ghost use Rattle.dine_plan.specs.Plan.{SeenPlan, site_count, edges_of};
@@ -201,16 +201,6 @@ impl SiteCore {
         ensures away { self.new ≡ gave i self.old }
     {
         self.places[i as usize].take_fork()
-    }
-
-    /// Whether the letter is in turn at place `i`.
-    pub(crate) fn may_take(&self, i: u32, letter: &Letter) -> bool
-        requires { i < length self.now.places }
-        ensures { result ≡ not (is_some (breach_at self.now.site self.now.ate (place_at self.now i) letter.now)) }
-    {
-        self.places[i as usize]
-            .breach_of(self.site, self.ate, letter)
-            .is_none()
     }
 
     // Whether Close is put at every place.

@@ -1,5 +1,4 @@
-use Rattle.std.proofs.Common.{◌≡◌, ◌<◌, ℕ, ◌+◌, ◌&&◌, nat_lt, true, length, Some, None, option_map, refl, sym, ◌∙◌, ap, subst, arith, slice_set}
-use Rattle.std.proofs.lemmas.Bool.{and_parts}
+use Rattle.std.proofs.Common.{◌≡◌, ◌<◌, ℕ, ◌+◌, ◌&&◌, nat_lt, true, length, Some, None, is_some, option_map, refl, sym, ◌∙◌, ap, subst, arith, slice_set}
 use Rattle.std.proofs.lemmas.Option.{same_Some}
 use Rattle.std.proofs.lemmas.Grind.{common_steps}
 use Rattle.dine_token.specs.Meal.{SeenMeal}
@@ -12,7 +11,7 @@ use Rattle.dine_core.specs.Steps as step
 use Rattle.dine_core.specs.Core.{SeenCore, StandsFor, forks_in_hand}
 use Rattle.dine_core.specs.Numbers.{link_from}
 use Rattle.dine_core.specs.Places.{breach_at, can_close, can_end_done, place_at}
-use Rattle.dine_core.specs.Seats.{DoesStep, can_do, is_in_turn_at, meal_of, next_in, step_in, with_letter}
+use Rattle.dine_core.specs.Seats.{DoesStep, TakesInTurn, can_do, is_in_turn_at, meal_of, next_in, step_in, with_letter}
 use Rattle.dine_core.specs.Standing.{all_places}
 use Rattle.dine_core.proofs.Breaches.{breach_is, may_take}
 use Rattle.dine_core.proofs.Seated.{in_turn_none, meal-put, meal-taken, meal_is, some_of, within_of}
@@ -85,12 +84,13 @@ returns-in-Take-clause-does c plan state one keeps eats seat is =
     let i = c.in-Take.i in
     let new = c.take.new.seat in
     let links = c.args.links.now in
-    let can : (nat_lt i (length core.places) && is_in_turn_at core i (next_in links core i)) ≡ true = sym (ap (can_do links core) c.in-Take.is) ∙ c.requires.can in
+    let can : (nat_lt i (length core.places) && is_some (next_in links core i)) ≡ true = sym (ap (can_do links core) c.in-Take.is) ∙ c.requires.can in
+    let turn : is_in_turn_at core i (next_in links core i) ≡ true = subst (TakesInTurn links core) c.in-Take.is c.requires.in_turn in
     let did = some_of (next_in links core i) _ c.take.ensures.core in
     let l = did.0 in
     let same : step.Take i l ≡ one = same_Some _ _ (sym (ap (step_in links core) c.in-Take.is ∙ ap (option_map (step.Take i)) did.1) ∙ is) in
     let within : i < length core.places = within_of i (length core.places) _ can in
-    let in_turn : breach_at core.site core.ate (place_at core i) l ≡ None = in_turn_none _ (sym (ap (is_in_turn_at core i) did.1) ∙ (and_parts (nat_lt i (length core.places)) _ can).1) in
+    let in_turn : breach_at core.site core.ate (place_at core i) l ≡ None = in_turn_none _ (sym (ap (is_in_turn_at core i) did.1) ∙ turn) in
     let may_be : may plan core.site state (step.Take i l) ≡ true = may_take plan state core seat.core keeps i within l (sym (breach_is plan state core seat.core keeps i within l) ∙ in_turn) in
     let site : new.core.site ≡ core.site = ap (λ (x : SeenCore). x.site) did.2.0 in
     let next : LocalState = with_taken i l state in

@@ -1,10 +1,10 @@
-use Rattle.std.proofs.Common.{◌≡◌, ◌++◌, true, List, drop, length, slice_set, take, refl, sym, ◌∙◌, ap, subst, arith}
+use Rattle.std.proofs.Common.{◌≡◌, ◌++◌, true, List, drop, length, slice_set, take, sym, ◌∙◌, ap, subst, arith}
 use Rattle.std.proofs.lemmas.Grind.{common_steps}
 use Rattle.dine_core.specs.declared.letters.Letter.{Letter}
-use Rattle.dine_core.specs.Seats.{Does, HasRoomFor, can_do}
+use Rattle.dine_core.specs.Seats.{Does, HasRoomFor, TakesInTurn, can_do}
 use Rattle.dine_core.specs.WorldKept.{seen_world}
 use Rattle.dine_core.specs.Worlds.{HappensTo, IsWorldOf, SeenWorld, can_happen}
-use Rattle.dine_core.proofs.WorldStepped.{site_can, site_done, site_fits, site_room, site_within}
+use Rattle.dine_core.proofs.WorldStepped.{site_can, site_done, site_fits, site_in_turn, site_room, site_within}
 use Rattle.dine_core.proofs.world.World.happen.Goals as goal
 
 pub index_mut-seat-requires : goal.index_mut-seat-requires
@@ -25,6 +25,15 @@ act-requires-clause-meal c =
     let can : can_happen seen c.args.event ≡ true = ap (λ (w : SeenWorld). can_happen w c.args.event) c.self.view_is ∙ c.requires in
     let kept = c.self.invariant in
     site_fits seen c.args.event can kept.plan kept.state kept.stands c.index_mut-seat.result.now c.index_mut-seat.ensures.value
+
+pub act-requires-clause-in_turn : goal.act-requires-clause-in_turn
+act-requires-clause-in_turn c =
+    let seen = seen_world c.self.inside in
+    let can : can_happen seen c.args.event ≡ true = ap (λ (w : SeenWorld). can_happen w c.args.event) c.self.view_is ∙ c.requires in
+    let kept = c.self.invariant in
+    let seat = c.index_mut-seat.result.now in
+    subst (λ (links : List (List Letter)). TakesInTurn links seat.core c.args.event.kind) (sym c.as_mut_slice.ensures.value)
+    (site_in_turn seen c.args.event can kept.plan kept.state kept.stands seat c.index_mut-seat.ensures.value)
 
 pub act-requires-clause-room : goal.act-requires-clause-room
 act-requires-clause-room c =

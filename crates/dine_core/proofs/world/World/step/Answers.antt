@@ -1,4 +1,4 @@
-use Rattle.std.proofs.Common.{◌≡◌, sym, ◌∙◌}
+use Rattle.std.proofs.Common.{sym, ◌∙◌}
 use Rattle.dine_core.proofs.CanHappen.{can_happen_is}
 use Rattle.dine_core.proofs.world.World.step.Goals as goal
 
