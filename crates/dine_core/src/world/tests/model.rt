@@ -34,30 +34,30 @@ pub(super) struct Model<'a, R: Abort> {
 
 /// The events of a site with so many places, in the fixed order.
 pub(super) fn events_at(rt: &impl Abort, alloc: Global, site: u32, places: u32) -> Vec<Event> {
-    let mut kinds = Vec::new(alloc);
-    for i in 0..places {
-        kinds.push(EventKind::Take(i)).expect(rt, "memory");
-    }
-    for i in 0..places {
-        kinds.push(EventKind::Give(i)).expect(rt, "memory");
-    }
-    kinds.push(EventKind::End).expect(rt, "memory");
-    kinds.push(EventKind::Begin).expect(rt, "memory");
-    kinds.push(EventKind::Hungry).expect(rt, "memory");
-    for i in 0..places {
-        kinds.push(EventKind::Ask(i)).expect(rt, "memory");
-    }
-    for i in 0..places {
-        kinds.push(EventKind::Done(i)).expect(rt, "memory");
-    }
-    for i in 0..places {
-        kinds.push(EventKind::Close(i)).expect(rt, "memory");
-    }
     let mut events = Vec::new(alloc);
-    for kind in kinds {
-        events.push(Event { site, kind }).expect(rt, "memory");
+    for i in 0..places {
+        push_event(rt, &mut events, site, EventKind::Take(i));
+    }
+    for i in 0..places {
+        push_event(rt, &mut events, site, EventKind::Give(i));
+    }
+    push_event(rt, &mut events, site, EventKind::End);
+    push_event(rt, &mut events, site, EventKind::Begin);
+    push_event(rt, &mut events, site, EventKind::Hungry);
+    for i in 0..places {
+        push_event(rt, &mut events, site, EventKind::Ask(i));
+    }
+    for i in 0..places {
+        push_event(rt, &mut events, site, EventKind::Done(i));
+    }
+    for i in 0..places {
+        push_event(rt, &mut events, site, EventKind::Close(i));
     }
     events
+}
+
+fn push_event(rt: &impl Abort, events: &mut Vec<Event>, site: u32, kind: EventKind) {
+    events.push(Event { site, kind }).expect(rt, "memory");
 }
 
 impl<'a, R: Abort> Model<'a, R> {
@@ -108,8 +108,8 @@ impl<'a, R: Abort> Model<'a, R> {
         enabled
     }
 
-    /// Whether the event is enabled.
-    pub(super) fn may(&self, event: Event) -> bool {
+    // Whether the event is enabled.
+    fn may(&self, event: Event) -> bool {
         let site = event.site;
         if !self.graph.has(event) {
             return false;
@@ -275,8 +275,7 @@ impl<'a, R: Abort> Model<'a, R> {
         self.graph.other(self.edge_at(site, place), site)
     }
 
-    // How many forks the site holds at the place: the lower end has one at the start, one comes with each Fork that is
-    // taken, and one goes with each that is put.
+    // How many forks the site holds at the place: the lower end has one at the start, a taken one comes, a put one goes.
     fn forks_held(&self, site: u32, place: u32) -> u32 {
         let (lower, _) = self.graph.ends(self.edge_at(site, place));
         self.held(site, place, Kind4::Fork, site == lower)

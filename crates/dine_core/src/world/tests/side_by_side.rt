@@ -13,15 +13,12 @@ use std::alloc::Global;
 use std::process::Abort;
 
 // The same events are enabled, in the same order, and no others.
-fn same_events<R: Abort>(rt: &R, model: &Model<R>, world: &World) {
-    let events = model.enabled();
+fn same_events(rt: &impl Abort, enabled: &[Event], world: &World) {
     let count = world.count();
-    assert_eq!(rt; count as usize, events.len());
-    for n in 0..count {
-        assert_eq!(rt; world.enabled(n), events.get(n as usize).copied());
+    assert_eq!(rt; count as usize, enabled.len());
+    for n in 0..=count {
+        assert_eq!(rt; world.enabled(n), enabled.get(n as usize).copied());
     }
-    assert_eq!(rt; world.enabled(count), None);
-    assert_eq!(rt; world.enabled(u32::MAX), None);
 }
 
 fn same_sites<R: Abort>(rt: &R, model: &Model<R>, world: &World) {
@@ -56,23 +53,38 @@ fn same_forks<R: Abort>(rt: &R, model: &Model<R>, world: &World) {
     assert!(rt; world.fork(edges).is_none());
 }
 
-// The world is as the model says after so many events.
-fn agree<R: Abort>(rt: &R, model: &Model<R>, world: &World, events: u64) {
-    same_events(rt, model, world);
+// The world is as the model says after so many events, with its enabled events.
+fn agree<R: Abort>(rt: &R, model: &Model<R>, enabled: &[Event], world: &World, events: u64) {
+    same_events(rt, enabled, world);
     same_sites(rt, model, world);
     same_forks(rt, model, world);
     assert_eq!(rt; world.bound(), model.graph.bound());
     assert_eq!(rt; model.effects(), events);
 }
 
-// Each event that is not enabled is refused, also at a place or a site past the end.
-fn refuse_others<R: Abort>(rt: &R, alloc: Global, model: &Model<R>, world: &mut World) {
-    for site in 0..=model.graph.sites() {
-        let places = model.graph.degree(site).saturating_add(1);
+// The same, where the enabled events are not at hand.
+fn agree_anew<R: Abort>(rt: &R, model: &Model<R>, world: &World, events: u64) {
+    let enabled = model.enabled();
+    agree(rt, model, enabled.as_slice(), world, events);
+}
+
+// All events of all sites, also at a place past the last and at a site past the last.
+fn all_events(rt: &impl Abort, alloc: Global, graph: Graph) -> Vec<Event> {
+    let mut all = Vec::new(alloc);
+    for site in 0..=graph.sites() {
+        let places = graph.degree(site).saturating_add(1);
         for event in events_at(rt, alloc, site, places) {
-            if !model.may(event) {
-                assert_eq!(rt; world.step(event), Err(NotEnabled));
-            }
+            all.push(event).expect(rt, "memory");
+        }
+    }
+    all
+}
+
+// Each event that is not enabled is refused.
+fn refuse_others(rt: &impl Abort, all: &[Event], enabled: &[Event], world: &mut World) {
+    for event in all {
+        if !enabled.contains(event) {
+            assert_eq!(rt; world.step(*event), Err(NotEnabled));
         }
     }
 }
@@ -85,6 +97,7 @@ fn step_both<R: Abort>(rt: &R, model: &mut Model<R>, world: &mut World, event: E
 // The run is over, and the forks come out with the model's logs, in edge order.
 fn end_both<R: Abort>(rt: &R, model: &Model<R>, world: World) {
     assert_eq!(rt; world.count(), 0);
+    assert_eq!(rt; world.enabled(u32::MAX), None);
     assert!(rt; model.is_complete());
     let forks = world.into_forks();
     assert_eq!(rt; forks.len(), model.graph.edges.len());
@@ -115,29 +128,59 @@ impl Chooser {
     }
 }
 
+// The plan that the world and the model are opened for, and all events that are tried.
+#[derive(Drop)]
+struct Trial<'a> {
+    alloc: Global,
+    graph: Graph<'a>,
+    plan: Plan,
+    all: Vec<Event>,
+}
+
+fn trial_of<'a>(
+    rt: &impl Abort,
+    alloc: Global,
+    jobs: &'a [u32],
+    edges: &'a [(u32, u32)],
+) -> Trial<'a> {
+    let graph = Graph { jobs, edges };
+    Trial {
+        alloc,
+        graph,
+        plan: plan_with(rt, alloc, jobs, edges),
+        all: all_events(rt, alloc, graph),
+    }
+}
+
+fn model_of<'a, R: Abort>(rt: &'a R, trial: &Trial<'a>) -> Model<'a, R> {
+    Model::open(rt, trial.alloc, trial.graph)
+}
+
+fn world_of(rt: &impl Abort, trial: &Trial) -> World {
+    opened(rt, trial.alloc, &trial.plan)
+}
+
 // A run to the end, compared after every event, with refusals tried at each state.
-fn run_alike(rt: &impl Abort, alloc: Global, plan: &Plan, graph: Graph, mut chooser: Chooser) {
-    let mut model = Model::open(rt, alloc, graph);
-    let mut world = opened(rt, alloc, plan);
-    agree(rt, &model, &world, 0);
-    for events in 1..=graph.bound() {
-        let choice = chooser.next(world.count());
-        let Some(event) = world.enabled(choice) else {
+fn run_alike(rt: &impl Abort, trial: &Trial, mut chooser: Chooser) {
+    let (mut model, mut world) = (model_of(rt, trial), world_of(rt, trial));
+    for events in 0..=trial.graph.bound() {
+        let enabled = model.enabled();
+        refuse_others(rt, trial.all.as_slice(), enabled.as_slice(), &mut world);
+        agree(rt, &model, enabled.as_slice(), &world, events);
+        let Some(event) = world.enabled(chooser.next(world.count())) else {
             break;
         };
         step_both(rt, &mut model, &mut world, event);
-        refuse_others(rt, alloc, &model, &mut world);
-        agree(rt, &model, &world, events);
     }
     end_both(rt, &model, world);
 }
 
 // Choices of which some have no event, with more of them than a run has events.
-fn draw_choices(rt: &impl Abort, alloc: Global, graph: Graph, seed: u32) -> Vec<u32> {
+fn draw_choices(rt: &impl Abort, trial: &Trial, seed: u32) -> Vec<u32> {
     let mut chooser = Chooser::Drawn(seed);
-    let mut choices = Vec::new(alloc);
-    for _ in 0..graph.bound() {
-        let choice = chooser.next(graph.sites().saturating_add(3));
+    let mut choices = Vec::new(trial.alloc);
+    for _ in 0..trial.graph.bound() {
+        let choice = chooser.next(trial.graph.sites().saturating_add(3));
         choices.push(choice).expect(rt, "memory");
         choices.push(0).expect(rt, "memory");
     }
@@ -146,121 +189,149 @@ fn draw_choices(rt: &impl Abort, alloc: Global, graph: Graph, seed: u32) -> Vec<
 }
 
 // The choices lead both to the same state, and so do the first events from there.
-fn replay_alike(rt: &impl Abort, alloc: Global, plan: &Plan, graph: Graph, choices: &[u32]) {
-    let mut model = Model::open(rt, alloc, graph);
-    let mut world = opened(rt, alloc, plan);
+fn replay_alike(rt: &impl Abort, trial: &Trial, choices: &[u32]) {
+    let (mut model, mut world) = (model_of(rt, trial), world_of(rt, trial));
     let replayed = model.replay(choices);
     assert_eq!(rt; world.replay(choices), replayed);
-    agree(rt, &model, &world, replayed);
+    agree_anew(rt, &model, &world, replayed);
     let finished = model.finish();
     assert_eq!(rt; world.finish(), finished);
-    agree(rt, &model, &world, replayed.wrapping_add(finished));
+    agree_anew(rt, &model, &world, replayed.wrapping_add(finished));
     end_both(rt, &model, world);
 }
 
 // Runs and replays of a plan with so many jobs at each site.
 fn go_alike(rt: &impl Abort, alloc: Global, jobs: &[u32], edges: &[(u32, u32)]) {
-    let graph = Graph { jobs, edges };
-    let plan = plan_with(rt, alloc, jobs, edges);
-    run_alike(rt, alloc, &plan, graph, Chooser::First);
-    run_alike(rt, alloc, &plan, graph, Chooser::Last);
+    let trial = trial_of(rt, alloc, jobs, edges);
+    run_alike(rt, &trial, Chooser::First);
+    run_alike(rt, &trial, Chooser::Last);
     for seed in 0..4u32 {
-        run_alike(rt, alloc, &plan, graph, Chooser::Drawn(seed));
-        let choices = draw_choices(rt, alloc, graph, seed);
-        for length in [7, 20, choices.len()] {
+        run_alike(rt, &trial, Chooser::Drawn(seed));
+        let choices = draw_choices(rt, &trial, seed);
+        for length in [1, 7, 20, choices.len()] {
             let choices = choices.get(..length).unwrap_or(choices.as_slice());
-            replay_alike(rt, alloc, &plan, graph, choices);
+            replay_alike(rt, &trial, choices);
         }
     }
 }
 
-// A choice of a list, and how many there were to choose from.
-#[derive(Clone, Copy)]
-struct Choice {
-    chosen: u32,
-    count: u32,
-}
-
-// Runs the list, which grows by first choices to the end. What is before its last choice was compared with an earlier list.
-fn run_list(rt: &impl Abort, alloc: Global, plan: &Plan, graph: Graph, list: &mut Vec<Choice>) {
-    let mut model = Model::open(rt, alloc, graph);
-    let mut world = opened(rt, alloc, plan);
-    let known = list.len() as u64;
-    for events in 0..=graph.bound() {
+// A branch is what can still be chosen at its turn, the chosen event last. Before the last branch all was compared already.
+fn run_branches(rt: &impl Abort, trial: &Trial, branches: &mut Vec<Vec<Event>>) {
+    let (mut model, mut world) = (model_of(rt, trial), world_of(rt, trial));
+    let known = branches.len() as u64;
+    for events in 0..=trial.graph.bound() {
         if known <= events {
-            refuse_others(rt, alloc, &model, &mut world);
-            agree(rt, &model, &world, events);
-            let count = world.count();
-            if count == 0 {
+            let enabled = model.enabled();
+            refuse_others(rt, trial.all.as_slice(), enabled.as_slice(), &mut world);
+            agree(rt, &model, enabled.as_slice(), &world, events);
+            if enabled.is_empty() {
                 break;
             }
-            let chosen = 0;
-            list.push(Choice { chosen, count }).expect(rt, "memory");
+            branches.push(enabled).expect(rt, "memory");
         }
-        let choice = list.get(events as usize).copied().expect(rt, "a choice");
-        let event = world.enabled(choice.chosen).expect(rt, "an event");
+        let branch = branches.get(events as usize).expect(rt, "a branch");
+        let event = branch.last().copied().expect(rt, "an event");
         step_both(rt, &mut model, &mut world, event);
     }
     end_both(rt, &model, world);
 }
 
-// The next list: the last choice that has another one after it is that one. False where there is none.
-fn advance(rt: &impl Abort, list: &mut Vec<Choice>, depth: usize) -> bool {
-    list.truncate(depth);
-    for _ in 0..list.len() {
-        let Choice { chosen, count } = list.pop().expect(rt, "a choice");
-        let chosen = chosen.saturating_add(1);
-        if chosen < count {
-            list.push(Choice { chosen, count }).expect(rt, "memory");
+// Leaves out the last chosen event that another can stand for. False where there is none.
+fn advance(rt: &impl Abort, branches: &mut Vec<Vec<Event>>) -> bool {
+    for _ in 0..branches.len() {
+        let mut branch = branches.pop().expect(rt, "a branch");
+        let _event = branch.pop();
+        if !branch.is_empty() {
+            branches.push(branch).expect(rt, "memory");
             return true;
         }
     }
     false
 }
 
-// Runs all lists of so many choices, each followed by the first events, and answers how many lists there are.
-fn run_all(
-    rt: &impl Abort,
-    alloc: Global,
-    jobs: &[u32],
-    edges: &[(u32, u32)],
-    depth: usize,
-) -> u32 {
-    let graph = Graph { jobs, edges };
-    let plan = plan_with(rt, alloc, jobs, edges);
-    let mut list = Vec::new(alloc);
-    for lists in 1..100_000u32 {
-        run_list(rt, alloc, &plan, graph, &mut list);
-        if !advance(rt, &mut list, depth) {
-            return lists;
+// Does all runs from the branches on, and answers how many there are.
+fn run_all(rt: &impl Abort, trial: &Trial, mut branches: Vec<Vec<Event>>) -> u32 {
+    for runs in 1..100_000u32 {
+        run_branches(rt, trial, &mut branches);
+        if !advance(rt, &mut branches) {
+            return runs;
         }
     }
     0
 }
 
-const WHOLE: usize = 1_000;
+// Does all runs that the plan has.
+fn run_whole(rt: &impl Abort, alloc: Global, jobs: &[u32], edges: &[(u32, u32)]) -> u32 {
+    let trial = trial_of(rt, alloc, jobs, edges);
+    run_all(rt, &trial, Vec::new(alloc))
+}
+
+const LOWER_HUNGRY: Event = Event {
+    site: 0,
+    kind: EventKind::Hungry,
+};
+
+const HIGHER_HUNGRY: Event = Event {
+    site: 1,
+    kind: EventKind::Hungry,
+};
+
+const HIGHER_ASKS: Event = Event {
+    site: 1,
+    kind: EventKind::Ask(0),
+};
+
+const LOWER_IS_ASKED: Event = Event {
+    site: 0,
+    kind: EventKind::Take(0),
+};
+
+// Does all runs of the pair with a job each that begin with these events.
+fn run_pair(rt: &impl Abort, alloc: Global, first: &[Event]) -> u32 {
+    let trial = trial_of(rt, alloc, [1, 1].as_slice(), [(0, 1)].as_slice());
+    let mut branches = Vec::new(alloc);
+    for event in first {
+        let branch = vec![in alloc; *event].expect(rt, "memory");
+        branches.push(branch).expect(rt, "memory");
+    }
+    run_all(rt, &trial, branches)
+}
+
+// Together with the next two, these are all 15,552 runs of the pair.
+#[test]
+fn pair_runs_alike_where_the_lower_is_first(rt: HostRuntime) {
+    let runs = run_pair(&rt, rt.alloc(), [LOWER_HUNGRY].as_slice());
+    assert_eq!(rt; runs, 4_023);
+}
 
 #[test]
-fn pair_of_a_job_each_runs_alike_in_all_ways(rt: HostRuntime) {
-    let edges = [(0, 1)].as_slice();
-    let lists = run_all(&rt, rt.alloc(), [1, 1].as_slice(), edges, WHOLE);
-    assert_eq!(rt; lists, 15_552);
+fn pair_runs_alike_where_the_lower_is_second(rt: HostRuntime) {
+    let first = [HIGHER_HUNGRY, LOWER_HUNGRY].as_slice();
+    assert_eq!(rt; run_pair(&rt, rt.alloc(), first), 3_033);
+    let first = [HIGHER_HUNGRY, HIGHER_ASKS, LOWER_HUNGRY].as_slice();
+    assert_eq!(rt; run_pair(&rt, rt.alloc(), first), 2_349);
+}
+
+#[test]
+fn pair_runs_alike_where_the_lower_is_asked(rt: HostRuntime) {
+    let first = [HIGHER_HUNGRY, HIGHER_ASKS, LOWER_IS_ASKED].as_slice();
+    assert_eq!(rt; run_pair(&rt, rt.alloc(), first), 6_147);
 }
 
 #[test]
 fn smallest_plans_run_alike_in_all_ways(rt: HostRuntime) {
     let alloc = rt.alloc();
     let edges = [(0, 1)].as_slice();
-    let lists = run_all(&rt, alloc, [2].as_slice(), [].as_slice(), WHOLE);
-    assert_eq!(rt; lists, 1);
-    let lists = run_all(&rt, alloc, [1, 2].as_slice(), [].as_slice(), WHOLE);
-    assert_eq!(rt; lists, 84);
-    let lists = run_all(&rt, alloc, [0, 0].as_slice(), edges, WHOLE);
-    assert_eq!(rt; lists, 54);
-    let lists = run_all(&rt, alloc, [0, 1].as_slice(), edges, WHOLE);
-    assert_eq!(rt; lists, 306);
-    let lists = run_all(&rt, alloc, [3, 0].as_slice(), edges, WHOLE);
-    assert_eq!(rt; lists, 702);
+    let runs = run_whole(&rt, alloc, [2].as_slice(), [].as_slice());
+    assert_eq!(rt; runs, 1);
+    let runs = run_whole(&rt, alloc, [1, 2].as_slice(), [].as_slice());
+    assert_eq!(rt; runs, 84);
+    let runs = run_whole(&rt, alloc, [0, 0].as_slice(), edges);
+    assert_eq!(rt; runs, 54);
+    let runs = run_whole(&rt, alloc, [0, 1].as_slice(), edges);
+    assert_eq!(rt; runs, 306);
+    let runs = run_whole(&rt, alloc, [3, 0].as_slice(), edges);
+    assert_eq!(rt; runs, 702);
 }
 
 #[test]
@@ -314,10 +385,7 @@ fn graphs_of_all_edges_and_of_few_run_alike(rt: HostRuntime) {
     go_alike(&rt, alloc, [1, 2, 2, 1, 0].as_slice(), few);
 }
 
-fn at_higher(kind: EventKind) -> Event {
-    Event { site: 1, kind }
-}
-
+// Whether the event is among those that the world tells as enabled.
 fn offers(world: &World, event: Event) -> bool {
     for n in 0..world.count() {
         if world.enabled(n) == Some(event) {
@@ -336,16 +404,20 @@ fn fork_and_request_lie_in_one_link(rt: HostRuntime) {
     let mut world = opened(&rt, rt.alloc(), &plan);
     assert_eq!(rt; model.replay([1, 1, 0, 0, 0, 0].as_slice()), 6);
     assert_eq!(rt; world.replay([1, 1, 0, 0, 0, 0].as_slice()), 6);
-    agree(&rt, &model, &world, 6);
+    agree_anew(&rt, &model, &world, 6);
     let kinds = model.kinds_in_link(1, 0);
     assert_eq!(rt; kinds.as_slice(), [Kind4::Fork, Kind4::Request].as_slice());
-    let (take, begin) = (at_higher(EventKind::Take(0)), at_higher(EventKind::Begin));
+    let site = 1;
+    let kind = EventKind::Take(0);
+    let take = Event { site, kind };
+    let kind = EventKind::Begin;
+    let begin = Event { site, kind };
     assert!(rt; offers(&world, take) && !offers(&world, begin));
     step_both(&rt, &mut model, &mut world, take);
-    agree(&rt, &model, &world, 7);
+    agree_anew(&rt, &model, &world, 7);
     assert!(rt; offers(&world, take) && offers(&world, begin));
     step_both(&rt, &mut model, &mut world, take);
-    agree(&rt, &model, &world, 8);
+    agree_anew(&rt, &model, &world, 8);
     assert!(rt; !offers(&world, take) && offers(&world, begin));
     let finished = (model.finish(), world.finish());
     assert_eq!(rt; finished, (14, 14));
