@@ -1,3 +1,8 @@
+mod graph;
+mod letters;
+mod model;
+mod side_by_side;
+
 use super::{NotEnabled, World};
 use crate::events::{Event, EventKind};
 use crate::phase::Phase;
@@ -7,17 +12,12 @@ use std::alloc::{AllocError, Global};
 use std::fmt::Write;
 use std::process::Abort;
 
-// The text of a plan of so many sites, each with so many jobs, and of these edges.
-fn text_of(
-    alloc: Global,
-    sites: u32,
-    jobs: u32,
-    edges: &[(u32, u32)],
-) -> Result<String, AllocError> {
+// The text of a plan with a site for each number of jobs, and of these edges.
+fn text_of(alloc: Global, jobs: &[u32], edges: &[(u32, u32)]) -> Result<String, AllocError> {
     let mut text = String::from_str(alloc, "version = 1\n")?;
-    for site in 0..sites {
+    for (site, jobs) in jobs.iter().enumerate() {
         write!(text, "[[site]]\nname = \"s{site}\"\njobs = [")?;
-        for job in 0..jobs {
+        for job in 0..*jobs {
             write!(text, "{{ name = \"j{job}\" }}, ")?;
         }
         text.push_str("]\n")?;
@@ -28,9 +28,15 @@ fn text_of(
     Ok(text)
 }
 
-fn plan_of(rt: &impl Abort, alloc: Global, sites: u32, jobs: u32, edges: &[(u32, u32)]) -> Plan {
-    let text = text_of(alloc, sites, jobs, edges).expect(rt, "memory");
+fn plan_with(rt: &impl Abort, alloc: Global, jobs: &[u32], edges: &[(u32, u32)]) -> Plan {
+    let text = text_of(alloc, jobs, edges).expect(rt, "memory");
     read_plan(alloc, text.as_str()).expect(rt, "a plan")
+}
+
+// The plan of so many sites, each with so many jobs, and of these edges.
+fn plan_of(rt: &impl Abort, alloc: Global, sites: usize, jobs: u32, edges: &[(u32, u32)]) -> Plan {
+    let jobs = vec![in alloc; jobs; sites].expect(rt, "memory");
+    plan_with(rt, alloc, jobs.as_slice(), edges)
 }
 
 // Two sites with an edge, and a job each.

@@ -1,0 +1,80 @@
+//! Letters and lists of letters, as the rules look at them.
+
+use crate::letters::Kind4;
+use dine_token::Entry;
+
+/// A letter. A Fork has its log.
+#[derive(Clone, Drop)]
+pub(super) enum Letter {
+    Fork(Vec<Entry>),
+    Request,
+    Done,
+    Close,
+}
+
+impl Letter {
+    pub(super) fn kind(&self) -> Kind4 {
+        match self {
+            Letter::Fork(_) => Kind4::Fork,
+            Letter::Request => Kind4::Request,
+            Letter::Done => Kind4::Done,
+            Letter::Close => Kind4::Close,
+        }
+    }
+}
+
+/// How many letters of the kind are among the letters.
+pub(super) fn count_of(kind: Kind4, letters: &[Letter]) -> u32 {
+    let mut count = 0u32;
+    for letter in letters {
+        if letter.kind() == kind {
+            count = count.saturating_add(1);
+        }
+    }
+    count
+}
+
+/// Whether a letter of the kind is among the letters.
+pub(super) fn has(kind: Kind4, letters: &[Letter]) -> bool {
+    count_of(kind, letters) != 0
+}
+
+/// The log of the last Fork among the letters, or the empty log.
+pub(super) fn last_log(letters: &[Letter]) -> &[Entry] {
+    let mut log = [].as_slice();
+    for letter in letters {
+        if let Letter::Fork(entries) = letter {
+            log = entries.as_slice();
+        }
+    }
+    log
+}
+
+/// How many meals of the site the log has.
+pub(super) fn meals_of(site: u32, log: &[Entry]) -> u32 {
+    let mut meals = 0u32;
+    for entry in log {
+        if let Entry::Meal { site: eater, .. } = entry
+            && *eater == site
+        {
+            meals = meals.saturating_add(1);
+        }
+    }
+    meals
+}
+
+/// Whether the log's last entry is not a Move.
+pub(super) fn is_dirty(log: &[Entry]) -> bool {
+    !matches!(log.last(), Some(Entry::Move { .. }))
+}
+
+/// Where the last Move of the log went, or the lower end.
+pub(super) fn location_of(lower: u32, log: &[Entry]) -> u32 {
+    let mut location = lower;
+    for entry in log {
+        if let Entry::Move { to } = entry {
+            location = *to;
+        }
+    }
+    location
+}

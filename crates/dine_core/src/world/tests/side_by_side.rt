@@ -1,0 +1,425 @@
+//! The world and the model of its definitions, stepped side by side and compared after every event.
+
+use super::graph::Graph;
+use super::letters::{is_dirty, location_of};
+use super::model::{Model, events_at};
+use super::{entry_at, opened, plan_with};
+use crate::events::{Event, EventKind};
+use crate::letters::Kind4;
+use crate::world::{NotEnabled, World};
+use dine_plan::Plan;
+use dine_token::Fork;
+use std::alloc::Global;
+use std::process::Abort;
+
+// The same events are enabled, in the same order, and no others.
+fn same_events(rt: &impl Abort, enabled: &[Event], world: &World) {
+    let count = world.count();
+    assert_eq!(rt; count as usize, enabled.len());
+    for n in 0..=count {
+        assert_eq!(rt; world.enabled(n), enabled.get(n as usize).copied());
+    }
+}
+
+fn same_sites<R: Abort>(rt: &R, model: &Model<R>, world: &World) {
+    let sites = model.graph.sites();
+    for site in 0..sites {
+        assert_eq!(rt; world.phase(site), Some(model.phase(site)));
+        assert_eq!(rt; world.ate(site), Some(model.ate(site)));
+    }
+    assert_eq!(rt; (world.phase(sites), world.ate(sites)), (None, None));
+}
+
+fn same_fork<R: Abort>(rt: &R, model: &Model<R>, edge: u32, fork: &Fork) {
+    let (lower, higher) = model.graph.ends(edge);
+    let log = model.fork_log(edge);
+    assert_eq!(rt; fork.edge(), edge);
+    assert_eq!(rt; fork.ends(), (lower, higher));
+    assert_eq!(rt; fork.is_dirty(), is_dirty(log.as_slice()));
+    assert_eq!(rt; fork.at(), location_of(lower, log.as_slice()));
+    assert_eq!(rt; fork.len() as usize, log.len());
+    for i in 0..fork.len() {
+        let entry = log.get(i as usize).copied();
+        assert_eq!(rt; Some(entry_at(rt, fork, i)), entry);
+    }
+}
+
+fn same_forks<R: Abort>(rt: &R, model: &Model<R>, world: &World) {
+    let edges = model.graph.edge_count();
+    for edge in 0..edges {
+        let fork = world.fork(edge).expect(rt, "a fork");
+        same_fork(rt, model, edge, fork);
+    }
+    assert!(rt; world.fork(edges).is_none());
+}
+
+// The world is as the model says after so many events, with its enabled events.
+fn agree<R: Abort>(rt: &R, model: &Model<R>, enabled: &[Event], world: &World, events: u64) {
+    same_events(rt, enabled, world);
+    same_sites(rt, model, world);
+    same_forks(rt, model, world);
+    assert_eq!(rt; world.bound(), model.graph.bound());
+    assert_eq!(rt; model.effects(), events);
+}
+
+// The same, where the enabled events are not at hand.
+fn agree_anew<R: Abort>(rt: &R, model: &Model<R>, world: &World, events: u64) {
+    let enabled = model.enabled();
+    agree(rt, model, enabled.as_slice(), world, events);
+}
+
+// All events of all sites, also at a place past the last and at a site past the last.
+fn all_events(rt: &impl Abort, alloc: Global, graph: Graph) -> Vec<Event> {
+    let mut all = Vec::new(alloc);
+    for site in 0..=graph.sites() {
+        let places = graph.degree(site).saturating_add(1);
+        for event in events_at(rt, alloc, site, places) {
+            all.push(event).expect(rt, "memory");
+        }
+    }
+    all
+}
+
+// Each event that is not enabled is refused.
+fn refuse_others(rt: &impl Abort, all: &[Event], enabled: &[Event], world: &mut World) {
+    for event in all {
+        if !enabled.contains(event) {
+            assert_eq!(rt; world.step(*event), Err(NotEnabled));
+        }
+    }
+}
+
+fn step_both<R: Abort>(rt: &R, model: &mut Model<R>, world: &mut World, event: Event) {
+    assert_eq!(rt; world.step(event), Ok(()));
+    model.step(event);
+}
+
+// The run is over, and the forks come out with the model's logs, in edge order.
+fn end_both<R: Abort>(rt: &R, model: &Model<R>, world: World) {
+    assert_eq!(rt; world.count(), 0);
+    assert_eq!(rt; world.enabled(u32::MAX), None);
+    assert!(rt; model.is_complete());
+    let forks = world.into_forks();
+    assert_eq!(rt; forks.len(), model.graph.edges.len());
+    for edge in 0..model.graph.edge_count() {
+        let fork = forks.get(edge as usize).expect(rt, "a fork");
+        same_fork(rt, model, edge, fork);
+    }
+}
+
+// How the next event is chosen.
+#[derive(Clone, Copy)]
+enum Chooser {
+    First,
+    Last,
+    Drawn(u32),
+}
+
+impl Chooser {
+    fn next(&mut self, count: u32) -> u32 {
+        match self {
+            Chooser::First => 0,
+            Chooser::Last => count.saturating_sub(1),
+            Chooser::Drawn(draw) => {
+                *draw = draw.wrapping_mul(1_664_525).wrapping_add(1_013_904_223);
+                if count == 0 { 0 } else { (*draw >> 16) % count }
+            }
+        }
+    }
+}
+
+// The plan that the world and the model are opened for, and all events that are tried.
+#[derive(Drop)]
+struct Trial<'a> {
+    alloc: Global,
+    graph: Graph<'a>,
+    plan: Plan,
+    all: Vec<Event>,
+}
+
+fn trial_of<'a>(
+    rt: &impl Abort,
+    alloc: Global,
+    jobs: &'a [u32],
+    edges: &'a [(u32, u32)],
+) -> Trial<'a> {
+    let graph = Graph { jobs, edges };
+    Trial {
+        alloc,
+        graph,
+        plan: plan_with(rt, alloc, jobs, edges),
+        all: all_events(rt, alloc, graph),
+    }
+}
+
+fn model_of<'a, R: Abort>(rt: &'a R, trial: &Trial<'a>) -> Model<'a, R> {
+    Model::open(rt, trial.alloc, trial.graph)
+}
+
+fn world_of(rt: &impl Abort, trial: &Trial) -> World {
+    opened(rt, trial.alloc, &trial.plan)
+}
+
+// A run to the end, compared after every event, with refusals tried at each state.
+fn run_alike(rt: &impl Abort, trial: &Trial, mut chooser: Chooser) {
+    let (mut model, mut world) = (model_of(rt, trial), world_of(rt, trial));
+    for events in 0..=trial.graph.bound() {
+        let enabled = model.enabled();
+        refuse_others(rt, trial.all.as_slice(), enabled.as_slice(), &mut world);
+        agree(rt, &model, enabled.as_slice(), &world, events);
+        let Some(event) = world.enabled(chooser.next(world.count())) else {
+            break;
+        };
+        step_both(rt, &mut model, &mut world, event);
+    }
+    end_both(rt, &model, world);
+}
+
+// Choices of which some have no event, with more of them than a run has events.
+fn draw_choices(rt: &impl Abort, trial: &Trial, seed: u32) -> Vec<u32> {
+    let mut chooser = Chooser::Drawn(seed);
+    let mut choices = Vec::new(trial.alloc);
+    for _ in 0..trial.graph.bound() {
+        let choice = chooser.next(trial.graph.sites().saturating_add(3));
+        choices.push(choice).expect(rt, "memory");
+        choices.push(0).expect(rt, "memory");
+    }
+    choices.push(u32::MAX).expect(rt, "memory");
+    choices
+}
+
+// The choices lead both to the same state, and so do the first events from there.
+fn replay_alike(rt: &impl Abort, trial: &Trial, choices: &[u32]) {
+    let (mut model, mut world) = (model_of(rt, trial), world_of(rt, trial));
+    let replayed = model.replay(choices);
+    assert_eq!(rt; world.replay(choices), replayed);
+    agree_anew(rt, &model, &world, replayed);
+    let finished = model.finish();
+    assert_eq!(rt; world.finish(), finished);
+    agree_anew(rt, &model, &world, replayed.wrapping_add(finished));
+    end_both(rt, &model, world);
+}
+
+// Runs and replays of a plan with so many jobs at each site.
+fn go_alike(rt: &impl Abort, alloc: Global, jobs: &[u32], edges: &[(u32, u32)]) {
+    let trial = trial_of(rt, alloc, jobs, edges);
+    run_alike(rt, &trial, Chooser::First);
+    run_alike(rt, &trial, Chooser::Last);
+    for seed in 0..4u32 {
+        run_alike(rt, &trial, Chooser::Drawn(seed));
+        let choices = draw_choices(rt, &trial, seed);
+        for length in [1, 7, 20, choices.len()] {
+            let choices = choices.get(..length).unwrap_or(choices.as_slice());
+            replay_alike(rt, &trial, choices);
+        }
+    }
+}
+
+// A branch is what can still be chosen at its turn, the chosen event last. Before the last branch all was compared already.
+fn run_branches(rt: &impl Abort, trial: &Trial, branches: &mut Vec<Vec<Event>>) {
+    let (mut model, mut world) = (model_of(rt, trial), world_of(rt, trial));
+    let known = branches.len() as u64;
+    for events in 0..=trial.graph.bound() {
+        if known <= events {
+            let enabled = model.enabled();
+            refuse_others(rt, trial.all.as_slice(), enabled.as_slice(), &mut world);
+            agree(rt, &model, enabled.as_slice(), &world, events);
+            if enabled.is_empty() {
+                break;
+            }
+            branches.push(enabled).expect(rt, "memory");
+        }
+        let branch = branches.get(events as usize).expect(rt, "a branch");
+        let event = branch.last().copied().expect(rt, "an event");
+        step_both(rt, &mut model, &mut world, event);
+    }
+    end_both(rt, &model, world);
+}
+
+// Leaves out the last chosen event that another can stand for. False where there is none.
+fn advance(rt: &impl Abort, branches: &mut Vec<Vec<Event>>) -> bool {
+    for _ in 0..branches.len() {
+        let mut branch = branches.pop().expect(rt, "a branch");
+        let _event = branch.pop();
+        if !branch.is_empty() {
+            branches.push(branch).expect(rt, "memory");
+            return true;
+        }
+    }
+    false
+}
+
+// Does all runs from the branches on, and answers how many there are.
+fn run_all(rt: &impl Abort, trial: &Trial, mut branches: Vec<Vec<Event>>) -> u32 {
+    for runs in 1..100_000u32 {
+        run_branches(rt, trial, &mut branches);
+        if !advance(rt, &mut branches) {
+            return runs;
+        }
+    }
+    0
+}
+
+// Does all runs that the plan has.
+fn run_whole(rt: &impl Abort, alloc: Global, jobs: &[u32], edges: &[(u32, u32)]) -> u32 {
+    let trial = trial_of(rt, alloc, jobs, edges);
+    run_all(rt, &trial, Vec::new(alloc))
+}
+
+const LOWER_HUNGRY: Event = Event {
+    site: 0,
+    kind: EventKind::Hungry,
+};
+
+const HIGHER_HUNGRY: Event = Event {
+    site: 1,
+    kind: EventKind::Hungry,
+};
+
+const HIGHER_ASKS: Event = Event {
+    site: 1,
+    kind: EventKind::Ask(0),
+};
+
+const LOWER_IS_ASKED: Event = Event {
+    site: 0,
+    kind: EventKind::Take(0),
+};
+
+// Does all runs of the pair with a job each that begin with these events.
+fn run_pair(rt: &impl Abort, alloc: Global, first: &[Event]) -> u32 {
+    let trial = trial_of(rt, alloc, [1, 1].as_slice(), [(0, 1)].as_slice());
+    let mut branches = Vec::new(alloc);
+    for event in first {
+        let branch = vec![in alloc; *event].expect(rt, "memory");
+        branches.push(branch).expect(rt, "memory");
+    }
+    run_all(rt, &trial, branches)
+}
+
+// Together with the next two, these are all 15,552 runs of the pair.
+#[test]
+fn pair_runs_alike_where_the_lower_is_first(rt: HostRuntime) {
+    let runs = run_pair(&rt, rt.alloc(), [LOWER_HUNGRY].as_slice());
+    assert_eq!(rt; runs, 4_023);
+}
+
+#[test]
+fn pair_runs_alike_where_the_lower_is_second(rt: HostRuntime) {
+    let first = [HIGHER_HUNGRY, LOWER_HUNGRY].as_slice();
+    assert_eq!(rt; run_pair(&rt, rt.alloc(), first), 3_033);
+    let first = [HIGHER_HUNGRY, HIGHER_ASKS, LOWER_HUNGRY].as_slice();
+    assert_eq!(rt; run_pair(&rt, rt.alloc(), first), 2_349);
+}
+
+#[test]
+fn pair_runs_alike_where_the_lower_is_asked(rt: HostRuntime) {
+    let first = [HIGHER_HUNGRY, HIGHER_ASKS, LOWER_IS_ASKED].as_slice();
+    assert_eq!(rt; run_pair(&rt, rt.alloc(), first), 6_147);
+}
+
+#[test]
+fn smallest_plans_run_alike_in_all_ways(rt: HostRuntime) {
+    let alloc = rt.alloc();
+    let edges = [(0, 1)].as_slice();
+    let runs = run_whole(&rt, alloc, [2].as_slice(), [].as_slice());
+    assert_eq!(rt; runs, 1);
+    let runs = run_whole(&rt, alloc, [1, 2].as_slice(), [].as_slice());
+    assert_eq!(rt; runs, 84);
+    let runs = run_whole(&rt, alloc, [0, 0].as_slice(), edges);
+    assert_eq!(rt; runs, 54);
+    let runs = run_whole(&rt, alloc, [0, 1].as_slice(), edges);
+    assert_eq!(rt; runs, 306);
+    let runs = run_whole(&rt, alloc, [3, 0].as_slice(), edges);
+    assert_eq!(rt; runs, 702);
+}
+
+#[test]
+fn pairs_and_rows_run_alike(rt: HostRuntime) {
+    let alloc = rt.alloc();
+    let pair = [(0, 1)].as_slice();
+    go_alike(&rt, alloc, [2].as_slice(), [].as_slice());
+    go_alike(&rt, alloc, [1, 2].as_slice(), [].as_slice());
+    go_alike(&rt, alloc, [1, 1].as_slice(), pair);
+    go_alike(&rt, alloc, [2, 2].as_slice(), pair);
+    go_alike(&rt, alloc, [0, 1].as_slice(), pair);
+    go_alike(&rt, alloc, [3, 0].as_slice(), [(1, 0)].as_slice());
+    go_alike(
+        &rt,
+        alloc,
+        [1, 2, 1].as_slice(),
+        [(0, 1), (1, 2)].as_slice(),
+    );
+    go_alike(
+        &rt,
+        alloc,
+        [2, 0, 3].as_slice(),
+        [(2, 1), (1, 0)].as_slice(),
+    );
+}
+
+#[test]
+fn rings_run_alike(rt: HostRuntime) {
+    let alloc = rt.alloc();
+    let three = [(0, 1), (1, 2), (2, 0)].as_slice();
+    let five = [(3, 4), (0, 1), (4, 0), (2, 1), (2, 3)].as_slice();
+    go_alike(&rt, alloc, [1, 2, 3].as_slice(), three);
+    go_alike(&rt, alloc, [1, 0, 2, 1, 2].as_slice(), five);
+}
+
+#[test]
+fn stars_run_alike(rt: HostRuntime) {
+    let alloc = rt.alloc();
+    let middle_first = [(0, 1), (0, 2), (0, 3)].as_slice();
+    let middle_last = [(3, 1), (3, 0), (2, 3)].as_slice();
+    go_alike(&rt, alloc, [3, 1, 2, 0].as_slice(), middle_first);
+    go_alike(&rt, alloc, [1, 2, 0, 2].as_slice(), middle_last);
+}
+
+#[test]
+fn graphs_of_all_edges_and_of_few_run_alike(rt: HostRuntime) {
+    let alloc = rt.alloc();
+    let all = [(0, 1), (0, 2), (0, 3), (1, 2), (1, 3), (2, 3)].as_slice();
+    let few = [(3, 0), (1, 3)].as_slice();
+    go_alike(&rt, alloc, [1, 2, 1, 1].as_slice(), all);
+    go_alike(&rt, alloc, [1, 2, 2, 1, 0].as_slice(), few);
+}
+
+// Whether the event is among those that the world tells as enabled.
+fn offers(world: &World, event: Event) -> bool {
+    for n in 0..world.count() {
+        if world.enabled(n) == Some(event) {
+            return true;
+        }
+    }
+    false
+}
+
+// The higher site asks first, and the lower asks for the fork back as soon as it gave it.
+#[test]
+fn fork_and_request_lie_in_one_link(rt: HostRuntime) {
+    let (jobs, edges) = ([1, 1].as_slice(), [(0, 1)].as_slice());
+    let plan = plan_with(&rt, rt.alloc(), jobs, edges);
+    let mut model = Model::open(&rt, rt.alloc(), Graph { jobs, edges });
+    let mut world = opened(&rt, rt.alloc(), &plan);
+    assert_eq!(rt; model.replay([1, 1, 0, 0, 0, 0].as_slice()), 6);
+    assert_eq!(rt; world.replay([1, 1, 0, 0, 0, 0].as_slice()), 6);
+    agree_anew(&rt, &model, &world, 6);
+    let kinds = model.kinds_in_link(1, 0);
+    assert_eq!(rt; kinds.as_slice(), [Kind4::Fork, Kind4::Request].as_slice());
+    let site = 1;
+    let kind = EventKind::Take(0);
+    let take = Event { site, kind };
+    let kind = EventKind::Begin;
+    let begin = Event { site, kind };
+    assert!(rt; offers(&world, take) && !offers(&world, begin));
+    step_both(&rt, &mut model, &mut world, take);
+    agree_anew(&rt, &model, &world, 7);
+    assert!(rt; offers(&world, take) && offers(&world, begin));
+    step_both(&rt, &mut model, &mut world, take);
+    agree_anew(&rt, &model, &world, 8);
+    assert!(rt; !offers(&world, take) && offers(&world, begin));
+    let finished = (model.finish(), world.finish());
+    assert_eq!(rt; finished, (14, 14));
+    end_both(&rt, &model, world);
+}
