@@ -72,6 +72,10 @@ has_choices app words = option_map_or (λ found. is_some (choices_in found.1)) (
 abbrev pub are_taken : App → List Text → Bool
 are_taken app words = takes app words && has_choices app words
 
+-- `clap` finds no fault in the words, and they ask for something
+abbrev pub AreRight : App → List Text → Type 0
+AreRight app words = HasNoFault app words × (is_some (command_in app words) ≡ true)
+
 -- want of memory is told apart from every other cause
 abbrev pub fault_of_kind : ErrorKind → WordsFault
 fault_of_kind OutOfMemory = Memory

@@ -4,7 +4,7 @@ ghost use Rattle.std.specs.Io.KnownBytes.{IsAtEnd};
 ghost use Rattle.dine.specs.Commands.{EndsByFault, IsDone, IsPartDone, IsPlanLeft, IsRefused, Writes, WritesPart, text_of};
 ghost use Rattle.dine.specs.Faults.{status_of};
 ghost use Rattle.dine.specs.Input.{input_limit};
-ghost use Rattle.dine.specs.Words.{HasNoFault, are_taken, asked_of, command_in, dine_app};
+ghost use Rattle.dine.specs.Words.{AreRight, are_taken, asked_of, command_in, dine_app};
 
 use crate::check::{check_text, plan_of_bytes};
 use crate::input::read_input;
@@ -32,8 +32,10 @@ pub fn run_cmd<H: Threads + Wait, R: Read, W: Write, F: Write>(
     output: &mut W,
     faults: &mut F,
 ) -> Status
-    // At success `clap` found no fault in the words, and the command read a plan to the end of the input and wrote its text whole.
-    ensures accepted { result ≡ Status.Success → HasNoFault dine_app (map string_bytes words.now) }
+    // The words come first: any other end than by them or by want of memory comes only where they are right.
+    ensures accepted { result ≢ Status.Usage → result ≢ Status.OutOfMemory → AreRight dine_app (map string_bytes words.now) }
+
+    // At success the command read a plan to the end of the input and wrote its text whole.
     ensures done { result ≡ Status.Success → IsDone (command_in dine_app (map string_bytes words.now)) (R.remaining input.old) (W.contents output.old) (W.contents output.new) }
     ensures read_to_end { result ≡ Status.Success → IsAtEnd (R.remaining input.new) }
     ensures within { result ≡ Status.Success → IfSome (R.remaining input.old) (λ bytes. length bytes ≤ input_limit) }
@@ -68,7 +70,7 @@ fn command<R: Read, W: Write>(
     input: &mut R,
     output: &mut W,
 ) -> Result<(), Fault>
-    ensures accepted { OnOk result (HasNoFault dine_app (map string_bytes words.now)) }
+    ensures accepted { result ≢ Err Fault.Usage → result ≢ Err Fault.OutOfMemory → AreRight dine_app (map string_bytes words.now) }
     ensures done { OnOk result (IsDone (command_in dine_app (map string_bytes words.now)) (R.remaining input.old) (W.contents output.old) (W.contents output.new)) }
     ensures end { OnOk result (IsAtEnd (R.remaining input.new)) }
     ensures within { OnOk result (IfSome (R.remaining input.old) (λ bytes. length bytes ≤ input_limit)) }

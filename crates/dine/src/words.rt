@@ -1,7 +1,7 @@
 //! The words of the command line, read by `clap`.
 ghost use Rattle.std.specs.Prelude.{◌≡◌, IfOk, IsErrOf, None, OnOk, Some, false, map, string_bytes};
 ghost use Rattle.clap.specs.Words.{app_of, found_of, kind_of, rows_of};
-ghost use Rattle.dine.specs.Words.{HasNoFault, IsCommandName, are_taken, asked_by, asked_of, choices_in, command_in, dine_app, fault_of_kind, has_choices};
+ghost use Rattle.dine.specs.Words.{AreRight, HasNoFault, IsCommandName, are_taken, asked_by, asked_of, choices_in, command_in, dine_app, fault_of_kind, has_choices};
 ghost use Rattle.dine.specs.declared.words.WordsFault.TheVariants.{Memory};
 
 use crate::choices::choices_of;
@@ -59,7 +59,7 @@ impl From<AllocError> for WordsFault {
 /// The command that the words name, of which the first is the program's own name.
 pub fn command_of(alloc: Global, words: &[String]) -> Result<Command, WordsFault>
     ensures ok { IfOk result (λ command. command_in dine_app (map string_bytes words.now) ≡ Some (asked_of command)) }
-    ensures taken { OnOk result (HasNoFault dine_app (map string_bytes words.now)) }
+    ensures taken { OnOk result (AreRight dine_app (map string_bytes words.now)) }
     ensures usage { IsErrOf result WordsFault.Usage → are_taken dine_app (map string_bytes words.now) ≡ false }
     ensures fault { IsErrOf result WordsFault.Usage → HasNoFault dine_app (map string_bytes words.now) → has_choices dine_app (map string_bytes words.now) ≡ false }
 {
