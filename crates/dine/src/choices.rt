@@ -1,11 +1,14 @@
 //! LIST of `--choices`.
 ghost use Rattle.std.specs.Prelude.{◌≡◌, IfOk, IsErrOf, None, Some};
-ghost use Rattle.dine.specs.Choices.{choice_of, choices_of};
-ghost use Rattle.std.specs.List.{list_all};
 ghost use Rattle.std.specs.Char.{is_ascii_digit};
+ghost use Rattle.std.specs.List.{list_all};
+ghost use Rattle.dine.specs.Choices.{choice_of, choices_of};
 
 use crate::words::WordsFault;
-use std::alloc::{AllocError, Global};
+use std::alloc::Global;
+
+#[cfg(test)]
+mod tests;
 
 const MAX_DIGITS: usize = 10;
 
