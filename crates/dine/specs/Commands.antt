@@ -12,7 +12,7 @@ use Rattle.dine.specs.Check.{IsPlanBytes, check_text, fault_of_bytes}
 use Rattle.dine.specs.Replay.{replay_text}
 use Rattle.dine.specs.Words.{Asked, Replays, Checks}
 
--- the text that a command makes of a plan
+-- the text that is made of a plan, by what is asked for
 abbrev pub text_of : Asked → SeenPlan → List ℕ
 text_of (Replays choices) = replay_text choices
 text_of Checks = check_text
@@ -30,7 +30,7 @@ pub record WritesPart (text : SeenPlan → List ℕ) (left before after : Option
   pub reads : IfSome left (λ bytes. IsPlanBytes bytes plan)
   pub writes : Appends before after (take count (text plan))
 
--- the command wrote its text, whole or in part; without a command nothing is written
+-- the text of what is asked for was written, whole or in part; where nothing is asked for, nothing is written
 abbrev pub IsDone : Option Asked → Option (List ℕ) → Option (List ℕ) → Option (List ℕ) → Type 0
 IsDone None left before after = ⊥
 IsDone (Some command) left before after = Writes (text_of command) left before after

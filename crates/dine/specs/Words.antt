@@ -1,14 +1,13 @@
 -- The commands of the program, as `clap` finds them in the words of the command line.
-use Rattle.std.specs.Prelude.{◌≡◌, ◌⊎◌, ◌&&◌, ℕ, Bool, List, [], Option, Some, None, codes, is_some, option_and_then, option_map, true}
-use Rattle.std.specs.Prelude.{if◌then◌else◌}
+use Rattle.std.specs.Prelude.{◌≡◌, ◌⊎◌, ◌&&◌, ℕ, Bool, List, [], Option, Some, None, codes, if◌then◌else◌, is_some, option_and_then, option_map, true}
 use Rattle.std.specs.Option.{option_map_or}
 use Rattle.std.specs.Str.{bytes_eq}
 use Rattle.clap.specs.Words.{App, Row, Rule, Text, fault_of, first_of, new_app, new_rule, subcommand_of, takes, with_rule, with_subcommand}
 use Rattle.clap.specs.declared.builder.action.ArgAction.TheVariants.{Set}
-use Rattle.dine.specs.Choices.{choices_of}
 use Rattle.clap.specs.Simple.{on_top}
 use Rattle.clap.specs.declared.error.kind.ErrorKind.{ErrorKind}
 use Rattle.clap.specs.declared.error.kind.ErrorKind.TheVariants.{OutOfMemory}
+use Rattle.dine.specs.Choices.{choices_of}
 use Rattle.dine.specs.declared.words.Command.{Command}
 use Rattle.dine.specs.declared.words.Command.TheVariants.{Check, Replay}
 use Rattle.dine.specs.declared.words.WordsFault.{WordsFault}
@@ -42,7 +41,8 @@ abbrev pub asked_of : Command → Asked
 asked_of (Replay choices) = Replays choices.items
 asked_of Check = Checks
 
--- the choices that `clap` finds: none where the option is not there, and else those of its text, if it has them
+-- the choices in what `clap` finds behind `replay`: an empty list where the option is not there, and else those of its text,
+-- if it has them
 abbrev pub choices_in : List Row → Option (List ℕ)
 choices_in found = option_map_or choices_of (first_of (codes "choices") found) (Some [])
 
