@@ -3,7 +3,7 @@ ghost use Rattle.std.specs.Prelude.{◌≡◌, IfOk};
 ghost use Rattle.dine.specs.Replay.{replay_text};
 
 use crate::text::world_text;
-use dine_core::World;
+use dine_core::{World, laws};
 use dine_plan::Plan;
 use std::alloc::{AllocError, Global};
 
@@ -12,6 +12,9 @@ use std::alloc::{AllocError, Global};
 pub fn replay_text(alloc: Global, plan: &Plan, choices: &[u32]) -> Result<Vec<u8>, AllocError>
     ensures { IfOk result (λ text. text.items ≡ replay_text choices.now plan.now) }
 {
+    // That the two counts come to that of the whole run, and that it is small, are laws.
+    laws::whole_runs_go_on_after_the_choices();
+    laws::whole_runs_are_bounded();
     let mut world = World::open(alloc, plan)?;
     let chosen = world.replay(choices);
     let finished = world.finish();

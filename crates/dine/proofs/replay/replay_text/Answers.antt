@@ -4,7 +4,6 @@ use Rattle.std.proofs.Common.{◌≡◌, ◌+◌, ◌∙◌, ap₂, arith, sym}
 use Rattle.std.proofs.lemmas.Result.{IfOk-weaker}
 use Rattle.dine_core.specs.Schedules.{after_choices, from_here, replay, whole_run}
 use Rattle.dine_core.specs.World.{WorldState, start}
-use Rattle.dine_core.proofs.RunCounts.{bound_is_small, whole_run_bounded, whole_run_goes_on}
 use Rattle.dine_core.specs.Worlds.{IsWorldOf}
 use Rattle.dine.specs.Text.{world_text}
 use Rattle.dine.proofs.replay.replay_text.Goals as goal
@@ -15,7 +14,7 @@ overflow_add-chosen c =
     let is_plan = c.in_ok-world.ensures.reached.is_plan in
     let chosen = c.replay-chosen.ensures plan (start plan) c.in_ok-world.ensures in
     let finished = c.finish-finished.ensures.run plan (replay plan (from_here (start plan)) c.args.choices.now).world chosen.stands in
-    omega (arith, chosen.counted, finished.counted, (whole_run_goes_on plan c.args.choices.now).events, whole_run_bounded plan c.args.choices.now is_plan, bound_is_small plan is_plan)
+    omega (arith, chosen.counted, finished.counted, c.whole_runs_go_on_after_the_choices.ensures.events plan c.args.choices.now, c.whole_runs_are_bounded.ensures.bounded plan c.args.choices.now is_plan, c.whole_runs_are_bounded.ensures.small plan is_plan)
 
 pub world_text-text-requires : goal.world_text-text-requires
 world_text-text-requires c =
@@ -29,7 +28,7 @@ returns c =
     let plan = c.args.plan.now in
     let chosen = c.replay-chosen.ensures plan (start plan) c.in_ok-world.ensures in
     let finished = c.finish-finished.ensures.run plan (replay plan (from_here (start plan)) c.args.choices.now).world chosen.stands in
-    let whole = whole_run_goes_on plan c.args.choices.now in
-    let counted : c.replay-chosen.result + c.finish-finished.result ≡ (whole_run plan c.args.choices.now).events = omega (arith, chosen.counted, finished.counted, whole.events) in
+    let whole = c.whole_runs_go_on_after_the_choices.ensures in
+    let counted : c.replay-chosen.result + c.finish-finished.result ≡ (whole_run plan c.args.choices.now).events = omega (arith, chosen.counted, finished.counted, whole.events plan c.args.choices.now) in
     IfOk-weaker c.world_text-text.result (λ text. (state : WorldState) → IsWorldOf plan state c.finish-finished.new.self → text.items ≡ world_text plan state (c.replay-chosen.result + c.finish-finished.result)) _
-    (λ text is. is (after_choices plan c.args.choices.now).world finished.stands ∙ ap₂ (world_text plan) (sym whole.world) counted) c.world_text-text.ensures
+    (λ text is. is (after_choices plan c.args.choices.now).world finished.stands ∙ ap₂ (world_text plan) (sym (whole.world plan c.args.choices.now)) counted) c.world_text-text.ensures
