@@ -1,6 +1,6 @@
 -- The world of all sites in one thread.
-use Rattle.std.specs.Prelude.{◌≡◌, ℕ, ◌<◌, ◌==◌, ◌&&◌, Bool, true, List, [], ◌∷◌, ◌++◌, map, filter, length, position, slice_get, slice_index_or, slice_set, Option, Some, None, is_some, unwrap_or, option_map, option_and_then, if◌then◌else◌}
-use Rattle.std.specs.List.{flat_map, list_any, range_with_len}
+use Rattle.std.specs.Prelude.{◌≡◌, ℕ, ◌<◌, ◌==◌, ◌&&◌, nat_lt, Bool, true, List, [], ◌∷◌, ◌++◌, map, filter, length, position, slice_get, slice_index_or, slice_set, Option, Some, None, is_some, unwrap_or, option_map, option_and_then, if◌then◌else◌}
+use Rattle.std.specs.List.{flat_map, range_with_len}
 use mathlib.Core.List.{IsPrefix}
 use Rattle.dine_plan.specs.Plan.{SeenPlan, site_count, job_count, edges_of}
 use Rattle.dine_core.specs.declared.letters.Letter.{Letter}
@@ -61,8 +61,7 @@ site_after plan world s kind = option_and_then (local_after plan s (state_of wor
 
 -- the world after an event, where the event is enabled: one step at one site
 abbrev pub world_after : SeenPlan → WorldState → Event → Option WorldState
-world_after plan world e = if list_any (λ s. s == e.site) (range_with_len 0 (site_count plan))
-    then option_map (slice_set world e.site) (site_after plan world e.site e.kind) else None
+world_after plan world e = if nat_lt e.site (site_count plan) then option_map (slice_set world e.site) (site_after plan world e.site e.kind) else None
 
 abbrev pub is_enabled : SeenPlan → WorldState → Event → Bool
 is_enabled plan world e = is_some (world_after plan world e)
