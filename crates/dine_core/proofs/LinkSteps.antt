@@ -9,10 +9,10 @@ use Rattle.dine_core.specs.Local.{LocalState, Traffic, no_traffic, traffic_at, e
 use Rattle.dine_core.specs.World.{WorldState, no_state, state_of, place_of, put_to}
 use Rattle.dine_core.specs.Links.{queue_to}
 use Rattle.dine_core.specs.Seats.{letters_in, with_letter, without_next}
-use Rattle.dine_core.specs.Worlds.{LinksStand, number_to, number_from}
+use Rattle.dine_core.specs.Worlds.{LinksStand, number_to}
 use Rattle.dine_core.proofs.Across.{across}
 use Rattle.dine_core.proofs.WorldKept.{WorldKeeps}
-use Rattle.dine_core.proofs.LinkNumbers.{to_in_range, same_place, from_is_to, to_is_from, back_at}
+use Rattle.dine_core.proofs.LinkNumbers.{number_from, to_in_range, same_place, from_is_to, to_is_from, back_at}
 
 -- one more is dropped
 drop_more : (m : ℕ) (xs : List Letter) → drop (suc m) xs ≡ drop 1 (drop m xs)

@@ -22,7 +22,7 @@ use Rattle.dine_core.specs.Places.{place_at}
 use Rattle.dine_core.specs.World.{WorldState, no_state, place_of, put_to, state_of, next_letter, step_of, world_after, after_events, start}
 use Rattle.dine_core.specs.Links.{queue_to}
 use Rattle.dine_core.specs.Seats.{Does, PutsAt, HasRoomAt, HasRoomFor, IsSeatOf, MovesLetters, TakesInTurn, can_do, is_in_turn_at, letters_in, next_in, step_in, with_letter, without_next}
-use Rattle.dine_core.specs.Worlds.{IsReached, IsWorldOf, LinksStand, SeatsStand, SeenWorld, can_at, number_to, number_from}
+use Rattle.dine_core.specs.Worlds.{IsReached, IsWorldOf, LinksStand, SeatsStand, SeenWorld, can_at, number_to}
 use Rattle.dine_core.proofs.Across.{across}
 use Rattle.dine_core.proofs.CanHappen.{take_is}
 use Rattle.dine_core.proofs.NextLetters.{reached_allowed}
@@ -30,7 +30,7 @@ use Rattle.dine_core.proofs.Stands.{place_is}
 use Rattle.dine_core.proofs.WorldKept.{IsStepOf, and_then_parts, option_map_parts, WorldKeeps, event_is_step, event_keeps, reached_kept}
 use Rattle.dine_core.proofs.EatersApart.{eats_with_all}
 use Rattle.dine_core.proofs.Links.{link_letters}
-use Rattle.dine_core.proofs.LinkNumbers.{from_is_to, to_in_range}
+use Rattle.dine_core.proofs.LinkNumbers.{from_is_to, number_from, to_in_range}
 use Rattle.dine_core.proofs.LinkSteps.{links-put, links-same, links-taken, one_longer}
 
 -- the first letter behind those taken
