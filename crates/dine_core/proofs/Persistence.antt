@@ -11,7 +11,7 @@ use Rattle.dine_core.specs.declared.events.EventKind.TheVariants as event
 use Rattle.dine_core.specs.Local.{LocalState, Traffic, no_traffic, traffic_at, edge_at, neighbour_at}
 use Rattle.dine_core.specs.Steps.{Step, Give, Ask, Hungry, Begin, End, Done, Close, Break, Take, after, may}
 use Rattle.dine_core.specs.World.{WorldState, no_state, state_of, place_of, put_to, next_letter, step_of, local_after, site_after, world_after, is_enabled}
-use Rattle.dine_core.proofs.WorldKept.{IsStepOf, event_is_step, option_map_parts}
+use Rattle.dine_core.proofs.WorldKept.{IsStepOf, event_is_step, option_map_parts, some_of}
 
 -- an element of a changed list is the old one, or the new one at its position
 pub set_cases : {X : Type 0} (xs : List X) (k j : ℕ) (y d : X) → (get_or (slice_set xs k y) j d ≡ get_or xs j d) ⊎ ((j ≡ k) × (get_or (slice_set xs k y) j d ≡ y))
@@ -117,10 +117,6 @@ event_stays plan world new e other next w h o differs =
     (step_stays plan world other.site v.step e.site differs e.kind w.step w.step_is)
     (ap (λ (x : LocalState). may plan e.site x w.step) same ∙ w.needs)
     ∙ ap (λ (x : LocalState). Some (slice_set (acted plan world other.site v.step) e.site (after plan e.site x w.step))) same)
-
-some_of : {A : Type 0} (o : Option A) → is_some o ≡ true → (x : A) × (o ≡ Some x)
-some_of None h = absurd cc
-some_of (Some x) h = (x, refl)
 
 -- an enabled event stays enabled after an event of another site
 pub stays_enabled : (plan : SeenPlan) (world new : WorldState) (e other : Event) → is_enabled plan world e ≡ true → world_after plan world other ≡ Some new → e.site ≢ other.site → is_enabled plan new e ≡ true

@@ -1,5 +1,5 @@
 -- In a world that events reach from the start, each site keeps its streams and each link is in order.
-use Rattle.std.proofs.Common.{◌≡◌, ◌≢◌, ◌⊎◌, ℕ, zero, suc, ◌+◌, ◌<◌, nat_lt, Bool, true, false, cond, List, [], ◌∷◌, ◌++◌, length, map, get_or, slice_get, slice_set, Option, Some, None, refl, sym, ◌∙◌, ap, subst, inl, inr, arith, append_assoc, append-nil, add-zero, zero-add}
+use Rattle.std.proofs.Common.{◌≡◌, ◌≢◌, ◌⊎◌, ℕ, zero, suc, ◌+◌, ◌<◌, ◌≤◌, nat_lt, Bool, true, false, cond, List, [], ◌∷◌, ◌++◌, length, map, get_or, slice_get, slice_set, Option, Some, None, is_some, refl, sym, ◌∙◌, ap, subst, inl, inr, arith, append_assoc, append-nil, length-append, add-zero, zero-add}
 use Rattle.std.specs.List.{range_with_len}
 use Rattle.std.specs.Option.{option_map, option_and_then}
 use mathlib.Core.List.{IsPrefix}
@@ -35,6 +35,22 @@ option_map_parts f (Some x) y h = (x, refl, cc)
 pub and_then_parts : {A B : Type 0} (f : A → Option B) (o : Option A) (y : B) → option_and_then f o ≡ Some y → (x : A) × (o ≡ Some x) × (f x ≡ Some y)
 and_then_parts f None y h = absurd cc
 and_then_parts f (Some x) y h = (x, refl, h)
+
+-- where there is something, it is what is there
+pub some_of : {A : Type 0} (o : Option A) → is_some o ≡ true → (x : A) × (o ≡ Some x)
+some_of None h = absurd cc
+some_of (Some x) h = (x, refl)
+
+-- what events lead to, and one event more
+pub events_then : (plan : SeenPlan) (old world new : WorldState) (events : List Event) (e : Event) → after_events plan old events ≡ Some world → world_after plan world e ≡ Some new → after_events plan old (events ++ e ∷ []) ≡ Some new
+events_then plan old world new [] e h more = ap (λ (w : WorldState). option_and_then (λ next. Some next) (world_after plan w e)) (same_Some old world h) ∙ ap (option_and_then (λ next. Some next)) more
+events_then plan old world new (first ∷ events) e h more =
+    let w = and_then_parts (λ next. after_events plan next events) (world_after plan old first) world h in
+    ap (option_and_then (λ next. after_events plan next (events ++ e ∷ []))) w.1 ∙ events_then plan w.0 world new events e w.2 more
+
+-- a prefix is no longer
+pub prefix_short : (taken put : List Letter) → IsPrefix taken put → length taken ≤ length put
+prefix_short taken put h = omega (arith, length-append taken h.0, ap length h.1)
 
 -- an event is one step of one site of the plan
 pub record IsStepOf (plan : SeenPlan) (world : WorldState) (e : Event) (new : WorldState) : Type 0 where
