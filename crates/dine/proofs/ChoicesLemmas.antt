@@ -1,5 +1,5 @@
 -- What is read of the text of a choice, and of all choices.
-use Rattle.std.proofs.Common.{◌≡◌, ℕ, zero, suc, ◌++◌, get_or, map, option_and_then, option_map, ap₂, ◌^◌, ◌<◌, Bool, true, false, cond, nat_le, ◌&&◌, List, [], ◌∷◌, length, Option, Some, None, Result, Err, refl, sym, subst, ◌∙◌, ap, arith}
+use Rattle.std.proofs.Common.{◌≡◌, ℕ, zero, suc, ◌++◌, get_or, option_and_then, option_map, ap₂, ◌^◌, ◌<◌, Bool, true, false, cond, nat_le, ◌&&◌, List, [], ◌∷◌, length, Option, Some, None, Result, Err, refl, sym, subst, ◌∙◌, ap, arith}
 use Rattle.std.specs.List.{list_all}
 use Rattle.std.specs.Char.{is_ascii_digit}
 use Rattle.std.specs.Str.{all_ascii_digits}
@@ -34,11 +34,6 @@ unread_is_none {E} bs r e is digits read =
     (λ some fits. none (leb-true 1 (length bs) some, omega (arith, leb-true (digits_value 10 bs) greatest_choice fits, top))))
 
 -- ---- all choices
-
--- one text more
-pub map_push : {X Y : Type 0} (f : X → Y) (xs : List X) (x : X) → map f (xs ++ x ∷ []) ≡ map f xs ++ f x ∷ []
-map_push f [] x = refl
-map_push f (y ∷ xs) x = ap (λ ys. f y ∷ ys) (map_push f xs x)
 
 -- the choices of texts, behind that of the first
 abbrev behind : Option ℕ → Option (List ℕ) → Option (List ℕ)

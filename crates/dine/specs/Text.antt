@@ -1,6 +1,7 @@
 -- The text of `replay`.
-use Rattle.std.specs.Prelude.{ℕ, zero, suc, ◌+◌, List, [], ◌∷◌, ◌++◌, codes}
+use Rattle.std.specs.Prelude.{ℕ, List, [], ◌∷◌, ◌++◌, codes}
 use Rattle.std.specs.Fmt.{decimal}
+use Rattle.std.specs.List.{flat_map, range_with_len}
 use Rattle.dine_token.specs.declared.entry.Entry.{Entry}
 use Rattle.dine_token.specs.declared.entry.Entry.TheVariants.{Meal, Move}
 use Rattle.dine_plan.specs.Plan.{SeenPlan, edge_count, ends_of, name_of}
@@ -31,11 +32,10 @@ events_line events bound = codes "events " ++ decimal events ++ codes " of " ++ 
 abbrev pub line_of_edge : SeenPlan → WorldState → ℕ → List ℕ
 line_of_edge plan world edge = edge_line (name_of plan) edge (ends_of plan edge) (fork_log plan world edge)
 
--- the lines of so many edges, from one on
-abbrev pub lines_from : SeenPlan → WorldState → ℕ → ℕ → List ℕ
-lines_from plan world edge zero = []
-lines_from plan world edge (suc n) = line_of_edge plan world edge ++ lines_from plan world (edge + 1) n
+-- the lines of all edges, in order
+abbrev pub edge_lines : SeenPlan → WorldState → List ℕ
+edge_lines plan world = flat_map (line_of_edge plan world) (range_with_len 0 (edge_count plan))
 
--- the text of a world: the line of each edge in order, and the last line
+-- the text of a world: the lines of all edges, and the last line
 abbrev pub world_text : SeenPlan → WorldState → ℕ → List ℕ
-world_text plan world events = lines_from plan world 0 (edge_count plan) ++ events_line events (bound_of plan)
+world_text plan world events = edge_lines plan world ++ events_line events (bound_of plan)

@@ -1,10 +1,10 @@
 //! The text of a world.
 
 ghost use Rattle.std.specs.Prelude.{◌≡◌, ◌++◌, codes, string_bytes, IfOk, OnOk};
-ghost use Rattle.dine_plan.specs.Plan.{edge_count, name_of};
+ghost use Rattle.dine_plan.specs.Plan.{name_of};
 ghost use Rattle.dine_core.specs.World.{WorldState};
 ghost use Rattle.dine_core.specs.Worlds.{IsWorldOf, IsOpenedFor};
-ghost use Rattle.dine.specs.Text.{edge_line, entries_text, entry_text, events_line, lines_from, world_text};
+ghost use Rattle.dine.specs.Text.{edge_line, edge_lines, entries_text, entry_text, events_line, world_text};
 
 use dine_core::World;
 use dine_plan::Plan;
@@ -31,7 +31,7 @@ pub fn world_text(
 fn push_lines(text: &mut String, plan: &Plan, world: &World) -> Result<(), AllocError>
     requires { IsOpenedFor plan.now world.now }
     ensures { OnOk result ((state : WorldState) → IsWorldOf plan.now state world.now
-        → string_bytes text.new ≡ string_bytes text.old ++ lines_from plan.now state 0 (edge_count plan.now)) }
+        → string_bytes text.new ≡ string_bytes text.old ++ edge_lines plan.now state) }
 {
     for edge in 0..plan.edges() {
         match world.fork(edge) {

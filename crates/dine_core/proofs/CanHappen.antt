@@ -1,9 +1,6 @@
 -- An event can happen exactly where it is enabled. That a Take needs no test of its letter is the law of next letters.
-use Rattle.std.proofs.Common.{◌≡◌, ℕ, zero, suc, ◌+◌, ◌-◌, ◌<◌, ◌≤◌, ◌==◌, nat_lt, Bool, true, false, not, ◌&&◌, List, [], ◌∷◌, length, drop, get_or, slice_get, slice_set, option_map, option_and_then, Option, Some, None, is_some, refl, sym, ◌∙◌, ap, ap₂, subst, inl, inr, arith, if◌then◌else◌}
-use Rattle.std.specs.List.{list_any, range_with_len}
-use Rattle.std.proofs.lemmas.Bool.{cases_lt, cond-false, cond-true, eq-eqb, false_from_ne_true, ltb-true}
-use Rattle.std.proofs.lemmas.List.Folds.{list_any_at}
-use Rattle.std.proofs.lemmas.List.FromFn.{get_or-range_with_len, length-range_with_len}
+use Rattle.std.proofs.Common.{◌≡◌, ℕ, zero, suc, ◌<◌, ◌≤◌, ◌==◌, nat_lt, Bool, true, false, not, ◌&&◌, List, [], ◌∷◌, length, drop, get_or, slice_get, slice_set, option_map, option_and_then, Option, Some, None, is_some, refl, sym, ◌∙◌, ap, ap₂, subst, inl, inr, arith, if◌then◌else◌}
+use Rattle.std.proofs.lemmas.Bool.{cases_lt, cond-false, cond-true, le-ltb, lt-ltb, ltb-true}
 use Rattle.std.proofs.lemmas.Option.{slice_get_cases, slice_get_past}
 use Rattle.dine_token.specs.Fork.{SeenFork}
 use Rattle.dine_token.specs.Log.{is_dirty, meals_of}
@@ -35,7 +32,7 @@ use Rattle.dine_core.proofs.Breaches.{breach_is}
 use Rattle.dine_core.proofs.NextLetters.{reached_allowed}
 use Rattle.dine_core.proofs.Ranges.{and_along, begin_by, not_one}
 use Rattle.dine_core.proofs.Stands.{place_is}
-use Rattle.dine_core.proofs.WorldKept.{WorldKeeps, in_range, reached_kept}
+use Rattle.dine_core.proofs.WorldKept.{WorldKeeps, reached_kept}
 
 -- ---- tests over plain values
 
@@ -199,13 +196,6 @@ module _ (plan : SeenPlan) (world : WorldState) (seen : SeenWorld) (is : IsWorld
 
 -- ---- the world
 
--- a number of a range is found there, and another is not
-found : (a n x : ℕ) → a ≤ x → x < a + n → list_any (λ s. s == x) (range_with_len a n) ≡ true
-found a n x low high =
-    let within : x - a < n = omega arith in
-    let here : get_or (range_with_len a n) (x - a) 0 ≡ x = get_or-range_with_len a n (x - a) 0 within ∙ (let e : a + (x - a) ≡ x = omega arith in e) in
-    list_any_at (λ s. s == x) (range_with_len a n) (x - a) 0 (omega (arith, length-range_with_len a n)) (eq-eqb _ _ here)
-
 -- the event's site takes the step, if it may
 is_step : (plan : SeenPlan) (world : WorldState) (s : ℕ) (o : Option Step)
     → is_some (option_map (slice_set world s) (option_and_then (local_after plan s (state_of world s)) o)) ≡ may_be plan s (state_of world s) o
@@ -231,20 +221,17 @@ module _ (plan : SeenPlan) (world : WorldState) (seen : SeenWorld) (is : IsWorld
       let site : core.site ≡ e.site = ap (λ (x : Seat). x.core.site) (sym w.2) ∙ is.seats.site e.site w.0 is_site in
       let seat : IsSeatOf plan (state_of world e.site) w.0 = subst (IsSeatOf plan (state_of world e.site)) w.2 (is.seats.stands e.site w.0 is_site) in
       let stands : StandsFor plan (state_of world core.site) core = subst (λ (x : ℕ). StandsFor plan (state_of world x) core) (sym site) seat.core in
-      let any : list_any (λ s. s == e.site) (range_with_len 0 (site_count plan)) ≡ true = found 0 (site_count plan) e.site (omega arith) (omega arith) in
       ap (can_at seen.links e.kind) w.1
       ∙ kind_is plan world seen is core stands (omega (arith, site)) e.kind
       ∙ ap (λ (x : ℕ). may_be plan x (state_of world x) (step_of plan world x e.kind)) site
       ∙ sym (is_step plan world e.site (step_of plan world e.site e.kind))
-      ∙ ap is_some (sym (cond-true (list_any (λ s. s == e.site) (range_with_len 0 (site_count plan))) (option_map (slice_set world e.site) (site_after plan world e.site e.kind)) None any))
+      ∙ ap is_some (sym (cond-true (nat_lt e.site (site_count plan)) (option_map (slice_set world e.site) (site_after plan world e.site e.kind)) None (lt-ltb e.site (site_count plan) is_site)))
 
   -- an event of no site
   past_is : (e : Event) → site_count plan ≤ e.site → can_happen seen e ≡ is_enabled plan world e
   past_is e past =
-      let none : list_any (λ s. s == e.site) (range_with_len 0 (site_count plan)) ≡ false
-      = false_from_ne_true _ (λ h. omega (arith, in_range 0 (site_count plan) e.site h)) in
       ap (can_at seen.links e.kind) (slice_get_past seen.seats e.site (omega (arith, is.seats.count)))
-      ∙ ap is_some (sym (cond-false (list_any (λ s. s == e.site) (range_with_len 0 (site_count plan))) (option_map (slice_set world e.site) (site_after plan world e.site e.kind)) None none))
+      ∙ ap is_some (sym (cond-false (nat_lt e.site (site_count plan)) (option_map (slice_set world e.site) (site_after plan world e.site e.kind)) None (le-ltb e.site (site_count plan) past)))
 
   pub can_happen_is : (e : Event) → can_happen seen e ≡ is_enabled plan world e
   can_happen_is e = elim (cases_lt e.site (site_count plan)) [

@@ -1,5 +1,5 @@
 -- The effects of a world that events reach are within the bound of its plan.
-use Rattle.std.proofs.Common.{◌≡◌, ℕ, ◌+◌, ◌*◌, ◌<◌, ◌≤◌, cond, List, length, get_or, sum_by, sym, ◌∙◌, ap, subst, inl, inr, arith, length-append, zero-add}
+use Rattle.std.proofs.Common.{◌≡◌, ℕ, ◌+◌, ◌*◌, ◌<◌, ◌≤◌, cond, List, length, get_or, sum_by, sym, ◌∙◌, ap, subst, inl, inr, arith, zero-add}
 use Rattle.std.specs.List.{range_with_len}
 use mathlib.Core.List.{IsPrefix}
 use Rattle.std.proofs.lemmas.Bool.{cases_Bool, cond-true, cond-false}
@@ -18,13 +18,10 @@ use Rattle.dine_core.proofs.PutBounds.{length-letters, requests_within, dones_wi
 use Rattle.dine_core.proofs.Placed.{IsPlaced, placed}
 use Rattle.dine_core.proofs.Across.{across}
 use Rattle.dine_core.proofs.Sums.{sum-within, sum_by-add, sum_by-times, sum_by-swap, at_most_twice}
-use Rattle.dine_core.proofs.WorldKept.{WorldKeeps, reached_kept}
+use Rattle.dine_core.proofs.WorldKept.{WorldKeeps, prefix_short, reached_kept}
 use Rattle.dine_core.proofs.Effects.{events_counted}
 
--- a prefix is no longer, and has no more Requests
-prefix_shorter : (taken put : List Letter) → IsPrefix taken put → length taken ≤ length put
-prefix_shorter taken put h = omega (arith, length-append taken h.0, ap length h.1)
-
+-- a prefix has no more Requests
 prefix_requests : (taken put : List Letter) → IsPrefix taken put → requests_in taken ≤ requests_in put
 prefix_requests taken put h = omega (arith, requests_in-append taken h.0, ap requests_in h.1)
 
@@ -71,7 +68,7 @@ letters_within plan is_plan world kept s is_site i within =
     omega (
       arith,
       puts_at plan is_plan world kept s is_site i within,
-      prefix_shorter (traffic_at (state_of world s) i).taken (put_to plan world s i) (kept.links s i is_site within),
+      prefix_short (traffic_at (state_of world s) i).taken (put_to plan world s i) (kept.links s i is_site within),
       puts_at plan is_plan world kept other over.is_site place over.within,
       ap (λ (x : ℕ). meals_due plan x) over.same_edge,
     )

@@ -1,8 +1,8 @@
 -- The enabled events of a world: each is enabled, and where there is none, no site may do a step of its own.
-use Rattle.std.proofs.Common.{◌≡◌, ◌⊎◌, ℕ, zero, suc, ◌+◌, ◌<◌, ◌≤◌, Bool, true, false, ◌==◌, List, [], ◌∷◌, ◌++◌, filter, length, map, slice_get, slice_set, Option, Some, None, is_some, refl, sym, ◌∙◌, ap, subst, inl, inr, arith}
-use Rattle.std.specs.List.{range_with_len, list_any, flat_map}
+use Rattle.std.proofs.Common.{◌≡◌, ◌⊎◌, ℕ, zero, suc, ◌+◌, ◌<◌, ◌≤◌, nat_lt, Bool, true, false, List, [], ◌∷◌, ◌++◌, filter, length, map, slice_get, slice_set, Option, Some, None, is_some, refl, sym, ◌∙◌, ap, subst, inl, inr, arith}
+use Rattle.std.specs.List.{range_with_len, flat_map}
 use Rattle.std.specs.Option.{option_map, option_and_then}
-use Rattle.std.proofs.lemmas.Bool.{true≢false, cases_Bool, cases_eq, cond-true, cond-false, eq-eqb, or_left, or_right, false_from_ne_true}
+use Rattle.std.proofs.lemmas.Bool.{true≢false, cases_Bool, cases_eq, cond-true, cond-false, false_from_ne_true, lt-ltb}
 use Rattle.std.proofs.lemmas.List.Concat.{flat_map-cons}
 use Rattle.dine_plan.specs.Plan.{SeenPlan, site_count, edges_of}
 use Rattle.dine_core.specs.declared.letters.Letter.{Letter}
@@ -51,12 +51,6 @@ in_range a (suc n) x low high = elim (cases_eq a x) [
   | inr other ↦ inr (in_range (a + 1) n x (omega arith) (omega arith))
 ]
 
--- an element is found
-found : (x : ℕ) (xs : List ℕ) → IsIn x xs → list_any (λ y. y == x) xs ≡ true
-found x [] h = absurd h
-found x (y ∷ xs) (inl same) = or_left (y == x) (list_any (λ z. z == x) xs) (eq-eqb y x same)
-found x (y ∷ xs) (inr h) = or_right (y == x) (list_any (λ z. z == x) xs) (found x xs h)
-
 -- where none passes a test, an element fails it
 none_passes : {X : Type 0} (test : X → Bool) (x : X) (xs : List X) → filter test xs ≡ [] → IsIn x xs → test x ≡ false
 none_passes test x [] none h = absurd h
@@ -87,8 +81,7 @@ passes_at test (y ∷ xs) k x h = elim (cases_Bool (test y)) [
 may_happen : (plan : SeenPlan) (world : WorldState) (s : ℕ) (kind : EventKind) (step : Step) → s < site_count plan → step_of plan world s kind ≡ Some step → may plan s (state_of world s) step ≡ true
     → is_enabled plan world (record { site = s; kind = kind }) ≡ true
 may_happen plan world s kind step is_site is_step needs = ap (λ (o : Option WorldState). is_some o) (
-    cond-true (list_any (λ t. t == s) (range_with_len 0 (site_count plan))) (option_map (slice_set world s) (site_after plan world s kind)) None
-    (found s (range_with_len 0 (site_count plan)) (in_range 0 (site_count plan) s (omega arith) (omega arith)))
+    cond-true (nat_lt s (site_count plan)) (option_map (slice_set world s) (site_after plan world s kind)) None (lt-ltb s (site_count plan) is_site)
     ∙ ap (λ (o : Option Step). option_map (slice_set world s) (option_and_then (local_after plan s (state_of world s)) o)) is_step
     ∙ ap (λ (o : Option LocalState). option_map (slice_set world s) o) (cond-true (may plan s (state_of world s) step) (Some (after plan s (state_of world s) step)) None needs)
     )

@@ -1,11 +1,9 @@
 -- A run that does the first enabled event again and again ends in a world with no enabled event, which is complete.
-use Rattle.std.proofs.Common.{◌≡◌, ℕ, zero, suc, ◌+◌, ◌≤◌, true, List, [], ◌∷◌, ◌++◌, length, slice_get, Option, Some, None, is_some, unwrap_or, refl, sym, ◌∙◌, ap, subst, arith, length-append}
+use Rattle.std.proofs.Common.{◌≡◌, ℕ, zero, suc, ◌+◌, ◌≤◌, List, [], ◌∷◌, ◌++◌, length, slice_get, Option, Some, None, unwrap_or, refl, sym, ap, subst, arith, length-append}
 use Rattle.std.specs.List.{range_with_len, flat_map}
-use Rattle.std.specs.Option.{option_and_then}
-use Rattle.std.proofs.lemmas.Option.{same_Some}
 use Rattle.dine_plan.specs.Plan.{SeenPlan, IsPlan, site_count}
 use Rattle.dine_core.specs.declared.events.Event.{Event}
-use Rattle.dine_core.specs.World.{WorldState, start, world_after, is_enabled, events_at, enabled_events, after_events, Reaches, IsComplete}
+use Rattle.dine_core.specs.World.{WorldState, start, world_after, is_enabled, events_at, enabled_events, Reaches, IsComplete}
 use Rattle.dine_core.specs.Bound.{bound_of}
 use Rattle.dine_core.specs.Schedules.{Counted, chosen, choose, replay, carried_on, finish_within, whole_run}
 use Rattle.dine_core.proofs.Acyclic.{precedence_acyclic}
@@ -13,7 +11,7 @@ use Rattle.dine_core.proofs.EffectBounds.{events_bounded}
 use Rattle.dine_core.proofs.Enabled.{passes_at, still}
 use Rattle.dine_core.proofs.NextLetters.{in_order}
 use Rattle.dine_core.proofs.Stuck.{still_is_complete}
-use Rattle.dine_core.proofs.WorldKept.{and_then_parts, reached_kept}
+use Rattle.dine_core.proofs.WorldKept.{events_then, reached_kept, some_of}
 
 -- a world that events reach and in which no event is enabled is complete
 pub stuck_is_complete : (plan : SeenPlan) (events : List Event) (world : WorldState) → IsPlan plan → Reaches plan events world → enabled_events plan world ≡ [] → IsComplete plan world
@@ -21,19 +19,6 @@ stuck_is_complete plan events world is_plan reached none = still_is_complete pla
     (λ s is_site. still plan world none s is_site) (precedence_acyclic plan events world is_plan reached)
 
 -- ---- one event more
-
--- an event behind a list of events
-events_then : (plan : SeenPlan) (old world new : WorldState) (events : List Event) (e : Event) → after_events plan old events ≡ Some world → world_after plan world e ≡ Some new → after_events plan old (events ++ e ∷ []) ≡ Some new
-events_then plan old world new [] e reached next = ap (λ (w : WorldState). option_and_then (λ (x : WorldState). Some x) (world_after plan w e)) (same_Some old world reached)
-    ∙ ap (option_and_then (λ (x : WorldState). Some x)) next
-events_then plan old world new (first ∷ events) e reached next =
-    let w = and_then_parts (λ x. after_events plan x events) (world_after plan old first) world reached in
-    ap (option_and_then (λ (x : WorldState). after_events plan x (events ++ e ∷ []))) w.1 ∙ events_then plan w.0 world new events e w.2 next
-
--- where there is something, it is what is there
-some_of : {A : Type 0} (o : Option A) → is_some o ≡ true → (x : A) × (o ≡ Some x)
-some_of None h = absurd cc
-some_of (Some x) h = (x, refl)
 
 -- a list with no first element is empty
 pub none_first : {A : Type 0} (xs : List A) → slice_get xs 0 ≡ None → xs ≡ []

@@ -1,5 +1,5 @@
 -- The log of each edge's fork, wherever it lies: lawful, and in a complete world with all meals of both ends.
-use Rattle.std.proofs.Common.{◌≡◌, ℕ, ◌+◌, ◌<◌, ◌≤◌, ◌==◌, Bool, true, false, List, [], length, Option, Some, None, unwrap_or, if◌then◌else◌, refl, sym, ◌∙◌, ap, subst, arith}
+use Rattle.std.proofs.Common.{◌≡◌, ℕ, ◌+◌, ◌<◌, ◌≤◌, ◌==◌, Bool, true, false, List, [], length, unwrap_or, refl, sym, ◌∙◌, ap, subst, arith}
 use Rattle.std.specs.Option.{option_or}
 use Rattle.std.proofs.lemmas.Bool.{eqb-true, eqb-false, ltb-true, ltb-false, lt-ltb, false≢true}
 use Rattle.dine_token.specs.declared.entry.Entry.{Entry}
@@ -20,7 +20,7 @@ use Rattle.dine_core.proofs.Across.{IsAcross, across}
 use Rattle.dine_core.proofs.Breaches.{own_is}
 use Rattle.dine_core.proofs.Counting.{last_log_or-some}
 use Rattle.dine_core.proofs.EdgeSums.{fork_of_place, one_fork_of_edge}
-use Rattle.dine_core.proofs.ForkPlaces.{put_count}
+use Rattle.dine_core.proofs.ForkPlaces.{near_log, put_count}
 use Rattle.dine_core.proofs.InHand.{hand-meals}
 use Rattle.dine_core.proofs.Placed.{placed}
 use Rattle.dine_core.proofs.Preference.{IsEdge, is_edge, low_place, high_place}
@@ -88,14 +88,10 @@ module _ (plan : SeenPlan) (is_plan : IsPlan plan) (world : WorldState) (kept : 
 
 -- ---- at an edge
 
--- a log that may be near an end: in hand, or in the link
-abbrev near_end : Bool → Bool → List Entry → List Entry → Option (List Entry)
-near_end held sent hand last = if held then Some hand else (if sent then Some last else None)
-
 -- what holds of the log wherever it lies holds of the log that is found
 found_log : (P : List Entry → Type 0) (held_low sent_low held_high sent_high : Bool) (a b c d : List Entry)
     → (held_low ≡ true → P a) → (sent_low ≡ true → P b) → (held_high ≡ true → P c) → (sent_high ≡ true → P d) → (held_low ≡ false → sent_low ≡ false → held_high ≡ false → sent_high ≡ true)
-    → P (unwrap_or (option_or (near_end held_low sent_low a b) (near_end held_high sent_high c d)) [])
+    → P (unwrap_or (option_or (near_log held_low sent_low a b) (near_log held_high sent_high c d)) [])
 found_log P true sent_low held_high sent_high a b c d in_low to_low in_high to_high somewhere = in_low refl
 found_log P false true held_high sent_high a b c d in_low to_low in_high to_high somewhere = to_low refl
 found_log P false false true sent_high a b c d in_low to_low in_high to_high somewhere = in_high refl

@@ -157,8 +157,8 @@ either_log : (f : List Entry → SeenFork) (a b : Option (List Entry)) → optio
 either_log f (Some a) b = refl
 either_log f None b = refl
 
--- a log that is somewhere
-abbrev near_log : Bool → Bool → List Entry → List Entry → Option (List Entry)
+-- a log that may be near an end: in hand, or in the link
+abbrev pub near_log : Bool → Bool → List Entry → List Entry → Option (List Entry)
 near_log held sent hand last = if held then Some hand else (if sent then Some last else None)
 
 log_there : (f : List Entry → SeenFork) (held_low sent_low held_high sent_high : Bool) (a b c d : List Entry) → (held_low ≡ false → sent_low ≡ false → held_high ≡ false → sent_high ≡ true)

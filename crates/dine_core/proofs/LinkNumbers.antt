@@ -1,13 +1,17 @@
 -- The numbers of the links: each link leads from one place of a site to one place of another.
-use Rattle.std.proofs.Common.{◌≡◌, ℕ, ◌+◌, ◌*◌, ◌<◌, Bool, true, false, cond, not, length, refl, sym, ◌∙◌, ap, inl, inr, arith}
+use Rattle.std.proofs.Common.{◌≡◌, ℕ, ◌+◌, ◌*◌, ◌<◌, ◌==◌, Bool, true, false, cond, not, length, refl, sym, ◌∙◌, ap, inl, inr, arith, if◌then◌else◌}
 use Rattle.std.proofs.lemmas.Bool.{cases_Bool, eqb-true, eq-eqb, false≢true}
 use Rattle.dine_plan.specs.Plan.{SeenPlan, IsPlan, edge_count, edges_of, lo_of, hi_of}
 use Rattle.dine_core.specs.Local.{edge_at, neighbour_at}
 use Rattle.dine_core.specs.World.{place_of}
 use Rattle.dine_core.specs.Streams.{is_lower_at}
-use Rattle.dine_core.specs.Worlds.{number_to, number_from}
+use Rattle.dine_core.specs.Worlds.{number_to}
 use Rattle.dine_core.proofs.Placed.{placed}
 use Rattle.dine_core.proofs.Across.{IsAcross, place_of-edge_at}
+
+-- the number of the link that leads away from a site at place i
+abbrev pub number_from : SeenPlan → ℕ → ℕ → ℕ
+number_from plan s i = 2 * edge_at plan s i + (if lo_of plan (edge_at plan s i) == s then 0 else 1)
 
 -- twice a number, and a bit
 abbrev twice_and : ℕ → Bool → ℕ

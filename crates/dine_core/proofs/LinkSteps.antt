@@ -1,35 +1,23 @@
 -- What a letter that is put or taken does to the links of the world.
-use Rattle.std.proofs.Common.{◌≡◌, ◌≢◌, ℕ, zero, suc, ◌<◌, ◌≤◌, List, [], ◌∷◌, ◌++◌, length, drop, get_or, slice_set, refl, sym, ◌∙◌, ap, subst, inl, inr, arith}
-use mathlib.Core.List.{IsPrefix}
+use Rattle.std.proofs.Common.{◌≡◌, ◌≢◌, ℕ, zero, suc, ◌<◌, ◌≤◌, List, [], ◌∷◌, ◌++◌, length, drop, get_or, slice_set, refl, sym, ◌∙◌, ap, subst, inl, inr, arith, add-one}
 use Rattle.std.proofs.lemmas.Bool.{cases_eq}
-use Rattle.std.proofs.lemmas.List.{get_or-set_same, get_or-set_other, length-set, drop-append-le}
+use Rattle.std.proofs.lemmas.List.{get_or-set_same, get_or-set_other, length-set, length_push, drop-append-le}
 use Rattle.dine_plan.specs.Plan.{SeenPlan, IsPlan, site_count, edges_of}
 use Rattle.dine_core.specs.declared.letters.Letter.{Letter}
 use Rattle.dine_core.specs.Local.{LocalState, Traffic, no_traffic, traffic_at, edge_at, neighbour_at}
 use Rattle.dine_core.specs.World.{WorldState, no_state, state_of, place_of, put_to}
 use Rattle.dine_core.specs.Links.{queue_to}
 use Rattle.dine_core.specs.Seats.{letters_in, with_letter, without_next}
-use Rattle.dine_core.specs.Worlds.{LinksStand, number_to, number_from}
+use Rattle.dine_core.specs.Worlds.{LinksStand, number_to}
 use Rattle.dine_core.proofs.Across.{across}
-use Rattle.dine_core.proofs.WorldKept.{WorldKeeps}
-use Rattle.dine_core.proofs.LinkNumbers.{to_in_range, same_place, from_is_to, to_is_from, back_at}
+use Rattle.dine_core.proofs.WorldKept.{WorldKeeps, prefix_short}
+use Rattle.dine_core.proofs.LinkNumbers.{number_from, to_in_range, same_place, from_is_to, to_is_from, back_at}
 
 -- one more is dropped
 drop_more : (m : ℕ) (xs : List Letter) → drop (suc m) xs ≡ drop 1 (drop m xs)
 drop_more zero xs = refl
 drop_more (suc m) [] = refl
 drop_more (suc m) (x ∷ xs) = drop_more m xs
-
--- one more is longer by one
-pub one_longer : (xs : List Letter) (l : Letter) → length (xs ++ l ∷ []) ≡ suc (length xs)
-one_longer [] l = refl
-one_longer (x ∷ xs) l = ap suc (one_longer xs l)
-
-prefix_short : (taken put : List Letter) → IsPrefix taken put → length taken ≤ length put
-prefix_short taken put h = short taken h.0 put h.1 where
-  short : (xs ys zs : List Letter) → xs ++ ys ≡ zs → length xs ≤ length zs
-  short [] ys zs e = omega arith
-  short (x ∷ xs) ys zs e = subst (λ (l : List Letter). suc (length xs) ≤ length l) e (omega (arith, short xs ys (xs ++ ys) refl))
 
 module _ (plan : SeenPlan) (is_plan : IsPlan plan) (world : WorldState) (kept : WorldKeeps plan world) (s : ℕ) (is_site : s < site_count plan) (new : LocalState) where
   abbrev new_world : WorldState
@@ -147,7 +135,7 @@ module _ (plan : SeenPlan) (is_plan : IsPlan plan) (world : WorldState) (kept : 
           let in_range : number_to plan s i < length links = omega (arith, to_in_range plan s i is_plan within_i, stand.count) in
           let put : List Letter = put_to plan world s i in
           get_or-set_same links (number_to plan s i) _ [] in_range ∙ ap (drop 1) (stand.letters s i is_site within_i) ∙ sym (drop_more (length old_traffic.taken) put)
-          ∙ ap (λ (m : ℕ). drop m put) (sym (ap length takes ∙ one_longer old_traffic.taken l)) ∙ ap (λ (x : Traffic). drop (length x.taken) put) (sym traffic_here) ∙ sym (queue_by s i)
+          ∙ ap (λ (m : ℕ). drop m put) (sym (ap length takes ∙ length_push old_traffic.taken l ∙ add-one (length old_traffic.taken))) ∙ ap (λ (x : Traffic). drop (length x.taken) put) (sym traffic_here) ∙ sym (queue_by s i)
 
       at_link : (t j : ℕ) → t < site_count plan → j < length (edges_of plan t) → number_to plan t j ≡ number_to plan s i
           → letters_in (without_next links (number_to plan s i)) (number_to plan t j) ≡ queue_to plan new_world t j

@@ -1,8 +1,7 @@
 -- An event that is enabled stays enabled while other sites act.
-use Rattle.std.proofs.Common.{◌≡◌, ◌≢◌, ◌⊎◌, ℕ, zero, suc, ◌==◌, true, List, [], ◌∷◌, ◌++◌, length, get_or, slice_get, slice_set, Option, Some, None, is_some, refl, sym, ◌∙◌, ap, subst, inl, inr, append-nil}
-use Rattle.std.specs.List.{range_with_len, list_any}
+use Rattle.std.proofs.Common.{◌≡◌, ◌≢◌, ◌⊎◌, ℕ, zero, suc, ◌<◌, nat_lt, true, List, [], ◌∷◌, ◌++◌, length, get_or, slice_get, slice_set, Option, Some, None, is_some, refl, sym, ◌∙◌, ap, subst, inl, inr, append-nil}
 use Rattle.std.specs.Option.{option_map, option_and_then}
-use Rattle.std.proofs.lemmas.Bool.{cond-true}
+use Rattle.std.proofs.lemmas.Bool.{cond-true, lt-ltb}
 use Rattle.std.proofs.lemmas.List.{get_or-set_other}
 use Rattle.dine_plan.specs.Plan.{SeenPlan, site_count}
 use Rattle.dine_core.specs.declared.letters.Letter.{Letter}
@@ -12,7 +11,7 @@ use Rattle.dine_core.specs.declared.events.EventKind.TheVariants as event
 use Rattle.dine_core.specs.Local.{LocalState, Traffic, no_traffic, traffic_at, edge_at, neighbour_at}
 use Rattle.dine_core.specs.Steps.{Step, Give, Ask, Hungry, Begin, End, Done, Close, Break, Take, after, may}
 use Rattle.dine_core.specs.World.{WorldState, no_state, state_of, place_of, put_to, next_letter, step_of, local_after, site_after, world_after, is_enabled}
-use Rattle.dine_core.proofs.WorldKept.{IsStepOf, event_is_step, cond_some_parts, option_map_parts}
+use Rattle.dine_core.proofs.WorldKept.{IsStepOf, event_is_step, option_map_parts, some_of}
 
 -- an element of a changed list is the old one, or the new one at its position
 pub set_cases : {X : Type 0} (xs : List X) (k j : ℕ) (y d : X) → (get_or (slice_set xs k y) j d ≡ get_or xs j d) ⊎ ((j ≡ k) × (get_or (slice_set xs k y) j d ≡ y))
@@ -99,11 +98,11 @@ module _ (plan : SeenPlan) (world : WorldState) (s : ℕ) (step : Step) where
     step_stays (event.Close i) one h = h
 
 -- the world after an event is that after its step
-after_step : (plan : SeenPlan) (world : WorldState) (e : Event) (step : Step) → list_any (λ s. s == e.site) (range_with_len 0 (site_count plan)) ≡ true
+after_step : (plan : SeenPlan) (world : WorldState) (e : Event) (step : Step) → e.site < site_count plan
     → step_of plan world e.site e.kind ≡ Some step → may plan e.site (state_of world e.site) step ≡ true
     → world_after plan world e ≡ Some (slice_set world e.site (after plan e.site (state_of world e.site) step))
 after_step plan world e step is_site is_step needs =
-    cond-true (list_any (λ s. s == e.site) (range_with_len 0 (site_count plan))) (option_map (slice_set world e.site) (site_after plan world e.site e.kind)) None is_site
+    cond-true (nat_lt e.site (site_count plan)) (option_map (slice_set world e.site) (site_after plan world e.site e.kind)) None (lt-ltb e.site (site_count plan) is_site)
     ∙ ap (λ (o : Option Step). option_map (slice_set world e.site) (option_and_then (local_after plan e.site (state_of world e.site)) o)) is_step
     ∙ ap (λ (o : Option LocalState). option_map (slice_set world e.site) o) (cond-true (may plan e.site (state_of world e.site) step) (Some (after plan e.site (state_of world e.site) step)) None needs)
 
@@ -112,17 +111,12 @@ pub event_stays : (plan : SeenPlan) (world new : WorldState) (e other : Event) �
     → world_after plan new e ≡ Some (slice_set new e.site (after plan e.site (state_of world e.site) w.step))
 event_stays plan world new e other next w h o differs =
     let v = event_is_step plan world other new o in
-    let is_site = (cond_some_parts (list_any (λ s. s == e.site) (range_with_len 0 (site_count plan))) (option_map (slice_set world e.site) (site_after plan world e.site e.kind)) next h).0 in
     let same : state_of (acted plan world other.site v.step) e.site ≡ state_of world e.site = state_stays plan world other.site v.step e.site differs in
     subst (λ (x : WorldState). world_after plan x e ≡ Some (slice_set x e.site (after plan e.site (state_of world e.site) w.step))) (sym v.changes)
-    (after_step plan (acted plan world other.site v.step) e w.step is_site
+    (after_step plan (acted plan world other.site v.step) e w.step w.is_site
     (step_stays plan world other.site v.step e.site differs e.kind w.step w.step_is)
     (ap (λ (x : LocalState). may plan e.site x w.step) same ∙ w.needs)
     ∙ ap (λ (x : LocalState). Some (slice_set (acted plan world other.site v.step) e.site (after plan e.site x w.step))) same)
-
-some_of : {A : Type 0} (o : Option A) → is_some o ≡ true → (x : A) × (o ≡ Some x)
-some_of None h = absurd cc
-some_of (Some x) h = (x, refl)
 
 -- an enabled event stays enabled after an event of another site
 pub stays_enabled : (plan : SeenPlan) (world new : WorldState) (e other : Event) → is_enabled plan world e ≡ true → world_after plan world other ≡ Some new → e.site ≢ other.site → is_enabled plan new e ≡ true

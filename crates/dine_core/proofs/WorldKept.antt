@@ -1,9 +1,9 @@
 -- In a world that events reach from the start, each site keeps its streams and each link is in order.
-use Rattle.std.proofs.Common.{◌≡◌, ◌≢◌, ◌⊎◌, ℕ, zero, suc, ◌+◌, ◌<◌, Bool, true, false, cond, ◌==◌, List, [], ◌∷◌, ◌++◌, length, map, get_or, slice_get, slice_set, Option, Some, None, refl, sym, ◌∙◌, ap, subst, inl, inr, arith, append_assoc, append-nil, add-zero, zero-add}
-use Rattle.std.specs.List.{range_with_len, list_any}
+use Rattle.std.proofs.Common.{◌≡◌, ◌≢◌, ◌⊎◌, ℕ, zero, suc, ◌+◌, ◌<◌, ◌≤◌, nat_lt, Bool, true, false, cond, List, [], ◌∷◌, ◌++◌, length, map, get_or, slice_get, slice_set, Option, Some, None, is_some, refl, sym, ◌∙◌, ap, subst, inl, inr, arith, append_assoc, append-nil, length-append, add-zero, zero-add}
+use Rattle.std.specs.List.{range_with_len}
 use Rattle.std.specs.Option.{option_map, option_and_then}
 use mathlib.Core.List.{IsPrefix}
-use Rattle.std.proofs.lemmas.Bool.{and_parts, or_cases, cases_eq, eqb-true, ltb-true}
+use Rattle.std.proofs.lemmas.Bool.{and_parts, cases_eq, ltb-true}
 use Rattle.std.proofs.lemmas.List.{get_or-set_same, get_or-set_other, length-set, length-map}
 use Rattle.std.proofs.lemmas.Option.{same_Some}
 use Rattle.std.proofs.lemmas.List.FromFn.{length-range_with_len}
@@ -24,7 +24,7 @@ use Rattle.dine_core.proofs.SiteSteps.{step_keeps}
 
 -- ---- what an event does
 
-pub cond_some_parts : {A : Type 0} (b : Bool) (o : Option A) (y : A) → cond b o None ≡ Some y → (b ≡ true) × (o ≡ Some y)
+cond_some_parts : {A : Type 0} (b : Bool) (o : Option A) (y : A) → cond b o None ≡ Some y → (b ≡ true) × (o ≡ Some y)
 cond_some_parts true o y h = (refl, h)
 cond_some_parts false o y h = absurd cc
 
@@ -36,13 +36,21 @@ pub and_then_parts : {A B : Type 0} (f : A → Option B) (o : Option A) (y : B) 
 and_then_parts f None y h = absurd cc
 and_then_parts f (Some x) y h = (x, refl, h)
 
--- a number of a range is within it
-pub in_range : (a n x : ℕ) → list_any (λ s. s == x) (range_with_len a n) ≡ true → x < a + n
-in_range a zero x h = absurd cc
-in_range a (suc n) x h = elim (or_cases (a == x) (list_any (λ s. s == x) (range_with_len (a + 1) n)) h) [
-  | inl w ↦ omega (arith, eqb-true a x w)
-  | inr w ↦ omega (arith, in_range (a + 1) n x w)
-]
+-- where there is something, it is what is there
+pub some_of : {A : Type 0} (o : Option A) → is_some o ≡ true → (x : A) × (o ≡ Some x)
+some_of None h = absurd cc
+some_of (Some x) h = (x, refl)
+
+-- what events lead to, and one event more
+pub events_then : (plan : SeenPlan) (old world new : WorldState) (events : List Event) (e : Event) → after_events plan old events ≡ Some world → world_after plan world e ≡ Some new → after_events plan old (events ++ e ∷ []) ≡ Some new
+events_then plan old world new [] e h more = ap (λ (w : WorldState). option_and_then (λ next. Some next) (world_after plan w e)) (same_Some old world h) ∙ ap (option_and_then (λ next. Some next)) more
+events_then plan old world new (first ∷ events) e h more =
+    let w = and_then_parts (λ next. after_events plan next events) (world_after plan old first) world h in
+    ap (option_and_then (λ next. after_events plan next (events ++ e ∷ []))) w.1 ∙ events_then plan w.0 world new events e w.2 more
+
+-- a prefix is no longer
+pub prefix_short : (taken put : List Letter) → IsPrefix taken put → length taken ≤ length put
+prefix_short taken put h = omega (arith, length-append taken h.0, ap length h.1)
 
 -- an event is one step of one site of the plan
 pub record IsStepOf (plan : SeenPlan) (world : WorldState) (e : Event) (new : WorldState) : Type 0 where
@@ -54,13 +62,13 @@ pub record IsStepOf (plan : SeenPlan) (world : WorldState) (e : Event) (new : Wo
 
 pub event_is_step : (plan : SeenPlan) (world : WorldState) (e : Event) (new : WorldState) → world_after plan world e ≡ Some new → IsStepOf plan world e new
 event_is_step plan world e new h =
-    let site = cond_some_parts (list_any (λ s. s == e.site) (range_with_len 0 (site_count plan))) (option_map (slice_set world e.site) (site_after plan world e.site e.kind)) new h in
+    let site = cond_some_parts (nat_lt e.site (site_count plan)) (option_map (slice_set world e.site) (site_after plan world e.site e.kind)) new h in
     let state = option_map_parts (slice_set world e.site) (site_after plan world e.site e.kind) new site.1 in
     let step = and_then_parts (local_after plan e.site (state_of world e.site)) (step_of plan world e.site e.kind) state.0 state.1 in
     let done = cond_some_parts (may plan e.site (state_of world e.site) step.0) (Some (after plan e.site (state_of world e.site) step.0)) state.0 step.2 in
     let is_after : after plan e.site (state_of world e.site) step.0 ≡ state.0 = same_Some (after plan e.site (state_of world e.site) step.0) state.0 done.1 in
     record {
-      is_site = omega (arith, in_range 0 (site_count plan) e.site site.0);
+      is_site = ltb-true e.site (site_count plan) site.0;
       step = step.0;
       step_is = step.1;
       needs = done.0;

@@ -1,7 +1,6 @@
 -- Runs of a world: event after event.
-use Rattle.std.proofs.Common.{◌≡◌, ℕ, zero, suc, ◌+◌, ◌<◌, ◌≤◌, Bool, true, List, [], ◌∷◌, ◌++◌, length, drop, filter, get_or, slice_get, Option, Some, None, unwrap_or, refl, sym, ◌∙◌, ap, subst, inl, inr, arith}
-use Rattle.std.proofs.lemmas.Bool.{cases_Bool, cond-true, cond-false}
-use Rattle.std.proofs.lemmas.Option.{same_Some}
+use Rattle.std.proofs.Common.{◌≡◌, ℕ, zero, suc, ◌+◌, ◌<◌, ◌≤◌, true, List, [], ◌∷◌, ◌++◌, length, drop, get_or, slice_get, Option, Some, None, unwrap_or, refl, sym, ◌∙◌, ap, subst, arith}
+use Rattle.std.proofs.lemmas.List.{length_push}
 use Rattle.dine_plan.specs.Plan.{SeenPlan}
 use Rattle.dine_core.specs.declared.events.Event.{Event}
 use Rattle.dine_core.specs.Bound.{bound_of, effects_of}
@@ -10,37 +9,23 @@ use Rattle.dine_core.specs.World.{WorldState, enabled_events, is_enabled, start,
 use Rattle.dine_core.specs.Worlds.{Happens, IsReached, IsWorldOf, RunsTo, SeenWorld, can_happen}
 use Rattle.dine_core.proofs.CanHappen.{can_happen_is}
 use Rattle.dine_core.proofs.Effects.{events_counted}
+use Rattle.dine_core.proofs.Enabled.{passes_at}
 use Rattle.dine_core.proofs.EffectBounds.{events_bounded}
-use Rattle.dine_core.proofs.WorldSteps.{one_more}
-
--- what a filter leaves passes its test
-pub filter_passes : (test : Event → Bool) (xs : List Event) (k : ℕ) (x : Event) → slice_get (filter test xs) k ≡ Some x → test x ≡ true
-filter_passes test [] k x h = absurd cc
-filter_passes test (y ∷ xs) k x h = elim (cases_Bool (test y)) [
-  | inl passes ↦ kept k (ap (λ (l : List Event). slice_get l k) (sym (cond-true (test y) (y ∷ filter test xs) (filter test xs) passes)) ∙ h) passes (filter_passes test xs)
-  | inr fails ↦ filter_passes test xs k x (ap (λ (l : List Event). slice_get l k) (sym (cond-false (test y) (y ∷ filter test xs) (filter test xs) fails)) ∙ h)
-] where
-  kept : (k : ℕ) → slice_get (y ∷ filter test xs) k ≡ Some x → test y ≡ true → ((k : ℕ) (x : Event) → slice_get (filter test xs) k ≡ Some x → test x ≡ true) → test x ≡ true
-  kept zero h passes rest = ap test (sym (same_Some y x h)) ∙ passes
-  kept (suc k) h passes rest = rest k x h
+use Rattle.dine_core.proofs.WorldKept.{events_then}
 
 -- an event that is chosen can happen
 pub chosen_can : (plan : SeenPlan) (world : WorldState) (seen : SeenWorld) (k : ℕ) (e : Event) → IsWorldOf plan world seen → Some e ≡ slice_get (enabled_events plan world) k → can_happen seen e ≡ true
-chosen_can plan world seen k e stands h = can_happen_is plan world seen stands e ∙ filter_passes (is_enabled plan world) _ k e (sym h)
+chosen_can plan world seen k e stands h = can_happen_is plan world seen stands e ∙ passes_at (is_enabled plan world) _ k e (sym h)
 
 -- after an event there were more events than before, and still no more than the bound
 longer : (plan : SeenPlan) (world new : WorldState) (e : Event) (n : ℕ) → IsReached plan world → world_after plan world e ≡ Some new → n ≤ effects_of world → (n + 1 ≤ effects_of new) × (n + 1 ≤ bound_of plan)
 longer plan world new e n reached happens few =
     let events : List Event = reached.events ++ e ∷ [] in
-    let reaches = one_more plan (start plan) world new reached.events e reached.reaches happens in
+    let reaches = events_then plan (start plan) world new reached.events e reached.reaches happens in
     let counted : effects_of new ≡ length events = events_counted plan events new reached.is_plan reaches in
     let before : effects_of world ≡ length reached.events = events_counted plan reached.events world reached.is_plan reached.reaches in
-    let more : length events ≡ suc (length reached.events) = longer_by_one reached.events in
+    let more : length events ≡ length reached.events + 1 = length_push reached.events e in
     (omega (arith, counted, before, more, few), omega (arith, counted, before, more, few, events_bounded plan events new reached.is_plan reaches))
-  where
-    longer_by_one : (xs : List Event) → length (xs ++ e ∷ []) ≡ suc (length xs)
-    longer_by_one [] = refl
-    longer_by_one (x ∷ xs) = ap suc (longer_by_one xs)
 
 -- ---- finishing
 

@@ -1,9 +1,9 @@
 -- A world that stands for a state, and an event that is enabled there: what the site may do, and that the world stands for the
 -- state after it.
-use Rattle.std.proofs.Common.{◌≡◌, ◌≢◌, ℕ, zero, suc, ◌<◌, true, List, [], ◌∷◌, ◌++◌, length, drop, get_or, slice_get, slice_set, Option, Some, None, is_some, option_map, option_and_then, refl, sym, ◌∙◌, ap, subst, inl, inr, arith}
+use Rattle.std.proofs.Common.{◌≡◌, ◌≢◌, ℕ, ◌<◌, true, List, [], ◌∷◌, ◌++◌, length, get_or, slice_set, Option, Some, None, option_map, refl, sym, ◌∙◌, ap, subst, inl, inr, arith}
 use Rattle.std.proofs.lemmas.Bool.{cases_eq, and_parts, false≢true, ltb-true}
-use Rattle.std.proofs.lemmas.List.{get_or-set_same, get_or-set_other, length-set}
-use Rattle.std.proofs.lemmas.Option.{same_Some, slice_get-get_or}
+use Rattle.std.proofs.lemmas.List.{get_or-set_same, get_or-set_other, length-set, length_push}
+use Rattle.std.proofs.lemmas.Option.{same_Some}
 use Rattle.dine_plan.specs.Plan.{SeenPlan, IsPlan, site_count, edges_of}
 use Rattle.dine_core.specs.declared.letters.Letter.{Letter}
 use Rattle.dine_core.specs.declared.events.Event.{Event}
@@ -13,48 +13,30 @@ use Rattle.dine_core.specs.declared.seats.Seat.{Seat}
 use Rattle.dine_core.specs.Breach.{is_allowed}
 use Rattle.dine_core.specs.Local.{LocalState, traffic_at, edge_at, neighbour_at}
 use Rattle.dine_core.specs.Holdings.{EatsWithAll}
-use Rattle.dine_core.specs.Steps.{Step, may, after, with_put}
+use Rattle.dine_core.specs.Steps.{Step, after, with_put}
 use Rattle.dine_core.specs.Steps as step
 use Rattle.dine_core.specs.Streams.{KeepsStreams}
-use Rattle.dine_core.specs.Core.{SeenCore}
+use Rattle.dine_core.specs.Core.{SeenCore, StandsFor}
 use Rattle.dine_core.specs.Numbers.{link_to, link_from}
 use Rattle.dine_core.specs.Places.{place_at}
-use Rattle.dine_core.specs.World.{WorldState, no_state, place_of, put_to, state_of, next_letter, step_of, world_after, after_events, start}
+use Rattle.dine_core.specs.World.{WorldState, no_state, place_of, state_of, next_letter, step_of, world_after, start}
 use Rattle.dine_core.specs.Links.{queue_to}
 use Rattle.dine_core.specs.Seats.{Does, PutsAt, HasRoomAt, HasRoomFor, IsSeatOf, MovesLetters, TakesInTurn, can_do, is_in_turn_at, letters_in, next_in, step_in, with_letter, without_next}
-use Rattle.dine_core.specs.Worlds.{IsReached, IsWorldOf, LinksStand, SeatsStand, SeenWorld, can_at, number_to, number_from}
+use Rattle.dine_core.specs.Worlds.{IsReached, IsWorldOf, LinksStand, SeatsStand, SeenWorld, can_at, number_to}
 use Rattle.dine_core.proofs.Across.{across}
-use Rattle.dine_core.proofs.CanHappen.{take_is}
+use Rattle.dine_core.proofs.CanHappen.{next_here, take_is}
 use Rattle.dine_core.proofs.NextLetters.{reached_allowed}
 use Rattle.dine_core.proofs.Stands.{place_is}
-use Rattle.dine_core.proofs.WorldKept.{IsStepOf, and_then_parts, option_map_parts, WorldKeeps, event_is_step, event_keeps, reached_kept}
+use Rattle.dine_core.proofs.WorldKept.{IsStepOf, option_map_parts, WorldKeeps, event_is_step, event_keeps, events_then, reached_kept, some_of}
 use Rattle.dine_core.proofs.EatersApart.{eats_with_all}
 use Rattle.dine_core.proofs.Links.{link_letters}
-use Rattle.dine_core.proofs.LinkNumbers.{from_is_to, to_in_range}
-use Rattle.dine_core.proofs.LinkSteps.{links-put, links-same, links-taken, one_longer}
-
--- the first letter behind those taken
-first_behind : (m : ℕ) (xs : List Letter) → slice_get (drop m xs) 0 ≡ slice_get xs m
-first_behind zero xs = refl
-first_behind (suc m) [] = refl
-first_behind (suc m) (x ∷ xs) = first_behind m xs
-
--- what events lead to, and one event more
-pub one_more : (plan : SeenPlan) (world middle new : WorldState) (events : List Event) (e : Event) → after_events plan world events ≡ Some middle → world_after plan middle e ≡ Some new → after_events plan world (events ++ e ∷ []) ≡ Some new
-one_more plan world middle new [] e h more = ap (λ (w : WorldState). option_and_then (λ next. Some next) (world_after plan w e)) (same_Some world middle h) ∙ ap (option_and_then (λ next. Some next)) more
-one_more plan world middle new (first ∷ events) e h more =
-    let w = and_then_parts (λ next. after_events plan next events) (world_after plan world first) middle h in
-    ap (option_and_then (λ next. after_events plan next (events ++ e ∷ []))) w.1 ∙ one_more plan w.0 middle new events e w.2 more
+use Rattle.dine_core.proofs.LinkNumbers.{from_is_to, number_from, to_in_range}
+use Rattle.dine_core.proofs.LinkSteps.{links-put, links-same, links-taken}
 
 -- a seat that can do something is there
 pub seat_there : (links : List (List Letter)) (kind : EventKind) (o : Option Seat) → can_at links kind o ≡ true → (seat : Seat) × (o ≡ Some seat) × (can_do links seat.core kind ≡ true)
 seat_there links kind None h = absurd (false≢true h)
 seat_there links kind (Some seat) h = (seat, refl, h)
-
--- a letter that is there
-letter_there : (o : Option Letter) → is_some o ≡ true → (l : Letter) × (o ≡ Some l)
-letter_there None h = absurd (false≢true h)
-letter_there (Some l) h = (l, refl)
 
 module _ (plan : SeenPlan) (world : WorldState) (seen : SeenWorld) (stands : IsWorldOf plan world seen) where
   abbrev pub is_plan : IsPlan plan
@@ -95,21 +77,15 @@ module _ (plan : SeenPlan) (world : WorldState) (seen : SeenWorld) (stands : IsW
 
     -- the next letter of the link is that which was put and not taken
     pub next_is : (i : ℕ) → i < length core.places → next_in seen.links core i ≡ next_letter plan world s i
-    next_is i h =
-        let within : i < length (edges_of plan s) = omega (arith, h, as_many_places) in
-        let n : ℕ = number_to plan s i in
-        let in_range : n < length seen.links = omega (arith, to_in_range plan s i is_plan within, stands.links.count) in
-        ap (λ (x : ℕ). option_and_then (λ (letters : List Letter). slice_get letters 0) (slice_get seen.links x)) (to_is i h)
-        ∙ ap (option_and_then (λ (letters : List Letter). slice_get letters 0)) (slice_get-get_or seen.links n [] in_range)
-        ∙ ap (λ (letters : List Letter). slice_get letters 0) (stands.links.letters s i is_site within)
-        ∙ first_behind (length (traffic_at (state_of world s) i).taken) (put_to plan world s i)
+    next_is i h = next_here plan world seen stands core (subst (λ (x : ℕ). StandsFor plan (state_of world x) core) (sym site_is) core_stands.core) (omega (arith, is_site, site_is)) i h
+        ∙ ap (λ (x : ℕ). next_letter plan world x i) site_is
 
     -- a Take takes a letter that is in turn
     pub in_turn : (kind : EventKind) → can_do seen.links core kind ≡ true → TakesInTurn seen.links core kind
     in_turn (event.Take i) can =
         let parts = and_parts _ _ can in
         let within : i < length core.places = ltb-true i (length core.places) parts.0 in
-        let w = letter_there (next_in seen.links core i) parts.1 in
+        let w = some_of (next_in seen.links core i) parts.1 in
         let allowed = reached_allowed plan stands.reached.events world s i is_plan stands.reached.reaches is_site (omega (arith, within, as_many_places)) w.0 (sym (next_is i within) ∙ w.1) in
         ap (is_in_turn_at core i) w.1 ∙ take_is plan (state_of world s) core core_stands.core keeps_here i within w.0
         ∙ ap (λ (x : ℕ). is_allowed plan x (state_of world s) i w.0) site_is ∙ allowed
@@ -153,7 +129,7 @@ module _ (plan : SeenPlan) (world : WorldState) (seen : SeenWorld) (stands : IsW
         let same : n ≡ number_to plan t j = from_is_to plan s i t j over in
         let in_range : n < length seen.links = omega (arith, same, to_in_range plan t j is_plan over.within, stands.links.count) in
         let letters : letters_in seen.links n ++ l ∷ [] ≡ queue_to plan (slice_set world s next) t j = sym (get_or-set_same seen.links n (letters_in seen.links n ++ l ∷ []) [] in_range) ∙ ap (letters_in (with_letter seen.links n l)) same ∙ (after_put i l next h is).letters t j over.is_site over.within in
-        let few : length (letters_in seen.links n) < 4 = omega (arith, one_longer (letters_in seen.links n) l, ap length letters, link_letters plan is_plan (slice_set world s next) keeps t j over.is_site over.within) in
+        let few : length (letters_in seen.links n) < 4 = omega (arith, length_push (letters_in seen.links n) l, ap length letters, link_letters plan is_plan (slice_set world s next) keeps t j over.is_site over.within) in
         subst (λ (x : ℕ). (x < length seen.links) × (length (letters_in seen.links x) < 4)) (sym (from_is i h)) (in_range, few)
 
     -- so the links stand after a put that the site did
@@ -222,7 +198,7 @@ module _ (plan : SeenPlan) (world : WorldState) (seen : SeenWorld) (stands : IsW
       reached_next = record {
         is_plan = is_plan;
         events = stands.reached.events ++ e ∷ [];
-        reaches = one_more plan (start plan) world new stands.reached.events e stands.reached.reaches happens;
+        reaches = events_then plan (start plan) world new stands.reached.events e stands.reached.reaches happens;
       }
 
       -- the sites stand where this site does

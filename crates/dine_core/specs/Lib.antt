@@ -17,6 +17,7 @@ pub mod Precedence
 pub mod Bound
 pub mod Schedules
 pub mod Forks
+pub mod Sought
 pub mod Worlds
 pub mod WorldKept
 pub mod Examples

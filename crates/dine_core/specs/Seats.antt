@@ -1,5 +1,5 @@
 -- A site of the world, with the meal that it eats, and the links around it.
-use Rattle.std.specs.Prelude.{◌≡◌, ℕ, ◌<◌, ◌&&◌, not, nat_lt, Bool, false, true, List, [], ◌∷◌, ◌++◌, length, drop, slice_get, slice_index_or, slice_set, Option, Some, None, is_some, option_map, option_and_then, MatchOption, if◌then◌else◌}
+use Rattle.std.specs.Prelude.{◌≡◌, ℕ, ◌<◌, ◌&&◌, not, nat_lt, Bool, false, true, List, [], ◌∷◌, ◌++◌, length, drop, slice_get, slice_index_or, slice_set, Option, Some, None, is_some, option_and_then, MatchOption, if◌then◌else◌}
 use Rattle.dine_token.specs.Meal.{SeenMeal}
 use Rattle.dine_plan.specs.Plan.{SeenPlan}
 use Rattle.dine_core.specs.declared.letters.Letter.{Letter}
@@ -8,8 +8,7 @@ use Rattle.dine_core.specs.declared.events.EventKind.TheVariants as event
 use Rattle.dine_core.specs.declared.seats.Seat.{Seat}
 use Rattle.dine_core.specs.Local.{LocalState, is_eating}
 use Rattle.dine_core.specs.Holdings.{EatsWithAll}
-use Rattle.dine_core.specs.Steps.{Step, after, with_put}
-use Rattle.dine_core.specs.Steps as step
+use Rattle.dine_core.specs.Steps.{Step, after, step_by, with_put}
 use Rattle.dine_core.specs.Streams.{KeepsStreams}
 use Rattle.dine_core.specs.Core.{SeenCore, StandsFor, forks_in_hand}
 use Rattle.dine_core.specs.Places.{IsMealOf, place_at, can_give, can_ask, can_hunger, can_begin, can_end_done, can_close, breach_at}
@@ -56,16 +55,9 @@ meal_of plan s state = if is_eating state.phase
     then Some (record { site = s; k = state.ate; forks = forks_in_hand plan s state (all_places state) })
     else None
 
--- the step that an event of the site is; a Take takes the next letter, where there is one
+-- the step that an event of the site is, by the next letter in the link
 abbrev pub step_in : List (List Letter) → SeenCore → EventKind → Option Step
-step_in links core (event.Take i) = option_map (step.Take i) (next_in links core i)
-step_in links core (event.Give i) = Some (step.Give i)
-step_in links core event.End = Some step.End
-step_in links core event.Begin = Some step.Begin
-step_in links core event.Hungry = Some step.Hungry
-step_in links core (event.Ask i) = Some (step.Ask i)
-step_in links core (event.Done i) = Some (step.Done i)
-step_in links core (event.Close i) = Some (step.Close i)
+step_in links core = step_by (next_in links core)
 
 -- A site of the world stands for a state: the core does, and the meal is the state's.
 pub record IsSeatOf (plan : SeenPlan) (state : LocalState) (seat : Seat) : Type 0 where

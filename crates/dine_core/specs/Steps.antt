@@ -1,11 +1,13 @@
 -- The steps of one site: what each needs, and what it changes.
-use Rattle.std.specs.Prelude.{◌≡◌, ℕ, ◌+◌, ◌==◌, ◌&&◌, ◌||◌, not, Bool, true, List, [], ◌∷◌, ◌++◌, length, nat_lt, slice_set}
+use Rattle.std.specs.Prelude.{◌≡◌, ℕ, ◌+◌, ◌==◌, ◌&&◌, ◌||◌, not, Bool, true, List, [], ◌∷◌, ◌++◌, length, nat_lt, slice_set, Option, Some, option_map}
 use Rattle.std.specs.List.{list_all, range_with_len}
 use Rattle.dine_token.specs.declared.entry.Entry.{Entry}
 use Rattle.dine_token.specs.declared.entry.Entry.TheVariants.{Move}
 use Rattle.dine_token.specs.Fork.{SeenFork}
 use Rattle.dine_token.specs.Log.{is_dirty}
 use Rattle.dine_plan.specs.Plan.{SeenPlan, job_count, lo_of, hi_of}
+use Rattle.dine_core.specs.declared.events.EventKind.{EventKind}
+use Rattle.dine_core.specs.declared.events.EventKind.TheVariants as event
 use Rattle.dine_core.specs.declared.letters.Letter.{Letter}
 use Rattle.dine_core.specs.declared.letters.Letter.TheVariants as letter
 use Rattle.dine_core.specs.declared.phase.Phase.TheVariants as phase
@@ -83,3 +85,14 @@ module _ (plan : SeenPlan) (s : ℕ) where
   pub record LocalStep (old : LocalState) (step : Step) (new : LocalState) : Type 0 where
     pub needs : may old step ≡ true
     pub changes : new ≡ after old step
+
+-- the step that an event is, by the next letter at each place: a Take takes that letter, where there is one
+abbrev pub step_by : (ℕ → Option Letter) → EventKind → Option Step
+step_by next (event.Take i) = option_map (Take i) (next i)
+step_by next (event.Give i) = Some (Give i)
+step_by next event.End = Some End
+step_by next event.Begin = Some Begin
+step_by next event.Hungry = Some Hungry
+step_by next (event.Ask i) = Some (Ask i)
+step_by next (event.Done i) = Some (Done i)
+step_by next (event.Close i) = Some (Close i)

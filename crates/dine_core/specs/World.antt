@@ -1,6 +1,6 @@
 -- The world of all sites in one thread.
-use Rattle.std.specs.Prelude.{◌≡◌, ℕ, ◌<◌, ◌==◌, ◌&&◌, Bool, true, List, [], ◌∷◌, ◌++◌, map, filter, length, position, slice_get, slice_index_or, slice_set, Option, Some, None, is_some, unwrap_or, option_map, option_and_then, if◌then◌else◌}
-use Rattle.std.specs.List.{flat_map, list_any, range_with_len}
+use Rattle.std.specs.Prelude.{◌≡◌, ℕ, ◌<◌, ◌==◌, ◌&&◌, nat_lt, Bool, true, List, [], ◌∷◌, ◌++◌, map, filter, length, position, slice_get, slice_index_or, slice_set, Option, Some, None, is_some, unwrap_or, option_map, option_and_then, if◌then◌else◌}
+use Rattle.std.specs.List.{flat_map, range_with_len}
 use mathlib.Core.List.{IsPrefix}
 use Rattle.dine_plan.specs.Plan.{SeenPlan, site_count, job_count, edges_of}
 use Rattle.dine_core.specs.declared.letters.Letter.{Letter}
@@ -10,7 +10,7 @@ use Rattle.dine_core.specs.declared.events.EventKind.TheVariants as event
 use Rattle.dine_core.specs.declared.phase.Phase.TheVariants.{Thinking}
 use Rattle.dine_core.specs.Letters.{has_close}
 use Rattle.dine_core.specs.Local.{LocalState, Traffic, traffic_at, start_of, edge_at, neighbour_at, is_thinking}
-use Rattle.dine_core.specs.Steps.{Step, Give, Ask, Hungry, Begin, End, Done, Close, Take, may, after}
+use Rattle.dine_core.specs.Steps.{Step, may, after, step_by}
 use Rattle.dine_core.specs.Streams.{is_orderly}
 
 -- one local state a site
@@ -40,16 +40,9 @@ put_to plan world s i = (traffic_at (state_of world (neighbour_at plan s i)) (pl
 abbrev pub next_letter : SeenPlan → WorldState → ℕ → ℕ → Option Letter
 next_letter plan world s i = slice_get (put_to plan world s i) (length (traffic_at (state_of world s) i).taken)
 
--- the step that an event is; a Take takes the next letter, where there is one
+-- the step that an event of the site is, by the next letter in the link
 abbrev pub step_of : SeenPlan → WorldState → ℕ → EventKind → Option Step
-step_of plan world s (event.Take i) = option_map (Take i) (next_letter plan world s i)
-step_of plan world s (event.Give i) = Some (Give i)
-step_of plan world s event.End = Some End
-step_of plan world s event.Begin = Some Begin
-step_of plan world s event.Hungry = Some Hungry
-step_of plan world s (event.Ask i) = Some (Ask i)
-step_of plan world s (event.Done i) = Some (Done i)
-step_of plan world s (event.Close i) = Some (Close i)
+step_of plan world s = step_by (next_letter plan world s)
 
 -- the state after a step, where the site may do it
 abbrev pub local_after : SeenPlan → ℕ → LocalState → Step → Option LocalState
@@ -61,8 +54,7 @@ site_after plan world s kind = option_and_then (local_after plan s (state_of wor
 
 -- the world after an event, where the event is enabled: one step at one site
 abbrev pub world_after : SeenPlan → WorldState → Event → Option WorldState
-world_after plan world e = if list_any (λ s. s == e.site) (range_with_len 0 (site_count plan))
-    then option_map (slice_set world e.site) (site_after plan world e.site e.kind) else None
+world_after plan world e = if nat_lt e.site (site_count plan) then option_map (slice_set world e.site) (site_after plan world e.site e.kind) else None
 
 abbrev pub is_enabled : SeenPlan → WorldState → Event → Bool
 is_enabled plan world e = is_some (world_after plan world e)

@@ -24,12 +24,9 @@ pub record SeenWorld : Type 0 where
   pub edges : List EdgeEnds
   pub bound : ℕ
 
--- the number of the link to a site at place i, and of that which leads away
+-- the number of the link to a site at place i
 abbrev pub number_to : SeenPlan → ℕ → ℕ → ℕ
 number_to plan s i = 2 * edge_at plan s i + (if lo_of plan (edge_at plan s i) == s then 1 else 0)
-
-abbrev pub number_from : SeenPlan → ℕ → ℕ → ℕ
-number_from plan s i = 2 * edge_at plan s i + (if lo_of plan (edge_at plan s i) == s then 0 else 1)
 
 -- each site stands for its state
 pub record SeatsStand (plan : SeenPlan) (world : WorldState) (seats : List Seat) : Type 0 where

@@ -1,14 +1,21 @@
 // The enabled events, in the fixed order: by site, and within a site by kind.
-ghost use Rattle.std.specs.Prelude.{◌≡◌, ◌+◌, ◌*◌, ◌<◌, ◌≤◌, Some, MatchResult, filter, length, slice_get};
+ghost use Rattle.std.specs.Prelude.{◌≡◌, ◌+◌, ◌*◌, ◌<◌, ◌≤◌, Some, filter, length, slice_get};
 ghost use Rattle.std.specs.List.{range_with_len};
 ghost use Rattle.dine_core.specs.World.{kinds_at};
 
 use super::World;
 use crate::events::{Event, EventKind};
 
+// What comes of the search for the `n`-th of some events: the event, or how many more are to be passed over after all of them.
+enum Sought {
+    Found(Event),
+    Passed(u32),
+}
+
 impl World {
     ghost use Rattle.dine_plan.specs.Plan.{edges_of};
     ghost use Rattle.dine_core.specs.World.{enabled_events, events_at, is_enabled};
+    ghost use Rattle.dine_core.specs.Sought.{IsSought};
     ghost use Rattle.dine_core.specs.Worlds.{ForEachWorld};
 
     /// How many events are enabled.
@@ -29,8 +36,8 @@ impl World {
         let mut left = n;
         for site in 0..self.site_count() {
             match self.enabled_at(site, left) {
-                Ok(event) => return Some(event),
-                Err(more) => left = more,
+                Sought::Found(event) => return Some(event),
+                Sought::Passed(more) => left = more,
             }
         }
         None
@@ -54,11 +61,9 @@ impl World {
     }
 
     // The `n`-th enabled event of the site, or how many more are to be passed over after all of its own.
-    fn enabled_at(&self, site: u32, n: u32) -> Result<Event, u32>
+    fn enabled_at(&self, site: u32, n: u32) -> Sought
         requires { site < length self.now.seats }
-        ensures { ForEachWorld self.now (λ plan world. MatchResult result
-            (λ event. slice_get (filter (is_enabled plan world) (events_at plan site)) n ≡ Some event)
-            (λ more. length (filter (is_enabled plan world) (events_at plan site)) + more ≡ n)) }
+        ensures { ForEachWorld self.now (λ plan world. IsSought (filter (is_enabled plan world) (events_at plan site)) n result) }
     {
         let degree = self.degree_of(site);
         let mut more = n;
@@ -67,12 +72,12 @@ impl World {
             let event = Event { site, kind };
             if self.can_happen(event) {
                 if more == 0 {
-                    return Ok(event);
+                    return Sought::Found(event);
                 }
                 more -= 1;
             }
         }
-        Err(more)
+        Sought::Passed(more)
     }
 
     // How many sites there are.

@@ -13,6 +13,7 @@ impl World {
     pub fn replay(&mut self, choices: &[u32]) -> u64
         ensures { ForEachWorld self.old (λ plan world. RunsTo plan (replay plan (from_here world) choices.now) result self.new) }
     {
+        // Only the use of a field opens the world, and tells that it stands for a state of a plan.
         let _ = &self.bound;
         let mut events = 0;
         for choice in choices {

@@ -4,8 +4,9 @@ use Rattle.std.specs.List.{slice_split}
 use Rattle.std.specs.Str.Iter.{split_has_more, split_pattern, split_text}
 use Rattle.std.proofs.lemmas.Iterator.Consumers.{YieldsList-turn, YieldsList-end}
 use Rattle.std.proofs.lemmas.Iterator.Splits.{YieldsList-from_str_split}
+use Rattle.std.proofs.lemmas.List.{map_push}
 use Rattle.dine.specs.Choices.{choice_of, choices_of_all}
-use Rattle.dine.proofs.ChoicesLemmas.{map_push, none_of_all, one_more}
+use Rattle.dine.proofs.ChoicesLemmas.{none_of_all, one_more}
 use Rattle.dine.proofs.choices.choices_of.Goals as goal
 
 pub loop-text-init : goal.loop-text-init

@@ -5,14 +5,14 @@ use Rattle.dine_core.specs.World.{enabled_events, events_at, is_enabled}
 use Rattle.dine_core.proofs.Choices.{found_at, more_sites, of_sites}
 use Rattle.dine_core.proofs.world.World.enabled.Goals as goal
 
-pub returns-in-Ok : goal.returns-in-Ok
-returns-in-Ok c plan world is =
+pub returns-in-Found : goal.returns-in-Found
+returns-in-Found c plan world is =
     sym (ap (slice_get (enabled_events plan world)) (sym (c.loop-site.invariant plan world is))
-    ∙ found_at (is_enabled plan world) (events_at plan) c.loop-site.site (site_count plan) c.loop-site.left c.in-Ok.event (omega (arith, is.seats.count)) (c.in-Ok.ensures plan world is))
+    ∙ found_at (is_enabled plan world) (events_at plan) c.loop-site.site (site_count plan) c.loop-site.left c.in-Found.event (omega (arith, is.seats.count)) (c.in-Found.ensures plan world is))
 
 pub loop-site-preserved : goal.loop-site-preserved
 loop-site-preserved c plan world is =
-    omega (arith, c.loop-site.invariant plan world is, c.in-Err.ensures plan world is, more_sites (is_enabled plan world) (events_at plan) c.loop-site.site)
+    omega (arith, c.loop-site.invariant plan world is, c.in-Passed.ensures plan world is, more_sites (is_enabled plan world) (events_at plan) c.loop-site.site)
 
 pub returns : goal.returns
 returns c plan world is =

@@ -1,0 +1,10 @@
+-- What comes of the search for the n-th of some events.
+use Rattle.std.specs.Prelude.{◌≡◌, ℕ, ◌+◌, List, length, slice_get, Some}
+use Rattle.dine_core.specs.declared.events.Event.{Event}
+use Rattle.dine_core.specs.declared.world.choices.Sought.{Sought}
+use Rattle.dine_core.specs.declared.world.choices.Sought.TheVariants.{Found, Passed}
+
+-- the n-th of the events is found, from 0, or all of them are passed over, and so many more are to be
+abbrev pub IsSought : List Event → ℕ → Sought → Type 0
+IsSought events n (Found event) = slice_get events n ≡ Some event
+IsSought events n (Passed more) = length events + more ≡ n
