@@ -4,7 +4,7 @@ ghost use Rattle.std.specs.Io.KnownBytes.{IsAtEnd};
 ghost use Rattle.dine.specs.Commands.{EndsByFault, IsDone, IsPartDone, IsPlanLeft, IsRefused, Writes, WritesPart, text_of};
 ghost use Rattle.dine.specs.Faults.{status_of};
 ghost use Rattle.dine.specs.Input.{input_limit};
-ghost use Rattle.dine.specs.Words.{AreRight, are_taken, asked_of, command_in, dine_app};
+ghost use Rattle.dine.specs.Words.{AreRight, HasNoFault, are_taken, asked_of, command_in, dine_app, has_choices};
 
 use crate::check::{check_text, plan_of_bytes};
 use crate::input::read_input;
@@ -43,8 +43,10 @@ pub fn run_cmd<H: Threads + Wait, R: Read, W: Write, F: Write>(
 
     // When a fault may come.
     ensures usage { result ≡ Status.Usage → are_taken dine_app (map string_bytes words.now) ≡ false }
+    ensures bad_list { result ≡ Status.Usage → HasNoFault dine_app (map string_bytes words.now) → has_choices dine_app (map string_bytes words.now) ≡ false }
     ensures plan_refused { result ≡ Status.PlanRefused → IfSome (R.remaining input.old) IsRefused }
-    ensures words_taken { are_taken dine_app (map string_bytes words.now) ≡ true → result ≢ Status.Usage }
+    ensures refused_at_end { result ≡ Status.PlanRefused → IsAtEnd (R.remaining input.new) }
+    ensures refused_within { result ≡ Status.PlanRefused → IfSome (R.remaining input.old) (λ bytes. length bytes ≤ input_limit) }
     ensures plan_taken { IsPlanLeft (R.remaining input.old) → result ≢ Status.PlanRefused }
     ensures no_threads { result ≢ Status.RunFailed }
 
@@ -76,8 +78,11 @@ fn command<R: Read, W: Write>(
     ensures within { OnOk result (IfSome (R.remaining input.old) (λ bytes. length bytes ≤ input_limit)) }
     ensures too_long { IsErrOf result Fault.InputTooLong → IfSome (R.remaining input.old) (λ bytes. input_limit < length bytes) }
     ensures usage { IsErrOf result Fault.Usage → are_taken dine_app (map string_bytes words.now) ≡ false }
+    ensures bad_list { IsErrOf result Fault.Usage → HasNoFault dine_app (map string_bytes words.now) → has_choices dine_app (map string_bytes words.now) ≡ false }
     ensures unread { IsErrOf result Fault.Usage → input.new ≡ input.old }
     ensures refused { IfErr result (λ fault. status_of fault ≡ Status.PlanRefused → IfSome (R.remaining input.old) IsRefused) }
+    ensures refused_end { IfErr result (λ fault. status_of fault ≡ Status.PlanRefused → IsAtEnd (R.remaining input.new)) }
+    ensures refused_within { IfErr result (λ fault. status_of fault ≡ Status.PlanRefused → IfSome (R.remaining input.old) (λ bytes. length bytes ≤ input_limit)) }
     ensures unwritten { result ≢ Err Fault.WritingFailed → OnErr result (output.new ≡ output.old) }
     ensures part { IsErrOf result Fault.WritingFailed → IsPartDone (command_in dine_app (map string_bytes words.now)) (R.remaining input.old) (W.contents output.old) (W.contents output.new) }
 {
@@ -98,6 +103,8 @@ fn apply<R: Read, W: Write>(
     ensures too_long { IsErrOf result Fault.InputTooLong → IfSome (R.remaining input.old) (λ bytes. input_limit < length bytes) }
     ensures words { result ≢ Err Fault.Usage }
     ensures refused { IfErr result (λ fault. status_of fault ≡ Status.PlanRefused → IfSome (R.remaining input.old) IsRefused) }
+    ensures refused_end { IfErr result (λ fault. status_of fault ≡ Status.PlanRefused → IsAtEnd (R.remaining input.new)) }
+    ensures refused_within { IfErr result (λ fault. status_of fault ≡ Status.PlanRefused → IfSome (R.remaining input.old) (λ bytes. length bytes ≤ input_limit)) }
     ensures unwritten { result ≢ Err Fault.WritingFailed → OnErr result (output.new ≡ output.old) }
     ensures part { IsErrOf result Fault.WritingFailed → WritesPart (text_of (asked_of command)) (R.remaining input.old) (W.contents output.old) (W.contents output.new) }
 {

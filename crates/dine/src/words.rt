@@ -29,7 +29,7 @@ pub enum Command {
 /// Why the words name no command.
 #[derive(Clone, Copy, Debug, PartialEq, Eq, Error)]
 pub enum WordsFault {
-    /// `clap` refuses the words, or LIST is none. A question for help or the version is refused too.
+    /// `clap` refuses the words, or LIST is no list of choices. A question for help or the version is refused too.
     #[error("usage: dine [run [--table edges|sites] | replay [--choices LIST] | check]")]
     Usage,
     /// There was no memory to read them.

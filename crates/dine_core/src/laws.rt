@@ -81,8 +81,8 @@ pub fn allowed_letters_meet_no_breach()
         → (is_allowed plan s state i letter ≡ true) ↔ (first_breach plan s state i letter ≡ None) }
 {}
 
-/// Precedence to the asker: a site that holds the fork and the token of a place begins at most one meal more before it
-/// gives the fork away, by the steps that lead there from the start.
+/// Precedence to the asker: in each state that steps lead to from the start, where the forks offered on the way were real
+/// ones, a site that holds the fork and the token of a place begins at most one meal more before it gives the fork away.
 pub fn asker_has_precedence()
     ensures { (plan : SeenPlan) (s i : ℕ) → IsPlan plan → s < site_count plan → (state new : LocalState) (before steps : List Step)
         → AreProper before → LeadTo plan s (start_of plan s) before state → i < length state.traffic

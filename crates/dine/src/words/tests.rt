@@ -93,7 +93,7 @@ fn other_words_are_refused(rt: HostRuntime) -> Result<(), Fail> {
         "dine -- replay",
         "dine - replay",
         "dine run",
-        "dine run",
+        "dine run --table edges",
         "dine check x",
     ];
     for line in lines {
