@@ -7,22 +7,23 @@ use Rattle.dine_token.specs.Fork.{SeenFork}
 use Rattle.dine_token.specs.Log.{meals_of}
 use Rattle.dine_token.specs.Lawful.{due_at}
 use Rattle.dine_plan.specs.Plan.{SeenPlan, job_count, lo_of, hi_of}
-use Rattle.dine_core.specs.declared.letters.Letter.{Letter}
-use Rattle.dine_core.specs.declared.letters.Letter.TheVariants.{Fork, Request, Done, Close}
-use Rattle.dine_core.specs.declared.phase.Phase.{Phase}
-use Rattle.dine_core.specs.declared.phase.Phase.TheVariants.{Thinking, Hungry, Eating}
-use Rattle.dine_core.specs.declared.breach.Breach.{Breach}
-use Rattle.dine_core.specs.declared.breach.Breach.TheVariants.{AfterClose, RequestOutOfTurn, ForkOutOfTurn, StrangeFork, DoneOutOfTurn, ClosedEarly}
+use Rattle.dine_rules.specs.declared.letters.Letter.{Letter}
+use Rattle.dine_rules.specs.declared.letters.Letter.TheVariants.{Fork, Request, Done, Close}
+use Rattle.dine_rules.specs.declared.phase.Phase.{Phase}
+use Rattle.dine_rules.specs.declared.phase.Phase.TheVariants.{Thinking, Hungry, Eating}
+use Rattle.dine_rules.specs.declared.breach.Breach.{Breach}
+use Rattle.dine_rules.specs.declared.breach.Breach.TheVariants.{AfterClose, RequestOutOfTurn, ForkOutOfTurn, StrangeFork, DoneOutOfTurn, ClosedEarly}
 use Rattle.dine_core.specs.declared.places.Place.{Place}
 use Rattle.dine_core.specs.declared.places.ForkSlot.TheVariants.{Here}
-use Rattle.dine_core.specs.Letters.{requests_in, has_done, has_close}
-use Rattle.dine_core.specs.Local.{LocalState, traffic_at, edge_at, neighbour_at, other_end, is_eating}
-use Rattle.dine_core.specs.Holdings.{fork_at, token_at, hand_at}
-use Rattle.dine_core.specs.Breach.{is_fork_of, ends_at, first_breach, is_allowed}
-use Rattle.dine_core.specs.Steps.{fork_with, with_taken, may, Take}
-use Rattle.dine_core.specs.Streams.{KeepsStreams}
+use Rattle.dine_rules.specs.Letters.{requests_in, has_done, has_close}
+use Rattle.dine_rules.specs.Local.{LocalState, traffic_at, edge_at, neighbour_at, other_end, is_eating}
+use Rattle.dine_rules.specs.Holdings.{fork_at, token_at, hand_at}
+use Rattle.dine_rules.specs.Breach.{is_fork_of, ends_at, first_breach, is_allowed}
+use Rattle.dine_rules.specs.Steps.{fork_with, with_taken, may, Take}
+use Rattle.dine_rules.specs.Streams.{KeepsStreams}
 use Rattle.dine_core.specs.Core.{SeenCore, StandsFor}
 use Rattle.dine_core.specs.Places.{place_at, breach_at, took, is_held, IsSoundPlace}
+use Rattle.dine_rules.proofs.Owned.{own_is}
 use Rattle.dine_core.proofs.Kept.{kept_by, slot_by, kept-take_request, kept-take_fork, kept-take_done, kept-take_close}
 use Rattle.dine_core.proofs.Sound.{none_of, awake_without}
 use Rattle.dine_core.proofs.Stands.{place_is, stands_at}
@@ -171,20 +172,6 @@ module _ (plan : SeenPlan) (s : ℕ) (state : LocalState) (i : ℕ) where
   allowed_without Done h = done_turn (has_close (traffic_at state i).taken) (has_done (traffic_at state i).taken) (fork_at plan s state i == 1)
       (meals_of (neighbour_at plan s i) (hand_at s state i) == job_count plan (neighbour_at plan s i)) h
   allowed_without Close h = close_turn (has_close (traffic_at state i).taken) (has_done (traffic_at state i).taken) (has_done (traffic_at state i).put) h
-
-abbrev made : List Entry → ℕ → ℕ × ℕ → ℕ × ℕ → SeenFork
-made log edge ends due = record { edge = edge; ends = ends; due = due; log = log }
-
-pub own_is : (plan : SeenPlan) (edge : ℕ) (f : SeenFork) → is_fork_of plan edge f ≡ true → f ≡ fork_with plan edge f.log
-own_is plan edge f own =
-    let parts = and_parts _ _ own in
-    let front = and_parts _ _ parts.0 in
-    let ends = and_parts _ _ front.1 in
-    let dues = and_parts _ _ parts.1 in
-    let e1 : f.edge ≡ edge = eqb-true _ _ front.0 in
-    let e2 : f.ends ≡ (lo_of plan edge, hi_of plan edge) = ap₂ (λ (a b : ℕ). (a, b)) (eqb-true _ _ ends.0) (eqb-true _ _ ends.1) in
-    let e3 : f.due ≡ (job_count plan (lo_of plan edge), job_count plan (hi_of plan edge)) = ap₂ (λ (a b : ℕ). (a, b)) (eqb-true _ _ dues.0) (eqb-true _ _ dues.1) in
-    ap (λ (n : ℕ). made f.log n f.ends f.due) e1 ∙ ap (λ (p : ℕ × ℕ). made f.log edge p f.due) e2 ∙ ap (λ (p : ℕ × ℕ). made f.log edge (lo_of plan edge, hi_of plan edge) p) e3
 
 -- the token starts at the higher end alone
 token_start : (lo hi s : ℕ) → lo < hi → (s ≡ lo) ⊎ (s ≡ hi) → ◌≡◌ {A = ℕ} (if lo == s then 0 else 1) (if hi == s then 1 else 0)

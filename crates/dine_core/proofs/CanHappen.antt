@@ -5,34 +5,34 @@ use Rattle.std.proofs.lemmas.Option.{slice_get_cases, slice_get_past}
 use Rattle.dine_token.specs.Fork.{SeenFork}
 use Rattle.dine_token.specs.Log.{is_dirty, meals_of}
 use Rattle.dine_plan.specs.Plan.{SeenPlan, edges_of, job_count, site_count}
-use Rattle.dine_core.specs.declared.breach.Breach.{Breach}
-use Rattle.dine_core.specs.declared.events.Event.{Event}
-use Rattle.dine_core.specs.declared.events.EventKind.{EventKind}
-use Rattle.dine_core.specs.declared.events.EventKind.TheVariants as event
-use Rattle.dine_core.specs.declared.letters.Letter.{Letter}
-use Rattle.dine_core.specs.declared.phase.Phase.{Phase}
-use Rattle.dine_core.specs.declared.phase.Phase.TheVariants.{Thinking, Hungry, Eating}
+use Rattle.dine_rules.specs.declared.breach.Breach.{Breach}
+use Rattle.dine_rules.specs.declared.events.Event.{Event}
+use Rattle.dine_rules.specs.declared.events.EventKind.{EventKind}
+use Rattle.dine_rules.specs.declared.events.EventKind.TheVariants as event
+use Rattle.dine_rules.specs.declared.letters.Letter.{Letter}
+use Rattle.dine_rules.specs.declared.phase.Phase.{Phase}
+use Rattle.dine_rules.specs.declared.phase.Phase.TheVariants.{Thinking, Hungry, Eating}
 use Rattle.dine_core.specs.declared.places.ForkSlot.TheVariants.{Away, Here, InMeal}
 use Rattle.dine_core.specs.declared.places.Place.{Place}
 use Rattle.dine_core.specs.declared.seats.Seat.{Seat}
-use Rattle.dine_core.specs.Letters.{has_close, has_done}
-use Rattle.dine_core.specs.Local.{LocalState, edge_at, is_eating, is_hungry, is_thinking, neighbour_at, traffic_at}
-use Rattle.dine_core.specs.Holdings.{fork_at, hand_at, token_at}
-use Rattle.dine_core.specs.Breach.{first_breach, is_allowed}
-use Rattle.dine_core.specs.Steps.{Step, Take, after, fork_with, is_open, may}
-use Rattle.dine_core.specs.Streams.{KeepsStreams}
+use Rattle.dine_rules.specs.Letters.{has_close, has_done}
+use Rattle.dine_rules.specs.Local.{LocalState, edge_at, is_eating, is_hungry, is_thinking, neighbour_at, traffic_at}
+use Rattle.dine_rules.specs.Holdings.{fork_at, hand_at, token_at}
+use Rattle.dine_rules.specs.Breach.{first_breach, is_allowed}
+use Rattle.dine_rules.specs.Steps.{Step, Take, after, fork_with, is_open, may}
+use Rattle.dine_rules.specs.Streams.{KeepsStreams}
 use Rattle.dine_core.specs.Core.{SeenCore, StandsFor}
 use Rattle.dine_core.specs.Numbers.{link_to}
 use Rattle.dine_core.specs.Places.{breach_at, can_ask, can_close, can_end_done, can_give, can_give_at, can_hunger, is_dirty_in_hand, is_held, place_at}
 use Rattle.dine_core.specs.Seats.{IsSeatOf, can_do, letters_in, next_in}
-use Rattle.dine_core.specs.World.{WorldState, is_enabled, local_after, next_letter, put_to, site_after, state_of, step_of}
+use Rattle.dine_rules.specs.World.{WorldState, is_enabled, local_after, next_letter, put_to, site_after, state_of, step_of}
 use Rattle.dine_core.specs.Worlds.{IsWorldOf, SeenWorld, can_at, can_happen, number_to}
-use Rattle.dine_core.proofs.BreachLaw.{allowed, no_breach}
+use Rattle.dine_rules.proofs.BreachLaw.{allowed, no_breach}
 use Rattle.dine_core.proofs.Breaches.{breach_is}
-use Rattle.dine_core.proofs.NextLetters.{reached_allowed}
+use Rattle.dine_rules.proofs.NextLetters.{reached_allowed}
 use Rattle.dine_core.proofs.Ranges.{and_along, begin_by, not_one}
 use Rattle.dine_core.proofs.Stands.{place_is}
-use Rattle.dine_core.proofs.WorldKept.{WorldKeeps, reached_kept}
+use Rattle.dine_rules.proofs.WorldKept.{WorldKeeps, reached_kept}
 
 -- ---- tests over plain values
 

@@ -8,20 +8,20 @@ use Rattle.dine_token.specs.Lawful.{due_at}
 use Rattle.dine_token.specs.Log.{meals_of}
 use Rattle.dine_token.proofs.Logs.{location_of-push_meal, meals_of-push_own, meals_of-push_other}
 use Rattle.dine_plan.specs.Plan.{SeenPlan}
-use Rattle.dine_core.specs.declared.phase.Phase.{Phase}
-use Rattle.dine_core.specs.declared.phase.Phase.TheVariants.{Thinking, Hungry, Eating}
+use Rattle.dine_rules.specs.declared.phase.Phase.{Phase}
+use Rattle.dine_rules.specs.declared.phase.Phase.TheVariants.{Thinking, Hungry, Eating}
 use Rattle.dine_core.specs.declared.places.Place.{Place}
 use Rattle.dine_core.specs.declared.places.ForkSlot.{ForkSlot}
 use Rattle.dine_core.specs.declared.places.ForkSlot.TheVariants.{Away, Here, InMeal}
-use Rattle.dine_core.specs.Letters.{last_log_or}
-use Rattle.dine_core.specs.Local.{LocalState, traffic_at, edge_at, neighbour_at, is_eating, is_hungry}
-use Rattle.dine_core.specs.Holdings.{fork_at, hand_at, hand, forks_held}
-use Rattle.dine_core.specs.Steps.{fork_with, after, Begin}
-use Rattle.dine_core.specs.Streams.{KeepsStreams}
+use Rattle.dine_rules.specs.Letters.{last_log_or}
+use Rattle.dine_rules.specs.Local.{LocalState, traffic_at, edge_at, neighbour_at, is_eating, is_hungry}
+use Rattle.dine_rules.specs.Holdings.{fork_at, hand_at, hand, forks_held}
+use Rattle.dine_rules.specs.Steps.{fork_with, after, Begin}
+use Rattle.dine_rules.specs.Streams.{KeepsStreams}
 use Rattle.dine_core.specs.Core.{SeenCore, StandsFor, kept_of, forks_in_hand}
 use Rattle.dine_core.specs.Places.{no_place, place_at, neighbour_of, is_held, is_ready_at, meals_in, lifted, begun, can_begin, fork_in_hand, forks_of, OnHere, IsLiftable, FitsPlace, FitsSlot, IsSoundPlace, IsSound, FitsMeal, IsMealOf}
 use Rattle.dine_core.specs.Standing.{all_places}
-use Rattle.dine_core.proofs.Hands.{hand-more}
+use Rattle.dine_rules.proofs.Hands.{hand-more}
 use Rattle.dine_core.proofs.Ranges.{forks_by_lists}
 
 -- the fork that a slot has in hand

@@ -9,9 +9,9 @@ use Rattle.dine_plan.specs.Plan.{SeenPlan}
 use Rattle.dine_core.specs.declared.places.Place.{Place}
 use Rattle.dine_core.specs.declared.places.ForkSlot.{ForkSlot}
 use Rattle.dine_core.specs.declared.places.ForkSlot.TheVariants.{Away, Here, InMeal}
-use Rattle.dine_core.specs.Local.{LocalState, edge_at, neighbour_at, is_eating}
-use Rattle.dine_core.specs.Holdings.{fork_at, hand_at}
-use Rattle.dine_core.specs.Steps.{fork_with, after, End}
+use Rattle.dine_rules.specs.Local.{LocalState, edge_at, neighbour_at, is_eating}
+use Rattle.dine_rules.specs.Holdings.{fork_at, hand_at}
+use Rattle.dine_rules.specs.Steps.{fork_with, after, End}
 use Rattle.dine_core.specs.Core.{SeenCore, StandsFor, kept_at, forks_in_hand}
 use Rattle.dine_core.specs.Places.{no_place, is_held, laid_down, with_fork, ended, neighbour_of, due_of_neighbour, meals_in, FitsPlace, FitsSlot, IsSoundPlace, IsSound, IsMealOf}
 use Rattle.dine_core.specs.Standing.{all_places}

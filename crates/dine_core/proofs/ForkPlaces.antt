@@ -11,38 +11,39 @@ use Rattle.dine_token.specs.Log.{meals_of}
 use Rattle.dine_token.specs.Meal.{SeenMeal}
 use Rattle.dine_token.specs.declared.entry.Entry.{Entry}
 use Rattle.dine_plan.specs.Plan.{SeenPlan, IsPlan, site_count, edge_count, edges_of, lo_of, hi_of}
-use Rattle.dine_core.specs.declared.letters.Letter.{Letter}
-use Rattle.dine_core.specs.declared.letters.Letter.TheVariants.{Fork, Request, Done, Close}
+use Rattle.dine_rules.specs.declared.letters.Letter.{Letter}
+use Rattle.dine_rules.specs.declared.letters.Letter.TheVariants.{Fork, Request, Done, Close}
 use Rattle.dine_core.specs.declared.places.Place.{Place}
 use Rattle.dine_core.specs.declared.places.ForkSlot.TheVariants.{Away, Here, InMeal}
 use Rattle.dine_core.specs.declared.seats.Seat.{Seat}
 use Rattle.dine_core.specs.declared.world.EdgeEnds.{EdgeEnds}
-use Rattle.dine_core.specs.Breach.{is_fork_of}
-use Rattle.dine_core.specs.Letters.{forks_in, last_log_or}
-use Rattle.dine_core.specs.Local.{LocalState, traffic_at, edge_at, neighbour_at, is_eating}
-use Rattle.dine_core.specs.Holdings.{EatsWithAll, fork_at, hand_at}
-use Rattle.dine_core.specs.Steps.{fork_with}
-use Rattle.dine_core.specs.Streams.{KeepsStreams}
+use Rattle.dine_rules.specs.Breach.{is_fork_of}
+use Rattle.dine_rules.specs.Letters.{forks_in, last_log_or}
+use Rattle.dine_rules.specs.Local.{LocalState, traffic_at, edge_at, neighbour_at, is_eating}
+use Rattle.dine_rules.specs.Holdings.{EatsWithAll, fork_at, hand_at}
+use Rattle.dine_rules.specs.Steps.{fork_with}
+use Rattle.dine_rules.specs.Streams.{KeepsStreams}
 use Rattle.dine_core.specs.Core.{forks_in_hand}
 use Rattle.dine_core.specs.Places.{no_place, place_at}
 use Rattle.dine_core.specs.Seats.{IsSeatOf, FitsSeat, letters_in}
 use Rattle.dine_core.specs.Standing.{all_places}
-use Rattle.dine_core.specs.World.{WorldState, state_of, place_of, put_to}
-use Rattle.dine_core.specs.Links.{queue_to}
-use Rattle.dine_core.specs.Precedence.{is_sent_to, log_near}
+use Rattle.dine_rules.specs.World.{WorldState, state_of, place_of, put_to}
+use Rattle.dine_rules.specs.Links.{queue_to}
+use Rattle.dine_rules.specs.Precedence.{is_sent_to, log_near}
 use Rattle.dine_core.specs.Forks.{no_seat, seat_at, no_ends, fork_in_slot, fork_of_seat, first_fork, fork_of_edge, IsPlaceOf, IsEdgeAt, HasAllForks, AreForksOf}
 use Rattle.dine_core.specs.declared.world.World.TheInside.{Inside}
 use Rattle.dine_core.specs.WorldKept.{IsKeptWorld, seen_world}
 use Rattle.dine_core.specs.Worlds.{SeenWorld, IsWorldOf, number_to, ends_seen, fork_seen, forks_seen}
-use Rattle.dine_core.proofs.Across.{across}
-use Rattle.dine_core.proofs.Counting.{forks_in-append, last_log_or-append, last_log_or-none, none_or_some}
-use Rattle.dine_core.proofs.Breaches.{own_is}
-use Rattle.dine_core.proofs.EatersApart.{eats_with_all}
-use Rattle.dine_core.proofs.EdgeSums.{one_fork_of_edge}
-use Rattle.dine_core.proofs.Links.{link_holds, link_forks}
+use Rattle.dine_rules.proofs.Across.{across}
+use Rattle.dine_rules.proofs.Counting.{forks_in-append, last_log_or-append, last_log_or-none, none_or_some}
+use Rattle.dine_rules.proofs.Owned.{own_is}
+use Rattle.dine_rules.proofs.Near.{near_log, put_count}
+use Rattle.dine_rules.proofs.EatersApart.{eats_with_all}
+use Rattle.dine_rules.proofs.EdgeSums.{one_fork_of_edge}
+use Rattle.dine_rules.proofs.Links.{link_holds, link_forks}
 use Rattle.dine_core.proofs.MealFits.{count_is, fits_seat, hand_is}
-use Rattle.dine_core.proofs.Preference.{is_edge}
-use Rattle.dine_core.proofs.WorldKept.{WorldKeeps, reached_kept}
+use Rattle.dine_rules.proofs.Preference.{is_edge}
+use Rattle.dine_rules.proofs.WorldKept.{WorldKeeps, reached_kept}
 
 -- ---- at a site
 
@@ -111,9 +112,6 @@ module _ (plan : SeenPlan) (is_plan : IsPlan plan) (world : WorldState) (kept : 
   all_put : put_to plan world s i ≡ taken ++ coming
   all_put = link_holds plan is_plan world kept s i is_site within
 
-  pub put_count : forks_in (put_to plan world s i) ≡ forks_in taken + forks_in coming
-  put_count = ap forks_in all_put ∙ forks_in-append taken coming
-
   -- a Fork that lies in the link is the edge's, with the log of the last Fork put
   lies_alone : IsAlone (last_log_or [] taken) coming → first_fork coming ≡ Some (fork_with plan (edge_at plan s i) (last_log_or [] (put_to plan world s i)))
   lies_alone w =
@@ -131,11 +129,11 @@ module _ (plan : SeenPlan) (is_plan : IsPlan plan) (world : WorldState) (kept : 
   link_fork =
       let found : Option SeenFork = Some (fork_with plan (edge_at plan s i) (last_log_or [] (put_to plan world s i))) in
       elim (none_or_some coming) [
-        | inl none ↦ first_none coming none ∙ sym (cond-false (is_sent_to plan world s i) found None (le-ltb (forks_in taken) (forks_in (put_to plan world s i)) (omega (arith, put_count, none))))
+        | inl none ↦ first_none coming none ∙ sym (cond-false (is_sent_to plan world s i) found None (le-ltb (forks_in taken) (forks_in (put_to plan world s i)) (omega (arith, put_count plan is_plan world kept s i is_site within, none))))
         | inr some ↦
             let one : forks_in coming ≡ 1 = omega (arith, some, link_forks plan is_plan world kept s i is_site within) in
             lies_alone (only_fork (last_log_or [] taken) coming one)
-            ∙ sym (cond-true (is_sent_to plan world s i) found None (lt-ltb (forks_in taken) (forks_in (put_to plan world s i)) (omega (arith, put_count, some))))
+            ∙ sym (cond-true (is_sent_to plan world s i) found None (lt-ltb (forks_in taken) (forks_in (put_to plan world s i)) (omega (arith, put_count plan is_plan world kept s i is_site within, some))))
       ]
 
 -- ---- at either end
@@ -156,10 +154,6 @@ two_ends None None c d = refl
 either_log : (f : List Entry → SeenFork) (a b : Option (List Entry)) → option_or (option_map f a) (option_map f b) ≡ option_map f (option_or a b)
 either_log f (Some a) b = refl
 either_log f None b = refl
-
--- a log that may be near an end: in hand, or in the link
-abbrev pub near_log : Bool → Bool → List Entry → List Entry → Option (List Entry)
-near_log held sent hand last = if held then Some hand else (if sent then Some last else None)
 
 log_there : (f : List Entry → SeenFork) (held_low sent_low held_high sent_high : Bool) (a b c d : List Entry) → (held_low ≡ false → sent_low ≡ false → held_high ≡ false → sent_high ≡ true)
     → option_map f (option_or (near_log held_low sent_low a b) (near_log held_high sent_high c d)) ≡ Some (f (unwrap_or (option_or (near_log held_low sent_low a b) (near_log held_high sent_high c d)) []))

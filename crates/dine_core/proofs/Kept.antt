@@ -4,19 +4,19 @@ use Rattle.dine_token.specs.declared.entry.Entry.{Entry}
 use Rattle.dine_token.specs.Log.{meals_of}
 use Rattle.dine_token.specs.Fork.{SeenFork}
 use Rattle.dine_plan.specs.Plan.{SeenPlan, job_count, lo_of, hi_of}
-use Rattle.dine_core.specs.declared.letters.Letter.{Letter}
-use Rattle.dine_core.specs.declared.letters.Letter.TheVariants.{Fork, Request, Done, Close}
-use Rattle.dine_core.specs.declared.phase.Phase.{Phase}
+use Rattle.dine_rules.specs.declared.letters.Letter.{Letter}
+use Rattle.dine_rules.specs.declared.letters.Letter.TheVariants.{Fork, Request, Done, Close}
+use Rattle.dine_rules.specs.declared.phase.Phase.{Phase}
 use Rattle.dine_core.specs.declared.places.Place.{Place}
 use Rattle.dine_core.specs.declared.places.ForkSlot.{ForkSlot}
 use Rattle.dine_core.specs.declared.places.ForkSlot.TheVariants.{Away, Here, InMeal}
-use Rattle.dine_core.specs.Letters.{forks_in, requests_in, has_done, has_close}
-use Rattle.dine_core.specs.Local.{Traffic, other_end, is_eating}
-use Rattle.dine_core.specs.Holdings.{forks_held, tokens_held, hand, with_meals_to}
-use Rattle.dine_core.specs.Steps.{fork_with}
+use Rattle.dine_rules.specs.Letters.{forks_in, requests_in, has_done, has_close}
+use Rattle.dine_rules.specs.Local.{Traffic, other_end, is_eating}
+use Rattle.dine_rules.specs.Holdings.{forks_held, tokens_held, hand, with_meals_to}
+use Rattle.dine_rules.specs.Steps.{fork_with}
 use Rattle.dine_core.specs.Core.{kept_of}
-use Rattle.dine_core.proofs.Counting.{or_false, or_true, forks_in-append, requests_in-append, has_done-append, has_close-append, last_log_or-append}
-use Rattle.dine_core.proofs.Hands.{hand-same}
+use Rattle.dine_rules.proofs.Counting.{or_false, or_true, forks_in-append, requests_in-append, has_done-append, has_close-append, last_log_or-append}
+use Rattle.dine_rules.proofs.Hands.{hand-same}
 
 -- what is kept, by the holdings and the marks
 abbrev pub slot_by : SeenPlan → ℕ → Phase → ℕ → ℕ → List Entry → ForkSlot

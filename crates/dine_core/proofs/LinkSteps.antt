@@ -3,14 +3,14 @@ use Rattle.std.proofs.Common.{◌≡◌, ◌≢◌, ℕ, zero, suc, ◌<◌, ◌
 use Rattle.std.proofs.lemmas.Bool.{cases_eq}
 use Rattle.std.proofs.lemmas.List.{get_or-set_same, get_or-set_other, length-set, length_push, drop-append-le}
 use Rattle.dine_plan.specs.Plan.{SeenPlan, IsPlan, site_count, edges_of}
-use Rattle.dine_core.specs.declared.letters.Letter.{Letter}
-use Rattle.dine_core.specs.Local.{LocalState, Traffic, no_traffic, traffic_at, edge_at, neighbour_at}
-use Rattle.dine_core.specs.World.{WorldState, no_state, state_of, place_of, put_to}
-use Rattle.dine_core.specs.Links.{queue_to}
+use Rattle.dine_rules.specs.declared.letters.Letter.{Letter}
+use Rattle.dine_rules.specs.Local.{LocalState, Traffic, no_traffic, traffic_at, edge_at, neighbour_at}
+use Rattle.dine_rules.specs.World.{WorldState, no_state, state_of, place_of, put_to}
+use Rattle.dine_rules.specs.Links.{queue_to}
 use Rattle.dine_core.specs.Seats.{letters_in, with_letter, without_next}
 use Rattle.dine_core.specs.Worlds.{LinksStand, number_to}
-use Rattle.dine_core.proofs.Across.{across}
-use Rattle.dine_core.proofs.WorldKept.{WorldKeeps, prefix_short}
+use Rattle.dine_rules.proofs.Across.{across}
+use Rattle.dine_rules.proofs.WorldKept.{WorldKeeps, prefix_short}
 use Rattle.dine_core.proofs.LinkNumbers.{number_from, to_in_range, same_place, from_is_to, to_is_from, back_at}
 
 -- one more is dropped

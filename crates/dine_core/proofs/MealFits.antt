@@ -9,15 +9,15 @@ use Rattle.dine_plan.specs.Plan.{SeenPlan, IsPlan}
 use Rattle.dine_core.specs.declared.places.Place.{Place}
 use Rattle.dine_core.specs.declared.places.ForkSlot.TheVariants.{Away, Here, InMeal}
 use Rattle.dine_core.specs.declared.seats.Seat.{Seat}
-use Rattle.dine_core.specs.Local.{LocalState, edge_at, neighbour_at, is_eating}
-use Rattle.dine_core.specs.Holdings.{EatsWithAll, fork_at, hand_at}
-use Rattle.dine_core.specs.Steps.{fork_with}
-use Rattle.dine_core.specs.Streams.{KeepsStreams}
+use Rattle.dine_rules.specs.Local.{LocalState, edge_at, neighbour_at, is_eating}
+use Rattle.dine_rules.specs.Holdings.{EatsWithAll, fork_at, hand_at}
+use Rattle.dine_rules.specs.Steps.{fork_with}
+use Rattle.dine_rules.specs.Streams.{KeepsStreams}
 use Rattle.dine_core.specs.Core.{SeenCore, StandsFor, forks_in_hand, kept_at}
 use Rattle.dine_core.specs.Places.{no_place, neighbour_of, meals_in, FitsPlace, FitsMeal, IsMealOf}
 use Rattle.dine_core.specs.Seats.{IsSeatOf, FitsSeat}
 use Rattle.dine_core.specs.Standing.{all_places}
-use Rattle.dine_core.proofs.InHand.{hand-here, hand-meals}
+use Rattle.dine_rules.proofs.InHand.{hand-here, hand-meals}
 use Rattle.dine_core.proofs.Ending.{hands_at}
 
 -- where every fork is held, there are as many in hand as places

@@ -4,15 +4,15 @@ use Rattle.std.specs.List.{list_all, range_with_len}
 use Rattle.dine_token.specs.Fork.{SeenFork}
 use Rattle.dine_token.specs.Log.{is_dirty, meals_of}
 use Rattle.dine_plan.specs.Plan.{SeenPlan, job_count}
-use Rattle.dine_core.specs.declared.phase.Phase.{Phase}
-use Rattle.dine_core.specs.declared.phase.Phase.TheVariants.{Thinking, Hungry, Eating}
+use Rattle.dine_rules.specs.declared.phase.Phase.{Phase}
+use Rattle.dine_rules.specs.declared.phase.Phase.TheVariants.{Thinking, Hungry, Eating}
 use Rattle.dine_core.specs.declared.places.Place.{Place}
 use Rattle.dine_core.specs.declared.places.ForkSlot.TheVariants.{Away, Here, InMeal}
-use Rattle.dine_core.specs.Letters.{has_done, has_close}
-use Rattle.dine_core.specs.Local.{LocalState, traffic_at, edge_at, neighbour_at, is_eating, is_hungry, is_thinking}
-use Rattle.dine_core.specs.Holdings.{fork_at, token_at, hand_at}
-use Rattle.dine_core.specs.Steps.{fork_with, is_ready, may, Begin}
-use Rattle.dine_core.specs.Streams.{KeepsStreams}
+use Rattle.dine_rules.specs.Letters.{has_done, has_close}
+use Rattle.dine_rules.specs.Local.{LocalState, traffic_at, edge_at, neighbour_at, is_eating, is_hungry, is_thinking}
+use Rattle.dine_rules.specs.Holdings.{fork_at, token_at, hand_at}
+use Rattle.dine_rules.specs.Steps.{fork_with, is_ready, may, Begin}
+use Rattle.dine_rules.specs.Streams.{KeepsStreams}
 use Rattle.dine_core.specs.Core.{SeenCore, StandsFor, kept_at, forks_in_hand, tokens_in_hand}
 use Rattle.dine_core.specs.Places.{is_closed_at, can_begin, has_all_said, no_place, is_ready_at, is_held, is_dirty_in_hand, is_over_at, fork_in_hand, forks_of, tokens_of}
 use Rattle.dine_core.specs.Standing.{all_places, has_finished}

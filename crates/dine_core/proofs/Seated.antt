@@ -7,17 +7,17 @@ use Rattle.dine_token.specs.Fork.{SeenFork}
 use Rattle.dine_token.specs.Meal.{SeenMeal}
 use Rattle.dine_token.specs.declared.entry.Entry.{Entry}
 use Rattle.dine_plan.specs.Plan.{SeenPlan, lo_of}
-use Rattle.dine_core.specs.declared.breach.Breach.{Breach}
-use Rattle.dine_core.specs.declared.letters.Letter.{Letter}
-use Rattle.dine_core.specs.declared.letters.Letter.TheVariants.{Fork, Request, Done, Close}
-use Rattle.dine_core.specs.Letters.{forks_in, last_log_or}
-use Rattle.dine_core.specs.Local.{LocalState, Traffic, no_traffic, traffic_at, edge_at, is_eating}
-use Rattle.dine_core.specs.Holdings.{EatsWithAll, forks_held, hand, fork_at, hand_at, with_meals_to}
-use Rattle.dine_core.specs.Steps.{Take, may, with_put, with_taken, fork_with}
+use Rattle.dine_rules.specs.declared.breach.Breach.{Breach}
+use Rattle.dine_rules.specs.declared.letters.Letter.{Letter}
+use Rattle.dine_rules.specs.declared.letters.Letter.TheVariants.{Fork, Request, Done, Close}
+use Rattle.dine_rules.specs.Letters.{forks_in, last_log_or}
+use Rattle.dine_rules.specs.Local.{LocalState, Traffic, no_traffic, traffic_at, edge_at, is_eating}
+use Rattle.dine_rules.specs.Holdings.{EatsWithAll, forks_held, hand, fork_at, hand_at, with_meals_to}
+use Rattle.dine_rules.specs.Steps.{Take, may, with_put, with_taken, fork_with}
 use Rattle.dine_core.specs.Core.{forks_in_hand}
 use Rattle.dine_core.specs.Seats.{meal_of}
 use Rattle.dine_core.specs.Standing.{all_places}
-use Rattle.dine_core.proofs.Counting.{forks_in-append, last_log_or-append}
+use Rattle.dine_rules.proofs.Counting.{forks_in-append, last_log_or-append}
 
 -- a letter that is no Fork
 abbrev pub is_no_fork : Letter → Bool

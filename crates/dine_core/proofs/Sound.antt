@@ -5,14 +5,14 @@ use Rattle.std.proofs.lemmas.Bool.Decides.{nat_tests}
 use Rattle.std.proofs.lemmas.List.Elements.{All-set}
 use Rattle.dine_token.specs.Fork.{SeenFork}
 use Rattle.dine_token.specs.Log.{location_of, meals_of}
-use Rattle.dine_core.specs.declared.letters.Letter.{Letter}
-use Rattle.dine_core.specs.declared.letters.Letter.TheVariants.{Fork, Request, Done, Close}
-use Rattle.dine_core.specs.declared.breach.Breach.{Breach}
+use Rattle.dine_rules.specs.declared.letters.Letter.{Letter}
+use Rattle.dine_rules.specs.declared.letters.Letter.TheVariants.{Fork, Request, Done, Close}
+use Rattle.dine_rules.specs.declared.breach.Breach.{Breach}
 use Rattle.dine_core.specs.declared.places.Place.{Place}
 use Rattle.dine_core.specs.declared.places.ForkSlot.{ForkSlot}
 use Rattle.dine_core.specs.declared.places.ForkSlot.TheVariants.{Away, Here, InMeal}
-use Rattle.dine_core.specs.Local.{is_eating}
-use Rattle.dine_core.specs.Breach.{ends_at}
+use Rattle.dine_rules.specs.Local.{is_eating}
+use Rattle.dine_rules.specs.Breach.{ends_at}
 use Rattle.dine_core.specs.Core.{SeenCore}
 use Rattle.dine_core.specs.Places.{with_place, with_fork, noted, is_held, is_own_fork, breach_at, FitsPlace, FitsSlot, IsSoundPlace, IsSound}
 

@@ -5,13 +5,13 @@ use Rattle.std.proofs.lemmas.List.{get_or-set_same, get_or-set_other, length-set
 use Rattle.dine_token.specs.Fork.{SeenFork}
 use Rattle.dine_token.specs.Log.{meals_of}
 use Rattle.dine_plan.specs.Plan.{SeenPlan}
-use Rattle.dine_core.specs.declared.letters.Letter.{Letter}
-use Rattle.dine_core.specs.declared.letters.Letter.TheVariants.{Fork, Request, Done, Close}
+use Rattle.dine_rules.specs.declared.letters.Letter.{Letter}
+use Rattle.dine_rules.specs.declared.letters.Letter.TheVariants.{Fork, Request, Done, Close}
 use Rattle.dine_core.specs.declared.places.Place.{Place}
 use Rattle.dine_core.specs.declared.places.ForkSlot.TheVariants.{Away, Here, InMeal}
-use Rattle.dine_core.specs.Local.{LocalState, Traffic, no_traffic, traffic_at, edge_at, neighbour_at, is_eating}
-use Rattle.dine_core.specs.Holdings.{fork_at, token_at, hand_at}
-use Rattle.dine_core.specs.Steps.{fork_with, with_put}
+use Rattle.dine_rules.specs.Local.{LocalState, Traffic, no_traffic, traffic_at, edge_at, neighbour_at, is_eating}
+use Rattle.dine_rules.specs.Holdings.{fork_at, token_at, hand_at}
+use Rattle.dine_rules.specs.Steps.{fork_with, with_put}
 use Rattle.dine_core.specs.Core.{SeenCore, StandsFor, kept_of, kept_at}
 use Rattle.dine_core.specs.Places.{place_at, with_place, no_place, OnHere, asked, gave, said_done, closed}
 use Rattle.dine_core.proofs.Kept.{kept-put_request, kept-put_fork, kept-put_done, kept-put_close}

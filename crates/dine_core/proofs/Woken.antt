@@ -9,15 +9,15 @@ use Rattle.dine_token.specs.Meal.{SeenMeal}
 use Rattle.dine_plan.specs.Plan.{SeenPlan, IsPlan, site_count}
 use Rattle.dine_core.specs.declared.places.Place.{Place}
 use Rattle.dine_core.specs.declared.seats.Seat.{Seat}
-use Rattle.dine_core.specs.Local.{LocalState, edge_at, is_eating}
-use Rattle.dine_core.specs.Holdings.{EatsWithAll, fork_at, hand_at}
-use Rattle.dine_core.specs.Steps.{fork_with}
-use Rattle.dine_core.specs.Streams.{KeepsStreams}
+use Rattle.dine_rules.specs.Local.{LocalState, edge_at, is_eating}
+use Rattle.dine_rules.specs.Holdings.{EatsWithAll, fork_at, hand_at}
+use Rattle.dine_rules.specs.Steps.{fork_with}
+use Rattle.dine_rules.specs.Streams.{KeepsStreams}
 use Rattle.dine_core.specs.Core.{SeenCore, forks_in_hand}
 use Rattle.dine_core.specs.Places.{no_place, place_at, laid_down, IsMealOf}
 use Rattle.dine_core.specs.Seats.{IsSeatOf, FitsSeat, IsAwake}
 use Rattle.dine_core.specs.Standing.{all_places}
-use Rattle.dine_core.specs.World.{WorldState, state_of}
+use Rattle.dine_rules.specs.World.{WorldState, state_of}
 use Rattle.dine_core.specs.Worlds.{SeenWorld, IsWorldOf, forks_seen}
 use Rattle.dine_core.specs.Forks.{no_seat, seat_at, ends_at, fork_in_slot, fork_of_seat, fork_of_edge, IsPlaceOf, HasAllForks, AreForksOf, woken_by, woken}
 use Rattle.dine_core.proofs.Ending.{get_or_laid, length_laid}

@@ -9,19 +9,19 @@ use Rattle.std.proofs.lemmas.Option.{get_or_from_slice_get, slice_get-get_or, sl
 use Rattle.std.proofs.Math.ListN.{get_or-append}
 use Rattle.std.proofs.Math.Seq.{get_or-append_seam}
 use Rattle.dine_plan.specs.Plan.{SeenPlan, IsPlan, site_count, edge_count, edges_of, job_count, ends_of, lo_of, hi_of}
-use Rattle.dine_core.specs.declared.letters.Letter.{Letter}
+use Rattle.dine_rules.specs.declared.letters.Letter.{Letter}
 use Rattle.dine_core.specs.declared.seats.Seat.{Seat}
 use Rattle.dine_core.specs.declared.world.EdgeEnds.{EdgeEnds}
-use Rattle.dine_core.specs.Local.{LocalState, Traffic, no_traffic, traffic_at, start_of, edge_at, neighbour_at}
+use Rattle.dine_rules.specs.Local.{LocalState, Traffic, no_traffic, traffic_at, start_of, edge_at, neighbour_at}
 use Rattle.dine_core.specs.Core.{StandsFor}
 use Rattle.dine_core.specs.Seats.{IsAwake, IsSeatOf, letters_in}
-use Rattle.dine_core.specs.World.{WorldState, no_state, state_of, start, place_of, put_to}
+use Rattle.dine_rules.specs.World.{WorldState, no_state, state_of, start, place_of, put_to}
 use Rattle.dine_core.specs.Worlds.{SeenWorld, SeatsStand, LinksStand, IsReached, IsWorldOf, number_to, ends_seen}
-use Rattle.dine_core.specs.Bound.{bound_of, meals_due}
-use Rattle.dine_core.specs.Links.{queue_to}
-use Rattle.dine_core.proofs.Across.{place_of-edge_at, across}
-use Rattle.dine_core.proofs.Site.{no_traffic_yet}
-use Rattle.dine_core.proofs.WorldKept.{reached_kept, start_state}
+use Rattle.dine_rules.specs.Bound.{bound_of, meals_due}
+use Rattle.dine_rules.specs.Links.{queue_to}
+use Rattle.dine_rules.proofs.Across.{place_of-edge_at, across}
+use Rattle.dine_rules.proofs.Site.{no_traffic_yet}
+use Rattle.dine_rules.proofs.WorldKept.{reached_kept, start_state}
 
 -- ---- edges and sums
 

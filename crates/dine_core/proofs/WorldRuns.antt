@@ -2,16 +2,16 @@
 use Rattle.std.proofs.Common.{◌≡◌, ℕ, zero, suc, ◌+◌, ◌<◌, ◌≤◌, true, List, [], ◌∷◌, ◌++◌, length, drop, get_or, slice_get, Option, Some, None, unwrap_or, refl, sym, ◌∙◌, ap, subst, arith}
 use Rattle.std.proofs.lemmas.List.{length_push}
 use Rattle.dine_plan.specs.Plan.{SeenPlan}
-use Rattle.dine_core.specs.declared.events.Event.{Event}
-use Rattle.dine_core.specs.Bound.{bound_of, effects_of}
-use Rattle.dine_core.specs.Schedules.{Counted, carried_on, chosen, choose, finish_within, replay, from_here}
-use Rattle.dine_core.specs.World.{WorldState, enabled_events, is_enabled, start, world_after}
+use Rattle.dine_rules.specs.declared.events.Event.{Event}
+use Rattle.dine_rules.specs.Bound.{bound_of, effects_of}
+use Rattle.dine_rules.specs.Schedules.{Counted, carried_on, chosen, choose, finish_within, replay, from_here}
+use Rattle.dine_rules.specs.World.{WorldState, enabled_events, is_enabled, start, world_after}
 use Rattle.dine_core.specs.Worlds.{Happens, IsReached, IsWorldOf, RunsTo, SeenWorld, can_happen}
 use Rattle.dine_core.proofs.CanHappen.{can_happen_is}
-use Rattle.dine_core.proofs.Effects.{events_counted}
-use Rattle.dine_core.proofs.Enabled.{passes_at}
-use Rattle.dine_core.proofs.EffectBounds.{events_bounded}
-use Rattle.dine_core.proofs.WorldKept.{events_then}
+use Rattle.dine_rules.proofs.Effects.{events_counted}
+use Rattle.dine_rules.proofs.Enabled.{passes_at}
+use Rattle.dine_rules.proofs.EffectBounds.{events_bounded}
+use Rattle.dine_rules.proofs.WorldKept.{events_then}
 
 -- an event that is chosen can happen
 pub chosen_can : (plan : SeenPlan) (world : WorldState) (seen : SeenWorld) (k : ℕ) (e : Event) → IsWorldOf plan world seen → Some e ≡ slice_get (enabled_events plan world) k → can_happen seen e ≡ true

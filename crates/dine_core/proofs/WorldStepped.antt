@@ -3,10 +3,10 @@ use Rattle.std.proofs.Common.{◌≡◌, ◌<◌, true, List, length, get_or, sl
 use Rattle.std.proofs.lemmas.Bool.{false≢true}
 use Rattle.std.proofs.lemmas.Option.{get_or_from_slice_get, slice_get_within}
 use Rattle.dine_plan.specs.Plan.{SeenPlan, site_count}
-use Rattle.dine_core.specs.declared.letters.Letter.{Letter}
-use Rattle.dine_core.specs.declared.events.Event.{Event}
+use Rattle.dine_rules.specs.declared.letters.Letter.{Letter}
+use Rattle.dine_rules.specs.declared.events.Event.{Event}
 use Rattle.dine_core.specs.declared.seats.Seat.{Seat}
-use Rattle.dine_core.specs.World.{WorldState, state_of, world_after}
+use Rattle.dine_rules.specs.World.{WorldState, state_of, world_after}
 use Rattle.dine_core.specs.Seats.{Does, FitsSeat, HasRoomFor, TakesInTurn, can_do}
 use Rattle.dine_core.specs.Worlds.{HappensTo, IsWorldOf, SeenWorld, can_happen}
 use Rattle.dine_core.proofs.CanHappen.{can_happen_is}

@@ -5,31 +5,31 @@ use Rattle.std.proofs.lemmas.Bool.{cases_eq, and_parts, false≢true, ltb-true}
 use Rattle.std.proofs.lemmas.List.{get_or-set_same, get_or-set_other, length-set, length_push}
 use Rattle.std.proofs.lemmas.Option.{same_Some}
 use Rattle.dine_plan.specs.Plan.{SeenPlan, IsPlan, site_count, edges_of}
-use Rattle.dine_core.specs.declared.letters.Letter.{Letter}
-use Rattle.dine_core.specs.declared.events.Event.{Event}
-use Rattle.dine_core.specs.declared.events.EventKind.{EventKind}
-use Rattle.dine_core.specs.declared.events.EventKind.TheVariants as event
+use Rattle.dine_rules.specs.declared.letters.Letter.{Letter}
+use Rattle.dine_rules.specs.declared.events.Event.{Event}
+use Rattle.dine_rules.specs.declared.events.EventKind.{EventKind}
+use Rattle.dine_rules.specs.declared.events.EventKind.TheVariants as event
 use Rattle.dine_core.specs.declared.seats.Seat.{Seat}
-use Rattle.dine_core.specs.Breach.{is_allowed}
-use Rattle.dine_core.specs.Local.{LocalState, traffic_at, edge_at, neighbour_at}
-use Rattle.dine_core.specs.Holdings.{EatsWithAll}
-use Rattle.dine_core.specs.Steps.{Step, after, with_put}
-use Rattle.dine_core.specs.Steps as step
-use Rattle.dine_core.specs.Streams.{KeepsStreams}
+use Rattle.dine_rules.specs.Breach.{is_allowed}
+use Rattle.dine_rules.specs.Local.{LocalState, traffic_at, edge_at, neighbour_at}
+use Rattle.dine_rules.specs.Holdings.{EatsWithAll}
+use Rattle.dine_rules.specs.Steps.{Step, after, with_put}
+use Rattle.dine_rules.specs.Steps as step
+use Rattle.dine_rules.specs.Streams.{KeepsStreams}
 use Rattle.dine_core.specs.Core.{SeenCore, StandsFor}
 use Rattle.dine_core.specs.Numbers.{link_to, link_from}
 use Rattle.dine_core.specs.Places.{place_at}
-use Rattle.dine_core.specs.World.{WorldState, no_state, place_of, state_of, next_letter, step_of, world_after, start}
-use Rattle.dine_core.specs.Links.{queue_to}
+use Rattle.dine_rules.specs.World.{WorldState, no_state, place_of, state_of, next_letter, step_of, world_after, start}
+use Rattle.dine_rules.specs.Links.{queue_to}
 use Rattle.dine_core.specs.Seats.{Does, PutsAt, HasRoomAt, HasRoomFor, IsSeatOf, MovesLetters, TakesInTurn, can_do, is_in_turn_at, letters_in, next_in, step_in, with_letter, without_next}
 use Rattle.dine_core.specs.Worlds.{IsReached, IsWorldOf, LinksStand, SeatsStand, SeenWorld, can_at, number_to}
-use Rattle.dine_core.proofs.Across.{across}
+use Rattle.dine_rules.proofs.Across.{across}
 use Rattle.dine_core.proofs.CanHappen.{next_here, take_is}
-use Rattle.dine_core.proofs.NextLetters.{reached_allowed}
+use Rattle.dine_rules.proofs.NextLetters.{reached_allowed}
 use Rattle.dine_core.proofs.Stands.{place_is}
-use Rattle.dine_core.proofs.WorldKept.{IsStepOf, option_map_parts, WorldKeeps, event_is_step, event_keeps, events_then, reached_kept, some_of}
-use Rattle.dine_core.proofs.EatersApart.{eats_with_all}
-use Rattle.dine_core.proofs.Links.{link_letters}
+use Rattle.dine_rules.proofs.WorldKept.{IsStepOf, option_map_parts, WorldKeeps, event_is_step, event_keeps, events_then, reached_kept, some_of}
+use Rattle.dine_rules.proofs.EatersApart.{eats_with_all}
+use Rattle.dine_rules.proofs.Links.{link_letters}
 use Rattle.dine_core.proofs.LinkNumbers.{from_is_to, number_from, to_in_range}
 use Rattle.dine_core.proofs.LinkSteps.{links-put, links-same, links-taken}
 

@@ -3,14 +3,14 @@ use Rattle.std.specs.Prelude.{◌≡◌, ℕ, ◌<◌, ◌==◌, List, [], ◌�
 use Rattle.dine_token.specs.Log.{meals_of}
 use Rattle.dine_token.specs.Fork.{SeenFork}
 use Rattle.dine_plan.specs.Plan.{SeenPlan, job_count, lo_of, hi_of}
-use Rattle.dine_core.specs.declared.phase.Phase.{Phase}
+use Rattle.dine_rules.specs.declared.phase.Phase.{Phase}
 use Rattle.dine_core.specs.declared.places.Place.{Place}
 use Rattle.dine_core.specs.declared.places.ForkSlot.{ForkSlot}
 use Rattle.dine_core.specs.declared.places.ForkSlot.TheVariants.{Away, Here, InMeal}
-use Rattle.dine_core.specs.Letters.{has_done, has_close}
-use Rattle.dine_core.specs.Local.{LocalState, Traffic, traffic_at, edge_at, other_end, is_eating}
-use Rattle.dine_core.specs.Holdings.{forks_held, tokens_held, hand, fork_at, token_at, hand_at}
-use Rattle.dine_core.specs.Steps.{fork_with}
+use Rattle.dine_rules.specs.Letters.{has_done, has_close}
+use Rattle.dine_rules.specs.Local.{LocalState, Traffic, traffic_at, edge_at, other_end, is_eating}
+use Rattle.dine_rules.specs.Holdings.{forks_held, tokens_held, hand, fork_at, token_at, hand_at}
+use Rattle.dine_rules.specs.Steps.{fork_with}
 
 -- the site, how many jobs it has, what it does, how many meals it began, and what it keeps at each place, in edge order
 pub record SeenCore : Type 0 where

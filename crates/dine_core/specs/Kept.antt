@@ -1,7 +1,7 @@
 -- How a site core is kept: what stands for its value, and what is kept beside that.
 use Rattle.std.specs.Prelude.{◌≡◌, ◌<◌, ◌≤◌, ◌^◌, false, [], vec_len, vec_capacity}
 use Rattle.dine_core.specs.declared.site_core.SiteCore.TheInside.{Inside}
-use Rattle.dine_core.specs.Local.{is_eating}
+use Rattle.dine_rules.specs.Local.{is_eating}
 use Rattle.dine_core.specs.Core.{SeenCore}
 use Rattle.dine_core.specs.Places.{IsSound}
 

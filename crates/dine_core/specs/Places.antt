@@ -5,16 +5,16 @@ use Rattle.dine_token.specs.Log.{is_dirty, location_of, meals_of}
 use Rattle.dine_token.specs.Lawful.{due_at}
 use Rattle.dine_token.specs.Fork.{SeenFork, IsEnd}
 use Rattle.dine_token.specs.Meal.{SeenMeal}
-use Rattle.dine_core.specs.declared.phase.Phase.TheVariants as phase
-use Rattle.dine_core.specs.declared.letters.Letter.{Letter}
-use Rattle.dine_core.specs.declared.letters.Letter.TheVariants as letter
-use Rattle.dine_core.specs.declared.breach.Breach.{Breach}
-use Rattle.dine_core.specs.declared.breach.Breach.TheVariants.{AfterClose, RequestOutOfTurn, ForkOutOfTurn, StrangeFork, DoneOutOfTurn, ClosedEarly}
+use Rattle.dine_rules.specs.declared.phase.Phase.TheVariants as phase
+use Rattle.dine_rules.specs.declared.letters.Letter.{Letter}
+use Rattle.dine_rules.specs.declared.letters.Letter.TheVariants as letter
+use Rattle.dine_rules.specs.declared.breach.Breach.{Breach}
+use Rattle.dine_rules.specs.declared.breach.Breach.TheVariants.{AfterClose, RequestOutOfTurn, ForkOutOfTurn, StrangeFork, DoneOutOfTurn, ClosedEarly}
 use Rattle.dine_core.specs.declared.places.Place.{Place}
 use Rattle.dine_core.specs.declared.places.ForkSlot.{ForkSlot}
 use Rattle.dine_core.specs.declared.places.ForkSlot.TheVariants.{Away, Here, InMeal}
-use Rattle.dine_core.specs.Local.{is_thinking, is_hungry, is_eating}
-use Rattle.dine_core.specs.Breach.{ends_at}
+use Rattle.dine_rules.specs.Local.{is_thinking, is_hungry, is_eating}
+use Rattle.dine_rules.specs.Breach.{ends_at}
 use Rattle.dine_core.specs.Core.{SeenCore}
 
 -- a place past the end

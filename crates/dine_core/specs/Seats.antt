@@ -2,14 +2,14 @@
 use Rattle.std.specs.Prelude.{◌≡◌, ℕ, ◌<◌, ◌&&◌, not, nat_lt, Bool, false, true, List, [], ◌∷◌, ◌++◌, length, drop, slice_get, slice_index_or, slice_set, Option, Some, None, is_some, option_and_then, MatchOption, if◌then◌else◌}
 use Rattle.dine_token.specs.Meal.{SeenMeal}
 use Rattle.dine_plan.specs.Plan.{SeenPlan}
-use Rattle.dine_core.specs.declared.letters.Letter.{Letter}
-use Rattle.dine_core.specs.declared.events.EventKind.{EventKind}
-use Rattle.dine_core.specs.declared.events.EventKind.TheVariants as event
+use Rattle.dine_rules.specs.declared.letters.Letter.{Letter}
+use Rattle.dine_rules.specs.declared.events.EventKind.{EventKind}
+use Rattle.dine_rules.specs.declared.events.EventKind.TheVariants as event
 use Rattle.dine_core.specs.declared.seats.Seat.{Seat}
-use Rattle.dine_core.specs.Local.{LocalState, is_eating}
-use Rattle.dine_core.specs.Holdings.{EatsWithAll}
-use Rattle.dine_core.specs.Steps.{Step, after, step_by, with_put}
-use Rattle.dine_core.specs.Streams.{KeepsStreams}
+use Rattle.dine_rules.specs.Local.{LocalState, is_eating}
+use Rattle.dine_rules.specs.Holdings.{EatsWithAll}
+use Rattle.dine_rules.specs.Steps.{Step, after, step_by, with_put}
+use Rattle.dine_rules.specs.Streams.{KeepsStreams}
 use Rattle.dine_core.specs.Core.{SeenCore, StandsFor, forks_in_hand}
 use Rattle.dine_core.specs.Places.{IsMealOf, place_at, can_give, can_ask, can_hunger, can_begin, can_end_done, can_close, breach_at}
 use Rattle.dine_core.specs.Numbers.{link_to, link_from}

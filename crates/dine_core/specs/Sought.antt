@@ -1,6 +1,6 @@
 -- What comes of the search for the n-th of some events.
 use Rattle.std.specs.Prelude.{◌≡◌, ℕ, ◌+◌, List, length, slice_get, Some}
-use Rattle.dine_core.specs.declared.events.Event.{Event}
+use Rattle.dine_rules.specs.declared.events.Event.{Event}
 use Rattle.dine_core.specs.declared.world.choices.Sought.{Sought}
 use Rattle.dine_core.specs.declared.world.choices.Sought.TheVariants.{Found, Passed}
 

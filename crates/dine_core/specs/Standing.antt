@@ -3,13 +3,13 @@ use Rattle.std.specs.Prelude.{◌≡◌, ℕ, ◌==◌, ◌&&◌, Bool, List, le
 use Rattle.std.specs.List.{list_all, range_with_len}
 use Rattle.dine_token.specs.Fork.{SeenFork}
 use Rattle.dine_plan.specs.Plan.{SeenPlan, job_count}
-use Rattle.dine_core.specs.declared.letters.Letter.{Letter}
-use Rattle.dine_core.specs.declared.breach.Breach.{Breach}
-use Rattle.dine_core.specs.Letters.{has_done, has_close}
-use Rattle.dine_core.specs.Local.{LocalState, traffic_at, is_thinking}
-use Rattle.dine_core.specs.Breach.{first_breach}
-use Rattle.dine_core.specs.Steps.{Step, may, after, with_put}
-use Rattle.dine_core.specs.Streams.{KeepsStreams}
+use Rattle.dine_rules.specs.declared.letters.Letter.{Letter}
+use Rattle.dine_rules.specs.declared.breach.Breach.{Breach}
+use Rattle.dine_rules.specs.Letters.{has_done, has_close}
+use Rattle.dine_rules.specs.Local.{LocalState, traffic_at, is_thinking}
+use Rattle.dine_rules.specs.Breach.{first_breach}
+use Rattle.dine_rules.specs.Steps.{Step, may, after, with_put}
+use Rattle.dine_rules.specs.Streams.{KeepsStreams}
 use Rattle.dine_core.specs.Core.{SeenCore, StandsFor, forks_in_hand, tokens_in_hand}
 
 -- so it is for each state that keeps the streams and for which the core stands

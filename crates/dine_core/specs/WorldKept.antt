@@ -2,7 +2,7 @@
 use Rattle.std.specs.Prelude.{◌≡◌, ◌≤◌, [], length, vec_capacity}
 use Rattle.dine_plan.specs.Plan.{SeenPlan}
 use Rattle.dine_core.specs.declared.world.World.TheInside.{Inside}
-use Rattle.dine_core.specs.World.{WorldState}
+use Rattle.dine_rules.specs.World.{WorldState}
 use Rattle.dine_core.specs.Worlds.{SeenWorld, IsWorldOf}
 
 abbrev pub seen_world : Inside → SeenWorld

@@ -3,19 +3,19 @@ use Rattle.std.specs.Prelude.{◌≡◌, ℕ, ◌+◌, ◌*◌, ◌<◌, ◌==�
 use Rattle.std.specs.List.{range_with_len}
 use Rattle.dine_token.specs.Fork.{SeenFork}
 use Rattle.dine_plan.specs.Plan.{SeenPlan, IsPlan, site_count, edge_count, edges_of, lo_of, hi_of}
-use Rattle.dine_core.specs.declared.letters.Letter.{Letter}
-use Rattle.dine_core.specs.declared.events.Event.{Event}
-use Rattle.dine_core.specs.declared.events.EventKind.{EventKind}
+use Rattle.dine_rules.specs.declared.letters.Letter.{Letter}
+use Rattle.dine_rules.specs.declared.events.Event.{Event}
+use Rattle.dine_rules.specs.declared.events.EventKind.{EventKind}
 use Rattle.dine_core.specs.declared.seats.Seat.{Seat}
 use Rattle.dine_core.specs.declared.world.EdgeEnds.{EdgeEnds}
-use Rattle.dine_core.specs.Local.{edge_at}
-use Rattle.dine_core.specs.Steps.{fork_with}
-use Rattle.dine_core.specs.World.{WorldState, Reaches, state_of, place_of, world_after}
-use Rattle.dine_core.specs.Links.{queue_to}
+use Rattle.dine_rules.specs.Local.{edge_at}
+use Rattle.dine_rules.specs.Steps.{fork_with}
+use Rattle.dine_rules.specs.World.{WorldState, Reaches, state_of, place_of, world_after}
+use Rattle.dine_rules.specs.Links.{queue_to}
 use Rattle.dine_core.specs.Seats.{IsSeatOf, can_do, letters_in}
-use Rattle.dine_core.specs.Precedence.{fork_log}
-use Rattle.dine_core.specs.Bound.{bound_of}
-use Rattle.dine_core.specs.Schedules.{Counted}
+use Rattle.dine_rules.specs.Precedence.{fork_log}
+use Rattle.dine_rules.specs.Bound.{bound_of}
+use Rattle.dine_rules.specs.Schedules.{Counted}
 
 -- the sites, the letters in the links, where the ends of each edge are, and the bound of events
 pub record SeenWorld : Type 0 where

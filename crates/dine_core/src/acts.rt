@@ -1,17 +1,17 @@
 // What a site of the world may do, and does.
 ghost use Rattle.std.specs.Prelude.{◌≡◌, ◌<◌, ◌+◌, IfSome, List, MatchOption, None, length, is_some, option_and_then, option_map, slice_get, true};
-ghost use Rattle.dine_core.specs.declared.letters.Letter.{Letter};
-ghost use Rattle.dine_core.specs.Local.{is_eating};
+ghost use Rattle.dine_rules.specs.declared.letters.Letter.{Letter};
+ghost use Rattle.dine_rules.specs.Local.{is_eating};
 ghost use Rattle.dine_core.specs.Forks.{woken};
 ghost use Rattle.dine_core.specs.Numbers.{link_to};
-ghost use Rattle.dine_core.specs.Steps.{Begin, End, Take, after};
+ghost use Rattle.dine_rules.specs.Steps.{Begin, End, Take, after};
 ghost use Rattle.dine_core.specs.Core.{StandsFor, forks_in_hand};
 ghost use Rattle.dine_core.specs.Places.{begun, can_begin, ended, place_at, took};
 ghost use Rattle.dine_core.specs.Seats.{Does, FitsSeat, HasRoomFor, IsAwake, TakesInTurn, can_do, is_in_turn_at, next_in, without_next};
 ghost use Rattle.dine_core.specs.Standing.{ForEachState, Steps, all_places};
 
-use crate::events::EventKind;
-use crate::letters::Letter;
+use dine_rules::EventKind;
+use dine_rules::Letter;
 use crate::queue::Queue;
 use crate::seats::Seat;
 use crate::site_core::SiteCore;

@@ -2,13 +2,8 @@
 #![tactic(auto)]
 
 mod acts;
-mod breach;
-mod events;
-pub mod laws;
-mod letters;
 mod meals;
 mod opening;
-mod phase;
 mod places;
 mod queue;
 mod seats;
@@ -17,9 +12,7 @@ mod site_core;
 mod tests;
 mod world;
 
-pub use breach::Breach;
-pub use events::{Event, EventKind};
-pub use letters::{Kind4, Letter};
-pub use phase::Phase;
+pub use dine_rules::laws;
+pub use dine_rules::{Breach, Event, EventKind, Kind4, Letter, Phase};
 pub use site_core::{Parts, SiteCore};
 pub use world::{NotEnabled, World};

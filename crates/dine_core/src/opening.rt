@@ -2,8 +2,8 @@
 ghost use Rattle.std.specs.Prelude.{◌≡◌, ℕ, ◌<◌, ◌∷◌, List, IfOk, map};
 ghost use Rattle.dine_plan.specs.Plan.{site_count, edge_count, edges_of};
 ghost use Rattle.dine_core.specs.Core.{fresh_forks, fresh_tokens, kept_of};
-ghost use Rattle.dine_core.specs.Local.{no_traffic};
-ghost use Rattle.dine_core.specs.declared.phase.Phase.TheVariants.{Thinking};
+ghost use Rattle.dine_rules.specs.Local.{no_traffic};
+ghost use Rattle.dine_rules.specs.declared.phase.Phase.TheVariants.{Thinking};
 
 use crate::places::Place;
 use dine_plan::Plan;

@@ -1,8 +1,8 @@
 ghost use Rattle.std.specs.Prelude.{◌≡◌, ◌⊎◌, ◌+◌, ◌<◌, ◌++◌, ◌==◌, not, true, Some, is_some, option_to_list, vec_len, vec_capacity};
 ghost use Rattle.dine_token.specs.Fork.{SeenFork, IsEnd, MayMove, moved};
 
-use crate::breach::Breach;
-use crate::letters::Letter;
+use dine_rules::Breach;
+use dine_rules::Letter;
 use crate::site_core::Parts;
 use dine_token::{Fork, Held, Token};
 use std::mem;

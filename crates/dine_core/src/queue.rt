@@ -2,7 +2,7 @@
 ghost use Rattle.std.specs.Prelude.{◌≡◌, ◌<◌, ◌++◌, ◌∷◌, [], IfOk, drop, length, slice_get, option_map};
 ghost use Rattle.dine_core.specs.Forks.{behind_fork, first_fork};
 
-use crate::letters::Letter;
+use dine_rules::Letter;
 use dine_token::Fork;
 use std::alloc::{AllocError, Global};
 use std::collections::VecDeque;
@@ -20,7 +20,7 @@ pub(crate) struct Queue {
 impl Model for Queue {
     ghost use Rattle.std.specs.Prelude.{◌≤◌, List};
     ghost use Rattle.std.specs.VecDeque.{deque_capacity};
-    ghost use Rattle.dine_core.specs.declared.letters.Letter.{Letter};
+    ghost use Rattle.dine_rules.specs.declared.letters.Letter.{Letter};
 
     ghost Value = { List Letter };
 

@@ -2,20 +2,20 @@ ghost use Rattle.std.specs.Prelude.{◌≡◌, ◌≢◌, ℕ, ◌<◌, ◌==◌
 ghost use Rattle.std.specs.List.{list_all};
 ghost use Rattle.dine_token.specs.Fork.{eaten};
 ghost use Rattle.dine_plan.specs.Plan.{SeenPlan, site_count, edges_of};
-ghost use Rattle.dine_core.specs.Letters.{has_close};
-ghost use Rattle.dine_core.specs.Local.{LocalState, start_of, traffic_at, is_eating};
-ghost use Rattle.dine_core.specs.Holdings.{fork_at, token_at};
-ghost use Rattle.dine_core.specs.Steps as step;
-ghost use Rattle.dine_core.specs.Steps.{after};
+ghost use Rattle.dine_rules.specs.Letters.{has_close};
+ghost use Rattle.dine_rules.specs.Local.{LocalState, start_of, traffic_at, is_eating};
+ghost use Rattle.dine_rules.specs.Holdings.{fork_at, token_at};
+ghost use Rattle.dine_rules.specs.Steps as step;
+ghost use Rattle.dine_rules.specs.Steps.{after};
 ghost use Rattle.dine_core.specs.Core.{SeenCore, StandsFor, forks_in_hand, fresh_forks, fresh_tokens};
 ghost use Rattle.dine_core.specs.Places.{place_at, is_held, can_give, can_ask, can_hunger, can_begin, can_end_done, can_close, is_ready_at, is_over_at, is_closed_at, has_all_said, has_all_closed, breach_at, hungered, asked, gave, begun, ended, said_done, closed, took, forks_of, tokens_of, IsMealOf};
 ghost use Rattle.dine_core.specs.Forks.{hand_of};
 ghost use Rattle.dine_core.specs.Numbers.{link_to, link_from};
 ghost use Rattle.dine_core.specs.Standing.{ForEachState, TellsMay, Steps, Puts, TellsBreach, AreForksInHand, AreTokensInHand, all_places, has_finished, has_closed};
 
-use crate::breach::Breach;
-use crate::letters::Letter;
-use crate::phase::Phase;
+use dine_rules::Breach;
+use dine_rules::Letter;
+use dine_rules::Phase;
 use crate::places::{ForkSlot, Place};
 use crate::{meals, opening};
 use dine_plan::Plan;

@@ -10,8 +10,8 @@ mod runs;
 mod tests;
 
 use crate::acts;
-use crate::events::Event;
-use crate::phase::Phase;
+use dine_rules::Event;
+use dine_rules::Phase;
 use crate::queue::Queue;
 use crate::seats::Seat;
 use dine_plan::Plan;
@@ -57,8 +57,8 @@ impl Model for World {
 }
 
 impl World {
-    ghost use Rattle.dine_core.specs.Bound.{bound_of};
-    ghost use Rattle.dine_core.specs.World.{is_enabled, start};
+    ghost use Rattle.dine_rules.specs.Bound.{bound_of};
+    ghost use Rattle.dine_rules.specs.World.{is_enabled, start};
     ghost use Rattle.dine_core.specs.Worlds.{ForEachWorld, Happens, IsWorldOf, can_happen};
 
     /// The world of the plan before its first event. It takes memory for all that comes, once, and fails where that is refused.

@@ -1,10 +1,10 @@
 // The enabled events, in the fixed order: by site, and within a site by kind.
 ghost use Rattle.std.specs.Prelude.{◌≡◌, ◌+◌, ◌*◌, ◌<◌, ◌≤◌, Some, filter, length, slice_get};
 ghost use Rattle.std.specs.List.{range_with_len};
-ghost use Rattle.dine_core.specs.World.{kinds_at};
+ghost use Rattle.dine_rules.specs.World.{kinds_at};
 
 use super::World;
-use crate::events::{Event, EventKind};
+use dine_rules::{Event, EventKind};
 
 // What comes of the search for the `n`-th of some events: the event, or how many more are to be passed over after all of them.
 enum Sought {
@@ -14,7 +14,7 @@ enum Sought {
 
 impl World {
     ghost use Rattle.dine_plan.specs.Plan.{edges_of};
-    ghost use Rattle.dine_core.specs.World.{enabled_events, events_at, is_enabled};
+    ghost use Rattle.dine_rules.specs.World.{enabled_events, events_at, is_enabled};
     ghost use Rattle.dine_core.specs.Sought.{IsSought};
     ghost use Rattle.dine_core.specs.Worlds.{ForEachWorld};
 

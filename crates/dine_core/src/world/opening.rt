@@ -2,12 +2,12 @@
 ghost use Rattle.std.specs.Prelude.{◌≡◌, ◌<◌, ◌≤◌, ◌+◌, ◌*◌, List, [], All, IfOk, map, length, sum};
 ghost use Rattle.std.specs.List.{range_with_len};
 ghost use Rattle.dine_plan.specs.Plan.{edge_count, edges_of, job_count, site_count};
-ghost use Rattle.dine_core.specs.Bound.{bound_of, meals_due};
-ghost use Rattle.dine_core.specs.declared.letters.Letter.{Letter};
+ghost use Rattle.dine_rules.specs.Bound.{bound_of, meals_due};
+ghost use Rattle.dine_rules.specs.declared.letters.Letter.{Letter};
 ghost use Rattle.dine_core.specs.Core.{fresh_forks as own_forks, fresh_tokens as own_tokens};
-ghost use Rattle.dine_core.specs.Local.{start_of};
+ghost use Rattle.dine_rules.specs.Local.{start_of};
 ghost use Rattle.dine_core.specs.Seats.{IsAwake, IsSeatOf};
-ghost use Rattle.dine_core.specs.World.{start};
+ghost use Rattle.dine_rules.specs.World.{start};
 ghost use Rattle.dine_core.specs.Worlds.{SeatsStand, ends_seen};
 
 use super::EdgeEnds;

@@ -3,9 +3,9 @@
 use super::World;
 
 impl World {
-    ghost use Rattle.dine_core.specs.Bound.{bound_of};
-    ghost use Rattle.dine_core.specs.Schedules.{finish_within, from_here, replay};
-    ghost use Rattle.dine_core.specs.World.{IsComplete};
+    ghost use Rattle.dine_rules.specs.Bound.{bound_of};
+    ghost use Rattle.dine_rules.specs.Schedules.{finish_within, from_here, replay};
+    ghost use Rattle.dine_rules.specs.World.{IsComplete};
     ghost use Rattle.dine_core.specs.Worlds.{ForEachWorld, RunsTo};
 
     /// Does for each choice in turn the enabled event with that number, from 0. A choice with none does nothing and is passed

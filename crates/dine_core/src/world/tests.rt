@@ -4,8 +4,8 @@ mod model;
 mod side_by_side;
 
 use super::{NotEnabled, World};
-use crate::events::{Event, EventKind};
-use crate::phase::Phase;
+use dine_rules::{Event, EventKind};
+use dine_rules::Phase;
 use dine_plan::{Plan, read_plan};
 use dine_token::{Entry, Fork};
 use std::alloc::{AllocError, Global};

@@ -2,12 +2,12 @@ use Rattle.std.proofs.Common.{◌≡◌, ◌<◌, ℕ, ◌+◌, ◌&&◌, nat_lt
 use Rattle.std.proofs.lemmas.Option.{same_Some}
 use Rattle.std.proofs.lemmas.Grind.{common_steps}
 use Rattle.dine_token.specs.Meal.{SeenMeal}
-use Rattle.dine_core.specs.declared.letters.Letter.TheVariants as letter
-use Rattle.dine_core.specs.declared.events.EventKind.{EventKind}
-use Rattle.dine_core.specs.declared.events.EventKind.TheVariants as event
-use Rattle.dine_core.specs.Local.{LocalState}
-use Rattle.dine_core.specs.Steps.{Step, after, may, with_taken}
-use Rattle.dine_core.specs.Steps as step
+use Rattle.dine_rules.specs.declared.letters.Letter.TheVariants as letter
+use Rattle.dine_rules.specs.declared.events.EventKind.{EventKind}
+use Rattle.dine_rules.specs.declared.events.EventKind.TheVariants as event
+use Rattle.dine_rules.specs.Local.{LocalState}
+use Rattle.dine_rules.specs.Steps.{Step, after, may, with_taken}
+use Rattle.dine_rules.specs.Steps as step
 use Rattle.dine_core.specs.Core.{SeenCore, StandsFor, forks_in_hand}
 use Rattle.dine_core.specs.Numbers.{link_from}
 use Rattle.dine_core.specs.Places.{breach_at, can_close, can_end_done, place_at}

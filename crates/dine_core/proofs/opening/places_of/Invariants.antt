@@ -1,7 +1,7 @@
 use Rattle.std.proofs.Common.{◌≡◌, map, take, drop, length, vec_capacity}
 use Rattle.dine_core.specs.Core.{fresh_forks, fresh_tokens, kept_of}
-use Rattle.dine_core.specs.Local.{no_traffic}
-use Rattle.dine_core.specs.declared.phase.Phase.TheVariants.{Thinking}
+use Rattle.dine_rules.specs.Local.{no_traffic}
+use Rattle.dine_rules.specs.declared.phase.Phase.TheVariants.{Thinking}
 use Rattle.dine_core.proofs.opening.places_of.Given as goal
 
 -- the places of the edges so far are made, and the forks and tokens of the others are left

@@ -1,6 +1,6 @@
 //! A plan by its numbers alone.
 
-use crate::events::{Event, EventKind};
+use dine_rules::{Event, EventKind};
 
 /// How many jobs each site has, and the two ends of each edge, either first.
 #[derive(Clone, Copy)]

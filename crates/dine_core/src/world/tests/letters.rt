@@ -1,6 +1,6 @@
 //! Letters and lists of letters, as the rules look at them.
 
-use crate::letters::Kind4;
+use dine_rules::Kind4;
 use dine_token::Entry;
 
 /// A letter. A Fork has its log.

@@ -1,6 +1,6 @@
 use Rattle.std.proofs.Common.{◌≡◌, ℕ, Some, ap, arith}
 use Rattle.std.proofs.lemmas.Grind.{common_steps}
-use Rattle.dine_core.specs.declared.letters.Letter.TheVariants.{Request}
+use Rattle.dine_rules.specs.declared.letters.Letter.TheVariants.{Request}
 use Rattle.dine_core.specs.Places.{place_at}
 use Rattle.dine_core.proofs.Stands.{puts, stands-asked, token_held}
 use Rattle.dine_core.proofs.site_core.SiteCore.ask.Goals as goal

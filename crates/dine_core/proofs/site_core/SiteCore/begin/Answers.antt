@@ -6,7 +6,7 @@ use Rattle.dine_token.specs.Fork.{MayEat, eaten}
 use Rattle.dine_core.specs.declared.places.Place.{Place}
 use Rattle.dine_core.specs.Kept.{seen}
 use Rattle.dine_core.specs.Core.{SeenCore, StandsFor}
-use Rattle.dine_core.specs.Steps.{after, Begin}
+use Rattle.dine_rules.specs.Steps.{after, Begin}
 use Rattle.dine_core.specs.Places.{can_begin, forks_of, lifted, begun, IsMealOf, IsSound}
 use Rattle.dine_core.proofs.Eating.{all_may_eat, forks_are_all, length_map_place, fork_at_place, is_meal, sound_begun, stands_begun, in_hand_begun}
 use Rattle.dine_core.proofs.site_core.SiteCore.begin.Goals as goal

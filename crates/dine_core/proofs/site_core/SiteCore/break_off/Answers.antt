@@ -1,6 +1,6 @@
 use Rattle.std.proofs.Common.{refl, arith}
 use Rattle.std.proofs.lemmas.Grind.{common_steps}
-use Rattle.dine_core.specs.declared.letters.Letter.TheVariants.{Close}
+use Rattle.dine_rules.specs.declared.letters.Letter.TheVariants.{Close}
 use Rattle.dine_core.proofs.Stands.{puts, stands-closed}
 use Rattle.dine_core.proofs.site_core.SiteCore.break_off.Goals as goal
 

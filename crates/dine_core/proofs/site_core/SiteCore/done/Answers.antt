@@ -1,6 +1,6 @@
 use Rattle.std.proofs.Common.{refl, arith}
 use Rattle.std.proofs.lemmas.Grind.{common_steps}
-use Rattle.dine_core.specs.declared.letters.Letter.TheVariants.{Done}
+use Rattle.dine_rules.specs.declared.letters.Letter.TheVariants.{Done}
 use Rattle.dine_core.proofs.Stands.{puts, stands-said_done}
 use Rattle.dine_core.proofs.site_core.SiteCore.done.Goals as goal
 

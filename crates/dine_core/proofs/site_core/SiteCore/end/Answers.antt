@@ -1,10 +1,10 @@
 use Rattle.std.proofs.Common.{◌≡◌, ◌++◌, take, drop, true, List, length, vec_capacity, sym, ap, subst, arith}
 use Rattle.std.proofs.lemmas.Grind.{common_steps}
 use Rattle.dine_core.specs.declared.places.Place.{Place}
-use Rattle.dine_core.specs.Local.{is_eating}
+use Rattle.dine_rules.specs.Local.{is_eating}
 use Rattle.dine_core.specs.Kept.{seen}
 use Rattle.dine_core.specs.Core.{SeenCore, StandsFor}
-use Rattle.dine_core.specs.Steps.{after, End}
+use Rattle.dine_rules.specs.Steps.{after, End}
 use Rattle.dine_core.specs.Places.{laid_down, ended, IsMealOf, IsSound}
 use Rattle.dine_core.proofs.Ending.{sound_ended, stands_ended}
 use Rattle.dine_core.proofs.site_core.SiteCore.end.Goals as goal

@@ -1,9 +1,9 @@
 use Rattle.std.proofs.Common.{◌≡◌, ℕ, false, sym, subst, arith}
 use Rattle.std.proofs.lemmas.Grind.{common_steps}
 use Rattle.dine_token.specs.Fork.{SeenFork, moved}
-use Rattle.dine_core.specs.declared.letters.Letter.TheVariants.{Fork}
+use Rattle.dine_rules.specs.declared.letters.Letter.TheVariants.{Fork}
 use Rattle.dine_core.specs.declared.places.Place.{Place}
-use Rattle.dine_core.specs.Local.{is_eating}
+use Rattle.dine_rules.specs.Local.{is_eating}
 use Rattle.dine_core.specs.Kept.{seen}
 use Rattle.dine_core.specs.Places.{place_at, no_place, neighbour_of, OnHere, IsSoundPlace}
 use Rattle.dine_core.proofs.Sound.{sound_with_place, sound_away}

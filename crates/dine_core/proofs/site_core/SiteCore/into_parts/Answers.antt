@@ -1,6 +1,6 @@
 use Rattle.std.proofs.Common.{◌≡◌, false, sym, ◌∙◌, ap, arith}
 use Rattle.std.proofs.lemmas.Grind.{common_steps}
-use Rattle.dine_core.specs.Local.{is_eating}
+use Rattle.dine_rules.specs.Local.{is_eating}
 use Rattle.dine_core.proofs.Ranges.{forks_by_lists, tokens_by_lists}
 use Rattle.dine_core.proofs.site_core.SiteCore.into_parts.Goals as goal
 

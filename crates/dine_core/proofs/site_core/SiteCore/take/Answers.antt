@@ -1,7 +1,7 @@
 use Rattle.std.proofs.Common.{◌≡◌, Some, sym, ◌∙◌, subst, arith}
 use Rattle.std.proofs.lemmas.Grind.{common_steps}
 use Rattle.dine_core.specs.Core.{SeenCore, StandsFor}
-use Rattle.dine_core.specs.Steps.{with_taken}
+use Rattle.dine_rules.specs.Steps.{with_taken}
 use Rattle.dine_core.specs.Kept.{seen}
 use Rattle.dine_core.specs.Places.{place_at, no_place, breach_at, IsSoundPlace}
 use Rattle.dine_core.proofs.Sound.{sound_with_place, sound_noted}

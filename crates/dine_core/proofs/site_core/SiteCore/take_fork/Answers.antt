@@ -1,6 +1,6 @@
 use Rattle.std.proofs.Common.{◌≡◌, false, sym, subst, arith}
 use Rattle.std.proofs.lemmas.Grind.{common_steps}
-use Rattle.dine_core.specs.Local.{is_eating}
+use Rattle.dine_rules.specs.Local.{is_eating}
 use Rattle.dine_core.specs.Kept.{seen}
 use Rattle.dine_core.specs.Places.{place_at, no_place, IsSoundPlace}
 use Rattle.dine_core.proofs.Sound.{sound_with_place, sound_away}

@@ -1,6 +1,6 @@
 use Rattle.std.proofs.Common.{◌≡◌, ◌≤◌}
 use Rattle.dine_core.specs.Worlds.{can_happen}
-use Rattle.dine_core.proofs.Choices.{choices, passed}
+use Rattle.dine_rules.proofs.KindNumbers.{choices, passed}
 use Rattle.dine_core.proofs.world.World.count_at.Given as goal
 
 -- so many of the events passed over are enabled

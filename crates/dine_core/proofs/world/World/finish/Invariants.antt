@@ -1,7 +1,7 @@
 use Rattle.std.proofs.Common.{◌≡◌, ◌≤◌}
 use Rattle.dine_plan.specs.Plan.{SeenPlan}
-use Rattle.dine_core.specs.Bound.{bound_of}
-use Rattle.dine_core.specs.World.{WorldState}
+use Rattle.dine_rules.specs.Bound.{bound_of}
+use Rattle.dine_rules.specs.World.{WorldState}
 use Rattle.dine_core.specs.Worlds.{IsWorldOf}
 use Rattle.dine_core.proofs.WorldRuns.{IsUnderWay}
 use Rattle.dine_core.proofs.world.World.finish.Given as goal

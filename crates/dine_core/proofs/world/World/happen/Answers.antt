@@ -1,6 +1,6 @@
 use Rattle.std.proofs.Common.{◌≡◌, ◌++◌, true, List, drop, length, slice_set, take, sym, ◌∙◌, ap, subst, arith}
 use Rattle.std.proofs.lemmas.Grind.{common_steps}
-use Rattle.dine_core.specs.declared.letters.Letter.{Letter}
+use Rattle.dine_rules.specs.declared.letters.Letter.{Letter}
 use Rattle.dine_core.specs.Seats.{Does, HasRoomFor, TakesInTurn, can_do}
 use Rattle.dine_core.specs.WorldKept.{seen_world}
 use Rattle.dine_core.specs.Worlds.{HappensTo, IsWorldOf, SeenWorld, can_happen}

@@ -2,7 +2,7 @@ use Rattle.std.proofs.Common.{◌≡◌, map, List, sym, subst, arith}
 use Rattle.std.proofs.lemmas.Grind.{common_steps}
 use Rattle.std.specs.List.{All}
 use Rattle.dine_token.specs.Fork.{SeenFork}
-use Rattle.dine_core.specs.declared.letters.Letter.{Letter}
+use Rattle.dine_rules.specs.declared.letters.Letter.{Letter}
 use Rattle.dine_core.specs.declared.seats.Seat.{Seat}
 use Rattle.dine_core.specs.declared.world.EdgeEnds.{EdgeEnds}
 use Rattle.dine_core.specs.Forks.{HasAllForks, AreForksOf, woken}

@@ -1,7 +1,7 @@
 use Rattle.std.proofs.Common.{arith, ap, length}
 use Rattle.std.proofs.lemmas.List.FromFn.{length-map-range_with_len}
 use Rattle.dine_plan.specs.Plan.{edge_count}
-use Rattle.dine_core.specs.World.{start}
+use Rattle.dine_rules.specs.World.{start}
 use Rattle.dine_core.specs.Worlds.{ends_seen}
 use Rattle.dine_core.proofs.WorldOpened.{opened}
 use Rattle.dine_core.proofs.world.World.open.Goals as goal

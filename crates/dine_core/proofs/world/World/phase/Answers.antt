@@ -1,5 +1,5 @@
 use Rattle.std.proofs.Common.{◌≡◌, ◌<◌, ◌≤◌, length, get_or, Some, option_map, sym, ap, ◌∙◌, arith}
-use Rattle.dine_core.specs.Local.{LocalState}
+use Rattle.dine_rules.specs.Local.{LocalState}
 use Rattle.dine_core.proofs.WorldOpened.{no_site, a_state, a_core}
 use Rattle.dine_core.proofs.world.World.phase.Goals as goal
 

@@ -1,5 +1,5 @@
 use Rattle.std.proofs.Common.{◌∙◌, ap, arith, slice_get}
-use Rattle.dine_core.proofs.Choices.{kind_ask, kind_close, kind_done, kind_give, kind_take, past_gives, steps}
+use Rattle.dine_rules.proofs.KindNumbers.{kind_ask, kind_close, kind_done, kind_give, kind_take, past_gives, steps}
 use Rattle.dine_core.proofs.world.choices.kind_of.Goals as goal
 
 pub returns-then-rest-degree : goal.returns-then-rest-degree

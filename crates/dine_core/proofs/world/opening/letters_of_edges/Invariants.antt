@@ -1,6 +1,6 @@
 use Rattle.std.proofs.Common.{◌≡◌, ◌≤◌, ◌+◌, ◌*◌, map, sum}
 use Rattle.std.specs.List.{range_with_len}
-use Rattle.dine_core.specs.Bound.{meals_due}
+use Rattle.dine_rules.specs.Bound.{meals_due}
 use Rattle.dine_core.proofs.world.opening.letters_of_edges.Given as goal
 
 -- the letters of the edges so far, at most 8,008 an edge

@@ -1,5 +1,5 @@
 use Rattle.std.proofs.Common.{◌≡◌, ◌≤◌, List, [], All, length, vec_capacity}
-use Rattle.dine_core.specs.declared.letters.Letter.{Letter}
+use Rattle.dine_rules.specs.declared.letters.Letter.{Letter}
 use Rattle.dine_core.proofs.world.opening.links_of.Given as goal
 
 -- the links so far are empty, and there is room for all

@@ -1,5 +1,0 @@
-use Rattle.dine_core.proofs.BreachLaw.{breach_law}
-use Rattle.dine_core.proofs.laws.allowed_letters_meet_no_breach.Goals as goal
-
-pub returns : goal.returns
-returns c = breach_law

@@ -1,5 +1,0 @@
-use Rattle.dine_core.proofs.Persistence.{stays_enabled}
-use Rattle.dine_core.proofs.laws.enabled_events_stay_enabled.Goals as goal
-
-pub returns : goal.returns
-returns c = stays_enabled

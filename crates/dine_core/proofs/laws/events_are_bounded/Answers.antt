@@ -1,5 +1,0 @@
-use Rattle.dine_core.proofs.EffectBounds.{effects_bounded, events_bounded}
-use Rattle.dine_core.proofs.laws.events_are_bounded.Goals as goal
-
-pub returns : goal.returns
-returns c = record { effects = effects_bounded; events = events_bounded }

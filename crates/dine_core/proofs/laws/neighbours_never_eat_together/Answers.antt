@@ -1,5 +1,0 @@
-use Rattle.dine_core.proofs.EatersApart.{eater_holds, eater_alone}
-use Rattle.dine_core.proofs.laws.neighbours_never_eat_together.Goals as goal
-
-pub returns : goal.returns
-returns c = record { holds_all = eater_holds; alone = eater_alone }

@@ -1,5 +1,0 @@
-use Rattle.dine_core.proofs.NextLetters.{reached_no_breach}
-use Rattle.dine_core.proofs.laws.next_letters_meet_no_breach.Goals as goal
-
-pub returns : goal.returns
-returns c = reached_no_breach

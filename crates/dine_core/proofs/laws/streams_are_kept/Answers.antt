@@ -1,6 +1,0 @@
-use Rattle.dine_core.proofs.Site.{start_keeps}
-use Rattle.dine_core.proofs.SiteSteps.{step_keeps}
-use Rattle.dine_core.proofs.laws.streams_are_kept.Goals as goal
-
-pub returns : goal.returns
-returns c = record { start = start_keeps; step = step_keeps }

@@ -1,5 +1,0 @@
-use Rattle.dine_core.proofs.Finishing.{stuck_is_complete}
-use Rattle.dine_core.proofs.laws.stuck_worlds_are_complete.Goals as goal
-
-pub returns : goal.returns
-returns c = stuck_is_complete

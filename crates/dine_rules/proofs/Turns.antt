@@ -1,0 +1,95 @@
+-- A letter in the middle of a stream: what stands before it.
+use Rattle.std.proofs.Common.{◌≡◌, ℕ, ◌+◌, Bool, true, false, cond, not, ◌==◌, List, [], ◌∷◌, ◌++◌, length, slice_get, Some, refl, sym, ◌∙◌, arith}
+use Rattle.std.proofs.lemmas.Bool.{false≢true, true≢false, and_parts, not-true, eqb-true}
+use Rattle.dine_token.specs.Fork.{SeenFork}
+use Rattle.dine_rules.specs.declared.letters.Letter.{Letter}
+use Rattle.dine_rules.specs.declared.letters.Letter.TheVariants.{Fork, Request, Done, Close}
+use Rattle.dine_rules.specs.Letters.{forks_in, requests_in, has_done, has_close}
+use Rattle.dine_rules.specs.Streams.{is_in_turn, is_done_last, is_close_last, is_orderly}
+use Rattle.dine_rules.proofs.Counting.{requests_in-append, has_done-append, or_true}
+
+-- the letter behind a front is at the front's length
+pub slice_get-behind : (xs rest : List Letter) (l : Letter) → slice_get (xs ++ l ∷ rest) (length xs) ≡ Some l
+slice_get-behind [] rest l = refl
+slice_get-behind (x ∷ xs) rest l = slice_get-behind xs rest l
+
+-- before a Request in turn stand as many Forks as Requests, and one more where the stream starts with a Fork
+pub turn_of_request : (fork_next : Bool) (xs rest : List Letter) (edge : ℕ) → is_in_turn fork_next (xs ++ Request edge ∷ rest) ≡ true → cond fork_next 1 0 + requests_in xs ≡ forks_in xs
+turn_of_request true [] rest edge h = absurd (false≢true h)
+turn_of_request false [] rest edge h = refl
+turn_of_request true (Fork fork ∷ xs) rest edge h = omega (arith, turn_of_request false xs rest edge h)
+turn_of_request false (Fork fork ∷ xs) rest edge h = absurd (false≢true h)
+turn_of_request true (Request e ∷ xs) rest edge h = absurd (false≢true h)
+turn_of_request false (Request e ∷ xs) rest edge h = omega (arith, turn_of_request true xs rest edge h)
+turn_of_request true (Done ∷ xs) rest edge h = turn_of_request true xs rest edge h
+turn_of_request false (Done ∷ xs) rest edge h = turn_of_request false xs rest edge h
+turn_of_request true (Close ∷ xs) rest edge h = turn_of_request true xs rest edge h
+turn_of_request false (Close ∷ xs) rest edge h = turn_of_request false xs rest edge h
+
+-- before a Fork in turn stands one Fork less
+pub turn_of_fork : (fork_next : Bool) (xs rest : List Letter) (next : SeenFork) → is_in_turn fork_next (xs ++ Fork next ∷ rest) ≡ true → cond fork_next 1 0 + requests_in xs ≡ forks_in xs + 1
+turn_of_fork true [] rest next h = refl
+turn_of_fork false [] rest next h = absurd (false≢true h)
+turn_of_fork true (Fork fork ∷ xs) rest next h = omega (arith, turn_of_fork false xs rest next h)
+turn_of_fork false (Fork fork ∷ xs) rest next h = absurd (false≢true h)
+turn_of_fork true (Request e ∷ xs) rest next h = absurd (false≢true h)
+turn_of_fork false (Request e ∷ xs) rest next h = omega (arith, turn_of_fork true xs rest next h)
+turn_of_fork true (Done ∷ xs) rest next h = turn_of_fork true xs rest next h
+turn_of_fork false (Done ∷ xs) rest next h = turn_of_fork false xs rest next h
+turn_of_fork true (Close ∷ xs) rest next h = turn_of_fork true xs rest next h
+turn_of_fork false (Close ∷ xs) rest next h = turn_of_fork false xs rest next h
+
+-- no Close stands before another letter
+pub open_before : (xs rest : List Letter) (l : Letter) → is_close_last (xs ++ l ∷ rest) ≡ true → has_close xs ≡ false
+open_before [] rest l h = refl
+open_before (Fork fork ∷ xs) rest l h = open_before xs rest l h
+open_before (Request edge ∷ xs) rest l h = open_before xs rest l h
+open_before (Done ∷ xs) rest l h = open_before xs rest l h
+open_before (Close ∷ []) rest l h = absurd (false≢true h)
+open_before (Close ∷ x ∷ xs) rest l h = absurd (false≢true h)
+
+-- no Done stands before a Request
+pub not_done_before_request : (xs rest : List Letter) (edge : ℕ) → is_done_last (xs ++ Request edge ∷ rest) ≡ true → has_done xs ≡ false
+not_done_before_request [] rest edge h = refl
+not_done_before_request (Fork fork ∷ xs) rest edge h = not_done_before_request xs rest edge h
+not_done_before_request (Request e ∷ xs) rest edge h = not_done_before_request xs rest edge h
+not_done_before_request (Done ∷ xs) rest edge h =
+    let none : requests_in (xs ++ Request edge ∷ rest) ≡ 0 = eqb-true (requests_in (xs ++ Request edge ∷ rest)) 0 (and_parts (not (has_done (xs ++ Request edge ∷ rest))) (requests_in (xs ++ Request edge ∷ rest) == 0) h).1 in
+    absurd (omega (arith, requests_in-append xs (Request edge ∷ rest)))
+not_done_before_request (Close ∷ xs) rest edge h = not_done_before_request xs rest edge h
+
+-- no Done stands before Done
+pub not_done_before_done : (xs rest : List Letter) → is_done_last (xs ++ Done ∷ rest) ≡ true → has_done xs ≡ false
+not_done_before_done [] rest h = refl
+not_done_before_done (Fork fork ∷ xs) rest h = not_done_before_done xs rest h
+not_done_before_done (Request e ∷ xs) rest h = not_done_before_done xs rest h
+not_done_before_done (Done ∷ xs) rest h =
+    absurd (true≢false (sym (has_done-append xs (Done ∷ rest) ∙ or_true (has_done xs)) ∙ not-true (has_done (xs ++ Done ∷ rest)) (and_parts _ _ h).0))
+not_done_before_done (Close ∷ xs) rest h = not_done_before_done xs rest h
+
+-- Done stands before Close where the stream is orderly
+pub done_before_close : (xs rest : List Letter) → is_orderly (xs ++ Close ∷ rest) ≡ true → has_done xs ≡ true
+done_before_close [] rest h = absurd (false≢true h)
+done_before_close (Fork fork ∷ xs) rest h = done_before_close xs rest h
+done_before_close (Request e ∷ xs) rest h = done_before_close xs rest h
+done_before_close (Done ∷ xs) rest h = refl
+done_before_close (Close ∷ xs) rest h = absurd (false≢true h)
+
+-- an orderly stream stays so where any letter but Close follows
+pub is_orderly-push_other : (xs : List Letter) (l : Letter) → has_close (l ∷ []) ≡ false → is_orderly xs ≡ true → is_orderly (xs ++ l ∷ []) ≡ true
+is_orderly-push_other [] (Fork fork) no_close h = refl
+is_orderly-push_other [] (Request edge) no_close h = refl
+is_orderly-push_other [] Done no_close h = refl
+is_orderly-push_other [] Close no_close h = absurd (true≢false no_close)
+is_orderly-push_other (Fork fork ∷ xs) l no_close h = is_orderly-push_other xs l no_close h
+is_orderly-push_other (Request edge ∷ xs) l no_close h = is_orderly-push_other xs l no_close h
+is_orderly-push_other (Done ∷ xs) l no_close h = refl
+is_orderly-push_other (Close ∷ xs) l no_close h = absurd (false≢true h)
+
+-- and where Close follows Done
+pub is_orderly-push_close : (xs : List Letter) → has_done xs ≡ true → is_orderly xs ≡ true → is_orderly (xs ++ Close ∷ []) ≡ true
+is_orderly-push_close [] done h = absurd (false≢true done)
+is_orderly-push_close (Fork fork ∷ xs) done h = is_orderly-push_close xs done h
+is_orderly-push_close (Request edge ∷ xs) done h = is_orderly-push_close xs done h
+is_orderly-push_close (Done ∷ xs) done h = refl
+is_orderly-push_close (Close ∷ xs) done h = absurd (false≢true h)

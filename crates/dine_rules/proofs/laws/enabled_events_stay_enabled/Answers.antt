@@ -1,0 +1,5 @@
+use Rattle.dine_rules.proofs.Persistence.{stays_enabled}
+use Rattle.dine_rules.proofs.laws.enabled_events_stay_enabled.Goals as goal
+
+pub returns : goal.returns
+returns c = stays_enabled

@@ -1,0 +1,5 @@
+use Rattle.dine_rules.proofs.Finishing.{stuck_is_complete}
+use Rattle.dine_rules.proofs.laws.stuck_worlds_are_complete.Goals as goal
+
+pub returns : goal.returns
+returns c = stuck_is_complete

@@ -1,0 +1,56 @@
+-- Small plans, and what their runs come to: each computed from the definitions.
+use Rattle.std.specs.Prelude.{ℕ, ◌==◌, List, [], ◌∷◌, map, replicate, codes, drop, length, if◌then◌else◌}
+use Rattle.std.specs.List.{range_with_len}
+use Rattle.dine_token.specs.declared.entry.Entry.{Entry}
+use Rattle.dine_plan.specs.Plan.{SeenPlan, SeenSite, no_job, edge_count}
+use Rattle.dine_rules.specs.declared.events.Event.{Event}
+use Rattle.dine_rules.specs.declared.letters.Kind4.{Kind4}
+use Rattle.dine_rules.specs.Letters.{kind_of}
+use Rattle.dine_rules.specs.Local.{traffic_at}
+use Rattle.dine_rules.specs.World.{enabled_events, put_to, start, state_of}
+use Rattle.dine_rules.specs.Precedence.{fork_log}
+use Rattle.dine_rules.specs.Schedules.{Counted, replay, whole_run}
+
+-- a site of this name with so many jobs
+abbrev pub site_with : List ℕ → ℕ → SeenSite
+site_with name jobs = record { name = name; jobs = replicate jobs no_job }
+
+-- two sites that an edge joins, with so many jobs each
+abbrev pub pair : ℕ → ℕ → SeenPlan
+pair a b = record { sites = site_with (codes "a") a ∷ site_with (codes "b") b ∷ []; edges = (0, 1) ∷ [] }
+
+-- one site alone, with two jobs
+abbrev pub alone : SeenPlan
+alone = record { sites = site_with (codes "a") 2 ∷ []; edges = [] }
+
+-- three sites in a row, with one job each
+abbrev pub path : SeenPlan
+path = record { sites = site_with (codes "a") 1 ∷ site_with (codes "b") 1 ∷ site_with (codes "c") 1 ∷ []; edges = (0, 1) ∷ (1, 2) ∷ [] }
+
+-- what a run comes to: the log of each edge's fork, and how many events there were
+pub record Outcome : Type 0 where
+  pub logs : List (List Entry)
+  pub events : ℕ
+
+abbrev pub outcome_in : SeenPlan → Counted → Outcome
+outcome_in plan run = record { logs = map (fork_log plan run.world) (range_with_len 0 (edge_count plan)); events = run.events }
+
+-- the choices are taken, and then the first enabled event each time
+abbrev pub outcome_of : SeenPlan → List ℕ → Outcome
+outcome_of plan choices = outcome_in plan (whole_run plan choices)
+
+-- the events that are enabled at the start
+abbrev pub enabled_at_start : SeenPlan → List Event
+enabled_at_start plan = enabled_events plan (start plan)
+
+-- the kinds of the letters that lie in the link to a site at place i, after the choices
+abbrev pub next_after : SeenPlan → List ℕ → ℕ → ℕ → List Kind4
+next_after plan choices s i =
+    let world = (replay plan (record { world = start plan; events = 0 }) choices).world in
+    map kind_of (drop (length (traffic_at (state_of world s) i).taken) (put_to plan world s i))
+
+-- the meals that each site ate in the run of the first enabled events, where nothing is enabled at its end
+abbrev pub ends_complete : SeenPlan → List ℕ
+ends_complete plan =
+    let world = (whole_run plan []).world in
+    if length (enabled_events plan world) == 0 then map (λ state. state.ate) world else []

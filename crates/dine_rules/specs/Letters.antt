@@ -1,0 +1,67 @@
+-- Letters, and lists of letters in the order in which they were put or taken.
+use Rattle.std.specs.Prelude.{ℕ, suc, Bool, true, false, List, [], ◌∷◌}
+use Rattle.dine_token.specs.declared.entry.Entry.{Entry}
+use Rattle.dine_rules.specs.declared.letters.Letter.{Letter}
+use Rattle.dine_rules.specs.declared.letters.Letter.TheVariants.{Fork, Request, Done, Close}
+use Rattle.dine_rules.specs.declared.letters.Kind4.{Kind4}
+use Rattle.dine_rules.specs.declared.letters.Kind4.TheVariants as kind
+
+-- the kind of a letter
+abbrev pub kind_of : Letter → Kind4
+kind_of (Fork fork) = kind.Fork
+kind_of (Request edge) = kind.Request
+kind_of Done = kind.Done
+kind_of Close = kind.Close
+
+-- how many Forks and how many Requests are among the letters
+abbrev pub forks_in : List Letter → ℕ
+forks_in [] = 0
+forks_in (Fork fork ∷ letters) = suc (forks_in letters)
+forks_in (Request edge ∷ letters) = forks_in letters
+forks_in (Done ∷ letters) = forks_in letters
+forks_in (Close ∷ letters) = forks_in letters
+
+abbrev pub requests_in : List Letter → ℕ
+requests_in [] = 0
+requests_in (Fork fork ∷ letters) = requests_in letters
+requests_in (Request edge ∷ letters) = suc (requests_in letters)
+requests_in (Done ∷ letters) = requests_in letters
+requests_in (Close ∷ letters) = requests_in letters
+
+-- Done, or Close, is among the letters
+abbrev pub has_done : List Letter → Bool
+has_done [] = false
+has_done (Fork fork ∷ letters) = has_done letters
+has_done (Request edge ∷ letters) = has_done letters
+has_done (Done ∷ letters) = true
+has_done (Close ∷ letters) = has_done letters
+
+abbrev pub has_close : List Letter → Bool
+has_close [] = false
+has_close (Fork fork ∷ letters) = has_close letters
+has_close (Request edge ∷ letters) = has_close letters
+has_close (Done ∷ letters) = has_close letters
+has_close (Close ∷ letters) = true
+
+-- the log of the last Fork among the letters, or `log` where there is none
+abbrev pub last_log_or : List Entry → List Letter → List Entry
+last_log_or log [] = log
+last_log_or log (Fork fork ∷ letters) = last_log_or fork.log letters
+last_log_or log (Request edge ∷ letters) = last_log_or log letters
+last_log_or log (Done ∷ letters) = last_log_or log letters
+last_log_or log (Close ∷ letters) = last_log_or log letters
+
+-- how many Dones and how many Closes are among the letters
+abbrev pub dones_in : List Letter → ℕ
+dones_in [] = 0
+dones_in (Fork fork ∷ letters) = dones_in letters
+dones_in (Request edge ∷ letters) = dones_in letters
+dones_in (Done ∷ letters) = suc (dones_in letters)
+dones_in (Close ∷ letters) = dones_in letters
+
+abbrev pub closes_in : List Letter → ℕ
+closes_in [] = 0
+closes_in (Fork fork ∷ letters) = closes_in letters
+closes_in (Request edge ∷ letters) = closes_in letters
+closes_in (Done ∷ letters) = closes_in letters
+closes_in (Close ∷ letters) = suc (closes_in letters)

@@ -1,0 +1,13 @@
+pub mod Letters
+pub mod Local
+pub mod Holdings
+pub mod Breach
+pub mod Steps
+pub mod Streams
+pub mod Runs
+pub mod World
+pub mod Links
+pub mod Precedence
+pub mod Bound
+pub mod Schedules
+pub mod Examples

@@ -1,0 +1,51 @@
+-- One site, by what it has put and taken.
+use Rattle.std.specs.Prelude.{ℕ, ◌==◌, Bool, true, false, List, [], map, slice_index_or, if◌then◌else◌}
+use Rattle.dine_plan.specs.Plan.{SeenPlan, edges_of, lo_of, hi_of}
+use Rattle.dine_rules.specs.declared.letters.Letter.{Letter}
+use Rattle.dine_rules.specs.declared.phase.Phase.{Phase}
+use Rattle.dine_rules.specs.declared.phase.Phase.TheVariants.{Thinking, Hungry, Eating}
+
+-- all letters that a site has put, and all that it has taken, at one place
+pub record Traffic : Type 0 where
+  pub put : List Letter
+  pub taken : List Letter
+
+-- what the site does, how many meals it began, and its traffic at each place, in edge order
+pub record LocalState : Type 0 where
+  pub phase : Phase
+  pub ate : ℕ
+  pub traffic : List Traffic
+
+-- nothing was put or taken
+abbrev pub no_traffic : Traffic
+no_traffic = record { put = []; taken = [] }
+
+-- the traffic at place i
+abbrev pub traffic_at : LocalState → ℕ → Traffic
+traffic_at state i = slice_index_or state.traffic i no_traffic
+
+-- a site at the start: it thinks, and all its lists are empty
+abbrev pub start_of : SeenPlan → ℕ → LocalState
+start_of plan s = record { phase = Thinking; ate = 0; traffic = map (λ edge. no_traffic) (edges_of plan s) }
+
+abbrev pub is_thinking : Phase → Bool
+is_thinking Thinking = true
+is_thinking _ = false
+
+abbrev pub is_hungry : Phase → Bool
+is_hungry Hungry = true
+is_hungry _ = false
+
+abbrev pub is_eating : Phase → Bool
+is_eating Eating = true
+is_eating _ = false
+
+-- the edge at place i of the site, and the site at its other end
+abbrev pub edge_at : SeenPlan → ℕ → ℕ → ℕ
+edge_at plan s i = slice_index_or (edges_of plan s) i 0
+
+abbrev pub other_end : SeenPlan → ℕ → ℕ → ℕ
+other_end plan s edge = if lo_of plan edge == s then hi_of plan edge else lo_of plan edge
+
+abbrev pub neighbour_at : SeenPlan → ℕ → ℕ → ℕ
+neighbour_at plan s i = other_end plan s (edge_at plan s i)

@@ -1,0 +1,47 @@
+-- Which end of an edge has precedence.
+use Rattle.std.specs.Prelude.{◌≡◌, ℕ, ◌<◌, ◌==◌, Bool, List, ◌++◌, ◌∷◌, [], nat_lt, Option, Some, None, unwrap_or, if◌then◌else◌}
+use Rattle.std.specs.Option.{option_or}
+use Rattle.std.specs.List.{range_with_len}
+use Rattle.std.specs.Prelude.{IsPermutation}
+use Rattle.dine_token.specs.declared.entry.Entry.{Entry}
+use Rattle.dine_token.specs.Log.{is_dirty, location_of}
+use Rattle.dine_plan.specs.Plan.{SeenPlan, site_count, edge_count, lo_of, hi_of}
+use Rattle.dine_rules.specs.Letters.{forks_in, last_log_or}
+use Rattle.dine_rules.specs.Local.{traffic_at, other_end}
+use Rattle.dine_rules.specs.Holdings.{fork_at, hand_at}
+use Rattle.dine_rules.specs.World.{WorldState, state_of, place_of, put_to}
+
+-- the fork is in the link to the site at place i: more Forks were put on it than taken
+abbrev pub is_sent_to : SeenPlan → WorldState → ℕ → ℕ → Bool
+is_sent_to plan world s i = nat_lt (forks_in (traffic_at (state_of world s) i).taken) (forks_in (put_to plan world s i))
+
+-- the log of the fork at the site, in its hand or on the way to it; none where it is not there
+abbrev pub log_near : SeenPlan → WorldState → ℕ → ℕ → Option (List Entry)
+log_near plan world s i =
+    if fork_at plan s (state_of world s) i == 1 then Some (hand_at s (state_of world s) i)
+    else (if is_sent_to plan world s i then Some (last_log_or [] (put_to plan world s i)) else None)
+
+-- the log of the edge's fork, wherever it lies
+abbrev pub fork_log : SeenPlan → WorldState → ℕ → List Entry
+fork_log plan world edge =
+    unwrap_or (option_or (log_near plan world (lo_of plan edge) (place_of plan (lo_of plan edge) edge))
+    (log_near plan world (hi_of plan edge) (place_of plan (hi_of plan edge) edge))) []
+
+-- The preferred end: where the fork's log ends in a Move, the end that it went to, and else the end where the fork is not.
+abbrev pub preferred_in : ℕ → ℕ → List Entry → ℕ
+preferred_in lo hi log = let at = location_of lo log in
+    if is_dirty log then (if at == lo then hi else lo) else at
+
+abbrev pub preferred_end : SeenPlan → WorldState → ℕ → ℕ
+preferred_end plan world edge = preferred_in (lo_of plan edge) (hi_of plan edge) (fork_log plan world edge)
+
+-- a stands before b in the list
+abbrev pub StandsBefore : ℕ → ℕ → List ℕ → Type 0
+StandsBefore a b sites = (front middle rest : List ℕ) × (sites ≡ front ++ a ∷ middle ++ b ∷ rest)
+
+-- Precedence is acyclic: some list of all sites, each once, has the preferred end of each edge before the other end.
+pub record IsAcyclic (plan : SeenPlan) (world : WorldState) : Type 0 where
+  pub order : List ℕ
+  pub each_once : IsPermutation order (range_with_len 0 (site_count plan))
+  pub preferred_first : (edge : ℕ) → edge < edge_count plan
+      → StandsBefore (preferred_end plan world edge) (other_end plan (preferred_end plan world edge) edge) order

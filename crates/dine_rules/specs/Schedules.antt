@@ -1,0 +1,46 @@
+-- Schedules: lists of choices among the enabled events.
+use Rattle.std.specs.Prelude.{ℕ, zero, suc, ◌+◌, List, [], ◌∷◌, Option, Some, None, slice_get, unwrap_or}
+use Rattle.dine_plan.specs.Plan.{SeenPlan}
+use Rattle.dine_rules.specs.declared.events.Event.{Event}
+use Rattle.dine_rules.specs.World.{WorldState, world_after, enabled_events, start}
+use Rattle.dine_rules.specs.Bound.{bound_of}
+
+-- a world, and how many events led to it
+pub record Counted : Type 0 where
+  pub world : WorldState
+  pub events : ℕ
+
+-- a run that starts here
+abbrev pub from_here : WorldState → Counted
+from_here world = record { world = world; events = 0 }
+
+-- the world after its n-th enabled event, from 0; a choice with none does nothing
+abbrev pub chosen : SeenPlan → Counted → Option Event → Counted
+chosen plan now None = now
+chosen plan now (Some e) = record { world = unwrap_or (world_after plan now.world e) now.world; events = now.events + 1 }
+
+abbrev pub choose : SeenPlan → Counted → ℕ → Counted
+choose plan now n = chosen plan now (slice_get (enabled_events plan now.world) n)
+
+-- the world after the choices, one after the other
+abbrev pub replay : SeenPlan → Counted → List ℕ → Counted
+replay plan now [] = now
+replay plan now (n ∷ choices) = replay plan (choose plan now n) choices
+
+-- with an event, the rest of a run after it; without one, nothing more
+abbrev pub carried_on : (Counted → Counted) → SeenPlan → Counted → Option Event → Counted
+carried_on rest plan now None = now
+carried_on rest plan now (Some e) = rest (chosen plan now (Some e))
+
+-- the first enabled event is done until none is, at most so many times
+abbrev pub finish_within : ℕ → SeenPlan → Counted → Counted
+finish_within zero plan now = now
+finish_within (suc n) plan now = carried_on (finish_within n plan) plan now (slice_get (enabled_events plan now.world) 0)
+
+-- the run of the choices and then of the first enabled events
+abbrev pub whole_run : SeenPlan → List ℕ → Counted
+whole_run plan choices = finish_within (bound_of plan) plan (replay plan (from_here (start plan)) choices)
+
+-- the run of the first enabled events alone, from where the choices end
+abbrev pub after_choices : SeenPlan → List ℕ → Counted
+after_choices plan choices = finish_within (bound_of plan) plan (from_here (replay plan (from_here (start plan)) choices).world)

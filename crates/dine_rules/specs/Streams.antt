@@ -1,0 +1,148 @@
+-- The letters of one direction of a link, and what a site promises of those it puts and takes.
+use Rattle.std.specs.Prelude.{◌≡◌, ℕ, ◌+◌, ◌<◌, ◌≤◌, ◌==◌, ◌&&◌, ◌||◌, not, Bool, true, false, List, [], ◌∷◌, ◌++◌, length, slice_get, Some, if◌then◌else◌}
+use Rattle.dine_token.specs.declared.entry.Entry.{Entry}
+use Rattle.dine_token.specs.declared.entry.Entry.TheVariants.{Move}
+use Rattle.dine_token.specs.Fork.{SeenFork, IsFork}
+use Rattle.dine_token.specs.Log.{is_dirty, meals_of}
+use Rattle.dine_token.specs.Lawful.{IsLawful}
+use Rattle.dine_plan.specs.Plan.{SeenPlan, edges_of, job_count, lo_of, hi_of}
+use Rattle.dine_rules.specs.declared.letters.Letter.{Letter}
+use Rattle.dine_rules.specs.declared.letters.Letter.TheVariants.{Fork, Request, Done, Close}
+use Rattle.dine_rules.specs.Letters.{forks_in, requests_in, has_done, last_log_or}
+use Rattle.dine_rules.specs.Local.{LocalState, Traffic, traffic_at, edge_at, neighbour_at, is_thinking, is_hungry}
+use Rattle.dine_rules.specs.Holdings.{fork_at, token_at, hand_at, meals_from}
+use Rattle.dine_rules.specs.Breach.{ends_at, is_fork_of}
+use Rattle.dine_rules.specs.Steps.{Step, Take}
+
+-- Forks and Requests, read without Done and Close, take turns. `fork_next` says which of the two is next.
+abbrev pub is_in_turn : Bool → List Letter → Bool
+is_in_turn fork_next [] = true
+is_in_turn fork_next (Fork fork ∷ letters) = fork_next && is_in_turn false letters
+is_in_turn fork_next (Request edge ∷ letters) = not fork_next && is_in_turn true letters
+is_in_turn fork_next (Done ∷ letters) = is_in_turn fork_next letters
+is_in_turn fork_next (Close ∷ letters) = is_in_turn fork_next letters
+
+-- no Done and no Request stands behind the first Done
+abbrev pub is_done_last : List Letter → Bool
+is_done_last [] = true
+is_done_last (Done ∷ letters) = not (has_done letters) && requests_in letters == 0
+is_done_last (Fork fork ∷ letters) = is_done_last letters
+is_done_last (Request edge ∷ letters) = is_done_last letters
+is_done_last (Close ∷ letters) = is_done_last letters
+
+-- nothing stands behind Close
+abbrev pub is_close_last : List Letter → Bool
+is_close_last [] = true
+is_close_last (Close ∷ []) = true
+is_close_last (Close ∷ letter ∷ letters) = false
+is_close_last (Fork fork ∷ letters) = is_close_last letters
+is_close_last (Request edge ∷ letters) = is_close_last letters
+is_close_last (Done ∷ letters) = is_close_last letters
+
+-- A lawful stream of one direction: the direction from the lower end starts with a Fork, that from the higher with a Request.
+pub record IsLawfulStream (from_lower : Bool) (letters : List Letter) : Type 0 where
+  pub in_turn : is_in_turn from_lower letters ≡ true
+  pub done_last : is_done_last letters ≡ true
+  pub close_last : is_close_last letters ≡ true
+
+-- each Close has a Done before it
+abbrev pub is_orderly : List Letter → Bool
+is_orderly [] = true
+is_orderly (Done ∷ letters) = true
+is_orderly (Close ∷ letters) = false
+is_orderly (Fork fork ∷ letters) = is_orderly letters
+is_orderly (Request edge ∷ letters) = is_orderly letters
+
+-- the logs of the Forks among the letters, in order
+abbrev pub logs_of : List Letter → List (List Entry)
+logs_of [] = []
+logs_of (Fork fork ∷ letters) = fork.log ∷ logs_of letters
+logs_of (Request edge ∷ letters) = logs_of letters
+logs_of (Done ∷ letters) = logs_of letters
+logs_of (Close ∷ letters) = logs_of letters
+
+-- The log is the one before, with meals of the site numbered on from those in it, and the Move to the other end.
+pub record CarriesOn (s to : ℕ) (before log : List Entry) : Type 0 where
+  pub meals : ℕ
+  pub is : log ≡ before ++ meals_from s (meals_of s before + 1) meals ++ Move to ∷ []
+
+-- The same, and at least one meal was added.
+pub record CarriesOnEaten (s to : ℕ) (before log : List Entry) : Type 0 where
+  pub meals : ℕ
+  pub some : 1 ≤ meals
+  pub is : log ≡ before ++ meals_from s (meals_of s before + 1) meals ++ Move to ∷ []
+
+-- The chain of an end: the k-th Fork put carries on the log of the Fork taken before it. The lower end starts with the
+-- empty log, and its first Fork may go without a meal; the higher end puts its first Fork after its first was taken.
+pub record IsChained (s to : ℕ) (from_lower : Bool) (traffic : Traffic) : Type 0 where
+  pub first : from_lower ≡ true → (log : List Entry) → slice_get (logs_of traffic.put) 0 ≡ Some log → CarriesOn s to [] log
+  pub next : from_lower ≡ true → (k : ℕ) (before log : List Entry) → slice_get (logs_of traffic.taken) k ≡ Some before → slice_get (logs_of traffic.put) (k + 1) ≡ Some log → CarriesOnEaten s to before log
+  pub answers : from_lower ≡ false → (k : ℕ) (before log : List Entry) → slice_get (logs_of traffic.taken) k ≡ Some before → slice_get (logs_of traffic.put) k ≡ Some log → CarriesOnEaten s to before log
+
+-- each Fork among the letters is that of the edge, with a lawful log
+abbrev pub AreLawfulForks : SeenPlan → ℕ → List Letter → Type 0
+AreLawfulForks plan edge letters = (k : ℕ) (fork : SeenFork) → slice_get letters k ≡ Some (Fork fork)
+    → (is_fork_of plan edge fork ≡ true) × IsLawful fork.ends fork.due fork.log
+
+-- the lower end starts with the fork, the higher with the token
+abbrev pub is_lower_at : SeenPlan → ℕ → ℕ → Bool
+is_lower_at plan s i = lo_of plan (edge_at plan s i) == s
+
+-- the ends of the edge at place i, and the meals due to them, as a fork has them
+abbrev pub ends_at_place : SeenPlan → ℕ → ℕ → ℕ × ℕ
+ends_at_place plan s i = (lo_of plan (edge_at plan s i), hi_of plan (edge_at plan s i))
+
+abbrev pub due_at_place : SeenPlan → ℕ → ℕ → ℕ × ℕ
+due_at_place plan s i = (job_count plan (lo_of plan (edge_at plan s i)), job_count plan (hi_of plan (edge_at plan s i)))
+
+-- the site waits for the fork, or has it clean in hand: it asked, and did not eat since
+abbrev pub is_owed_a_meal : SeenPlan → ℕ → LocalState → ℕ → Bool
+is_owed_a_meal plan s state i = (fork_at plan s state i == 0 && token_at plan s state i == 0)
+    || (fork_at plan s state i == 1 && not (is_dirty (hand_at s state i)))
+
+-- What a site keeps at one place, whatever letters it is offered.
+pub record KeepsStreamsAt (plan : SeenPlan) (s : ℕ) (state : LocalState) (i : ℕ) : Type 0 where
+  -- what it put is a lawful stream, in a chain, of lawful forks
+  pub put_lawful : IsLawfulStream (is_lower_at plan s i) (traffic_at state i).put
+  pub put_chained : IsChained s (neighbour_at plan s i) (is_lower_at plan s i) (traffic_at state i)
+  pub put_forks : AreLawfulForks plan (edge_at plan s i) (traffic_at state i).put
+  -- Forks and Requests that it took alternate as those of the other end's direction do
+  pub taken_in_turn : is_in_turn (not (is_lower_at plan s i)) (traffic_at state i).taken ≡ true
+  pub taken_forks : AreLawfulForks plan (edge_at plan s i) (traffic_at state i).taken
+  -- each Fork taken was sent here, and the last of them has no meal of the site that it did not eat
+  pub forks_come_here : (k : ℕ) (fork : SeenFork) → slice_get (traffic_at state i).taken k ≡ Some (Fork fork) → ends_at (lo_of plan (edge_at plan s i)) s fork.log ≡ true
+  pub last_within : meals_of s (last_log_or [] (traffic_at state i).taken) ≤ state.ate
+  -- no more is put than came, and at most one fork and one token are here
+  pub forks_counted : fork_at plan s state i + forks_in (traffic_at state i).put ≡ (if is_lower_at plan s i then 1 else 0) + forks_in (traffic_at state i).taken
+  pub tokens_counted : token_at plan s state i + requests_in (traffic_at state i).put ≡ (if is_lower_at plan s i then 0 else 1) + requests_in (traffic_at state i).taken
+  pub one_fork : fork_at plan s state i ≤ 1
+  pub one_token : token_at plan s state i ≤ 1
+  -- a Fork is put for a Request taken, and taken for a Request put
+  pub given_when_asked : forks_in (traffic_at state i).put ≤ requests_in (traffic_at state i).taken
+  pub comes_when_asked : forks_in (traffic_at state i).taken ≤ requests_in (traffic_at state i).put
+  -- a fork in hand has a lawful log, and where it is clean the site is hungry for it
+  pub hand_lawful : fork_at plan s state i ≡ 1 → IsLawful (ends_at_place plan s i) (due_at_place plan s i) (hand_at s state i)
+  pub clean_is_hungry : fork_at plan s state i ≡ 1 → is_dirty (hand_at s state i) ≡ false → is_hungry state.phase ≡ true
+  -- who has neither fork nor token waits, hungry
+  pub waiter_is_hungry : fork_at plan s state i ≡ 0 → token_at plan s state i ≡ 0 → is_hungry state.phase ≡ true
+  -- who was asked for a fork in hand is asked by a neighbour with meals left
+  pub asker_has_left : fork_at plan s state i ≡ 1 → token_at plan s state i ≡ 1 → meals_of (neighbour_at plan s i) (hand_at s state i) < job_count plan (neighbour_at plan s i)
+  -- a Request is put again only after its fork came and was eaten with
+  pub asks_to_eat : requests_in (traffic_at state i).put ≤ state.ate + (if is_owed_a_meal plan s state i then 1 else 0)
+  -- who put Done has eaten all, and thinks
+  pub done_after_all : has_done (traffic_at state i).put ≡ true → state.ate ≡ job_count plan s
+  pub done_thinks : has_done (traffic_at state i).put ≡ true → is_thinking state.phase ≡ true
+  -- where the fork is gone, all meals eaten are in the last Fork put
+  pub all_sent : fork_at plan s state i ≡ 0 → meals_of s (last_log_or [] (traffic_at state i).put) ≡ state.ate
+
+-- What a site keeps: the same at every place, and never more meals than are due.
+pub record KeepsStreams (plan : SeenPlan) (s : ℕ) (state : LocalState) : Type 0 where
+  pub places : (i : ℕ) → i < length state.traffic → KeepsStreamsAt plan s state i
+  pub every_place : length state.traffic ≡ length (edges_of plan s)
+  pub ate_within : state.ate ≤ job_count plan s
+  pub hungry_has_left : is_hungry state.phase ≡ true → state.ate < job_count plan s
+
+-- a fork that is offered is a real one, as each value of its type is; no more is asked of the letters that come
+abbrev pub IsProper : Step → Type 0
+IsProper (Take i (Fork fork)) = IsFork fork
+IsProper _ = Unit {0}

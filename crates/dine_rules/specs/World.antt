@@ -1,0 +1,97 @@
+-- The world of all sites in one thread.
+use Rattle.std.specs.Prelude.{◌≡◌, ℕ, ◌<◌, ◌==◌, ◌&&◌, nat_lt, Bool, true, List, [], ◌∷◌, ◌++◌, map, filter, length, position, slice_get, slice_index_or, slice_set, Option, Some, None, is_some, unwrap_or, option_map, option_and_then, if◌then◌else◌}
+use Rattle.std.specs.List.{flat_map, range_with_len}
+use mathlib.Core.List.{IsPrefix}
+use Rattle.dine_plan.specs.Plan.{SeenPlan, site_count, job_count, edges_of}
+use Rattle.dine_rules.specs.declared.letters.Letter.{Letter}
+use Rattle.dine_rules.specs.declared.events.Event.{Event}
+use Rattle.dine_rules.specs.declared.events.EventKind.{EventKind}
+use Rattle.dine_rules.specs.declared.events.EventKind.TheVariants as event
+use Rattle.dine_rules.specs.declared.phase.Phase.TheVariants.{Thinking}
+use Rattle.dine_rules.specs.Letters.{has_close}
+use Rattle.dine_rules.specs.Local.{LocalState, Traffic, traffic_at, start_of, edge_at, neighbour_at, is_thinking}
+use Rattle.dine_rules.specs.Steps.{Step, may, after, step_by}
+use Rattle.dine_rules.specs.Streams.{is_orderly}
+
+-- one local state a site
+abbrev pub WorldState : Type 0
+WorldState = List LocalState
+
+-- a site past the end
+abbrev pub no_state : LocalState
+no_state = record { phase = Thinking; ate = 0; traffic = [] }
+
+abbrev pub state_of : WorldState → ℕ → LocalState
+state_of world s = slice_index_or world s no_state
+
+-- at the start all sites think and nothing was put or taken
+abbrev pub start : SeenPlan → WorldState
+start plan = map (start_of plan) (range_with_len 0 (site_count plan))
+
+-- the place of an edge in the list of the site's edges
+abbrev pub place_of : SeenPlan → ℕ → ℕ → ℕ
+place_of plan s edge = unwrap_or (position (λ e. e == edge) (edges_of plan s)) 0
+
+-- all letters put on the link to the site at place i, by the other end of its edge
+abbrev pub put_to : SeenPlan → WorldState → ℕ → ℕ → List Letter
+put_to plan world s i = (traffic_at (state_of world (neighbour_at plan s i)) (place_of plan (neighbour_at plan s i) (edge_at plan s i))).put
+
+-- the next letter in the link to the site at place i: the first that was put and not taken
+abbrev pub next_letter : SeenPlan → WorldState → ℕ → ℕ → Option Letter
+next_letter plan world s i = slice_get (put_to plan world s i) (length (traffic_at (state_of world s) i).taken)
+
+-- the step that an event of the site is, by the next letter in the link
+abbrev pub step_of : SeenPlan → WorldState → ℕ → EventKind → Option Step
+step_of plan world s = step_by (next_letter plan world s)
+
+-- the state after a step, where the site may do it
+abbrev pub local_after : SeenPlan → ℕ → LocalState → Step → Option LocalState
+local_after plan s state step = if may plan s state step then Some (after plan s state step) else None
+
+-- the site's state after an event, where the event is enabled
+abbrev pub site_after : SeenPlan → WorldState → ℕ → EventKind → Option LocalState
+site_after plan world s kind = option_and_then (local_after plan s (state_of world s)) (step_of plan world s kind)
+
+-- the world after an event, where the event is enabled: one step at one site
+abbrev pub world_after : SeenPlan → WorldState → Event → Option WorldState
+world_after plan world e = if nat_lt e.site (site_count plan) then option_map (slice_set world e.site) (site_after plan world e.site e.kind) else None
+
+abbrev pub is_enabled : SeenPlan → WorldState → Event → Bool
+is_enabled plan world e = is_some (world_after plan world e)
+
+-- the events that a site of so many places can have, in the fixed order
+abbrev pub kinds_at : List ℕ → List EventKind
+kinds_at places = map event.Take places ++ map event.Give places ++ event.End ∷ event.Begin ∷ event.Hungry ∷ []
+    ++ map event.Ask places ++ map event.Done places ++ map event.Close places
+
+abbrev pub events_at : SeenPlan → ℕ → List Event
+events_at plan s = map (λ kind. record { site = s; kind = kind }) (kinds_at (range_with_len 0 (length (edges_of plan s))))
+
+-- all enabled events, in the fixed order: by site, and within a site as above
+abbrev pub enabled_events : SeenPlan → WorldState → List Event
+enabled_events plan world = filter (is_enabled plan world) (flat_map (events_at plan) (range_with_len 0 (site_count plan)))
+
+-- the world after a list of events, each enabled in its turn
+abbrev pub after_events : SeenPlan → WorldState → List Event → Option WorldState
+after_events plan world [] = Some world
+after_events plan world (e ∷ events) = option_and_then (λ next. after_events plan next events) (world_after plan world e)
+
+-- the events lead from the start to the world
+abbrev pub Reaches : SeenPlan → List Event → WorldState → Type 0
+Reaches plan events world = after_events plan (start plan) events ≡ Some world
+
+-- what a site took at place i is a prefix of what the other end put
+abbrev pub LinksAreOrdered : SeenPlan → WorldState → Type 0
+LinksAreOrdered plan world = (s i : ℕ) → s < site_count plan → i < length (edges_of plan s)
+    → IsPrefix (traffic_at (state_of world s) i).taken (put_to plan world s i)
+
+-- a place is over: the stream that was put is orderly, ends in Close, and so does all that was taken
+abbrev pub is_over : Traffic → Bool
+is_over traffic = (is_orderly traffic.put && has_close traffic.put) && (is_orderly traffic.taken && has_close traffic.taken)
+
+-- The closed whole: every site thinks and ate all its meals, and every link is closed in order and wholly taken.
+pub record IsComplete (plan : SeenPlan) (world : WorldState) : Type 0 where
+  pub all_think : (s : ℕ) → s < site_count plan → is_thinking (state_of world s).phase ≡ true
+  pub all_ate : (s : ℕ) → s < site_count plan → (state_of world s).ate ≡ job_count plan s
+  pub all_over : (s i : ℕ) → s < site_count plan → i < length (edges_of plan s) → is_over (traffic_at (state_of world s) i) ≡ true
+  pub all_taken : (s i : ℕ) → s < site_count plan → i < length (edges_of plan s) → (traffic_at (state_of world s) i).taken ≡ put_to plan world s i

@@ -1,0 +1,217 @@
+//! Laws over the definitions alone. Each function does nothing: its contract is the law.
+
+ghost use Rattle.std.specs.Prelude.{◌≡◌, ◌≢◌, ◌<◌, ◌≤◌, ◌+◌, ◌*◌, ◌↔◌, ℕ, List, [], ◌∷◌, ◌++◌, None, Some, false, length, slice_get, true};
+ghost use Rattle.std.specs.List.{list_any};
+ghost use Rattle.dine_plan.specs.Plan.{IsPlan, SeenPlan, edge_count, hi_of, job_count, lo_of, site_count};
+ghost use Rattle.dine_token.specs.Lawful.{IsLawful};
+ghost use Rattle.dine_token.specs.Log.{meals_of};
+ghost use Rattle.dine_token.specs.declared.entry.Entry.TheVariants.{Meal, Move};
+ghost use Rattle.dine_rules.specs.Bound.{bound_of, effects_of};
+ghost use Rattle.dine_rules.specs.Examples.{alone, enabled_at_start, ends_complete, next_after, outcome_of, pair, path};
+ghost use Rattle.dine_rules.specs.Breach.{first_breach, is_allowed};
+ghost use Rattle.dine_rules.specs.Holdings.{fork_at, token_at};
+ghost use Rattle.dine_rules.specs.Letters.{closes_in, dones_in, forks_in, requests_in};
+ghost use Rattle.dine_rules.specs.Links.{ForEachEdge, ForEachLink, forks_of_edge, queue_to, tokens_of_edge};
+ghost use Rattle.dine_rules.specs.Local.{LocalState, is_eating, neighbour_at, start_of, traffic_at};
+ghost use Rattle.dine_rules.specs.Precedence.{IsAcyclic, fork_log};
+ghost use Rattle.dine_rules.specs.Runs.{AreProper, LeadTo, begins_in, is_give_at};
+ghost use Rattle.dine_rules.specs.Schedules.{after_choices, finish_within, from_here, replay, whole_run};
+ghost use Rattle.dine_rules.specs.Steps.{LocalStep, Step};
+ghost use Rattle.dine_rules.specs.Streams.{IsProper, KeepsStreams};
+ghost use Rattle.dine_rules.specs.World.{LinksAreOrdered, IsComplete, Reaches, WorldState, enabled_events, is_enabled, next_letter, put_to, start, state_of, world_after};
+ghost use Rattle.dine_rules.specs.declared.events.Event.{Event};
+ghost use Rattle.dine_rules.specs.declared.letters.Letter.{Letter};
+ghost use Rattle.dine_rules.specs.declared.events.EventKind.TheVariants.{Hungry};
+ghost use Rattle.dine_rules.specs.declared.letters.Kind4.TheVariants as kind;
+
+/// What the definitions come to on small plans: the log of each edge and the number of events, computed from the list
+/// of choices alone. A choice with no event is passed over.
+pub fn small_plans_run_as_worked()
+    ensures pair { outcome_of (pair 1 1) [] ≡ record { logs = (Meal 0 1 ∷ Move 1 ∷ Meal 1 1 ∷ []) ∷ []; events = 18 } }
+    ensures asked_first { outcome_of (pair 1 1) (1 ∷ 1 ∷ 0 ∷ 0 ∷ []) ≡ record { logs = (Move 1 ∷ Meal 1 1 ∷ Move 0 ∷ Meal 0 1 ∷ []) ∷ []; events = 22 } }
+    ensures passed_over { outcome_of (pair 1 1) (9 ∷ []) ≡ outcome_of (pair 1 1) [] }
+    ensures passed_over_later { outcome_of (pair 1 1) (1 ∷ 1 ∷ 2 ∷ 0 ∷ 0 ∷ []) ≡ outcome_of (pair 1 1) (1 ∷ 1 ∷ 0 ∷ 0 ∷ []) }
+    ensures lower_alone { outcome_of (pair 3 0) [] ≡ record { logs = (Meal 0 1 ∷ Meal 0 2 ∷ Meal 0 3 ∷ []) ∷ []; events = 17 } }
+    ensures higher_alone { outcome_of (pair 0 1) [] ≡ record { logs = (Move 1 ∷ Meal 1 1 ∷ []) ∷ []; events = 15 } }
+    ensures alone { outcome_of alone [] ≡ record { logs = []; events = 6 } }
+    ensures path { outcome_of path [] ≡ record { logs = (Meal 0 1 ∷ Move 1 ∷ Meal 1 1 ∷ []) ∷ (Meal 1 1 ∷ Move 2 ∷ Meal 2 1 ∷ []) ∷ []; events = 33 } }
+{}
+
+/// The bounds of these plans.
+pub fn small_plans_have_these_bounds()
+    ensures pair { bound_of (pair 1 1) ≡ 22 }
+    ensures lower_alone { bound_of (pair 3 0) ≡ 29 }
+    ensures higher_alone { bound_of (pair 0 1) ≡ 15 }
+    ensures alone { bound_of alone ≡ 6 }
+    ensures path { bound_of path ≡ 41 }
+{}
+
+/// At the start both sites of a pair may grow hungry, and nothing else is enabled. After six events of the second
+/// schedule above the link to the higher site has a Fork and then a Request. At the end nothing is enabled, and each
+/// site ate all its meals.
+pub fn pair_goes_as_worked()
+    ensures start { enabled_at_start (pair 1 1) ≡ record { site = 0; kind = Hungry } ∷ record { site = 1; kind = Hungry } ∷ [] }
+    ensures sixth { next_after (pair 1 1) (1 ∷ 1 ∷ 0 ∷ 0 ∷ 0 ∷ 0 ∷ []) 1 0 ≡ kind.Fork ∷ kind.Request ∷ [] }
+    ensures end { ends_complete (pair 1 1) ≡ 1 ∷ 1 ∷ [] }
+{}
+
+/// A site keeps its streams: at the start, and after each step that its state allows, whatever forks it is offered.
+pub fn streams_are_kept()
+    ensures start { (plan : SeenPlan) (s : ℕ) → IsPlan plan → s < site_count plan → KeepsStreams plan s (start_of plan s) }
+    ensures step { (plan : SeenPlan) (s : ℕ) → IsPlan plan → s < site_count plan → (state new : LocalState) (step : Step)
+        → KeepsStreams plan s state → IsProper step → LocalStep plan s state step new → KeepsStreams plan s new }
+{}
+
+/// A site that keeps its streams puts few letters at a place: at most as many Requests as it has jobs, one Fork more than
+/// that, one Done and one Close.
+pub fn few_letters_are_put()
+    ensures requests { (plan : SeenPlan) (s : ℕ) (state : LocalState) (i : ℕ) → KeepsStreams plan s state → i < length state.traffic
+        → requests_in (traffic_at state i).put ≤ job_count plan s }
+    ensures forks { (plan : SeenPlan) (s : ℕ) (state : LocalState) (i : ℕ) → KeepsStreams plan s state → i < length state.traffic
+        → forks_in (traffic_at state i).put ≤ job_count plan s + 1 }
+    ensures dones { (plan : SeenPlan) (s : ℕ) (state : LocalState) (i : ℕ) → KeepsStreams plan s state → i < length state.traffic
+        → dones_in (traffic_at state i).put ≤ 1 }
+    ensures closes { (plan : SeenPlan) (s : ℕ) (state : LocalState) (i : ℕ) → KeepsStreams plan s state → i < length state.traffic
+        → closes_in (traffic_at state i).put ≤ 1 }
+{}
+
+/// A letter is allowed exactly where no breach applies.
+pub fn allowed_letters_meet_no_breach()
+    ensures { (plan : SeenPlan) (s : ℕ) (state : LocalState) (i : ℕ) (letter : Letter)
+        → (is_allowed plan s state i letter ≡ true) ↔ (first_breach plan s state i letter ≡ None) }
+{}
+
+/// Precedence to the asker: in each state that steps lead to from the start, where the forks offered on the way were real
+/// ones, a site that holds the fork and the token of a place begins at most one meal more before it gives the fork away.
+pub fn asker_has_precedence()
+    ensures { (plan : SeenPlan) (s i : ℕ) → IsPlan plan → s < site_count plan → (state new : LocalState) (before steps : List Step)
+        → AreProper before → LeadTo plan s (start_of plan s) before state → i < length state.traffic
+        → fork_at plan s state i ≡ 1 → token_at plan s state i ≡ 1
+        → LeadTo plan s state steps new → list_any (is_give_at i) steps ≡ false → begins_in steps ≤ 1 }
+{}
+
+/// In every world that events reach from the start there is one state for each site, each site keeps its streams, and what an end
+/// took is a prefix of what the other end put.
+pub fn reached_worlds_keep_their_streams()
+    ensures sites { (plan : SeenPlan) (events : List Event) (world : WorldState) → IsPlan plan → Reaches plan events world → length world ≡ site_count plan }
+    ensures streams { (plan : SeenPlan) (events : List Event) (world : WorldState) → IsPlan plan → Reaches plan events world
+        → (s : ℕ) → s < site_count plan → KeepsStreams plan s (state_of world s) }
+    ensures links { (plan : SeenPlan) (events : List Event) (world : WorldState) → IsPlan plan → Reaches plan events world → LinksAreOrdered plan world }
+{}
+
+/// A link holds few letters, in every world that events reach from the start. What was put on it is what was taken from it and
+/// then the letters in it: at most one Fork, one Request, one Done and one Close, and so at most four.
+pub fn links_hold_few_letters()
+    ensures in_order { ForEachLink (λ plan world s i. put_to plan world s i ≡ (traffic_at (state_of world s) i).taken ++ queue_to plan world s i) }
+    ensures forks { ForEachLink (λ plan world s i. forks_in (queue_to plan world s i) ≤ 1) }
+    ensures requests { ForEachLink (λ plan world s i. requests_in (queue_to plan world s i) ≤ 1) }
+    ensures dones { ForEachLink (λ plan world s i. dones_in (queue_to plan world s i) ≤ 1) }
+    ensures closes { ForEachLink (λ plan world s i. closes_in (queue_to plan world s i) ≤ 1) }
+    ensures letters { ForEachLink (λ plan world s i. length (queue_to plan world s i) ≤ 4) }
+{}
+
+/// Each edge has exactly one fork and one token, in every world that events reach from the start: those held at its two ends and
+/// those in the links between them come to one.
+pub fn edges_have_one_fork_and_one_token()
+    ensures fork { ForEachEdge (λ plan world edge. forks_of_edge plan world edge ≡ 1) }
+    ensures token { ForEachEdge (λ plan world edge. tokens_of_edge plan world edge ≡ 1) }
+{}
+
+/// Neighbours never eat at the same time, in every world that events reach from the start: a site that eats holds the fork of
+/// each of its edges.
+pub fn neighbours_never_eat_together()
+    ensures holds_all { ForEachLink (λ plan world s i. is_eating (state_of world s).phase ≡ true → fork_at plan s (state_of world s) i ≡ 1) }
+    ensures alone { ForEachLink (λ plan world s i. is_eating (state_of world s).phase ≡ true → is_eating (state_of world (neighbour_at plan s i)).phase ≡ false) }
+{}
+
+/// The effects of a world that events reach from the start are as many as the events.
+pub fn events_are_counted()
+    ensures { (plan : SeenPlan) (events : List Event) (world : WorldState) → IsPlan plan → Reaches plan events world
+        → effects_of world ≡ length events }
+{}
+
+/// No more events than the bound of the plan lead from the start to a world, and its effects are within the bound.
+pub fn events_are_bounded()
+    ensures effects { (plan : SeenPlan) (events : List Event) (world : WorldState) → IsPlan plan → Reaches plan events world
+        → effects_of world ≤ bound_of plan }
+    ensures events { (plan : SeenPlan) (events : List Event) (world : WorldState) → IsPlan plan → Reaches plan events world
+        → length events ≤ bound_of plan }
+{}
+
+/// An event that is enabled in a world stays enabled after each event of another site.
+pub fn enabled_events_stay_enabled()
+    ensures { (plan : SeenPlan) (world new : WorldState) (e other : Event)
+        → is_enabled plan world e ≡ true → world_after plan world other ≡ Some new → e.site ≢ other.site → is_enabled plan new e ≡ true }
+{}
+
+/// The list of enabled events has each enabled event, in every world that events reach from the start. In every world it has no
+/// event that is not enabled, and none at two places.
+pub fn enabled_events_are_all_listed()
+    ensures all { (plan : SeenPlan) (events : List Event) (world : WorldState) (e : Event) → IsPlan plan → Reaches plan events world
+        → is_enabled plan world e ≡ true → (n : ℕ) × (slice_get (enabled_events plan world) n ≡ Some e) }
+    ensures only { (plan : SeenPlan) (world : WorldState) (e : Event) (n : ℕ)
+        → slice_get (enabled_events plan world) n ≡ Some e → is_enabled plan world e ≡ true }
+    ensures once { (plan : SeenPlan) (world : WorldState) (e : Event) (n m : ℕ)
+        → slice_get (enabled_events plan world) n ≡ Some e → slice_get (enabled_events plan world) m ≡ Some e → n ≡ m }
+{}
+
+/// No letter of the world meets a breach, in every world that events reach from the start: the letter that is next in a link is
+/// one that the site may take.
+pub fn next_letters_meet_no_breach()
+    ensures { ForEachLink (λ plan world s i. (letter : Letter) → next_letter plan world s i ≡ Some letter → first_breach plan s (state_of world s) i letter ≡ None) }
+{}
+
+/// Precedence is acyclic in each world that events reach from the start: some list of all sites, each once, has the
+/// preferred end of each edge before the other end.
+pub fn precedence_is_acyclic()
+    ensures { (plan : SeenPlan) (events : List Event) (world : WorldState) → IsPlan plan → Reaches plan events world
+        → IsAcyclic plan world }
+{}
+
+/// A world that is stuck is complete: where events reach a world from the start and no event is enabled in it, every site
+/// thinks and ate all its meals, and every link is closed in order and wholly taken.
+pub fn stuck_worlds_are_complete()
+    ensures { (plan : SeenPlan) (events : List Event) (world : WorldState) → IsPlan plan → Reaches plan events world
+        → enabled_events plan world ≡ [] → IsComplete plan world }
+{}
+
+/// A run that does the first enabled event again and again, at most as many times as the bound of the plan, ends in a world
+/// where no event is enabled and which is complete: from each world that events reach from the start, and as the end of a
+/// whole run, after any choices.
+pub fn finished_runs_are_complete()
+    ensures halts { (plan : SeenPlan) (events : List Event) (world : WorldState) → IsPlan plan → Reaches plan events world
+        → enabled_events plan (finish_within (bound_of plan) plan (record { world = world; events = 0 })).world ≡ [] }
+    ensures complete { (plan : SeenPlan) (events : List Event) (world : WorldState) → IsPlan plan → Reaches plan events world
+        → IsComplete plan (finish_within (bound_of plan) plan (record { world = world; events = 0 })).world }
+    ensures whole_run_halts { (plan : SeenPlan) (choices : List ℕ) → IsPlan plan → enabled_events plan (whole_run plan choices).world ≡ [] }
+    ensures whole_run_complete { (plan : SeenPlan) (choices : List ℕ) → IsPlan plan → IsComplete plan (whole_run plan choices).world }
+{}
+
+/// A whole run, after any choices, has as many events as the world at its end has effects, and at most the bound of the plan.
+/// No plan has a greater bound than that of 64 sites with 512 edges and 1,000 jobs each.
+pub fn whole_runs_are_bounded()
+    ensures counted { (plan : SeenPlan) (choices : List ℕ) → IsPlan plan → (whole_run plan choices).events ≡ effects_of (whole_run plan choices).world }
+    ensures bounded { (plan : SeenPlan) (choices : List ℕ) → IsPlan plan → (whole_run plan choices).events ≤ bound_of plan }
+    ensures small { (plan : SeenPlan) → IsPlan plan → bound_of plan ≤ 3 * (64 * 1000) + 512 * 8008 }
+{}
+
+/// A whole run goes on where the choices end: it ends where the first enabled events lead from there, and its events are those
+/// of the choices and those after them.
+pub fn whole_runs_go_on_after_the_choices()
+    ensures world { (plan : SeenPlan) (choices : List ℕ) → (whole_run plan choices).world ≡ (after_choices plan choices).world }
+    ensures events { (plan : SeenPlan) (choices : List ℕ) → (whole_run plan choices).events ≡ (replay plan (from_here (start plan)) choices).events + (after_choices plan choices).events }
+{}
+
+/// The log of each edge's fork is lawful, in every world that events reach from the start and wherever the fork lies: in hand, in
+/// a meal or in a link. Where the world is complete, the log has all meals of both ends. So at the end of a whole run, after any
+/// choices, each log is lawful and has all meals of both ends.
+pub fn forks_are_lawful_and_whole()
+    ensures lawful { ForEachEdge (λ plan world edge. IsLawful (lo_of plan edge, hi_of plan edge) (job_count plan (lo_of plan edge), job_count plan (hi_of plan edge)) (fork_log plan world edge)) }
+    ensures whole { ForEachEdge (λ plan world edge. IsComplete plan world
+        → (meals_of (lo_of plan edge) (fork_log plan world edge) ≡ job_count plan (lo_of plan edge)) × (meals_of (hi_of plan edge) (fork_log plan world edge) ≡ job_count plan (hi_of plan edge))) }
+    ensures run_lawful { (plan : SeenPlan) (choices : List ℕ) (edge : ℕ) → IsPlan plan → edge < edge_count plan
+        → IsLawful (lo_of plan edge, hi_of plan edge) (job_count plan (lo_of plan edge), job_count plan (hi_of plan edge)) (fork_log plan (whole_run plan choices).world edge) }
+    ensures run_whole { (plan : SeenPlan) (choices : List ℕ) (edge : ℕ) → IsPlan plan → edge < edge_count plan
+        → (meals_of (lo_of plan edge) (fork_log plan (whole_run plan choices).world edge) ≡ job_count plan (lo_of plan edge))
+        × (meals_of (hi_of plan edge) (fork_log plan (whole_run plan choices).world edge) ≡ job_count plan (hi_of plan edge)) }
+{}

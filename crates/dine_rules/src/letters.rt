@@ -1,0 +1,41 @@
+ghost use Rattle.std.specs.Prelude.{◌≡◌};
+
+use dine_token::{Fork, Token};
+
+/// What goes over a link.
+#[derive(Drop)]
+pub enum Letter {
+    /// The fork of the edge.
+    Fork(Fork),
+    /// The token of the edge, which asks for its fork.
+    Request(Token),
+    /// The sender will ask no more.
+    Done,
+    /// The sender will send nothing more.
+    Close,
+}
+
+/// The kind of a letter, without its contents.
+#[derive(Clone, Copy, Debug, PartialEq, Eq)]
+pub enum Kind4 {
+    Fork,
+    Request,
+    Done,
+    Close,
+}
+
+impl Letter {
+    ghost use Rattle.dine_rules.specs.Letters.{kind_of};
+
+    /// The kind of the letter.
+    pub fn kind(&self) -> Kind4
+        ensures { result ≡ kind_of self.now }
+    {
+        match self {
+            Letter::Fork(_) => Kind4::Fork,
+            Letter::Request(_) => Kind4::Request,
+            Letter::Done => Kind4::Done,
+            Letter::Close => Kind4::Close,
+        }
+    }
+}

@@ -1,0 +1,13 @@
+//! The rules of the hygienic solution: what goes over a link, what a site may do, and the laws of all runs.
+#![tactic(auto)]
+
+mod breach;
+mod events;
+pub mod laws;
+mod letters;
+mod phase;
+
+pub use breach::Breach;
+pub use events::{Event, EventKind};
+pub use letters::{Kind4, Letter};
+pub use phase::Phase;
