@@ -6,25 +6,25 @@ use Rattle.dine_token.specs.declared.entry.Entry.{Entry}
 use Rattle.dine_token.specs.Fork.{SeenFork}
 use Rattle.dine_token.specs.Log.{meals_of}
 use Rattle.dine_token.specs.Lawful.{due_at}
-use Rattle.dine_plan.specs.Plan.{SeenPlan, job_count, lo_of, hi_of}
+use Rattle.dine_plan.specs.Plan.{SeenPlan, job_count, lo_of, hi_of, other_of}
 use Rattle.dine_rules.specs.declared.letters.Letter.{Letter}
 use Rattle.dine_rules.specs.declared.letters.Letter.TheVariants.{Fork, Request, Done, Close}
 use Rattle.dine_rules.specs.declared.phase.Phase.{Phase}
 use Rattle.dine_rules.specs.declared.phase.Phase.TheVariants.{Thinking, Hungry, Eating}
 use Rattle.dine_rules.specs.declared.breach.Breach.{Breach}
 use Rattle.dine_rules.specs.declared.breach.Breach.TheVariants.{AfterClose, RequestOutOfTurn, ForkOutOfTurn, StrangeFork, DoneOutOfTurn, ClosedEarly}
-use Rattle.dine_core.specs.declared.places.Place.{Place}
-use Rattle.dine_core.specs.declared.places.ForkSlot.TheVariants.{Here}
+use Rattle.dine_core.specs.declared.site.places.Place.{Place}
+use Rattle.dine_core.specs.declared.site.places.ForkSlot.TheVariants.{Here}
 use Rattle.dine_rules.specs.Letters.{requests_in, has_done, has_close}
-use Rattle.dine_rules.specs.Local.{LocalState, traffic_at, edge_at, neighbour_at, other_end, is_eating}
+use Rattle.dine_rules.specs.Local.{LocalState, traffic_at, edge_at, neighbour_at, is_eating}
 use Rattle.dine_rules.specs.Holdings.{fork_at, token_at, hand_at}
-use Rattle.dine_rules.specs.Breach.{is_fork_of, ends_at, first_breach, is_allowed}
+use Rattle.dine_rules.specs.Breach.{is_fork_of, was_sent_to, first_breach, is_allowed}
 use Rattle.dine_rules.specs.Steps.{fork_with, with_taken, may, Take}
 use Rattle.dine_rules.specs.Streams.{KeepsStreams}
 use Rattle.dine_core.specs.Core.{SeenCore, StandsFor}
 use Rattle.dine_core.specs.Places.{place_at, breach_at, took, is_held, IsSoundPlace}
 use Rattle.dine_rules.proofs.Owned.{own_is}
-use Rattle.dine_core.proofs.Kept.{kept_by, slot_by, kept-take_request, kept-take_fork, kept-take_done, kept-take_close}
+use Rattle.dine_core.proofs.PlacesAfter.{kept_by, slot_by, kept-take_request, kept-take_fork, kept-take_done, kept-take_close}
 use Rattle.dine_core.proofs.Sound.{none_of, awake_without}
 use Rattle.dine_core.proofs.Stands.{place_is, stands_at}
 
@@ -61,10 +61,10 @@ unless_closed closed answer = if closed then Some AfterClose else answer
 
 module _ (plan : SeenPlan) (s ate edge : ℕ) (log : List Entry) (dp dt cp ct : Bool) where
   abbrev pub there : ℕ
-  there = other_end plan s edge
+  there = other_of plan edge s
 
   abbrev pub strange : SeenFork → Bool
-  strange fork = not (is_fork_of plan edge fork) || not (ends_at (lo_of plan edge) s fork.log) || not (meals_of s fork.log == ate)
+  strange fork = not (is_fork_of plan edge fork) || not (was_sent_to (lo_of plan edge) s fork.log) || not (meals_of s fork.log == ate)
       || (dt && not (meals_of there fork.log == job_count plan there))
 
   abbrev pub breach_by : ℕ → ℕ → Letter → Option Breach
@@ -97,7 +97,7 @@ module _ (plan : SeenPlan) (s ate edge : ℕ) (log : List Entry) (dp dt cp ct : 
   breach_kept phase zero (suc zero) one_fork one_token (Request e) = refl
   breach_kept phase (suc zero) zero one_fork one_token (Request e) = request_held phase e
   breach_kept phase (suc zero) (suc zero) one_fork one_token (Request e) = refl
-  breach_kept phase zero zero one_fork one_token (Fork f) = ap (λ (n : ℕ). unless_closed ct (fork_answer false (not (is_fork_of plan edge f) || not (ends_at (lo_of plan edge) s f.log) || not (meals_of s f.log == ate)
+  breach_kept phase zero zero one_fork one_token (Fork f) = ap (λ (n : ℕ). unless_closed ct (fork_answer false (not (is_fork_of plan edge f) || not (was_sent_to (lo_of plan edge) s f.log) || not (meals_of s f.log == ate)
       || (dt && not (meals_of there f.log == n))))) due_is
   breach_kept phase zero (suc zero) one_fork one_token (Fork f) = refl
   breach_kept phase (suc zero) token one_fork one_token (Fork f) = fork_held_twice phase token f
@@ -163,7 +163,7 @@ module _ (plan : SeenPlan) (s : ℕ) (state : LocalState) (i : ℕ) where
 
   pub fork_in_turn : (f : SeenFork) → first_breach plan s state i (Fork f) ≡ None
       → (is_allowed plan s state i (Fork f) ≡ true) × ((fork_at plan s state i == 0) ≡ true) × (is_fork_of plan (edge_at plan s i) f ≡ true) × ((meals_of s f.log == state.ate) ≡ true)
-  fork_in_turn f h = fork_turn (has_close (traffic_at state i).taken) (fork_at plan s state i == 0) (token_at plan s state i == 0) (is_fork_of plan (edge_at plan s i) f) (ends_at (lo_of plan (edge_at plan s i)) s f.log)
+  fork_in_turn f h = fork_turn (has_close (traffic_at state i).taken) (fork_at plan s state i == 0) (token_at plan s state i == 0) (is_fork_of plan (edge_at plan s i) f) (was_sent_to (lo_of plan (edge_at plan s i)) s f.log)
       (meals_of s f.log == state.ate) (has_done (traffic_at state i).taken) (meals_of (neighbour_at plan s i) f.log == job_count plan (neighbour_at plan s i)) h
 
   pub allowed_without : (l : Letter) → first_breach plan s state i l ≡ None → is_allowed plan s state i l ≡ true

@@ -12,9 +12,9 @@ use Rattle.dine_rules.specs.declared.events.EventKind.TheVariants as event
 use Rattle.dine_rules.specs.declared.letters.Letter.{Letter}
 use Rattle.dine_rules.specs.declared.phase.Phase.{Phase}
 use Rattle.dine_rules.specs.declared.phase.Phase.TheVariants.{Thinking, Hungry, Eating}
-use Rattle.dine_core.specs.declared.places.ForkSlot.TheVariants.{Away, Here, InMeal}
-use Rattle.dine_core.specs.declared.places.Place.{Place}
-use Rattle.dine_core.specs.declared.seats.Seat.{Seat}
+use Rattle.dine_core.specs.declared.site.places.ForkSlot.TheVariants.{Away, Here, InMeal}
+use Rattle.dine_core.specs.declared.site.places.Place.{Place}
+use Rattle.dine_core.specs.declared.world.sites.WorldSite.{WorldSite}
 use Rattle.dine_rules.specs.Letters.{has_close, has_done}
 use Rattle.dine_rules.specs.Local.{LocalState, edge_at, is_eating, is_hungry, is_thinking, neighbour_at, traffic_at}
 use Rattle.dine_rules.specs.Holdings.{fork_at, hand_at, token_at}
@@ -22,9 +22,9 @@ use Rattle.dine_rules.specs.Breach.{first_breach, is_allowed}
 use Rattle.dine_rules.specs.Steps.{Step, Take, after, fork_with, is_open, may}
 use Rattle.dine_rules.specs.Streams.{KeepsStreams}
 use Rattle.dine_core.specs.Core.{SeenCore, StandsFor}
-use Rattle.dine_core.specs.Numbers.{link_to}
-use Rattle.dine_core.specs.Places.{breach_at, can_ask, can_close, can_end_done, can_give, can_give_at, can_hunger, is_dirty_in_hand, is_held, place_at}
-use Rattle.dine_core.specs.Seats.{IsSeatOf, can_do, letters_in, next_in}
+use Rattle.dine_core.specs.LinkNumbers.{link_to}
+use Rattle.dine_core.specs.Places.{breach_at, can_ask, can_close, can_say_done, can_give, can_give_at, can_hunger, is_dirty_in_hand, is_held, place_at}
+use Rattle.dine_core.specs.WorldSites.{IsSiteOf, can_do, letters_in, next_in}
 use Rattle.dine_rules.specs.World.{WorldState, is_enabled, local_after, next_letter, put_to, site_after, state_of, step_of}
 use Rattle.dine_core.specs.Worlds.{IsWorldOf, SeenWorld, can_at, can_happen, number_to}
 use Rattle.dine_rules.proofs.BreachLaw.{allowed, no_breach}
@@ -32,7 +32,7 @@ use Rattle.dine_core.proofs.Breaches.{breach_is}
 use Rattle.dine_rules.proofs.NextLetters.{reached_allowed}
 use Rattle.dine_core.proofs.Ranges.{and_along, begin_by, not_one}
 use Rattle.dine_core.proofs.Stands.{place_is}
-use Rattle.dine_rules.proofs.WorldKept.{WorldKeeps, reached_kept}
+use Rattle.dine_rules.proofs.WorldStreams.{WorldKeeps, reached_kept}
 
 -- ---- tests over plain values
 
@@ -118,7 +118,7 @@ module _ (plan : SeenPlan) (state : LocalState) (core : SeenCore) (stands : Stan
         ∙ ap (λ (b : Bool). is_hungry state.phase && (token_at plan core.site state i == 1 && fork_at plan core.site state i == 0 && b)) open_is
         ∙ and_regroup (is_hungry state.phase) (token_at plan core.site state i == 1 && fork_at plan core.site state i == 0) (is_open plan core.site state i)
 
-    done_is : can_end_done core i ≡ (is_thinking state.phase && state.ate == job_count plan core.site && (not (has_done (traffic_at state i).put) && is_open plan core.site state i))
+    done_is : can_say_done core i ≡ (is_thinking state.phase && state.ate == job_count plan core.site && (not (has_done (traffic_at state i).put) && is_open plan core.site state i))
     done_is = ap (λ (phase : Phase). is_thinking phase && core.ate == core.due && (not (place_at core i).done_put && not (place_at core i).close_put)) stands.phase
         ∙ ap₂ (λ (a due : ℕ). is_thinking state.phase && a == due && (not (place_at core i).done_put && not (place_at core i).close_put)) stands.ate stands.due
         ∙ ap (λ (p : Place). is_thinking state.phase && state.ate == job_count plan core.site && (not p.done_put && not p.close_put)) (place_is plan state core stands i within)
@@ -206,8 +206,8 @@ is_step plan world s (Some step) = one (may plan s (state_of world s) step) (aft
   one false new = refl
 
 -- the site with a number that is small enough
-seat_at : (seats : List Seat) (s : ℕ) → s < length seats → (seat : Seat) × (slice_get seats s ≡ Some seat) × (get_or seats s seat ≡ seat)
-seat_at seats s h = elim (slice_get_cases seats s).1 [
+site_at : (sites : List WorldSite) (s : ℕ) → s < length sites → (world_site : WorldSite) × (slice_get sites s ≡ Some world_site) × (get_or sites s world_site ≡ world_site)
+site_at sites s h = elim (slice_get_cases sites s).1 [
   | inl w ↦ (w.0, w.2, w.3)
   | inr past ↦ absurd (omega (arith, past.0))
 ]
@@ -216,11 +216,11 @@ module _ (plan : SeenPlan) (world : WorldState) (seen : SeenWorld) (is : IsWorld
   -- an event of a site of the plan
   site_is : (e : Event) → e.site < site_count plan → can_happen seen e ≡ is_enabled plan world e
   site_is e is_site =
-      let w = seat_at seen.seats e.site (omega (arith, is.seats.count)) in
+      let w = site_at seen.sites e.site (omega (arith, is.sites.count)) in
       let core : SeenCore = w.0.core in
-      let site : core.site ≡ e.site = ap (λ (x : Seat). x.core.site) (sym w.2) ∙ is.seats.site e.site w.0 is_site in
-      let seat : IsSeatOf plan (state_of world e.site) w.0 = subst (IsSeatOf plan (state_of world e.site)) w.2 (is.seats.stands e.site w.0 is_site) in
-      let stands : StandsFor plan (state_of world core.site) core = subst (λ (x : ℕ). StandsFor plan (state_of world x) core) (sym site) seat.core in
+      let site : core.site ≡ e.site = ap (λ (x : WorldSite). x.core.site) (sym w.2) ∙ is.sites.site e.site w.0 is_site in
+      let world_site : IsSiteOf plan (state_of world e.site) w.0 = subst (IsSiteOf plan (state_of world e.site)) w.2 (is.sites.stands e.site w.0 is_site) in
+      let stands : StandsFor plan (state_of world core.site) core = subst (λ (x : ℕ). StandsFor plan (state_of world x) core) (sym site) world_site.core in
       ap (can_at seen.links e.kind) w.1
       ∙ kind_is plan world seen is core stands (omega (arith, site)) e.kind
       ∙ ap (λ (x : ℕ). may_be plan x (state_of world x) (step_of plan world x e.kind)) site
@@ -230,7 +230,7 @@ module _ (plan : SeenPlan) (world : WorldState) (seen : SeenWorld) (is : IsWorld
   -- an event of no site
   past_is : (e : Event) → site_count plan ≤ e.site → can_happen seen e ≡ is_enabled plan world e
   past_is e past =
-      ap (can_at seen.links e.kind) (slice_get_past seen.seats e.site (omega (arith, is.seats.count)))
+      ap (can_at seen.links e.kind) (slice_get_past seen.sites e.site (omega (arith, is.sites.count)))
       ∙ ap is_some (sym (cond-false (nat_lt e.site (site_count plan)) (option_map (slice_set world e.site) (site_after plan world e.site e.kind)) None (le-ltb e.site (site_count plan) past)))
 
   pub can_happen_is : (e : Event) → can_happen seen e ≡ is_enabled plan world e

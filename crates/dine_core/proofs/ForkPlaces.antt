@@ -13,9 +13,9 @@ use Rattle.dine_token.specs.declared.entry.Entry.{Entry}
 use Rattle.dine_plan.specs.Plan.{SeenPlan, IsPlan, site_count, edge_count, edges_of, lo_of, hi_of}
 use Rattle.dine_rules.specs.declared.letters.Letter.{Letter}
 use Rattle.dine_rules.specs.declared.letters.Letter.TheVariants.{Fork, Request, Done, Close}
-use Rattle.dine_core.specs.declared.places.Place.{Place}
-use Rattle.dine_core.specs.declared.places.ForkSlot.TheVariants.{Away, Here, InMeal}
-use Rattle.dine_core.specs.declared.seats.Seat.{Seat}
+use Rattle.dine_core.specs.declared.site.places.Place.{Place}
+use Rattle.dine_core.specs.declared.site.places.ForkSlot.TheVariants.{Away, Here, InMeal}
+use Rattle.dine_core.specs.declared.world.sites.WorldSite.{WorldSite}
 use Rattle.dine_core.specs.declared.world.EdgeEnds.{EdgeEnds}
 use Rattle.dine_rules.specs.Breach.{is_fork_of}
 use Rattle.dine_rules.specs.Letters.{forks_in, last_log_or}
@@ -25,14 +25,14 @@ use Rattle.dine_rules.specs.Steps.{fork_with}
 use Rattle.dine_rules.specs.Streams.{KeepsStreams}
 use Rattle.dine_core.specs.Core.{forks_in_hand}
 use Rattle.dine_core.specs.Places.{no_place, place_at}
-use Rattle.dine_core.specs.Seats.{IsSeatOf, FitsSeat, letters_in}
+use Rattle.dine_core.specs.WorldSites.{IsSiteOf, HasOwnMeal, letters_in}
 use Rattle.dine_core.specs.Standing.{all_places}
 use Rattle.dine_rules.specs.World.{WorldState, state_of, place_of, put_to}
 use Rattle.dine_rules.specs.Links.{queue_to}
 use Rattle.dine_rules.specs.Precedence.{is_sent_to, log_near}
-use Rattle.dine_core.specs.Forks.{no_seat, seat_at, no_ends, fork_in_slot, fork_of_seat, first_fork, fork_of_edge, IsPlaceOf, IsEdgeAt, HasAllForks, AreForksOf}
+use Rattle.dine_core.specs.Forks.{absent_site, site_at, no_ends, fork_in_slot, fork_at_site, first_fork, fork_of_edge, IsPlaceOf, IsEdgeAt, HasAllForks, AreForksOf}
 use Rattle.dine_core.specs.declared.world.World.TheInside.{Inside}
-use Rattle.dine_core.specs.WorldKept.{IsKeptWorld, seen_world}
+use Rattle.dine_core.specs.WorldFields.{IsKeptWorld, seen_world}
 use Rattle.dine_core.specs.Worlds.{SeenWorld, IsWorldOf, number_to, ends_seen, fork_seen, forks_seen}
 use Rattle.dine_rules.proofs.Across.{across}
 use Rattle.dine_rules.proofs.Counting.{forks_in-append, last_log_or-append, last_log_or-none, none_or_some}
@@ -41,9 +41,9 @@ use Rattle.dine_rules.proofs.Near.{near_log, put_count}
 use Rattle.dine_rules.proofs.EatersApart.{eats_with_all}
 use Rattle.dine_rules.proofs.EdgeSums.{one_fork_of_edge}
 use Rattle.dine_rules.proofs.Links.{link_holds, link_forks}
-use Rattle.dine_core.proofs.MealFits.{count_is, fits_seat, hand_is}
+use Rattle.dine_core.proofs.MealFits.{count_is, has_own_meal, hand_is}
 use Rattle.dine_rules.proofs.Preference.{is_edge}
-use Rattle.dine_rules.proofs.WorldKept.{WorldKeeps, reached_kept}
+use Rattle.dine_rules.proofs.WorldStreams.{WorldKeeps, reached_kept}
 
 -- ---- at a site
 
@@ -58,17 +58,17 @@ slot_fork false eating meals fork meal i h = refl
 abbrev pub fork_held_at : SeenPlan → ℕ → LocalState → ℕ → Option SeenFork
 fork_held_at plan s state i = if fork_at plan s state i == 1 then Some (fork_with plan (edge_at plan s i) (hand_at s state i)) else None
 
-pub seat_fork : (plan : SeenPlan) (state : LocalState) (seat : Seat) → IsPlan plan → KeepsStreams plan seat.core.site state → EatsWithAll plan seat.core.site state → IsSeatOf plan state seat
-    → (i : ℕ) → i < length seat.core.places → fork_of_seat seat i ≡ fork_held_at plan seat.core.site state i
-seat_fork plan state seat is_plan keeps eats is i within =
-    let s : ℕ = seat.core.site in
+pub world_site_fork : (plan : SeenPlan) (state : LocalState) (world_site : WorldSite) → IsPlan plan → KeepsStreams plan world_site.core.site state → EatsWithAll plan world_site.core.site state → IsSiteOf plan state world_site
+    → (i : ℕ) → i < length world_site.core.places → fork_at_site world_site i ≡ fork_held_at plan world_site.core.site state i
+world_site_fork plan state world_site is_plan keeps eats is i within =
+    let s : ℕ = world_site.core.site in
     let fork : SeenFork = fork_with plan (edge_at plan s i) (hand_at s state i) in
     let forks : List SeenFork = forks_in_hand plan s state (all_places state) in
-    ap (λ (p : Place). fork_in_slot seat.meal i p.fork) (is.core.places i no_place within)
-    ∙ slot_fork (fork_at plan s state i == 1) (is_eating state.phase) (meals_of (neighbour_at plan s i) (hand_at s state i)) fork seat.meal i (λ eating.
+    ap (λ (p : Place). fork_in_slot world_site.meal i p.fork) (is.core.places i no_place within)
+    ∙ slot_fork (fork_at plan s state i == 1) (is_eating state.phase) (meals_of (neighbour_at plan s i) (hand_at s state i)) fork world_site.meal i (λ eating.
     ap (option_and_then (λ (m : SeenMeal). slice_get m.forks i)) (is.meal ∙ cond-true (is_eating state.phase) (Some (record { site = s; k = state.ate; forks = forks })) None eating)
-    ∙ slice_get-get_or forks i fork (omega (arith, within, count_is plan state seat.core is_plan keeps eats is.core eating))
-    ∙ ap (λ (f : SeenFork). Some f) (hand_is plan state seat.core is_plan keeps eats is.core eating i fork within))
+    ∙ slice_get-get_or forks i fork (omega (arith, within, count_is plan state world_site.core is_plan keeps eats is.core eating))
+    ∙ ap (λ (f : SeenFork). Some f) (hand_is plan state world_site.core is_plan keeps eats is.core eating i fork within))
 
 -- ---- in a link
 
@@ -171,43 +171,43 @@ module _ (plan : SeenPlan) (world : WorldState) (seen : SeenWorld) (is : IsWorld
   kept = reached_kept plan is.reached.events world is.reached.is_plan is.reached.reaches
 
   -- each site of the world
-  module _ (s : ℕ) (is_site : s < site_count plan) (past : Seat) where
-    abbrev seat : Seat
-    seat = get_or seen.seats s past
+  module _ (s : ℕ) (is_site : s < site_count plan) (past : WorldSite) where
+    abbrev world_site : WorldSite
+    world_site = get_or seen.sites s past
 
-    same_site : seat.core.site ≡ s
-    same_site = is.seats.site s past is_site
+    same_site : world_site.core.site ≡ s
+    same_site = is.sites.site s past is_site
 
-    pub keeps : KeepsStreams plan seat.core.site (state_of world s)
+    pub keeps : KeepsStreams plan world_site.core.site (state_of world s)
     keeps = subst (λ (x : ℕ). KeepsStreams plan x (state_of world s)) (sym same_site) (kept.keeps s is_site)
 
-    pub eats : EatsWithAll plan seat.core.site (state_of world s)
+    pub eats : EatsWithAll plan world_site.core.site (state_of world s)
     eats = subst (λ (x : ℕ). EatsWithAll plan x (state_of world s)) (sym same_site) (eats_with_all plan is.reached.events world is_plan is.reached.reaches s is_site)
 
     -- its meal fits it
-    pub seat_fits : FitsSeat seat
-    seat_fits = fits_seat plan (state_of world s) seat is_plan keeps eats (is.seats.stands s past is_site)
+    pub world_site_fits : HasOwnMeal world_site
+    world_site_fits = has_own_meal plan (state_of world s) world_site is_plan keeps eats (is.sites.stands s past is_site)
 
     -- its places are those of its edges
-    pub degree_is : length seat.core.places ≡ length (edges_of plan s)
-    degree_is = (is.seats.stands s past is_site).core.degree ∙ (kept.keeps s is_site).every_place
+    pub degree_is : length world_site.core.places ≡ length (edges_of plan s)
+    degree_is = (is.sites.stands s past is_site).core.degree ∙ (kept.keeps s is_site).every_place
 
-    pub edge_is : (i : ℕ) → i < length (edges_of plan s) → (place_at seat.core i).edge ≡ edge_at plan s i
-    edge_is i within = ap (λ (p : Place). p.edge) ((is.seats.stands s past is_site).core.places i no_place (omega (arith, within, degree_is))) ∙ ap (λ (x : ℕ). edge_at plan x i) same_site
+    pub edge_is : (i : ℕ) → i < length (edges_of plan s) → (place_at world_site.core i).edge ≡ edge_at plan s i
+    edge_is i within = ap (λ (p : Place). p.edge) ((is.sites.stands s past is_site).core.places i no_place (omega (arith, within, degree_is))) ∙ ap (λ (x : ℕ). edge_at plan x i) same_site
 
-    seat_has : (i : ℕ) → i < length (edges_of plan s) → fork_of_seat seat i ≡ fork_held_at plan s (state_of world s) i
-    seat_has i within = subst (λ (x : ℕ). fork_of_seat seat i ≡ fork_held_at plan x (state_of world s) i) same_site
-        (seat_fork plan (state_of world s) seat is_plan keeps eats (is.seats.stands s past is_site) i (omega (arith, within, degree_is)))
+    world_site_has : (i : ℕ) → i < length (edges_of plan s) → fork_at_site world_site i ≡ fork_held_at plan s (state_of world s) i
+    world_site_has i within = subst (λ (x : ℕ). fork_at_site world_site i ≡ fork_held_at plan x (state_of world s) i) same_site
+        (world_site_fork plan (state_of world s) world_site is_plan keeps eats (is.sites.stands s past is_site) i (omega (arith, within, degree_is)))
 
     -- the fork near the site, by the whole lists
-    near_has : (i e : ℕ) → i < length (edges_of plan s) → edge_at plan s i ≡ e → option_or (fork_of_seat seat i) (first_fork (queue_to plan world s i)) ≡ option_map (fork_with plan e) (log_near plan world s i)
-    near_has i e within same = subst (λ (x : ℕ). option_or (fork_of_seat seat i) (first_fork (queue_to plan world s i)) ≡ option_map (fork_with plan x) (log_near plan world s i)) same
-        (ap₂ option_or (seat_has i within) (link_fork plan is_plan world kept s i is_site within)
+    near_has : (i e : ℕ) → i < length (edges_of plan s) → edge_at plan s i ≡ e → option_or (fork_at_site world_site i) (first_fork (queue_to plan world s i)) ≡ option_map (fork_with plan e) (log_near plan world s i)
+    near_has i e within same = subst (λ (x : ℕ). option_or (fork_at_site world_site i) (first_fork (queue_to plan world s i)) ≡ option_map (fork_with plan x) (log_near plan world s i)) same
+        (ap₂ option_or (world_site_has i within) (link_fork plan is_plan world kept s i is_site within)
         ∙ near_is plan (edge_at plan s i) (fork_at plan s (state_of world s) i == 1) (is_sent_to plan world s i) (hand_at s (state_of world s) i) (last_log_or [] (put_to plan world s i)))
 
   -- all meals fit
-  pub all_fit : All FitsSeat seen.seats
-  all_fit i past h = seat_fits i (omega (arith, is.seats.count)) past
+  pub all_fit : All HasOwnMeal seen.sites
+  all_fit i past h = world_site_fits i (omega (arith, is.sites.count)) past
 
   -- each edge of the world
   module _ (e : ℕ) (within : e < edge_count plan) where
@@ -259,27 +259,27 @@ module _ (plan : SeenPlan) (world : WorldState) (seen : SeenWorld) (is : IsWorld
         on_the_way a b c d t p u q one not_low not_high few count other = omega arith
 
     -- the fork of the edge has the log that the whole lists give
-    pub fork_is : fork_of_edge seen.seats seen.links (ends_seen plan e) e ≡ Some (fork_seen plan world e)
+    pub fork_is : fork_of_edge seen.sites seen.links (ends_seen plan e) e ≡ Some (fork_seen plan world e)
     fork_is =
         let w = is_edge plan e is_plan within in
-        let a : Option SeenFork = fork_of_seat (seat_at seen.seats low) low_at in
-        let c : Option SeenFork = fork_of_seat (seat_at seen.seats high) high_at in
+        let a : Option SeenFork = fork_at_site (site_at seen.sites low) low_at in
+        let c : Option SeenFork = fork_at_site (site_at seen.sites high) high_at in
         two_ends a (first_fork (letters_in seen.links (2 * e + 1))) c (first_fork (letters_in seen.links (2 * e)))
         ∙ ap₂ (λ (x y : List Letter). option_or (option_or a (first_fork x)) (option_or c (first_fork y))) letters_low letters_high
-        ∙ ap₂ option_or (near_has low w.low_site no_seat low_at e w.low_within w.low_edge) (near_has high w.high_site no_seat high_at e w.high_within w.high_edge)
+        ∙ ap₂ option_or (near_has low w.low_site absent_site low_at e w.low_within w.low_edge) (near_has high w.high_site absent_site high_at e w.high_within w.high_edge)
         ∙ either_log (fork_with plan e) (log_near plan world low low_at) (log_near plan world high high_at)
         ∙ log_there (fork_with plan e) (fork_at plan low (state_of world low) low_at == 1) (is_sent_to plan world low low_at) (fork_at plan high (state_of world high) high_at == 1) (is_sent_to plan world high high_at)
         (hand_at low (state_of world low) low_at) (last_log_or [] (put_to plan world low low_at)) (hand_at high (state_of world high) high_at) (last_log_or [] (put_to plan world high high_at)) somewhere
 
     -- a place of the edge is there
-    is_place : (s i : ℕ) → s < site_count plan → i < length (edges_of plan s) → edge_at plan s i ≡ e → IsPlaceOf seen.seats s i e
+    is_place : (s i : ℕ) → s < site_count plan → i < length (edges_of plan s) → edge_at plan s i ≡ e → IsPlaceOf seen.sites s i e
     is_place s i is_site is_within same = record {
-      site = omega (arith, is.seats.count);
-      place = omega (arith, degree_is s is_site no_seat);
-      edge = edge_is s is_site no_seat i is_within ∙ same;
+      site = omega (arith, is.sites.count);
+      place = omega (arith, degree_is s is_site absent_site);
+      edge = edge_is s is_site absent_site i is_within ∙ same;
     }
 
-    pub edge_there : IsEdgeAt seen.seats seen.links (ends_seen plan e) e
+    pub edge_there : IsEdgeAt seen.sites seen.links (ends_seen plan e) e
     edge_there =
         let w = is_edge plan e is_plan within in
         record {
@@ -306,45 +306,45 @@ module _ (plan : SeenPlan) (world : WorldState) (seen : SeenWorld) (is : IsWorld
   ends_is e d within = ap (λ (l : List EdgeEnds). get_or l e d) is.edges ∙ at_edge (ends_seen plan) (edge_count plan) e d within
 
   -- the fork of each edge is somewhere
-  pub has_all : HasAllForks seen.seats seen.links seen.edges
+  pub has_all : HasAllForks seen.sites seen.links seen.edges
   has_all = record {
     ends = λ e h. let within : e < edge_count plan = omega (arith, edges_count) in
-        subst (λ (x : EdgeEnds). IsEdgeAt seen.seats seen.links x e) (sym (ends_is e no_ends within)) (edge_there plan world seen is e within);
+        subst (λ (x : EdgeEnds). IsEdgeAt seen.sites seen.links x e) (sym (ends_is e no_ends within)) (edge_there plan world seen is e within);
     forks = λ e h. let within : e < edge_count plan = omega (arith, edges_count) in
-        (fork_seen plan world e, ap (λ (x : EdgeEnds). fork_of_edge seen.seats seen.links x e) (ends_is e no_ends within) ∙ fork_is plan world seen is e within);
+        (fork_seen plan world e, ap (λ (x : EdgeEnds). fork_of_edge seen.sites seen.links x e) (ends_is e no_ends within) ∙ fork_is plan world seen is e within);
   }
 
   -- the forks of the edges are those that the whole lists give
-  pub forks_are : (forks : List SeenFork) → AreForksOf seen.seats seen.links seen.edges forks → forks ≡ forks_seen plan world
+  pub forks_are : (forks : List SeenFork) → AreForksOf seen.sites seen.links seen.edges forks → forks ≡ forks_seen plan world
   forks_are forks are =
       let count : length forks ≡ edge_count plan = are.count ∙ edges_count in
       same_lists forks (forks_seen plan world) (count ∙ sym (length_made (fork_seen plan world) (edge_count plan))) (λ e d h.
       let within : e < edge_count plan = omega (arith, count) in
-      let fork : slice_get forks e ≡ Some (fork_seen plan world e) = are.each e (omega (arith, edges_count)) ∙ ap (λ (x : EdgeEnds). fork_of_edge seen.seats seen.links x e) (ends_is e no_ends within) ∙ fork_is plan world seen is e within in
+      let fork : slice_get forks e ≡ Some (fork_seen plan world e) = are.each e (omega (arith, edges_count)) ∙ ap (λ (x : EdgeEnds). fork_of_edge seen.sites seen.links x e) (ends_is e no_ends within) ∙ fork_is plan world seen is e within in
       get_or_from_slice_get forks e (fork_seen plan world e) d fork ∙ sym (at_edge (fork_seen plan world) (edge_count plan) e d within))
 
   -- what a look at an edge finds: its ends, its fork, and the same in the list of all
-  pub edge_here : (e : ℕ) (ends : EdgeEnds) → e < length seen.edges → ends ≡ get_or seen.edges e ends → IsEdgeAt seen.seats seen.links ends e
-  edge_here e ends h read = subst (λ (x : EdgeEnds). IsEdgeAt seen.seats seen.links x e) (sym (read ∙ get_or_default seen.edges e ends no_ends h)) (has_all.ends e h)
+  pub edge_here : (e : ℕ) (ends : EdgeEnds) → e < length seen.edges → ends ≡ get_or seen.edges e ends → IsEdgeAt seen.sites seen.links ends e
+  edge_here e ends h read = subst (λ (x : EdgeEnds). IsEdgeAt seen.sites seen.links x e) (sym (read ∙ get_or_default seen.edges e ends no_ends h)) (has_all.ends e h)
 
-  pub fork_here : (e : ℕ) (ends : EdgeEnds) → e < length seen.edges → ends ≡ get_or seen.edges e ends → fork_of_edge seen.seats seen.links ends e ≡ slice_get (forks_seen plan world) e
+  pub fork_here : (e : ℕ) (ends : EdgeEnds) → e < length seen.edges → ends ≡ get_or seen.edges e ends → fork_of_edge seen.sites seen.links ends e ≡ slice_get (forks_seen plan world) e
   fork_here e ends h read =
       let within : e < edge_count plan = omega (arith, edges_count) in
       let d : SeenFork = fork_seen plan world e in
-      ap (λ (x : EdgeEnds). fork_of_edge seen.seats seen.links x e) (read ∙ ends_is e ends within) ∙ fork_is plan world seen is e within
+      ap (λ (x : EdgeEnds). fork_of_edge seen.sites seen.links x e) (read ∙ ends_is e ends within) ∙ fork_is plan world seen is e within
       ∙ sym (slice_get-get_or (forks_seen plan world) e d (omega (arith, within, length_made (fork_seen plan world) (edge_count plan)))
       ∙ ap (λ (f : SeenFork). Some f) (at_edge (fork_seen plan world) (edge_count plan) e d within))
 
--- the seat and the letters that were read at the ends of an edge
-pub seat_read : (seats : List Seat) (s i e : ℕ) (seat : Seat) → IsPlaceOf seats s i e → seat ≡ get_or seats s seat → seat ≡ seat_at seats s
-seat_read seats s i e seat is read = read ∙ get_or_default seats s seat no_seat is.site
+-- the world_site and the letters that were read at the ends of an edge
+pub world_site_read : (sites : List WorldSite) (s i e : ℕ) (world_site : WorldSite) → IsPlaceOf sites s i e → world_site ≡ get_or sites s world_site → world_site ≡ site_at sites s
+world_site_read sites s i e world_site is read = read ∙ get_or_default sites s world_site absent_site is.site
 
 pub letters_read : (links : List (List Letter)) (n : ℕ) (letters : List Letter) → n < length links → letters ≡ get_or links n letters → letters ≡ letters_in links n
 letters_read links n letters h read = read ∙ get_or_default links n letters [] h
 
 -- a meal fits at a place of the world
-pub place_fits : (seats : List Seat) (s i e : ℕ) (seat : Seat) → All FitsSeat seats → IsPlaceOf seats s i e → seat ≡ get_or seats s seat → FitsSeat seat
-place_fits seats s i e seat all is read = subst FitsSeat (sym read) (all s seat is.site)
+pub place_fits : (sites : List WorldSite) (s i e : ℕ) (world_site : WorldSite) → All HasOwnMeal sites → IsPlaceOf sites s i e → world_site ≡ get_or sites s world_site → HasOwnMeal world_site
+place_fits sites s i e world_site all is read = subst HasOwnMeal (sym read) (all s world_site is.site)
 
 -- ---- a look at the world as it is kept
 
@@ -356,13 +356,13 @@ module _ (world : Inside) (kept : IsKeptWorld world) (edges : List EdgeEnds) (sa
   read_kept = read ∙ ap (λ (l : List EdgeEnds). get_or l e ends) same
 
   -- the edge that was read lies where its ends say
-  pub edge_read : IsEdgeAt world.seats.items world.links.items ends e
+  pub edge_read : IsEdgeAt world.sites.items world.links.items ends e
   edge_read = edge_here kept.plan kept.state (seen_world world) kept.stands e ends within_kept read_kept
 
   -- its fork is that of each world for which this stands
-  pub fork_read : (plan : SeenPlan) (state : WorldState) → IsWorldOf plan state (seen_world world) → fork_of_edge world.seats.items world.links.items ends e ≡ slice_get (forks_seen plan state) e
+  pub fork_read : (plan : SeenPlan) (state : WorldState) → IsWorldOf plan state (seen_world world) → fork_of_edge world.sites.items world.links.items ends e ≡ slice_get (forks_seen plan state) e
   fork_read plan state is = fork_here plan state (seen_world world) is e ends within_kept read_kept
 
 -- the meals of the sites fit
-pub meals_fit : (world : Inside) → IsKeptWorld world → All FitsSeat world.seats.items
+pub meals_fit : (world : Inside) → IsKeptWorld world → All HasOwnMeal world.sites.items
 meals_fit world kept = all_fit kept.plan kept.state (seen_world world) kept.stands

@@ -1,4 +1,4 @@
-pub mod Kept
+pub mod PlacesAfter
 pub mod Stands
 pub mod Sound
 pub mod Breaches
@@ -7,16 +7,16 @@ pub mod Ranges
 pub mod Eating
 pub mod Ending
 pub mod Opened
-pub mod Seated
+pub mod OpenedSites
 pub mod LinkNumbers
 pub mod LinkSteps
 pub mod MealFits
 pub mod WorldSteps
 pub mod WorldStepped
 pub mod CanHappen
-pub mod WorldRuns
+pub mod WorldSchedules
 pub mod WorldOpened
 pub mod ForkPlaces
-pub mod Choices
+pub mod EnabledEvents
 pub mod ForksOut
 pub mod Woken

@@ -7,10 +7,10 @@ use Rattle.dine_rules.specs.declared.letters.Letter.{Letter}
 use Rattle.dine_rules.specs.Local.{LocalState, Traffic, no_traffic, traffic_at, edge_at, neighbour_at}
 use Rattle.dine_rules.specs.World.{WorldState, no_state, state_of, place_of, put_to}
 use Rattle.dine_rules.specs.Links.{queue_to}
-use Rattle.dine_core.specs.Seats.{letters_in, with_letter, without_next}
+use Rattle.dine_core.specs.WorldSites.{letters_in, with_letter, without_next}
 use Rattle.dine_core.specs.Worlds.{LinksStand, number_to}
 use Rattle.dine_rules.proofs.Across.{across}
-use Rattle.dine_rules.proofs.WorldKept.{WorldKeeps, prefix_short}
+use Rattle.dine_rules.proofs.WorldStreams.{WorldKeeps, prefix_short}
 use Rattle.dine_core.proofs.LinkNumbers.{number_from, to_in_range, same_place, from_is_to, to_is_from, back_at}
 
 -- one more is dropped

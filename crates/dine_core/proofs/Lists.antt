@@ -2,9 +2,9 @@
 use Rattle.std.proofs.Common.{◌≡◌, ℕ, zero, suc, ◌+◌, ◌-◌, ◌<◌, ◌≤◌, List, [], ◌∷◌, ◌++◌, length, map, take, drop, set, get_or, option_to_list, Option, Some, None, refl, sym, ◌∙◌, ap, arith, append_assoc, append-nil, length-append, add-one}
 use Rattle.std.proofs.lemmas.List.{get_or-append_right, get_or-drop, length-take-le, length-map, take_all, take_more, take-append-le, take-take, get_or-take}
 use Rattle.dine_token.specs.Fork.{SeenFork}
-use Rattle.dine_core.specs.declared.places.Place.{Place}
-use Rattle.dine_core.specs.declared.places.ForkSlot.{ForkSlot}
-use Rattle.dine_core.specs.declared.places.ForkSlot.TheVariants.{Away, Here, InMeal}
+use Rattle.dine_core.specs.declared.site.places.Place.{Place}
+use Rattle.dine_core.specs.declared.site.places.ForkSlot.{ForkSlot}
+use Rattle.dine_core.specs.declared.site.places.ForkSlot.TheVariants.{Away, Here, InMeal}
 use Rattle.dine_core.specs.Places.{OnHere, fork_in_hand, forks_of, tokens_of, laid_down, with_fork}
 
 pub forks_of-append : (xs ys : List Place) → forks_of (xs ++ ys) ≡ forks_of xs ++ forks_of ys

@@ -6,16 +6,16 @@ use Rattle.dine_token.specs.Fork.{SeenFork}
 use Rattle.dine_token.specs.Log.{meals_of}
 use Rattle.dine_token.specs.Meal.{SeenMeal}
 use Rattle.dine_plan.specs.Plan.{SeenPlan, IsPlan}
-use Rattle.dine_core.specs.declared.places.Place.{Place}
-use Rattle.dine_core.specs.declared.places.ForkSlot.TheVariants.{Away, Here, InMeal}
-use Rattle.dine_core.specs.declared.seats.Seat.{Seat}
+use Rattle.dine_core.specs.declared.site.places.Place.{Place}
+use Rattle.dine_core.specs.declared.site.places.ForkSlot.TheVariants.{Away, Here, InMeal}
+use Rattle.dine_core.specs.declared.world.sites.WorldSite.{WorldSite}
 use Rattle.dine_rules.specs.Local.{LocalState, edge_at, neighbour_at, is_eating}
 use Rattle.dine_rules.specs.Holdings.{EatsWithAll, fork_at, hand_at}
 use Rattle.dine_rules.specs.Steps.{fork_with}
 use Rattle.dine_rules.specs.Streams.{KeepsStreams}
 use Rattle.dine_core.specs.Core.{SeenCore, StandsFor, forks_in_hand, kept_at}
 use Rattle.dine_core.specs.Places.{no_place, neighbour_of, meals_in, FitsPlace, FitsMeal, IsMealOf}
-use Rattle.dine_core.specs.Seats.{IsSeatOf, FitsSeat}
+use Rattle.dine_core.specs.WorldSites.{IsSiteOf, HasOwnMeal}
 use Rattle.dine_core.specs.Standing.{all_places}
 use Rattle.dine_rules.proofs.InHand.{hand-here, hand-meals}
 use Rattle.dine_core.proofs.Ending.{hands_at}
@@ -84,12 +84,12 @@ module _ (plan : SeenPlan) (state : LocalState) (core : SeenCore) (is_plan : IsP
   }
 
 -- the meal of a site fits it, or there is none
-pub fits_seat : (plan : SeenPlan) (state : LocalState) (seat : Seat) → IsPlan plan → KeepsStreams plan seat.core.site state → EatsWithAll plan seat.core.site state → IsSeatOf plan state seat → FitsSeat seat
-fits_seat plan state seat is_plan keeps eats is =
-    let P : Option SeenMeal → Type 0 = λ o. MatchOption o (is_eating seat.core.phase ≡ false) (λ meal. (is_eating seat.core.phase ≡ true) × IsMealOf seat.core meal) in
-    let meal : Option SeenMeal = Some (record { site = seat.core.site; k = state.ate; forks = forks_in_hand plan seat.core.site state (all_places state) }) in
+pub has_own_meal : (plan : SeenPlan) (state : LocalState) (world_site : WorldSite) → IsPlan plan → KeepsStreams plan world_site.core.site state → EatsWithAll plan world_site.core.site state → IsSiteOf plan state world_site → HasOwnMeal world_site
+has_own_meal plan state world_site is_plan keeps eats is =
+    let P : Option SeenMeal → Type 0 = λ o. MatchOption o (is_eating world_site.core.phase ≡ false) (λ meal. (is_eating world_site.core.phase ≡ true) × IsMealOf world_site.core meal) in
+    let meal : Option SeenMeal = Some (record { site = world_site.core.site; k = state.ate; forks = forks_in_hand plan world_site.core.site state (all_places state) }) in
     elim (cases_Bool (is_eating state.phase)) [
       | inl eating ↦ subst P (sym (is.meal ∙ cond-true (is_eating state.phase) meal None eating))
-          (ap is_eating is.core.phase ∙ eating, meal_fits plan state seat.core is_plan keeps eats is.core eating)
+          (ap is_eating is.core.phase ∙ eating, meal_fits plan state world_site.core is_plan keeps eats is.core eating)
       | inr awake ↦ subst P (sym (is.meal ∙ cond-false (is_eating state.phase) meal None awake)) (ap is_eating is.core.phase ∙ awake)
     ]

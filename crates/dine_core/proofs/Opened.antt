@@ -6,8 +6,8 @@ use Rattle.std.proofs.lemmas.Bool.{eqb-true, eq-eqb, ne_eqb, false≢true}
 use Rattle.dine_token.specs.Fork.{SeenFork}
 use Rattle.dine_plan.specs.Plan.{SeenPlan, IsPlan, edge_count, is_end, edges_of, job_count, lo_of, hi_of}
 use Rattle.dine_rules.specs.declared.phase.Phase.TheVariants.{Thinking}
-use Rattle.dine_core.specs.declared.places.Place.{Place}
-use Rattle.dine_core.specs.declared.places.ForkSlot.TheVariants.{Away, Here}
+use Rattle.dine_core.specs.declared.site.places.Place.{Place}
+use Rattle.dine_core.specs.declared.site.places.ForkSlot.TheVariants.{Away, Here}
 use Rattle.dine_rules.specs.Local.{no_traffic, edge_at}
 use Rattle.dine_rules.specs.Steps.{fork_with}
 use Rattle.dine_core.specs.Core.{SeenCore, kept_of}

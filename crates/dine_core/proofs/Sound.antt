@@ -8,11 +8,11 @@ use Rattle.dine_token.specs.Log.{location_of, meals_of}
 use Rattle.dine_rules.specs.declared.letters.Letter.{Letter}
 use Rattle.dine_rules.specs.declared.letters.Letter.TheVariants.{Fork, Request, Done, Close}
 use Rattle.dine_rules.specs.declared.breach.Breach.{Breach}
-use Rattle.dine_core.specs.declared.places.Place.{Place}
-use Rattle.dine_core.specs.declared.places.ForkSlot.{ForkSlot}
-use Rattle.dine_core.specs.declared.places.ForkSlot.TheVariants.{Away, Here, InMeal}
+use Rattle.dine_core.specs.declared.site.places.Place.{Place}
+use Rattle.dine_core.specs.declared.site.places.ForkSlot.{ForkSlot}
+use Rattle.dine_core.specs.declared.site.places.ForkSlot.TheVariants.{Away, Here, InMeal}
 use Rattle.dine_rules.specs.Local.{is_eating}
-use Rattle.dine_rules.specs.Breach.{ends_at}
+use Rattle.dine_rules.specs.Breach.{was_sent_to}
 use Rattle.dine_core.specs.Core.{SeenCore}
 use Rattle.dine_core.specs.Places.{with_place, with_fork, noted, is_held, is_own_fork, breach_at, FitsPlace, FitsSlot, IsSoundPlace, IsSound}
 
@@ -66,7 +66,7 @@ pub not_le : (a b : ℕ) → nat_le a b ≡ false → b < a
 not_le a b h = grind (arith, nat_tests)
 
 -- a fork that comes in turn fits the place
-fits_come : (s ate : ℕ) (place : Place) (fork : SeenFork) → is_own_fork place fork ≡ true → ends_at place.ends.0 s fork.log ≡ true → (meals_of s fork.log == ate) ≡ true → FitsPlace s ate place fork
+fits_come : (s ate : ℕ) (place : Place) (fork : SeenFork) → is_own_fork place fork ≡ true → was_sent_to place.ends.0 s fork.log ≡ true → (meals_of s fork.log == ate) ≡ true → FitsPlace s ate place fork
 fits_come s ate place fork own comes all =
     let parts = and_parts _ _ own in
     let front = and_parts _ _ parts.0 in

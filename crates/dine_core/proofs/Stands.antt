@@ -7,14 +7,14 @@ use Rattle.dine_token.specs.Log.{meals_of}
 use Rattle.dine_plan.specs.Plan.{SeenPlan}
 use Rattle.dine_rules.specs.declared.letters.Letter.{Letter}
 use Rattle.dine_rules.specs.declared.letters.Letter.TheVariants.{Fork, Request, Done, Close}
-use Rattle.dine_core.specs.declared.places.Place.{Place}
-use Rattle.dine_core.specs.declared.places.ForkSlot.TheVariants.{Away, Here, InMeal}
+use Rattle.dine_core.specs.declared.site.places.Place.{Place}
+use Rattle.dine_core.specs.declared.site.places.ForkSlot.TheVariants.{Away, Here, InMeal}
 use Rattle.dine_rules.specs.Local.{LocalState, Traffic, no_traffic, traffic_at, edge_at, neighbour_at, is_eating}
 use Rattle.dine_rules.specs.Holdings.{fork_at, token_at, hand_at}
 use Rattle.dine_rules.specs.Steps.{fork_with, with_put}
 use Rattle.dine_core.specs.Core.{SeenCore, StandsFor, kept_of, kept_at}
 use Rattle.dine_core.specs.Places.{place_at, with_place, no_place, OnHere, asked, gave, said_done, closed}
-use Rattle.dine_core.proofs.Kept.{kept-put_request, kept-put_fork, kept-put_done, kept-put_close}
+use Rattle.dine_core.proofs.PlacesAfter.{kept-put_request, kept-put_fork, kept-put_done, kept-put_close}
 
 -- other traffic at place i
 abbrev pub with_traffic : ℕ → Traffic → LocalState → LocalState

@@ -7,22 +7,22 @@ use Rattle.std.proofs.lemmas.List.{length-map}
 use Rattle.dine_token.specs.Fork.{SeenFork}
 use Rattle.dine_token.specs.Meal.{SeenMeal}
 use Rattle.dine_plan.specs.Plan.{SeenPlan, IsPlan, site_count}
-use Rattle.dine_core.specs.declared.places.Place.{Place}
-use Rattle.dine_core.specs.declared.seats.Seat.{Seat}
+use Rattle.dine_core.specs.declared.site.places.Place.{Place}
+use Rattle.dine_core.specs.declared.world.sites.WorldSite.{WorldSite}
 use Rattle.dine_rules.specs.Local.{LocalState, edge_at, is_eating}
 use Rattle.dine_rules.specs.Holdings.{EatsWithAll, fork_at, hand_at}
 use Rattle.dine_rules.specs.Steps.{fork_with}
 use Rattle.dine_rules.specs.Streams.{KeepsStreams}
 use Rattle.dine_core.specs.Core.{SeenCore, forks_in_hand}
 use Rattle.dine_core.specs.Places.{no_place, place_at, laid_down, IsMealOf}
-use Rattle.dine_core.specs.Seats.{IsSeatOf, FitsSeat, IsAwake}
+use Rattle.dine_core.specs.WorldSites.{IsSiteOf, HasOwnMeal, IsAwake}
 use Rattle.dine_core.specs.Standing.{all_places}
 use Rattle.dine_rules.specs.World.{WorldState, state_of}
 use Rattle.dine_core.specs.Worlds.{SeenWorld, IsWorldOf, forks_seen}
-use Rattle.dine_core.specs.Forks.{no_seat, seat_at, ends_at, fork_in_slot, fork_of_seat, fork_of_edge, IsPlaceOf, HasAllForks, AreForksOf, woken_by, woken}
+use Rattle.dine_core.specs.Forks.{absent_site, site_at, edge_ends, fork_in_slot, fork_at_site, fork_of_edge, IsPlaceOf, HasAllForks, AreForksOf, woken_by, woken}
 use Rattle.dine_core.proofs.Ending.{get_or_laid, length_laid}
 use Rattle.dine_core.proofs.MealFits.{count_is, hand_is}
-use Rattle.dine_core.proofs.ForkPlaces.{seat_fork, keeps, eats, has_all, forks_are}
+use Rattle.dine_core.proofs.ForkPlaces.{world_site_fork, keeps, eats, has_all, forks_are}
 use Rattle.dine_core.proofs.ForksOut.{same_four}
 
 -- ---- a site
@@ -47,12 +47,12 @@ woken_awake : (meal : Option SeenMeal) (core : SeenCore) → MatchOption meal (i
 woken_awake None core fits = fits
 woken_awake (Some meal) core fits = refl
 
-is_awake : (seat : Seat) → FitsSeat seat → IsAwake (woken seat)
-is_awake seat fits = record { not_eating = woken_awake seat.meal seat.core fits; no_meal = refl }
+is_awake : (world_site : WorldSite) → HasOwnMeal world_site → IsAwake (woken world_site)
+is_awake world_site fits = record { not_eating = woken_awake world_site.meal world_site.core fits; no_meal = refl }
 
-module _ (plan : SeenPlan) (state : LocalState) (seat : Seat) (is_plan : IsPlan plan) (keeps : KeepsStreams plan seat.core.site state) (eats : EatsWithAll plan seat.core.site state) (is : IsSeatOf plan state seat) (i : ℕ) (within : i < length seat.core.places) where
+module _ (plan : SeenPlan) (state : LocalState) (world_site : WorldSite) (is_plan : IsPlan plan) (keeps : KeepsStreams plan world_site.core.site state) (eats : EatsWithAll plan world_site.core.site state) (is : IsSiteOf plan state world_site) (i : ℕ) (within : i < length world_site.core.places) where
   abbrev s : ℕ
-  s = seat.core.site
+  s = world_site.core.site
 
   abbrev hands : List SeenFork
   hands = forks_in_hand plan s state (all_places state)
@@ -62,76 +62,76 @@ module _ (plan : SeenPlan) (state : LocalState) (seat : Seat) (is_plan : IsPlan 
 
   -- the fork of place i when the meal is over, by what the meal was
   abbrev after_meal : Option SeenMeal → Option SeenFork
-  after_meal meal = fork_in_slot None i (place_at (woken_by meal seat.core) i).fork
+  after_meal meal = fork_in_slot None i (place_at (woken_by meal world_site.core) i).fork
 
   -- from the meal the fork comes back to its place
-  from_meal : is_eating state.phase ≡ true → after_meal seat.meal ≡ fork_of_seat seat i
+  from_meal : is_eating state.phase ≡ true → after_meal world_site.meal ≡ fork_at_site world_site i
   from_meal eating =
       ap after_meal (is.meal ∙ cond-true (is_eating state.phase) (Some (record { site = s; k = state.ate; forks = hands })) None eating)
-      ∙ ap (λ (p : Place). fork_in_slot None i p.fork) (get_or_laid seat.core.places hands i no_place fork within (count_is plan state seat.core is_plan keeps eats is.core eating))
-      ∙ ap (λ (f : SeenFork). Some f) (hand_is plan state seat.core is_plan keeps eats is.core eating i fork within)
-      ∙ sym (seat_fork plan state seat is_plan keeps eats is i within ∙ cond-true _ (Some fork) None (eq-eqb (fork_at plan s state i) 1 (eats eating i (omega (arith, within, is.core.degree)))))
+      ∙ ap (λ (p : Place). fork_in_slot None i p.fork) (get_or_laid world_site.core.places hands i no_place fork within (count_is plan state world_site.core is_plan keeps eats is.core eating))
+      ∙ ap (λ (f : SeenFork). Some f) (hand_is plan state world_site.core is_plan keeps eats is.core eating i fork within)
+      ∙ sym (world_site_fork plan state world_site is_plan keeps eats is i within ∙ cond-true _ (Some fork) None (eq-eqb (fork_at plan s state i) 1 (eats eating i (omega (arith, within, is.core.degree)))))
 
   -- in hand it stays
-  from_hand : is_eating state.phase ≡ false → after_meal seat.meal ≡ fork_of_seat seat i
+  from_hand : is_eating state.phase ≡ false → after_meal world_site.meal ≡ fork_at_site world_site i
   from_hand awake =
-      let none : seat.meal ≡ None = is.meal ∙ cond-false (is_eating state.phase) (Some (record { site = s; k = state.ate; forks = hands })) None awake in
-      ap after_meal none ∙ sym (ap (λ (o : Option SeenMeal). fork_in_slot o i (place_at seat.core i).fork) none)
+      let none : world_site.meal ≡ None = is.meal ∙ cond-false (is_eating state.phase) (Some (record { site = s; k = state.ate; forks = hands })) None awake in
+      ap after_meal none ∙ sym (ap (λ (o : Option SeenMeal). fork_in_slot o i (place_at world_site.core i).fork) none)
 
-  pub woken_fork : fork_of_seat (woken seat) i ≡ fork_of_seat seat i
+  pub woken_fork : fork_at_site (woken world_site) i ≡ fork_at_site world_site i
   woken_fork = elim (cases_Bool (is_eating state.phase)) [ inl eating ↦ from_meal eating | inr awake ↦ from_hand awake ]
 
 -- ---- all sites
 
-woken_at : (seats : List Seat) (s : ℕ) → seat_at (map woken seats) s ≡ woken (seat_at seats s)
-woken_at seats s = get_or-map woken seats s no_seat
+woken_at : (sites : List WorldSite) (s : ℕ) → site_at (map woken sites) s ≡ woken (site_at sites s)
+woken_at sites s = get_or-map woken sites s absent_site
 
-woken_count : (seats : List Seat) → length (map woken seats) ≡ length seats
-woken_count seats = length-map seats woken
+woken_count : (sites : List WorldSite) → length (map woken sites) ≡ length sites
+woken_count sites = length-map sites woken
 
-woken_place : (seats : List Seat) (s i e : ℕ) → IsPlaceOf seats s i e → IsPlaceOf (map woken seats) s i e
-woken_place seats s i e is =
-    let seat = seat_at seats s in
+woken_place : (sites : List WorldSite) (s i e : ℕ) → IsPlaceOf sites s i e → IsPlaceOf (map woken sites) s i e
+woken_place sites s i e is =
+    let world_site = site_at sites s in
     record {
-      site = omega (arith, is.site, woken_count seats);
-      place = subst (λ (x : Seat). i < length x.core.places) (sym (woken_at seats s)) (omega (arith, is.place, woken_degree seat.meal seat.core));
-      edge = ap (λ (x : Seat). (place_at x.core i).edge) (woken_at seats s) ∙ woken_edge seat.meal seat.core i ∙ is.edge;
+      site = omega (arith, is.site, woken_count sites);
+      place = subst (λ (x : WorldSite). i < length x.core.places) (sym (woken_at sites s)) (omega (arith, is.place, woken_degree world_site.meal world_site.core));
+      edge = ap (λ (x : WorldSite). (place_at x.core i).edge) (woken_at sites s) ∙ woken_edge world_site.meal world_site.core i ∙ is.edge;
     }
 
-pub all_awake : (seats : List Seat) → All FitsSeat seats → All IsAwake (map woken seats)
+pub all_awake : (sites : List WorldSite) → All HasOwnMeal sites → All IsAwake (map woken sites)
 all_awake [] fits s d h = absurd (omega arith)
-all_awake (seat ∷ seats) fits zero d h = is_awake seat (fits 0 d (omega arith))
-all_awake (seat ∷ seats) fits (suc s) d h = all_awake seats (λ t d l. fits (suc t) d (omega arith)) s d (omega arith)
+all_awake (world_site ∷ sites) fits zero d h = is_awake world_site (fits 0 d (omega arith))
+all_awake (world_site ∷ sites) fits (suc s) d h = all_awake sites (λ t d l. fits (suc t) d (omega arith)) s d (omega arith)
 
 module _ (plan : SeenPlan) (world : WorldState) (seen : SeenWorld) (is : IsWorldOf plan world seen) where
   -- a place has its fork as before
-  place_stays : (s i e : ℕ) → IsPlaceOf seen.seats s i e → fork_of_seat (seat_at (map woken seen.seats) s) i ≡ fork_of_seat (seat_at seen.seats s) i
+  place_stays : (s i e : ℕ) → IsPlaceOf seen.sites s i e → fork_at_site (site_at (map woken seen.sites) s) i ≡ fork_at_site (site_at seen.sites s) i
   place_stays s i e there =
-      let is_site : s < site_count plan = omega (arith, there.site, is.seats.count) in
-      ap (λ (x : Seat). fork_of_seat x i) (woken_at seen.seats s)
-      ∙ woken_fork plan (state_of world s) (seat_at seen.seats s) is.reached.is_plan (keeps plan world seen is s is_site no_seat) (eats plan world seen is s is_site no_seat) (is.seats.stands s no_seat is_site) i there.place
+      let is_site : s < site_count plan = omega (arith, there.site, is.sites.count) in
+      ap (λ (x : WorldSite). fork_at_site x i) (woken_at seen.sites s)
+      ∙ woken_fork plan (state_of world s) (site_at seen.sites s) is.reached.is_plan (keeps plan world seen is s is_site absent_site) (eats plan world seen is s is_site absent_site) (is.sites.stands s absent_site is_site) i there.place
 
   -- and so has an edge
-  edge_stays : (e : ℕ) → e < length seen.edges → fork_of_edge (map woken seen.seats) seen.links (ends_at seen.edges e) e ≡ fork_of_edge seen.seats seen.links (ends_at seen.edges e) e
+  edge_stays : (e : ℕ) → e < length seen.edges → fork_of_edge (map woken seen.sites) seen.links (edge_ends seen.edges e) e ≡ fork_of_edge seen.sites seen.links (edge_ends seen.edges e) e
   edge_stays e h =
-      let ends = ends_at seen.edges e in
+      let ends = edge_ends seen.edges e in
       let w = (has_all plan world seen is).ends e h in
       same_four _ _ _ _ _ _ _ _ (place_stays ends.lower ends.lower_place e w.lower) refl (place_stays ends.higher ends.higher_place e w.higher) refl
 
   -- the fork of each edge is somewhere
-  pub woken_has_all : HasAllForks (map woken seen.seats) seen.links seen.edges
+  pub woken_has_all : HasAllForks (map woken seen.sites) seen.links seen.edges
   woken_has_all =
       let all = has_all plan world seen is in
       record {
         ends = λ e h. let w = all.ends e h in record {
           ordered = w.ordered;
-          lower = woken_place seen.seats (ends_at seen.edges e).lower (ends_at seen.edges e).lower_place e w.lower;
-          higher = woken_place seen.seats (ends_at seen.edges e).higher (ends_at seen.edges e).higher_place e w.higher;
+          lower = woken_place seen.sites (edge_ends seen.edges e).lower (edge_ends seen.edges e).lower_place e w.lower;
+          higher = woken_place seen.sites (edge_ends seen.edges e).higher (edge_ends seen.edges e).higher_place e w.higher;
           within = w.within;
         };
         forks = λ e h. ((all.forks e h).0, edge_stays e h ∙ (all.forks e h).1);
       }
 
   -- the forks of the edges are those that the whole lists give
-  pub woken_forks : (forks : List SeenFork) → AreForksOf (map woken seen.seats) seen.links seen.edges forks → forks ≡ forks_seen plan world
+  pub woken_forks : (forks : List SeenFork) → AreForksOf (map woken seen.sites) seen.links seen.edges forks → forks ≡ forks_seen plan world
   woken_forks forks are = forks_are plan world seen is forks (record { count = are.count; each = λ e h. are.each e h ∙ edge_stays e h })

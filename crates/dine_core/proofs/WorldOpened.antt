@@ -10,18 +10,18 @@ use Rattle.std.proofs.Math.ListN.{get_or-append}
 use Rattle.std.proofs.Math.Seq.{get_or-append_seam}
 use Rattle.dine_plan.specs.Plan.{SeenPlan, IsPlan, site_count, edge_count, edges_of, job_count, ends_of, lo_of, hi_of}
 use Rattle.dine_rules.specs.declared.letters.Letter.{Letter}
-use Rattle.dine_core.specs.declared.seats.Seat.{Seat}
+use Rattle.dine_core.specs.declared.world.sites.WorldSite.{WorldSite}
 use Rattle.dine_core.specs.declared.world.EdgeEnds.{EdgeEnds}
 use Rattle.dine_rules.specs.Local.{LocalState, Traffic, no_traffic, traffic_at, start_of, edge_at, neighbour_at}
 use Rattle.dine_core.specs.Core.{StandsFor}
-use Rattle.dine_core.specs.Seats.{IsAwake, IsSeatOf, letters_in}
+use Rattle.dine_core.specs.WorldSites.{IsAwake, IsSiteOf, letters_in}
 use Rattle.dine_rules.specs.World.{WorldState, no_state, state_of, start, place_of, put_to}
-use Rattle.dine_core.specs.Worlds.{SeenWorld, SeatsStand, LinksStand, IsReached, IsWorldOf, number_to, ends_seen}
+use Rattle.dine_core.specs.Worlds.{SeenWorld, SitesStand, LinksStand, IsReached, IsWorldOf, number_to, ends_seen}
 use Rattle.dine_rules.specs.Bound.{bound_of, meals_due}
 use Rattle.dine_rules.specs.Links.{queue_to}
 use Rattle.dine_rules.proofs.Across.{place_of-edge_at, across}
 use Rattle.dine_rules.proofs.Site.{no_traffic_yet}
-use Rattle.dine_rules.proofs.WorldKept.{reached_kept, start_state}
+use Rattle.dine_rules.proofs.WorldStreams.{reached_kept, start_state}
 
 -- ---- edges and sums
 
@@ -70,8 +70,8 @@ few_letters plan edge low high is_plan within low_is high_is =
 -- ---- lists that grow at their end
 
 -- with the last site taken, those that are left do not eat either
-pub still_awake : (seats rest : List Seat) (last : Seat) → seats ≡ rest ++ last ∷ [] → All IsAwake seats → All IsAwake rest
-still_awake seats rest last is awake = λ k d h.
+pub still_awake : (sites rest : List WorldSite) (last : WorldSite) → sites ≡ rest ++ last ∷ [] → All IsAwake sites → All IsAwake rest
+still_awake sites rest last is awake = λ k d h.
     let all : All IsAwake (rest ++ last ∷ []) = subst (All IsAwake) is awake in
     subst IsAwake (get_or-append rest (last ∷ []) d k h) (all k d (omega (arith, length-append rest (last ∷ []))))
 
@@ -88,29 +88,29 @@ each_more P xs x n long each last i past within = elim (cases_eq i n) [
 ]
 
 -- a site before its first step
-pub record IsFresh (plan : SeenPlan) (s : ℕ) (seat : Seat) : Type 0 where
-  pub site : seat.core.site ≡ s
-  pub stands : IsSeatOf plan (start_of plan s) seat
-  pub awake : IsAwake seat
+pub record IsFresh (plan : SeenPlan) (s : ℕ) (world_site : WorldSite) : Type 0 where
+  pub site : world_site.core.site ≡ s
+  pub stands : IsSiteOf plan (start_of plan s) world_site
+  pub awake : IsAwake world_site
 
 -- the first sites of the plan, before their first step
-pub record AreFresh (plan : SeenPlan) (n : ℕ) (seats : List Seat) : Type 0 where
-  pub count : length seats ≡ n
-  pub each : (s : ℕ) (past : Seat) → s < n → IsFresh plan s (get_or seats s past)
+pub record AreFresh (plan : SeenPlan) (n : ℕ) (sites : List WorldSite) : Type 0 where
+  pub count : length sites ≡ n
+  pub each : (s : ℕ) (past : WorldSite) → s < n → IsFresh plan s (get_or sites s past)
 
 -- and one more site
-pub fresh_more : (plan : SeenPlan) (n : ℕ) (seats new : List Seat) (seat : Seat) → AreFresh plan n seats → IsFresh plan n seat → new ≡ seats ++ seat ∷ [] → AreFresh plan (n + 1) new
-fresh_more plan n seats new seat so_far last is = subst (AreFresh plan (n + 1)) (sym is) (record {
-  count = omega (arith, length-append seats (seat ∷ []), so_far.count);
-  each = each_more (IsFresh plan) seats seat n so_far.count so_far.each last;
+pub fresh_more : (plan : SeenPlan) (n : ℕ) (sites new : List WorldSite) (world_site : WorldSite) → AreFresh plan n sites → IsFresh plan n world_site → new ≡ sites ++ world_site ∷ [] → AreFresh plan (n + 1) new
+fresh_more plan n sites new world_site so_far last is = subst (AreFresh plan (n + 1)) (sym is) (record {
+  count = omega (arith, length-append sites (world_site ∷ []), so_far.count);
+  each = each_more (IsFresh plan) sites world_site n so_far.count so_far.each last;
 })
 
 -- and all of them stand for the start
-pub fresh_stand : (plan : SeenPlan) (seats : List Seat) → AreFresh plan (site_count plan) seats → SeatsStand plan (start plan) seats
-fresh_stand plan seats fresh = record {
+pub fresh_stand : (plan : SeenPlan) (sites : List WorldSite) → AreFresh plan (site_count plan) sites → SitesStand plan (start plan) sites
+fresh_stand plan sites fresh = record {
   count = fresh.count;
   site = λ s past h. (fresh.each s past h).site;
-  stands = λ s past h. subst (λ (state : LocalState). IsSeatOf plan state (slice_index_or seats s past)) (sym (start_state plan s h)) (fresh.each s past h).stands;
+  stands = λ s past h. subst (λ (state : LocalState). IsSiteOf plan state (slice_index_or sites s past)) (sym (start_state plan s h)) (fresh.each s past h).stands;
 }
 
 -- ---- links with no letters
@@ -146,11 +146,11 @@ start_reached : (plan : SeenPlan) → IsPlan plan → IsReached plan (start plan
 start_reached plan is_plan = record { is_plan = is_plan; events = []; reaches = refl }
 
 -- its parts make the world
-pub opened : (plan : SeenPlan) (seen : SeenWorld) → IsPlan plan → SeatsStand plan (start plan) seen.seats → length seen.links ≡ 2 * edge_count plan → All (λ (letters : List Letter). letters ≡ []) seen.links
+pub opened : (plan : SeenPlan) (seen : SeenWorld) → IsPlan plan → SitesStand plan (start plan) seen.sites → length seen.links ≡ 2 * edge_count plan → All (λ (letters : List Letter). letters ≡ []) seen.links
     → seen.edges ≡ map (ends_seen plan) (range_with_len 0 (edge_count plan)) → seen.bound ≡ bound_of plan → IsWorldOf plan (start plan) seen
-opened plan seen is_plan seats count empty edges bound = record {
+opened plan seen is_plan sites count empty edges bound = record {
   reached = start_reached plan is_plan;
-  seats = seats;
+  sites = sites;
   links = empty_stand plan seen.links is_plan count empty;
   edges = edges;
   bound = bound;
@@ -163,13 +163,13 @@ world_long : (plan : SeenPlan) (world : WorldState) → IsReached plan world →
 world_long plan world reached = (reached_kept plan reached.events world reached.is_plan reached.reaches).sites
 
 -- where there is no such site, there is no state
-pub no_site : (plan : SeenPlan) (world : WorldState) (seen : SeenWorld) (s : ℕ) → IsWorldOf plan world seen → length seen.seats ≤ s → slice_get world s ≡ None
-no_site plan world seen s stands past = slice_get_past world s (omega (arith, past, stands.seats.count, world_long plan world stands.reached))
+pub past_the_sites : (plan : SeenPlan) (world : WorldState) (seen : SeenWorld) (s : ℕ) → IsWorldOf plan world seen → length seen.sites ≤ s → slice_get world s ≡ None
+past_the_sites plan world seen s stands past = slice_get_past world s (omega (arith, past, stands.sites.count, world_long plan world stands.reached))
 
 -- and else it is the state of the site
-pub a_state : (plan : SeenPlan) (world : WorldState) (seen : SeenWorld) (s : ℕ) → IsWorldOf plan world seen → s < length seen.seats → slice_get world s ≡ Some (state_of world s)
-a_state plan world seen s stands within = slice_get-get_or world s no_state (omega (arith, within, stands.seats.count, world_long plan world stands.reached))
+pub a_state : (plan : SeenPlan) (world : WorldState) (seen : SeenWorld) (s : ℕ) → IsWorldOf plan world seen → s < length seen.sites → slice_get world s ≡ Some (state_of world s)
+a_state plan world seen s stands within = slice_get-get_or world s no_state (omega (arith, within, stands.sites.count, world_long plan world stands.reached))
 
 -- for which the site stands
-pub a_core : (plan : SeenPlan) (world : WorldState) (seen : SeenWorld) (s : ℕ) (seat : Seat) → IsWorldOf plan world seen → s < length seen.seats → seat ≡ get_or seen.seats s seat → StandsFor plan (state_of world s) seat.core
-a_core plan world seen s seat stands within is = (subst (IsSeatOf plan (state_of world s)) (sym is) (stands.seats.stands s seat (omega (arith, within, stands.seats.count)))).core
+pub a_core : (plan : SeenPlan) (world : WorldState) (seen : SeenWorld) (s : ℕ) (world_site : WorldSite) → IsWorldOf plan world seen → s < length seen.sites → world_site ≡ get_or seen.sites s world_site → StandsFor plan (state_of world s) world_site.core
+a_core plan world seen s world_site stands within is = (subst (IsSiteOf plan (state_of world s)) (sym is) (stands.sites.stands s world_site (omega (arith, within, stands.sites.count)))).core

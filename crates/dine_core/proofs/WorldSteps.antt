@@ -9,7 +9,7 @@ use Rattle.dine_rules.specs.declared.letters.Letter.{Letter}
 use Rattle.dine_rules.specs.declared.events.Event.{Event}
 use Rattle.dine_rules.specs.declared.events.EventKind.{EventKind}
 use Rattle.dine_rules.specs.declared.events.EventKind.TheVariants as event
-use Rattle.dine_core.specs.declared.seats.Seat.{Seat}
+use Rattle.dine_core.specs.declared.world.sites.WorldSite.{WorldSite}
 use Rattle.dine_rules.specs.Breach.{is_allowed}
 use Rattle.dine_rules.specs.Local.{LocalState, traffic_at, edge_at, neighbour_at}
 use Rattle.dine_rules.specs.Holdings.{EatsWithAll}
@@ -17,26 +17,26 @@ use Rattle.dine_rules.specs.Steps.{Step, after, with_put}
 use Rattle.dine_rules.specs.Steps as step
 use Rattle.dine_rules.specs.Streams.{KeepsStreams}
 use Rattle.dine_core.specs.Core.{SeenCore, StandsFor}
-use Rattle.dine_core.specs.Numbers.{link_to, link_from}
+use Rattle.dine_core.specs.LinkNumbers.{link_to, link_from}
 use Rattle.dine_core.specs.Places.{place_at}
 use Rattle.dine_rules.specs.World.{WorldState, no_state, place_of, state_of, next_letter, step_of, world_after, start}
 use Rattle.dine_rules.specs.Links.{queue_to}
-use Rattle.dine_core.specs.Seats.{Does, PutsAt, HasRoomAt, HasRoomFor, IsSeatOf, MovesLetters, TakesInTurn, can_do, is_in_turn_at, letters_in, next_in, step_in, with_letter, without_next}
-use Rattle.dine_core.specs.Worlds.{IsReached, IsWorldOf, LinksStand, SeatsStand, SeenWorld, can_at, number_to}
+use Rattle.dine_core.specs.WorldSites.{SiteSteps, PutsAt, HasRoomAt, HasRoomFor, IsSiteOf, MovesLetters, TakesAllowed, can_do, meets_no_breach, letters_in, next_in, step_in, with_letter, without_next}
+use Rattle.dine_core.specs.Worlds.{IsReached, IsWorldOf, LinksStand, SitesStand, SeenWorld, can_at, number_to}
 use Rattle.dine_rules.proofs.Across.{across}
 use Rattle.dine_core.proofs.CanHappen.{next_here, take_is}
 use Rattle.dine_rules.proofs.NextLetters.{reached_allowed}
 use Rattle.dine_core.proofs.Stands.{place_is}
-use Rattle.dine_rules.proofs.WorldKept.{IsStepOf, option_map_parts, WorldKeeps, event_is_step, event_keeps, events_then, reached_kept, some_of}
+use Rattle.dine_rules.proofs.WorldStreams.{IsStepOf, option_map_parts, WorldKeeps, event_is_step, event_keeps, events_then, reached_kept, some_of}
 use Rattle.dine_rules.proofs.EatersApart.{eats_with_all}
 use Rattle.dine_rules.proofs.Links.{link_letters}
 use Rattle.dine_core.proofs.LinkNumbers.{from_is_to, number_from, to_in_range}
 use Rattle.dine_core.proofs.LinkSteps.{links-put, links-same, links-taken}
 
--- a seat that can do something is there
-pub seat_there : (links : List (List Letter)) (kind : EventKind) (o : Option Seat) → can_at links kind o ≡ true → (seat : Seat) × (o ≡ Some seat) × (can_do links seat.core kind ≡ true)
-seat_there links kind None h = absurd (false≢true h)
-seat_there links kind (Some seat) h = (seat, refl, h)
+-- a world_site that can do something is there
+pub world_site_there : (links : List (List Letter)) (kind : EventKind) (o : Option WorldSite) → can_at links kind o ≡ true → (world_site : WorldSite) × (o ≡ Some world_site) × (can_do links world_site.core kind ≡ true)
+world_site_there links kind None h = absurd (false≢true h)
+world_site_there links kind (Some world_site) h = (world_site, refl, h)
 
 module _ (plan : SeenPlan) (world : WorldState) (seen : SeenWorld) (stands : IsWorldOf plan world seen) where
   abbrev pub is_plan : IsPlan plan
@@ -45,18 +45,18 @@ module _ (plan : SeenPlan) (world : WorldState) (seen : SeenWorld) (stands : IsW
   pub kept : WorldKeeps plan world
   kept = reached_kept plan stands.reached.events world stands.reached.is_plan stands.reached.reaches
 
-  module _ (s : ℕ) (is_site : s < site_count plan) (past : Seat) where
-    abbrev seat : Seat
-    seat = get_or seen.seats s past
+  module _ (s : ℕ) (is_site : s < site_count plan) (past : WorldSite) where
+    abbrev world_site : WorldSite
+    world_site = get_or seen.sites s past
 
     abbrev core : SeenCore
-    core = seat.core
+    core = world_site.core
 
     site_is : core.site ≡ s
-    site_is = stands.seats.site s past is_site
+    site_is = stands.sites.site s past is_site
 
-    core_stands : IsSeatOf plan (state_of world s) seat
-    core_stands = stands.seats.stands s past is_site
+    core_stands : IsSiteOf plan (state_of world s) world_site
+    core_stands = stands.sites.stands s past is_site
 
     pub keeps_here : KeepsStreams plan core.site (state_of world s)
     keeps_here = subst (λ (x : ℕ). KeepsStreams plan x (state_of world s)) (sym site_is) (kept.keeps s is_site)
@@ -81,13 +81,13 @@ module _ (plan : SeenPlan) (world : WorldState) (seen : SeenWorld) (stands : IsW
         ∙ ap (λ (x : ℕ). next_letter plan world x i) site_is
 
     -- a Take takes a letter that is in turn
-    pub in_turn : (kind : EventKind) → can_do seen.links core kind ≡ true → TakesInTurn seen.links core kind
+    pub in_turn : (kind : EventKind) → can_do seen.links core kind ≡ true → TakesAllowed seen.links core kind
     in_turn (event.Take i) can =
         let parts = and_parts _ _ can in
         let within : i < length core.places = ltb-true i (length core.places) parts.0 in
         let w = some_of (next_in seen.links core i) parts.1 in
         let allowed = reached_allowed plan stands.reached.events world s i is_plan stands.reached.reaches is_site (omega (arith, within, as_many_places)) w.0 (sym (next_is i within) ∙ w.1) in
-        ap (is_in_turn_at core i) w.1 ∙ take_is plan (state_of world s) core core_stands.core keeps_here i within w.0
+        ap (meets_no_breach core i) w.1 ∙ take_is plan (state_of world s) core core_stands.core keeps_here i within w.0
         ∙ ap (λ (x : ℕ). is_allowed plan x (state_of world s) i w.0) site_is ∙ allowed
     in_turn (event.Give i) can = tt
     in_turn event.End can = tt
@@ -202,22 +202,22 @@ module _ (plan : SeenPlan) (world : WorldState) (seen : SeenWorld) (stands : IsW
       }
 
       -- the sites stand where this site does
-      seats_next : (changed : Seat) → changed.core.site ≡ s → IsSeatOf plan next_state changed → SeatsStand plan new (slice_set seen.seats s changed)
-      seats_next changed site seat_stands = record {
-        count = length-set seen.seats s changed ∙ stands.seats.count;
+      sites_next : (changed : WorldSite) → changed.core.site ≡ s → IsSiteOf plan next_state changed → SitesStand plan new (slice_set seen.sites s changed)
+      sites_next changed site world_site_stands = record {
+        count = length-set seen.sites s changed ∙ stands.sites.count;
         site = λ t d is_t. elim (cases_eq t s) [
-          | inl same ↦ ap (λ (x : ℕ). (get_or (slice_set seen.seats s changed) x d).core.site) same ∙ ap (λ (x : Seat). x.core.site) (get_or-set_same seen.seats s changed d in_range) ∙ site ∙ sym same
-          | inr other ↦ ap (λ (x : Seat). x.core.site) (get_or-set_other seen.seats s t changed d other) ∙ stands.seats.site t d is_t
+          | inl same ↦ ap (λ (x : ℕ). (get_or (slice_set seen.sites s changed) x d).core.site) same ∙ ap (λ (x : WorldSite). x.core.site) (get_or-set_same seen.sites s changed d in_range) ∙ site ∙ sym same
+          | inr other ↦ ap (λ (x : WorldSite). x.core.site) (get_or-set_other seen.sites s t changed d other) ∙ stands.sites.site t d is_t
         ];
         stands = λ t d is_t. elim (cases_eq t s) [
-          | inl same ↦ subst (λ (x : ℕ). IsSeatOf plan (state_of new x) (get_or (slice_set seen.seats s changed) x d)) (sym same)
-              (subst (IsSeatOf plan (state_of new s)) (sym (get_or-set_same seen.seats s changed d in_range)) (subst (λ (x : LocalState). IsSeatOf plan x changed) (sym here) seat_stands))
-          | inr other ↦ subst (IsSeatOf plan (state_of new t)) (sym (get_or-set_other seen.seats s t changed d other))
-              (subst (λ (x : LocalState). IsSeatOf plan x (get_or seen.seats t d)) (sym (elsewhere t other)) (stands.seats.stands t d is_t))
+          | inl same ↦ subst (λ (x : ℕ). IsSiteOf plan (state_of new x) (get_or (slice_set seen.sites s changed) x d)) (sym same)
+              (subst (IsSiteOf plan (state_of new s)) (sym (get_or-set_same seen.sites s changed d in_range)) (subst (λ (x : LocalState). IsSiteOf plan x changed) (sym here) world_site_stands))
+          | inr other ↦ subst (IsSiteOf plan (state_of new t)) (sym (get_or-set_other seen.sites s t changed d other))
+              (subst (λ (x : LocalState). IsSiteOf plan x (get_or seen.sites t d)) (sym (elsewhere t other)) (stands.sites.stands t d is_t))
         ];
       } where
-        in_range : s < length seen.seats
-        in_range = omega (arith, is_site, stands.seats.count)
+        in_range : s < length seen.sites
+        in_range = omega (arith, is_site, stands.sites.count)
 
         here : state_of new s ≡ next_state
         here = ap (λ (w : WorldState). state_of w s) done.changes ∙ get_or-set_same world s next_state no_state (omega (arith, is_site, kept.sites))
@@ -230,13 +230,13 @@ module _ (plan : SeenPlan) (world : WorldState) (seen : SeenWorld) (stands : IsW
       has_room can = room_for kind done.step can done.step_is (subst (WorldKeeps plan) done.changes new_kept)
 
       -- the world stands for the new state, with the site and the links that the step leaves
-      pub world_next : (changed : Seat) (links : List (List Letter)) → can_do seen.links core kind ≡ true → Does kind seat changed seen.links links
-          → IsWorldOf plan new (record { seats = slice_set seen.seats s changed; links = links; edges = seen.edges; bound = seen.bound })
+      pub world_next : (changed : WorldSite) (links : List (List Letter)) → can_do seen.links core kind ≡ true → SiteSteps kind world_site changed seen.links links
+          → IsWorldOf plan new (record { sites = slice_set seen.sites s changed; links = links; edges = seen.edges; bound = seen.bound })
       world_next changed links can does =
           let did = does plan state done.step keeps_here eats_here core_stands (step_is kind can ∙ done.step_is) in
           record {
             reached = reached_next;
-            seats = seats_next changed (did.site ∙ site_is) (subst (λ (x : ℕ). IsSeatOf plan (after plan x state done.step) changed) site_is did.stands);
+            sites = sites_next changed (did.site ∙ site_is) (subst (λ (x : ℕ). IsSiteOf plan (after plan x state done.step) changed) site_is did.stands);
             links = subst (λ (w : WorldState). LinksStand plan w links) (sym done.changes) (links_done kind done.step links can done.step_is did.letters);
             edges = stands.edges;
             bound = stands.bound;

@@ -2,13 +2,13 @@
 use Rattle.std.specs.Prelude.{◌≡◌, ℕ, ◌<◌, ◌==◌, List, [], ◌∷◌, length, slice_index_or, Option, Some, None, if◌then◌else◌}
 use Rattle.dine_token.specs.Log.{meals_of}
 use Rattle.dine_token.specs.Fork.{SeenFork}
-use Rattle.dine_plan.specs.Plan.{SeenPlan, job_count, lo_of, hi_of}
+use Rattle.dine_plan.specs.Plan.{SeenPlan, job_count, lo_of, hi_of, other_of}
 use Rattle.dine_rules.specs.declared.phase.Phase.{Phase}
-use Rattle.dine_core.specs.declared.places.Place.{Place}
-use Rattle.dine_core.specs.declared.places.ForkSlot.{ForkSlot}
-use Rattle.dine_core.specs.declared.places.ForkSlot.TheVariants.{Away, Here, InMeal}
+use Rattle.dine_core.specs.declared.site.places.Place.{Place}
+use Rattle.dine_core.specs.declared.site.places.ForkSlot.{ForkSlot}
+use Rattle.dine_core.specs.declared.site.places.ForkSlot.TheVariants.{Away, Here, InMeal}
 use Rattle.dine_rules.specs.Letters.{has_done, has_close}
-use Rattle.dine_rules.specs.Local.{LocalState, Traffic, traffic_at, edge_at, other_end, is_eating}
+use Rattle.dine_rules.specs.Local.{LocalState, Traffic, traffic_at, edge_at, is_eating}
 use Rattle.dine_rules.specs.Holdings.{forks_held, tokens_held, hand, fork_at, token_at, hand_at}
 use Rattle.dine_rules.specs.Steps.{fork_with}
 
@@ -26,7 +26,7 @@ module _ (plan : SeenPlan) (s : ℕ) (phase : Phase) (ate edge : ℕ) (traffic :
   -- how many meals of the other end it has.
   abbrev pub fork_kept : ForkSlot
   fork_kept = if forks_held plan s edge traffic == 1
-      then (if is_eating phase then InMeal (meals_of (other_end plan s edge) (hand s ate traffic)) else Here (fork_with plan edge (hand s ate traffic)))
+      then (if is_eating phase then InMeal (meals_of (other_of plan edge s) (hand s ate traffic)) else Here (fork_with plan edge (hand s ate traffic)))
       else Away
 
   -- the token, where it is held

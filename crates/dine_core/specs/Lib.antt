@@ -4,7 +4,7 @@ pub use Rattle.dine_rules.specs.Holdings
 pub use Rattle.dine_rules.specs.Breach
 pub use Rattle.dine_rules.specs.Steps
 pub use Rattle.dine_rules.specs.Streams
-pub use Rattle.dine_rules.specs.Runs
+pub use Rattle.dine_rules.specs.StepLists
 pub use Rattle.dine_rules.specs.World
 pub use Rattle.dine_rules.specs.Links
 pub use Rattle.dine_rules.specs.Precedence
@@ -13,11 +13,11 @@ pub use Rattle.dine_rules.specs.Schedules
 pub use Rattle.dine_rules.specs.Examples
 pub mod Core
 pub mod Places
-pub mod Kept
-pub mod Numbers
+pub mod SiteFields
+pub mod LinkNumbers
 pub mod Standing
-pub mod Seats
+pub mod WorldSites
 pub mod Forks
-pub mod Sought
+pub mod EventSearch
 pub mod Worlds
-pub mod WorldKept
+pub mod WorldFields

@@ -10,11 +10,11 @@ use Rattle.dine_rules.specs.declared.letters.Letter.{Letter}
 use Rattle.dine_rules.specs.declared.letters.Letter.TheVariants as letter
 use Rattle.dine_rules.specs.declared.breach.Breach.{Breach}
 use Rattle.dine_rules.specs.declared.breach.Breach.TheVariants.{AfterClose, RequestOutOfTurn, ForkOutOfTurn, StrangeFork, DoneOutOfTurn, ClosedEarly}
-use Rattle.dine_core.specs.declared.places.Place.{Place}
-use Rattle.dine_core.specs.declared.places.ForkSlot.{ForkSlot}
-use Rattle.dine_core.specs.declared.places.ForkSlot.TheVariants.{Away, Here, InMeal}
+use Rattle.dine_core.specs.declared.site.places.Place.{Place}
+use Rattle.dine_core.specs.declared.site.places.ForkSlot.{ForkSlot}
+use Rattle.dine_core.specs.declared.site.places.ForkSlot.TheVariants.{Away, Here, InMeal}
 use Rattle.dine_rules.specs.Local.{is_thinking, is_hungry, is_eating}
-use Rattle.dine_rules.specs.Breach.{ends_at}
+use Rattle.dine_rules.specs.Breach.{was_sent_to}
 use Rattle.dine_core.specs.Core.{SeenCore}
 
 -- a place past the end
@@ -71,8 +71,8 @@ can_hunger core = is_thinking core.phase && nat_lt core.ate core.due
 abbrev pub can_begin : SeenCore → Bool
 can_begin core = is_hungry core.phase && list_all is_ready_at core.places
 
-abbrev pub can_end_done : SeenCore → ℕ → Bool
-can_end_done core i = is_thinking core.phase && core.ate == core.due && (not (place_at core i).done_put && not (place_at core i).close_put)
+abbrev pub can_say_done : SeenCore → ℕ → Bool
+can_say_done core i = is_thinking core.phase && core.ate == core.due && (not (place_at core i).done_put && not (place_at core i).close_put)
 
 abbrev pub can_close : SeenCore → ℕ → Bool
 can_close core i = (place_at core i).done_put && (place_at core i).done_taken && not (place_at core i).close_put
@@ -92,7 +92,7 @@ breach_of_request s place edge =
 abbrev pub breach_of_fork : ℕ → ℕ → Place → SeenFork → Option Breach
 breach_of_fork s ate place fork =
     if is_held place.fork || is_some place.token then Some ForkOutOfTurn
-    else (if not (is_own_fork place fork) || not (ends_at place.ends.0 s fork.log) || not (meals_of s fork.log == ate)
+    else (if not (is_own_fork place fork) || not (was_sent_to place.ends.0 s fork.log) || not (meals_of s fork.log == ate)
     || (place.done_taken && not (meals_of (neighbour_of s place) fork.log == due_of_neighbour s place))
     then Some StrangeFork else None)
 

@@ -21,12 +21,12 @@ abbrev pub TellsMay : SeenCore → Step → Bool → Type 0
 TellsMay core step test = ForEachState core (λ plan state. test ≡ may plan core.site state step)
 
 -- the new core stands for the state after the step
-abbrev pub Steps : Step → SeenCore → SeenCore → Type 0
-Steps step old new = ForEachState old (λ plan state. StandsFor plan (after plan old.site state step) new)
+abbrev pub CoreSteps : Step → SeenCore → SeenCore → Type 0
+CoreSteps step old new = ForEachState old (λ plan state. StandsFor plan (after plan old.site state step) new)
 
 -- so it does, and the step puts the letter at place i
-abbrev pub Puts : ℕ → Step → SeenCore → SeenCore → Letter → Type 0
-Puts i step old new l = ForEachState old (λ plan state. (after plan old.site state step ≡ with_put i l state) × StandsFor plan (with_put i l state) new)
+abbrev pub CorePuts : ℕ → Step → SeenCore → SeenCore → Letter → Type 0
+CorePuts i step old new l = ForEachState old (λ plan state. (after plan old.site state step ≡ with_put i l state) × StandsFor plan (with_put i l state) new)
 
 -- the answer is the first breach of the letter
 abbrev pub TellsBreach : SeenCore → ℕ → Letter → Option Breach → Type 0

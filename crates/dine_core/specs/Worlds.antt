@@ -6,20 +6,20 @@ use Rattle.dine_plan.specs.Plan.{SeenPlan, IsPlan, site_count, edge_count, edges
 use Rattle.dine_rules.specs.declared.letters.Letter.{Letter}
 use Rattle.dine_rules.specs.declared.events.Event.{Event}
 use Rattle.dine_rules.specs.declared.events.EventKind.{EventKind}
-use Rattle.dine_core.specs.declared.seats.Seat.{Seat}
+use Rattle.dine_core.specs.declared.world.sites.WorldSite.{WorldSite}
 use Rattle.dine_core.specs.declared.world.EdgeEnds.{EdgeEnds}
 use Rattle.dine_rules.specs.Local.{edge_at}
 use Rattle.dine_rules.specs.Steps.{fork_with}
 use Rattle.dine_rules.specs.World.{WorldState, Reaches, state_of, place_of, world_after}
 use Rattle.dine_rules.specs.Links.{queue_to}
-use Rattle.dine_core.specs.Seats.{IsSeatOf, can_do, letters_in}
+use Rattle.dine_core.specs.WorldSites.{IsSiteOf, can_do, letters_in}
 use Rattle.dine_rules.specs.Precedence.{fork_log}
 use Rattle.dine_rules.specs.Bound.{bound_of}
 use Rattle.dine_rules.specs.Schedules.{Counted}
 
 -- the sites, the letters in the links, where the ends of each edge are, and the bound of events
 pub record SeenWorld : Type 0 where
-  pub seats : List Seat
+  pub sites : List WorldSite
   pub links : List (List Letter)
   pub edges : List EdgeEnds
   pub bound : ℕ
@@ -29,10 +29,10 @@ abbrev pub number_to : SeenPlan → ℕ → ℕ → ℕ
 number_to plan s i = 2 * edge_at plan s i + (if lo_of plan (edge_at plan s i) == s then 1 else 0)
 
 -- each site stands for its state
-pub record SeatsStand (plan : SeenPlan) (world : WorldState) (seats : List Seat) : Type 0 where
-  pub count : length seats ≡ site_count plan
-  pub site : (s : ℕ) (past : Seat) → s < site_count plan → (slice_index_or seats s past).core.site ≡ s
-  pub stands : (s : ℕ) (past : Seat) → s < site_count plan → IsSeatOf plan (state_of world s) (slice_index_or seats s past)
+pub record SitesStand (plan : SeenPlan) (world : WorldState) (sites : List WorldSite) : Type 0 where
+  pub count : length sites ≡ site_count plan
+  pub site : (s : ℕ) (past : WorldSite) → s < site_count plan → (slice_index_or sites s past).core.site ≡ s
+  pub stands : (s : ℕ) (past : WorldSite) → s < site_count plan → IsSiteOf plan (state_of world s) (slice_index_or sites s past)
 
 -- in each link lie the letters that were put and not taken
 pub record LinksStand (plan : SeenPlan) (world : WorldState) (links : List (List Letter)) : Type 0 where
@@ -52,7 +52,7 @@ pub record IsReached (plan : SeenPlan) (world : WorldState) : Type 0 where
 -- The world stands for a state of the plan's world, which some list of events reaches from the start.
 pub record IsWorldOf (plan : SeenPlan) (world : WorldState) (seen : SeenWorld) : Type 0 where
   pub reached : IsReached plan world
-  pub seats : SeatsStand plan world seen.seats
+  pub sites : SitesStand plan world seen.sites
   pub links : LinksStand plan world seen.links
   pub edges : seen.edges ≡ map (ends_seen plan) (range_with_len 0 (edge_count plan))
   pub bound : seen.bound ≡ bound_of plan
@@ -66,22 +66,22 @@ abbrev pub ForEachWorld : SeenWorld → (SeenPlan → WorldState → Type 0) →
 ForEachWorld seen P = (plan : SeenPlan) (world : WorldState) → IsWorldOf plan world seen → P plan world
 
 -- the site is there, and may do that
-abbrev pub can_at : List (List Letter) → EventKind → Option Seat → Bool
+abbrev pub can_at : List (List Letter) → EventKind → Option WorldSite → Bool
 can_at links kind None = false
-can_at links kind (Some seat) = can_do links seat.core kind
+can_at links kind (Some world_site) = can_do links world_site.core kind
 
 -- the event can happen
 abbrev pub can_happen : SeenWorld → Event → Bool
-can_happen seen e = can_at seen.links e.kind (slice_get seen.seats e.site)
+can_happen seen e = can_at seen.links e.kind (slice_get seen.sites e.site)
 
 -- the world after the event
-pub record HappensTo (plan : SeenPlan) (world : WorldState) (e : Event) (new : SeenWorld) : Type 0 where
+pub record WorldStep (plan : SeenPlan) (world : WorldState) (e : Event) (new : SeenWorld) : Type 0 where
   pub after : WorldState
   pub happens : world_after plan world e ≡ Some after
   pub stands : IsWorldOf plan after new
 
-abbrev pub Happens : Event → SeenWorld → SeenWorld → Type 0
-Happens e old new = ForEachWorld old (λ plan world. HappensTo plan world e new)
+abbrev pub WorldSteps : Event → SeenWorld → SeenWorld → Type 0
+WorldSteps e old new = ForEachWorld old (λ plan world. WorldStep plan world e new)
 
 -- the run leads to a state that the world stands for, by so many events
 pub record RunsTo (plan : SeenPlan) (run : Counted) (events : ℕ) (new : SeenWorld) : Type 0 where

@@ -1,18 +1,10 @@
-//! The rules of the hygienic solution at one site, and the world of all sites in one thread.
+//! The code of the hygienic solution: one site, and the world of all sites in one thread. The rules and their laws are those of
+//! `dine_rules`, and are handed on.
 #![tactic(auto)]
 
-mod acts;
-mod meals;
-mod opening;
-mod places;
-mod queue;
-mod seats;
-mod site_core;
-#[cfg(test)]
-mod tests;
-mod world;
+pub mod site;
+pub mod world;
 
-pub use dine_rules::laws;
-pub use dine_rules::{Breach, Event, EventKind, Kind4, Letter, Phase};
-pub use site_core::{Parts, SiteCore};
+pub use dine_rules::{Breach, Event, EventKind, Kind4, Letter, Phase, laws};
+pub use site::{Parts, SiteCore};
 pub use world::{NotEnabled, World};

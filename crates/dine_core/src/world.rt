@@ -2,20 +2,22 @@
 
 ghost use Rattle.std.specs.Prelude.{◌≡◌, IfOk, MatchResult, is_ok, option_map, slice_get, true};
 
-mod choices;
+mod acts;
+mod enabled;
 mod forks;
-pub(crate) mod opening;
-mod runs;
+mod opening;
+mod queue;
+mod schedules;
+mod sites;
 #[cfg(test)]
 mod tests;
 
-use crate::acts;
-use dine_rules::Event;
-use dine_rules::Phase;
-use crate::queue::Queue;
-use crate::seats::Seat;
 use dine_plan::Plan;
+use dine_rules::Phase;
+pub use dine_rules::{Event, EventKind};
 use dine_token::Fork;
+use queue::Queue;
+use sites::WorldSite;
 use std::alloc::{AllocError, Global};
 use std::marker::Model;
 use thiserror::Error;
@@ -36,7 +38,7 @@ pub struct NotEnabled;
 
 /// All sites of a plan and the links between them, stepped in one thread. It has to be spent, by [`World::into_forks`].
 pub struct World {
-    seats: Vec<Seat>,
+    sites: Vec<WorldSite>,
     links: Vec<Queue>,
     edges: Vec<EdgeEnds>,
     bound: u64,
@@ -49,7 +51,7 @@ impl Model for World {
 
     ghost Value = { SeenWorld };
 
-    ghost use Rattle.dine_core.specs.WorldKept.{IsKeptWorld, seen_world};
+    ghost use Rattle.dine_core.specs.WorldFields.{IsKeptWorld, seen_world};
 
     ghost view = { seen_world };
 
@@ -59,7 +61,7 @@ impl Model for World {
 impl World {
     ghost use Rattle.dine_rules.specs.Bound.{bound_of};
     ghost use Rattle.dine_rules.specs.World.{is_enabled, start};
-    ghost use Rattle.dine_core.specs.Worlds.{ForEachWorld, Happens, IsWorldOf, can_happen};
+    ghost use Rattle.dine_core.specs.Worlds.{ForEachWorld, WorldSteps, IsWorldOf, can_happen};
 
     /// The world of the plan before its first event. It takes memory for all that comes, once, and fails where that is refused.
     pub fn open(alloc: Global, plan: &Plan) -> Result<World, AllocError>
@@ -68,10 +70,10 @@ impl World {
         let edges = opening::ends_of(alloc, plan)?;
         let links = opening::links_of(alloc, plan)?;
         let forks = Vec::with_capacity(alloc, plan.edges() as usize)?;
-        let seats = opening::seats_of(alloc, plan)?;
+        let sites = opening::sites_of(alloc, plan)?;
         let bound = opening::bound_of(plan);
         Ok(World {
-            seats,
+            sites,
             links,
             edges,
             bound,
@@ -90,22 +92,22 @@ impl World {
     pub fn phase(&self, site: u32) -> Option<Phase>
         ensures { ForEachWorld self.now (λ plan world. result ≡ option_map (λ state. state.phase) (slice_get world site)) }
     {
-        let seat = self.seats.get(site as usize)?;
-        Some(seat.core.phase())
+        let world_site = self.sites.get(site as usize)?;
+        Some(world_site.core.phase())
     }
 
     /// How many meals the site began. None where there is no such site.
     pub fn ate(&self, site: u32) -> Option<u32>
         ensures { ForEachWorld self.now (λ plan world. result ≡ option_map (λ state. state.ate) (slice_get world site)) }
     {
-        let seat = self.seats.get(site as usize)?;
-        Some(seat.core.ate())
+        let world_site = self.sites.get(site as usize)?;
+        Some(world_site.core.ate())
     }
 
     /// Does the event. Where it is not enabled it is refused, and the world is unchanged.
     pub fn step(&mut self, event: Event) -> Result<(), NotEnabled>
         ensures exact { ForEachWorld self.old (λ plan world. is_ok result ≡ is_enabled plan world event) }
-        ensures done { MatchResult result (λ _. Happens event self.old self.new) (λ _. self.new ≡ self.old) }
+        ensures done { MatchResult result (λ _. WorldSteps event self.old self.new) (λ _. self.new ≡ self.old) }
     {
         if !self.can_happen(event) {
             return Err(NotEnabled);
@@ -117,18 +119,18 @@ impl World {
     // Does an event that is enabled.
     fn happen(&mut self, event: Event)
         requires { can_happen self.old event ≡ true }
-        ensures { Happens event self.old self.new }
+        ensures { WorldSteps event self.old self.new }
     {
-        let seat = &mut self.seats[event.site as usize];
-        acts::act(seat, self.links.as_mut_slice(), event.kind);
+        let world_site = &mut self.sites[event.site as usize];
+        acts::act(world_site, self.links.as_mut_slice(), event.kind);
     }
 
     // Whether the event is enabled.
     fn can_happen(&self, event: Event) -> bool
         ensures { result ≡ can_happen self.now event }
     {
-        match self.seats.get(event.site as usize) {
-            Some(seat) => acts::can_do(self.links.as_slice(), &seat.core, event.kind),
+        match self.sites.get(event.site as usize) {
+            Some(world_site) => acts::can_do(self.links.as_slice(), &world_site.core, event.kind),
             None => false,
         }
     }

@@ -2,8 +2,8 @@
 use Rattle.std.proofs.Common.{◌≡◌, ◌≢◌, ℕ, zero, suc, ◌+◌, ◌<◌, ◌≤◌, Bool, true, false, not, ◌==◌, nat_lt, List, [], ◌∷◌, filter, length, get_or, Some, None, unwrap_or, Option, ◌⊎◌, refl, sym, ◌∙◌, ap, subst, inl, inr, arith}
 use Rattle.std.specs.List.{range_with_len, position, position_or_len}
 use Rattle.std.proofs.lemmas.Bool.{cases_Bool, cases_eq, cond-true, cond-false, lt-ltb, eq-eqb, ne_eqb, or_left, or_right, not_from_true, not_from_false, false≢true}
-use Rattle.dine_plan.specs.Plan.{SeenPlan, IsPlan, site_count, edge_count, edges_of, lo_of, hi_of, is_end}
-use Rattle.dine_rules.specs.Local.{edge_at, neighbour_at, other_end}
+use Rattle.dine_plan.specs.Plan.{SeenPlan, IsPlan, site_count, edge_count, edges_of, lo_of, hi_of, is_end, other_of}
+use Rattle.dine_rules.specs.Local.{edge_at, neighbour_at}
 use Rattle.dine_rules.specs.World.{place_of}
 use Rattle.dine_rules.specs.Streams.{is_lower_at}
 use Rattle.dine_rules.proofs.Placed.{filter-at, placed}
@@ -94,7 +94,7 @@ pub record IsAcross (plan : SeenPlan) (s i other place : ℕ) : Type 0 where
   pub back : neighbour_at plan other place ≡ s
   pub other_side : is_lower_at plan other place ≡ not (is_lower_at plan s i)
 
-found : (plan : SeenPlan) (s i other e : ℕ) → e ≡ edge_at plan s i → e < edge_count plan → is_end plan other e ≡ true → other < site_count plan → other_end plan other e ≡ s → (lo_of plan e == other) ≡ not (lo_of plan e == s)
+found : (plan : SeenPlan) (s i other e : ℕ) → e ≡ edge_at plan s i → e < edge_count plan → is_end plan other e ≡ true → other < site_count plan → other_of plan e other ≡ s → (lo_of plan e == other) ≡ not (lo_of plan e == s)
     → IsAcross plan s i other (place_of plan other e)
 found plan s i other e here within is site back side =
     let w = edge_at-place_of plan other e within is in
@@ -102,7 +102,7 @@ found plan s i other e here within is site back side =
       is_site = site;
       within = w.0;
       same_edge = w.1 ∙ here;
-      back = ap (λ (x : ℕ). other_end plan other x) w.1 ∙ back;
+      back = ap (λ (x : ℕ). other_of plan x other) w.1 ∙ back;
       other_side = ap (λ (x : ℕ). lo_of plan x == other) w.1 ∙ side ∙ ap (λ (x : ℕ). not (lo_of plan x == s)) here;
     }
 

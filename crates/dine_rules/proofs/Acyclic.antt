@@ -6,9 +6,9 @@ use Rattle.std.proofs.lemmas.Bool.{cases_eq}
 use Rattle.std.proofs.lemmas.List.{get_or-set_same, get_or-set_other}
 use Rattle.std.proofs.lemmas.List.Sorted.{IsPermutation-trans}
 use Rattle.std.proofs.lemmas.Option.{same_Some}
-use Rattle.dine_plan.specs.Plan.{SeenPlan, IsPlan, site_count, edge_count, edges_of, lo_of, hi_of}
+use Rattle.dine_plan.specs.Plan.{SeenPlan, IsPlan, site_count, edge_count, edges_of, lo_of, hi_of, other_of}
 use Rattle.dine_rules.specs.declared.events.Event.{Event}
-use Rattle.dine_rules.specs.Local.{LocalState, Traffic, traffic_at, start_of, other_end}
+use Rattle.dine_rules.specs.Local.{LocalState, Traffic, traffic_at, start_of}
 use Rattle.dine_rules.specs.Letters.{forks_in}
 use Rattle.dine_rules.specs.Holdings.{hand, hand_at}
 use Rattle.dine_rules.specs.Steps.{Step, Give, Ask, Hungry, Begin, End, Done, Close, Break, Take, after, may}
@@ -16,7 +16,7 @@ use Rattle.dine_rules.specs.World.{WorldState, no_state, state_of, start, world_
 use Rattle.dine_rules.specs.Precedence.{IsAcyclic, StandsBefore}
 use Rattle.dine_token.specs.Log.{is_dirty}
 use Rattle.dine_rules.proofs.Site.{no_traffic_yet}
-use Rattle.dine_rules.proofs.WorldKept.{WorldKeeps, event_is_step, event_keeps, start_kept, start_state, and_then_parts}
+use Rattle.dine_rules.proofs.WorldStreams.{WorldKeeps, event_is_step, event_keeps, start_kept, start_state, and_then_parts}
 use Rattle.dine_rules.proofs.Orders.{Before, before_to, in_order, moved_last, IsMovedLast, falling, falling_all, falling_before}
 use Rattle.dine_rules.proofs.Preference.{IsEdge, is_edge, IsBalanced, balanced, lower_first_at, low_place, high_place, preferred_is}
 use Rattle.dine_rules.proofs.PreferenceSteps.{Change, IsEaten, step_changes, begin_eats, low_changes, high_changes, low_eats, high_eats}
@@ -31,7 +31,7 @@ pub record IsOrdered (plan : SeenPlan) (world : WorldState) (order : List ℕ) :
   pub edges : (e : ℕ) → e < edge_count plan → Before (cond (is_lower_first plan world e) (lo_of plan e) (hi_of plan e)) (cond (is_lower_first plan world e) (hi_of plan e) (lo_of plan e)) order
 
 -- such an order shows that precedence is acyclic
-other_of_first : (plan : SeenPlan) (e : ℕ) → IsEdge plan e → (b : Bool) → other_end plan (cond b (lo_of plan e) (hi_of plan e)) e ≡ cond b (hi_of plan e) (lo_of plan e)
+other_of_first : (plan : SeenPlan) (e : ℕ) → IsEdge plan e → (b : Bool) → other_of plan e (cond b (lo_of plan e) (hi_of plan e)) ≡ cond b (hi_of plan e) (lo_of plan e)
 other_of_first plan e edge true = edge.from_low
 other_of_first plan e edge false = edge.from_high
 
@@ -41,7 +41,7 @@ acyclic_by plan world order is_plan kept ordered = record {
   each_once = ordered.all;
   preferred_first = λ e within.
       let first : Bool = is_lower_first plan world e in
-      subst (λ (p : ℕ). StandsBefore p (other_end plan p e) order) (sym (preferred_is plan is_plan world kept e within))
+      subst (λ (p : ℕ). StandsBefore p (other_of plan e p) order) (sym (preferred_is plan is_plan world kept e within))
       (subst (λ (o : ℕ). StandsBefore (cond first (lo_of plan e) (hi_of plan e)) o order) (sym (other_of_first plan e (is_edge plan e is_plan within) first))
       (before_to (cond first (lo_of plan e) (hi_of plan e)) (cond first (hi_of plan e) (lo_of plan e)) order (ordered.edges e within)));
 }

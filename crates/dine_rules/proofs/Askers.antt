@@ -14,7 +14,7 @@ use Rattle.dine_rules.specs.Local.{LocalState, Traffic, no_traffic, traffic_at, 
 use Rattle.dine_rules.specs.Holdings.{forks_held, tokens_held, fork_at, token_at, hand_at, with_meals_to}
 use Rattle.dine_rules.specs.Steps.{Step, Give, Ask, Hungry, Begin, End, Done, Close, Break, Take, after, may, is_ready}
 use Rattle.dine_rules.specs.Streams.{KeepsStreams}
-use Rattle.dine_rules.specs.Runs.{LeadTo, AreProper, begins_in, is_give_at}
+use Rattle.dine_rules.specs.StepLists.{LeadTo, AreProper, begins_in, is_give_at}
 use Rattle.dine_rules.proofs.Counting.{forks_in-append, requests_in-append, last_log_or-append}
 use Rattle.dine_rules.proofs.Hands.{hand-more}
 use Rattle.dine_rules.proofs.Site.{start_keeps}

@@ -10,7 +10,7 @@ use Rattle.dine_rules.specs.declared.breach.Breach.TheVariants.{AfterClose, Requ
 use Rattle.dine_rules.specs.Letters.{has_done, has_close}
 use Rattle.dine_rules.specs.Local.{LocalState, traffic_at, edge_at, neighbour_at}
 use Rattle.dine_rules.specs.Holdings.{fork_at, token_at, hand_at}
-use Rattle.dine_rules.specs.Breach.{ends_at, is_fork_of, has_all_of_neighbour, may_come, is_allowed, breach_before_close, first_breach}
+use Rattle.dine_rules.specs.Breach.{was_sent_to, is_fork_of, has_all_of_neighbour, may_come, is_allowed, breach_before_close, first_breach}
 
 -- ---- the tests of each letter, over plain values: the ones that allow it come true exactly where those of its breaches fail
 
@@ -72,7 +72,7 @@ module _ (plan : SeenPlan) (s : ℕ) (state : LocalState) (i : ℕ) where
   none_from (Request edge) h = request_none (edge == edge_at plan s i) (token_at plan s state i == 0) (fork_at plan s state i == 1) done_taken (nat_lt meals_there due_there) (nat_le due_there meals_there)
       (λ less. lt-leb due_there meals_there (ltb-true meals_there due_there less)) h
   none_from (Fork fork) h = fork_none (is_fork_of plan (edge_at plan s i) fork) (fork_at plan s state i == 0) (token_at plan s state i == 0)
-      (ends_at (lo_of plan (edge_at plan s i)) s fork.log) (meals_of s fork.log == state.ate) done_taken (has_all_of_neighbour plan s state i fork.log) h
+      (was_sent_to (lo_of plan (edge_at plan s i)) s fork.log) (meals_of s fork.log == state.ate) done_taken (has_all_of_neighbour plan s state i fork.log) h
   none_from Done h = done_none done_taken (fork_at plan s state i == 1) (has_all_of_neighbour plan s state i (hand_at s state i)) h
   none_from Close h = close_none done_taken (has_done (traffic_at state i).put) h
 
@@ -80,7 +80,7 @@ module _ (plan : SeenPlan) (s : ℕ) (state : LocalState) (i : ℕ) where
   comes_from (Request edge) h = request_some (token_at plan s state i == 0) (fork_at plan s state i == 1) done_taken (edge == edge_at plan s i) (nat_lt meals_there due_there) (nat_le due_there meals_there)
       (λ few. lt-ltb meals_there due_there (leb-false due_there meals_there few)) h
   comes_from (Fork fork) h = fork_some (fork_at plan s state i == 0) (token_at plan s state i == 0) (is_fork_of plan (edge_at plan s i) fork)
-      (ends_at (lo_of plan (edge_at plan s i)) s fork.log) (meals_of s fork.log == state.ate) done_taken (has_all_of_neighbour plan s state i fork.log) h
+      (was_sent_to (lo_of plan (edge_at plan s i)) s fork.log) (meals_of s fork.log == state.ate) done_taken (has_all_of_neighbour plan s state i fork.log) h
   comes_from Done h = done_some done_taken (fork_at plan s state i == 1) (has_all_of_neighbour plan s state i (hand_at s state i)) h
   comes_from Close h = close_some done_taken (has_done (traffic_at state i).put) h
 

@@ -8,7 +8,7 @@ use Rattle.dine_rules.specs.Local.{LocalState, traffic_at}
 use Rattle.dine_rules.specs.Holdings.{fork_at, hand_at}
 use Rattle.dine_rules.specs.World.{WorldState, state_of, place_of}
 use Rattle.dine_rules.specs.Precedence.{preferred_end}
-use Rattle.dine_rules.proofs.WorldKept.{WorldKeeps}
+use Rattle.dine_rules.proofs.WorldStreams.{WorldKeeps}
 use Rattle.dine_rules.proofs.Preference.{lower_first, lower_first_at, balanced, preferred_is, low_place, high_place}
 
 -- the lower end holds it clean

@@ -11,8 +11,8 @@ use Rattle.dine_rules.specs.declared.letters.Letter.TheVariants.{Fork, Request, 
 use Rattle.dine_rules.specs.Letters.{forks_in, requests_in, has_done, has_close, last_log_or}
 use Rattle.dine_rules.specs.Local.{LocalState, traffic_at, edge_at, neighbour_at}
 use Rattle.dine_rules.specs.Holdings.{fork_at, token_at, hand_at}
-use Rattle.dine_rules.specs.Breach.{ends_at, is_fork_of, has_all_of_neighbour, may_come, is_allowed}
-use Rattle.dine_rules.specs.Streams.{KeepsStreamsAt, is_lower_at, is_in_turn, is_done_last, is_close_last, is_orderly}
+use Rattle.dine_rules.specs.Breach.{was_sent_to, is_fork_of, has_all_of_neighbour, may_come, is_allowed}
+use Rattle.dine_rules.specs.Streams.{KeepsStreamsAt, is_lower_at, is_alternating, is_done_last, is_close_last, is_orderly}
 use Rattle.dine_rules.proofs.Counting.{has_done-append, has_close-append, last_log_or-append, last_log_or-none}
 use Rattle.dine_rules.proofs.PutBounds.{waiter_has_left}
 use Rattle.dine_rules.proofs.Joined.{Joined, one_lower, one_fork, one_token, forks_coming, requests_going}
@@ -93,7 +93,7 @@ module _ (plan : SeenPlan) (s i j : ℕ) (near far : LocalState) (going : List L
     -- by its turn as many Forks came as the other end was ahead in turns
     request_turn : cond (is_lower_at plan (neighbour_at plan s i) j) 1 0 + requests_in (traffic_at near i).taken ≡ forks_in (traffic_at near i).taken
     request_turn = turn_of_request (is_lower_at plan (neighbour_at plan s i) j) (traffic_at near i).taken rest edge
-        (ap (is_in_turn (is_lower_at plan (neighbour_at plan s i) j)) (sym ends.comes) ∙ (keeps_there requests ends).put_lawful.in_turn)
+        (ap (is_alternating (is_lower_at plan (neighbour_at plan s i) j)) (sym ends.comes) ∙ (keeps_there requests ends).put_lawful.alternating)
 
     -- the fork is here
     request_fork : fork_at plan s near i ≡ 1
@@ -138,7 +138,7 @@ module _ (plan : SeenPlan) (s i j : ℕ) (near far : LocalState) (going : List L
     -- by its turn one Fork less came than the other end was ahead in turns
     fork_turn : cond (is_lower_at plan (neighbour_at plan s i) j) 1 0 + requests_in (traffic_at near i).taken ≡ forks_in (traffic_at near i).taken + 1
     fork_turn = turn_of_fork (is_lower_at plan (neighbour_at plan s i) j) (traffic_at near i).taken rest fork
-        (ap (is_in_turn (is_lower_at plan (neighbour_at plan s i) j)) (sym ends.comes) ∙ (keeps_there forks ends).put_lawful.in_turn)
+        (ap (is_alternating (is_lower_at plan (neighbour_at plan s i) j)) (sym ends.comes) ∙ (keeps_there forks ends).put_lawful.alternating)
 
     -- the fork is in the link and nowhere else
     fork_places : (fork_at plan s near i ≡ 0) × (forks_in forks ≡ 1) × (fork_at plan (neighbour_at plan s i) far j ≡ 0) × (forks_in going ≡ 0)
@@ -169,7 +169,7 @@ module _ (plan : SeenPlan) (s i j : ℕ) (near far : LocalState) (going : List L
         (last_sent (neighbour_at plan s i) (neighbour_at plan (neighbour_at plan s i) j) (is_lower_at plan (neighbour_at plan s i) j) (traffic_at far j) (λ same. ends.differ (sym (same ∙ ends.back))) (keeps_there forks ends).put_chained away some))
 
     -- its log ends here
-    fork_ends_here : ends_at (lo_of plan (edge_at plan s i)) s fork.log ≡ true
+    fork_ends_here : was_sent_to (lo_of plan (edge_at plan s i)) s fork.log ≡ true
     fork_ends_here =
         let clean : is_dirty fork.log ≡ false = ap is_dirty fork_sent.is ∙ is_dirty-push_move fork_sent.before s in
         let here : location_of (lo_of plan (edge_at plan s i)) fork.log ≡ s = ap (location_of (lo_of plan (edge_at plan s i))) fork_sent.is ∙ location_of-push_move (lo_of plan (edge_at plan s i)) fork_sent.before s in

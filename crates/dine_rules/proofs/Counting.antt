@@ -6,7 +6,7 @@ use Rattle.dine_token.specs.Fork.{SeenFork}
 use Rattle.dine_rules.specs.declared.letters.Letter.{Letter}
 use Rattle.dine_rules.specs.declared.letters.Letter.TheVariants.{Fork, Request, Done, Close}
 use Rattle.dine_rules.specs.Letters.{forks_in, requests_in, has_done, has_close, last_log_or}
-use Rattle.dine_rules.specs.Streams.{is_in_turn, is_done_last, is_close_last, logs_of}
+use Rattle.dine_rules.specs.Streams.{is_alternating, is_done_last, is_close_last, logs_of}
 
 pub or_false : (b : Bool) → (b || false) ≡ b
 or_false true = refl
@@ -118,7 +118,7 @@ slice_get-push (z ∷ xs) x y (suc k) h = elim (slice_get-push xs x y k h) [ inl
 
 -- ---- turns
 
-pub forks_in_turn : (fork_next : Bool) (xs : List Letter) → is_in_turn fork_next xs ≡ true → (forks_in xs ≤ cond fork_next 1 0 + requests_in xs) × (cond fork_next 1 0 + requests_in xs ≤ forks_in xs + 1)
+pub forks_in_turn : (fork_next : Bool) (xs : List Letter) → is_alternating fork_next xs ≡ true → (forks_in xs ≤ cond fork_next 1 0 + requests_in xs) × (cond fork_next 1 0 + requests_in xs ≤ forks_in xs + 1)
 forks_in_turn true [] h = (omega arith, omega arith)
 forks_in_turn false [] h = (omega arith, omega arith)
 forks_in_turn true (Fork fork ∷ xs) h = let w = forks_in_turn false xs h in (omega (arith, w.0), omega (arith, w.1))
@@ -130,43 +130,43 @@ forks_in_turn false (Done ∷ xs) h = forks_in_turn false xs h
 forks_in_turn true (Close ∷ xs) h = forks_in_turn true xs h
 forks_in_turn false (Close ∷ xs) h = forks_in_turn false xs h
 
-pub is_in_turn-push_fork : (fork_next : Bool) (xs : List Letter) (last : SeenFork) → is_in_turn fork_next xs ≡ true → cond fork_next 1 0 + requests_in xs ≡ forks_in xs + 1 → is_in_turn fork_next (xs ++ Fork last ∷ []) ≡ true
-is_in_turn-push_fork true [] last h n = refl
-is_in_turn-push_fork false [] last h n = absurd (omega arith)
-is_in_turn-push_fork true (Fork fork ∷ xs) last h n = is_in_turn-push_fork false xs last h (omega arith)
-is_in_turn-push_fork false (Fork fork ∷ xs) last h n = absurd (false≢true h)
-is_in_turn-push_fork true (Request edge ∷ xs) last h n = absurd (false≢true h)
-is_in_turn-push_fork false (Request edge ∷ xs) last h n = is_in_turn-push_fork true xs last h (omega arith)
-is_in_turn-push_fork true (Done ∷ xs) last h n = is_in_turn-push_fork true xs last h n
-is_in_turn-push_fork false (Done ∷ xs) last h n = is_in_turn-push_fork false xs last h n
-is_in_turn-push_fork true (Close ∷ xs) last h n = is_in_turn-push_fork true xs last h n
-is_in_turn-push_fork false (Close ∷ xs) last h n = is_in_turn-push_fork false xs last h n
+pub is_alternating-push_fork : (fork_next : Bool) (xs : List Letter) (last : SeenFork) → is_alternating fork_next xs ≡ true → cond fork_next 1 0 + requests_in xs ≡ forks_in xs + 1 → is_alternating fork_next (xs ++ Fork last ∷ []) ≡ true
+is_alternating-push_fork true [] last h n = refl
+is_alternating-push_fork false [] last h n = absurd (omega arith)
+is_alternating-push_fork true (Fork fork ∷ xs) last h n = is_alternating-push_fork false xs last h (omega arith)
+is_alternating-push_fork false (Fork fork ∷ xs) last h n = absurd (false≢true h)
+is_alternating-push_fork true (Request edge ∷ xs) last h n = absurd (false≢true h)
+is_alternating-push_fork false (Request edge ∷ xs) last h n = is_alternating-push_fork true xs last h (omega arith)
+is_alternating-push_fork true (Done ∷ xs) last h n = is_alternating-push_fork true xs last h n
+is_alternating-push_fork false (Done ∷ xs) last h n = is_alternating-push_fork false xs last h n
+is_alternating-push_fork true (Close ∷ xs) last h n = is_alternating-push_fork true xs last h n
+is_alternating-push_fork false (Close ∷ xs) last h n = is_alternating-push_fork false xs last h n
 
-pub is_in_turn-push_request : (fork_next : Bool) (xs : List Letter) (edge : ℕ) → is_in_turn fork_next xs ≡ true → cond fork_next 1 0 + requests_in xs ≡ forks_in xs → is_in_turn fork_next (xs ++ Request edge ∷ []) ≡ true
-is_in_turn-push_request true [] edge h n = absurd (omega arith)
-is_in_turn-push_request false [] edge h n = refl
-is_in_turn-push_request true (Fork fork ∷ xs) edge h n = is_in_turn-push_request false xs edge h (omega arith)
-is_in_turn-push_request false (Fork fork ∷ xs) edge h n = absurd (false≢true h)
-is_in_turn-push_request true (Request e ∷ xs) edge h n = absurd (false≢true h)
-is_in_turn-push_request false (Request e ∷ xs) edge h n = is_in_turn-push_request true xs edge h (omega arith)
-is_in_turn-push_request true (Done ∷ xs) edge h n = is_in_turn-push_request true xs edge h n
-is_in_turn-push_request false (Done ∷ xs) edge h n = is_in_turn-push_request false xs edge h n
-is_in_turn-push_request true (Close ∷ xs) edge h n = is_in_turn-push_request true xs edge h n
-is_in_turn-push_request false (Close ∷ xs) edge h n = is_in_turn-push_request false xs edge h n
+pub is_alternating-push_request : (fork_next : Bool) (xs : List Letter) (edge : ℕ) → is_alternating fork_next xs ≡ true → cond fork_next 1 0 + requests_in xs ≡ forks_in xs → is_alternating fork_next (xs ++ Request edge ∷ []) ≡ true
+is_alternating-push_request true [] edge h n = absurd (omega arith)
+is_alternating-push_request false [] edge h n = refl
+is_alternating-push_request true (Fork fork ∷ xs) edge h n = is_alternating-push_request false xs edge h (omega arith)
+is_alternating-push_request false (Fork fork ∷ xs) edge h n = absurd (false≢true h)
+is_alternating-push_request true (Request e ∷ xs) edge h n = absurd (false≢true h)
+is_alternating-push_request false (Request e ∷ xs) edge h n = is_alternating-push_request true xs edge h (omega arith)
+is_alternating-push_request true (Done ∷ xs) edge h n = is_alternating-push_request true xs edge h n
+is_alternating-push_request false (Done ∷ xs) edge h n = is_alternating-push_request false xs edge h n
+is_alternating-push_request true (Close ∷ xs) edge h n = is_alternating-push_request true xs edge h n
+is_alternating-push_request false (Close ∷ xs) edge h n = is_alternating-push_request false xs edge h n
 
-pub is_in_turn-push_done : (fork_next : Bool) (xs : List Letter) → is_in_turn fork_next (xs ++ Done ∷ []) ≡ is_in_turn fork_next xs
-is_in_turn-push_done fork_next [] = refl
-is_in_turn-push_done fork_next (Fork fork ∷ xs) = ap (λ (b : Bool). fork_next && b) (is_in_turn-push_done false xs)
-is_in_turn-push_done fork_next (Request e ∷ xs) = ap (λ (b : Bool). not fork_next && b) (is_in_turn-push_done true xs)
-is_in_turn-push_done fork_next (Done ∷ xs) = is_in_turn-push_done fork_next xs
-is_in_turn-push_done fork_next (Close ∷ xs) = is_in_turn-push_done fork_next xs
+pub is_alternating-push_done : (fork_next : Bool) (xs : List Letter) → is_alternating fork_next (xs ++ Done ∷ []) ≡ is_alternating fork_next xs
+is_alternating-push_done fork_next [] = refl
+is_alternating-push_done fork_next (Fork fork ∷ xs) = ap (λ (b : Bool). fork_next && b) (is_alternating-push_done false xs)
+is_alternating-push_done fork_next (Request e ∷ xs) = ap (λ (b : Bool). not fork_next && b) (is_alternating-push_done true xs)
+is_alternating-push_done fork_next (Done ∷ xs) = is_alternating-push_done fork_next xs
+is_alternating-push_done fork_next (Close ∷ xs) = is_alternating-push_done fork_next xs
 
-pub is_in_turn-push_close : (fork_next : Bool) (xs : List Letter) → is_in_turn fork_next (xs ++ Close ∷ []) ≡ is_in_turn fork_next xs
-is_in_turn-push_close fork_next [] = refl
-is_in_turn-push_close fork_next (Fork fork ∷ xs) = ap (λ (b : Bool). fork_next && b) (is_in_turn-push_close false xs)
-is_in_turn-push_close fork_next (Request e ∷ xs) = ap (λ (b : Bool). not fork_next && b) (is_in_turn-push_close true xs)
-is_in_turn-push_close fork_next (Done ∷ xs) = is_in_turn-push_close fork_next xs
-is_in_turn-push_close fork_next (Close ∷ xs) = is_in_turn-push_close fork_next xs
+pub is_alternating-push_close : (fork_next : Bool) (xs : List Letter) → is_alternating fork_next (xs ++ Close ∷ []) ≡ is_alternating fork_next xs
+is_alternating-push_close fork_next [] = refl
+is_alternating-push_close fork_next (Fork fork ∷ xs) = ap (λ (b : Bool). fork_next && b) (is_alternating-push_close false xs)
+is_alternating-push_close fork_next (Request e ∷ xs) = ap (λ (b : Bool). not fork_next && b) (is_alternating-push_close true xs)
+is_alternating-push_close fork_next (Done ∷ xs) = is_alternating-push_close fork_next xs
+is_alternating-push_close fork_next (Close ∷ xs) = is_alternating-push_close fork_next xs
 
 -- ---- Done and Close
 

@@ -6,7 +6,7 @@ use Rattle.dine_rules.specs.Local.{is_eating, neighbour_at}
 use Rattle.dine_rules.specs.Holdings.{EatsWithAll, fork_at}
 use Rattle.dine_rules.specs.World.{WorldState, state_of, Reaches}
 use Rattle.dine_rules.proofs.Across.{across}
-use Rattle.dine_rules.proofs.WorldKept.{reached_kept}
+use Rattle.dine_rules.proofs.WorldStreams.{reached_kept}
 use Rattle.dine_rules.proofs.EachSite.{reached_holds}
 use Rattle.dine_rules.proofs.Links.{other, other_place, joined}
 use Rattle.dine_rules.proofs.Eaters.{start_eats_with_all, step_eats_with_all, not_both}

@@ -1,14 +1,14 @@
 -- All forks and all tokens of an edge in the world: one each.
 use Rattle.std.proofs.Common.{◌≡◌, ℕ, ◌+◌, ◌<◌, length, refl, sym, ◌∙◌, ap, ap₂, arith, true, ◌==◌}
 use Rattle.std.proofs.lemmas.Bool.{eq-eqb, cond-true, or_left}
-use Rattle.dine_plan.specs.Plan.{SeenPlan, IsPlan, site_count, edge_count, edges_of, lo_of, hi_of}
+use Rattle.dine_plan.specs.Plan.{SeenPlan, IsPlan, site_count, edge_count, edges_of, lo_of, hi_of, other_of}
 use Rattle.dine_rules.specs.Letters.{forks_in, requests_in}
-use Rattle.dine_rules.specs.Local.{edge_at, neighbour_at, other_end}
+use Rattle.dine_rules.specs.Local.{edge_at, neighbour_at}
 use Rattle.dine_rules.specs.Holdings.{fork_at, token_at}
 use Rattle.dine_rules.specs.World.{WorldState, state_of, place_of}
 use Rattle.dine_rules.specs.Links.{queue_to, forks_near, tokens_near, forks_of_edge, tokens_of_edge}
 use Rattle.dine_rules.proofs.Across.{edge_at-place_of}
-use Rattle.dine_rules.proofs.WorldKept.{WorldKeeps}
+use Rattle.dine_rules.proofs.WorldStreams.{WorldKeeps}
 use Rattle.dine_rules.proofs.Joined.{one_fork, one_token}
 use Rattle.dine_rules.proofs.Links.{other, other_place, joined}
 
@@ -28,7 +28,7 @@ from_lower plan edge is_plan within =
       is_site = omega (arith, is_plan.ordered edge within, is_plan.within edge within);
       within = place.0;
       edge_is = place.1;
-      other_is = ap (λ (e : ℕ). other_end plan (lo_of plan edge) e) place.1 ∙ cond-true (lo_of plan edge == lo_of plan edge) (hi_of plan edge) (lo_of plan edge) lower;
+      other_is = ap (λ (e : ℕ). other_of plan e (lo_of plan edge)) place.1 ∙ cond-true (lo_of plan edge == lo_of plan edge) (hi_of plan edge) (lo_of plan edge) lower;
     }
 
 module _ (plan : SeenPlan) (is_plan : IsPlan plan) (world : WorldState) (kept : WorldKeeps plan world) where

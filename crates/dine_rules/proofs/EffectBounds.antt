@@ -18,7 +18,7 @@ use Rattle.dine_rules.proofs.PutBounds.{length-letters, requests_within, dones_w
 use Rattle.dine_rules.proofs.Placed.{IsPlaced, placed}
 use Rattle.dine_rules.proofs.Across.{across}
 use Rattle.dine_rules.proofs.Sums.{sum-within, sum_by-add, sum_by-times, sum_by-swap, at_most_twice}
-use Rattle.dine_rules.proofs.WorldKept.{WorldKeeps, prefix_short, reached_kept}
+use Rattle.dine_rules.proofs.WorldStreams.{WorldKeeps, prefix_short, reached_kept}
 use Rattle.dine_rules.proofs.Effects.{events_counted}
 
 -- a prefix has no more Requests

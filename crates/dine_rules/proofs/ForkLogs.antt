@@ -6,10 +6,10 @@ use Rattle.dine_token.specs.declared.entry.Entry.{Entry}
 use Rattle.dine_token.specs.Fork.{SeenFork}
 use Rattle.dine_token.specs.Lawful.{IsLawful}
 use Rattle.dine_token.specs.Log.{meals_of}
-use Rattle.dine_plan.specs.Plan.{SeenPlan, IsPlan, site_count, job_count, edge_count, edges_of, lo_of, hi_of}
+use Rattle.dine_plan.specs.Plan.{SeenPlan, IsPlan, site_count, job_count, edge_count, edges_of, lo_of, hi_of, other_of}
 use Rattle.dine_rules.specs.declared.letters.Letter.{Letter}
 use Rattle.dine_rules.specs.Letters.{forks_in, last_log_or}
-use Rattle.dine_rules.specs.Local.{traffic_at, edge_at, neighbour_at, other_end}
+use Rattle.dine_rules.specs.Local.{traffic_at, edge_at, neighbour_at}
 use Rattle.dine_rules.specs.Holdings.{fork_at, hand_at}
 use Rattle.dine_rules.specs.Links.{queue_to}
 use Rattle.dine_rules.specs.Precedence.{is_sent_to, fork_log}
@@ -25,7 +25,7 @@ use Rattle.dine_rules.proofs.InHand.{hand-meals}
 use Rattle.dine_rules.proofs.Placed.{placed}
 use Rattle.dine_rules.proofs.Preference.{IsEdge, is_edge, low_place, high_place}
 use Rattle.dine_rules.proofs.Sent.{meals_of-with_meals_other}
-use Rattle.dine_rules.proofs.WorldKept.{WorldKeeps, neighbour_differs}
+use Rattle.dine_rules.proofs.WorldStreams.{WorldKeeps, neighbour_differs}
 
 -- the log has all meals of two sites
 abbrev pub HasAllMeals : SeenPlan → ℕ → ℕ → List Entry → Type 0
@@ -121,10 +121,10 @@ module _ (plan : SeenPlan) (is_plan : IsPlan plan) (world : WorldState) (kept : 
 
   -- from each end the other is seen
   low_neighbour : neighbour_at plan low low_at ≡ high
-  low_neighbour = ap (λ (x : ℕ). other_end plan low x) edge_is.low_edge ∙ edge_is.from_low
+  low_neighbour = ap (λ (x : ℕ). other_of plan x low) edge_is.low_edge ∙ edge_is.from_low
 
   high_neighbour : neighbour_at plan high high_at ≡ low
-  high_neighbour = ap (λ (x : ℕ). other_end plan high x) edge_is.high_edge ∙ edge_is.from_high
+  high_neighbour = ap (λ (x : ℕ). other_of plan x high) edge_is.high_edge ∙ edge_is.from_high
 
   -- where the fork is nowhere else, it is on its way to the higher end
   somewhere : (fork_at plan low (state_of world low) low_at == 1) ≡ false → is_sent_to plan world low low_at ≡ false → (fork_at plan high (state_of world high) high_at == 1) ≡ false → is_sent_to plan world high high_at ≡ true

@@ -164,7 +164,7 @@ pub record Held (spot : Spot) (phase : Phase) (ate fork token R : ℕ) (last_put
   pub waiter_is_hungry : fork ≡ 0 → token ≡ 0 → is_hungry phase ≡ true
   pub asker_has_left : fork ≡ 1 → token ≡ 1 → meals_of spot.other (with_meals_to spot.site ate last_taken) < spot.due_there
   pub asks_once_more : R ≤ ate + 1
-  pub asks_to_eat : (fork ≡ 0 → token ≡ 0 → ⊥) → (fork ≡ 1 → is_dirty (with_meals_to spot.site ate last_taken) ≡ false → ⊥) → R ≤ ate
+  pub requests_within : (fork ≡ 0 → token ≡ 0 → ⊥) → (fork ≡ 1 → is_dirty (with_meals_to spot.site ate last_taken) ≡ false → ⊥) → R ≤ ate
   pub last_within : meals_of spot.site last_taken ≤ ate
   pub all_sent : fork ≡ 0 → meals_of spot.site last_put ≡ ate
 
@@ -189,7 +189,7 @@ Held-give spot phase ate R last_put last_taken h dirty = record {
   waiter_is_hungry = λ e f. absurd (omega arith);
   asker_has_left = λ e. absurd (omega arith);
   asks_once_more = h.asks_once_more;
-  asks_to_eat = λ _ _. h.asks_to_eat (λ e f. omega arith) (λ e clean. false≢true (sym clean ∙ dirty));
+  requests_within = λ _ _. h.requests_within (λ e f. omega arith) (λ e clean. false≢true (sym clean ∙ dirty));
   last_within = h.last_within;
   all_sent = λ e. meals_of-push_move spot.site (with_meals_to spot.site ate last_taken) spot.other ∙ meals_of-hand spot.site ate last_taken h.last_within;
 }
@@ -203,8 +203,8 @@ Held-ask spot phase ate R last_put last_taken h hungry = record {
   clean_is_hungry = λ e. absurd (omega arith);
   waiter_is_hungry = λ e f. hungry;
   asker_has_left = λ e. absurd (omega arith);
-  asks_once_more = omega (arith, h.asks_to_eat (λ e f. omega arith) (λ e clean. omega arith));
-  asks_to_eat = λ waits _. absurd (waits refl refl);
+  asks_once_more = omega (arith, h.requests_within (λ e f. omega arith) (λ e clean. omega arith));
+  requests_within = λ waits _. absurd (waits refl refl);
   last_within = h.last_within;
   all_sent = h.all_sent;
 }
@@ -221,7 +221,7 @@ Held-take_fork spot phase ate R last_put last_taken log h lawful here clean all 
       waiter_is_hungry = λ e. absurd (omega arith);
       asker_has_left = λ e f. absurd (omega arith);
       asks_once_more = h.asks_once_more;
-      asks_to_eat = λ _ owned. absurd (owned refl (ap is_dirty same ∙ clean));
+      requests_within = λ _ owned. absurd (owned refl (ap is_dirty same ∙ clean));
       last_within = omega arith;
       all_sent = λ e. absurd (omega arith);
     }
@@ -236,7 +236,7 @@ Held-take_request spot phase ate R last_put last_taken h left = record {
   waiter_is_hungry = λ e. absurd (omega arith);
   asker_has_left = λ e f. left;
   asks_once_more = h.asks_once_more;
-  asks_to_eat = λ _ owned. h.asks_to_eat (λ e f. omega arith) owned;
+  requests_within = λ _ owned. h.requests_within (λ e f. omega arith) owned;
   last_within = h.last_within;
   all_sent = h.all_sent;
 }
@@ -259,7 +259,7 @@ Held-begin spot phase new_phase ate token R last_put last_taken is_spot h left =
           ap (λ (l : List Entry). meals_of spot.other l) more ∙ meals_of-push_other spot.other spot.site (with_meals_to spot.site ate last_taken) (ate + 1) (other_site spot is_spot) in
           omega (arith, h.asker_has_left e asked);
       asks_once_more = omega (arith, h.asks_once_more);
-      asks_to_eat = λ _ _. h.asks_once_more;
+      requests_within = λ _ _. h.asks_once_more;
       last_within = omega (arith, h.last_within);
       all_sent = λ e. absurd (omega arith);
     }
@@ -275,7 +275,7 @@ Held-phase spot phase new_phase ate fork token R last_put last_taken h still = r
   waiter_is_hungry = λ e f. still (h.waiter_is_hungry e f);
   asker_has_left = h.asker_has_left;
   asks_once_more = h.asks_once_more;
-  asks_to_eat = h.asks_to_eat;
+  requests_within = h.requests_within;
   last_within = h.last_within;
   all_sent = h.all_sent;
 }

@@ -14,9 +14,9 @@ use Rattle.dine_rules.specs.declared.phase.Phase.TheVariants.{Thinking, Hungry, 
 use Rattle.dine_rules.specs.Letters.{forks_in, requests_in, has_done, has_close, last_log_or}
 use Rattle.dine_rules.specs.Local.{is_thinking, is_hungry}
 use Rattle.dine_rules.specs.Holdings.{with_meals_to}
-use Rattle.dine_rules.specs.Breach.{ends_at}
-use Rattle.dine_rules.specs.Streams.{is_in_turn, is_done_last, is_close_last, logs_of}
-use Rattle.dine_rules.proofs.Counting.{forks_in-append, requests_in-append, has_done-append, last_log_or-append, logs_of-append, slice_get-push, is_in_turn-push_fork, is_in_turn-push_request, is_in_turn-push_done, is_in_turn-push_close, is_done_last-push_other, is_done_last-push_first, is_close_last-push, or_false}
+use Rattle.dine_rules.specs.Breach.{was_sent_to}
+use Rattle.dine_rules.specs.Streams.{is_alternating, is_done_last, is_close_last, logs_of}
+use Rattle.dine_rules.proofs.Counting.{forks_in-append, requests_in-append, has_done-append, last_log_or-append, logs_of-append, slice_get-push, is_alternating-push_fork, is_alternating-push_request, is_alternating-push_done, is_alternating-push_close, is_done_last-push_other, is_done_last-push_first, is_close_last-push, or_false}
 use Rattle.dine_rules.proofs.Held.{Spot, IsSpot, Counts, Counts-give, Counts-ask, Counts-take_fork, Counts-take_request, Held, Held-along, Held-give, Held-ask, Held-take_fork, Held-take_request, Held-begin, Held-phase, given_lawful}
 use Rattle.dine_rules.proofs.Chains.{Chained, IsLastTaken, IsLastTaken-push, Chained-give, Chained-take}
 
@@ -218,13 +218,13 @@ fork_is_at spot fork same_edge same_ends same_due lawful = (
 
 pub record Keeps (spot : Spot) (phase : Phase) (ate : ℕ) (put taken : List Letter) : Type 0 where
   pub balanced : BalancedBy spot phase ate put taken
-  pub put_in_turn : is_in_turn spot.lower put ≡ true
+  pub put_alternating : is_alternating spot.lower put ≡ true
   pub done_last : is_done_last put ≡ true
   pub close_last : is_close_last put ≡ true
   pub put_forks : EachFork (IsForkAt spot) put
-  pub taken_in_turn : is_in_turn spot.higher taken ≡ true
+  pub taken_alternating : is_alternating spot.higher taken ≡ true
   pub taken_forks : EachFork (IsForkAt spot) taken
-  pub forks_come_here : EachFork (λ fork. ends_at spot.ends.0 spot.site fork.log ≡ true) taken
+  pub forks_come_here : EachFork (λ fork. was_sent_to spot.ends.0 spot.site fork.log ≡ true) taken
   pub done_after_all : has_done put ≡ true → ate ≡ spot.due_here
   pub done_thinks : has_done put ≡ true → is_thinking phase ≡ true
 
@@ -247,11 +247,11 @@ module _ (spot : Spot) (phase : Phase) (ate : ℕ) (put taken : List Letter) whe
       let lawful = given_lawful spot phase ate (requests_in put) (last_log_or [] put) (last_log_or [] taken) is_spot held dirty in
       record {
         balanced = Balanced-give spot phase ate put taken is_spot k.balanced one_fork one_token dirty fork is_log;
-        put_in_turn = is_in_turn-push_fork spot.lower put fork k.put_in_turn (omega (arith, k.balanced.counts));
+        put_alternating = is_alternating-push_fork spot.lower put fork k.put_alternating (omega (arith, k.balanced.counts));
         done_last = is_done_last-push_other put (Fork fork) refl refl k.done_last;
         close_last = is_close_last-push put (Fork fork) is_open;
         put_forks = EachFork-push (IsForkAt spot) put (Fork fork) k.put_forks (λ other is. subst (IsForkAt spot) (same_fork fork other is) (fork_is_at spot fork same_edge same_ends same_due (subst (λ (l : List Entry). IsLawful spot.ends spot.due l) (sym is_log) lawful)));
-        taken_in_turn = k.taken_in_turn;
+        taken_alternating = k.taken_alternating;
         taken_forks = k.taken_forks;
         forks_come_here = k.forks_come_here;
         done_after_all = λ h. k.done_after_all (done_before (Fork fork) refl h);
@@ -262,11 +262,11 @@ module _ (spot : Spot) (phase : Phase) (ate : ℕ) (put taken : List Letter) whe
       → (edge : ℕ) → Keeps spot phase ate (put ++ Request edge ∷ []) taken
   Keeps-ask k no_fork one_token hungry is_open edge = record {
     balanced = Balanced-ask spot phase ate put taken k.balanced no_fork one_token hungry edge;
-    put_in_turn = is_in_turn-push_request spot.lower put edge k.put_in_turn (omega (arith, k.balanced.counts));
+    put_alternating = is_alternating-push_request spot.lower put edge k.put_alternating (omega (arith, k.balanced.counts));
     done_last = is_done_last-push_first put (Request edge) (false_from_ne_true (has_done put) (λ h. hungry_not_thinking phase hungry (k.done_thinks h)));
     close_last = is_close_last-push put (Request edge) is_open;
     put_forks = EachFork-push (IsForkAt spot) put (Request edge) k.put_forks (λ other is. absurd cc);
-    taken_in_turn = k.taken_in_turn;
+    taken_alternating = k.taken_alternating;
     taken_forks = k.taken_forks;
     forks_come_here = k.forks_come_here;
     done_after_all = λ h. k.done_after_all (done_before (Request edge) refl h);
@@ -277,11 +277,11 @@ module _ (spot : Spot) (phase : Phase) (ate : ℕ) (put taken : List Letter) whe
       → Keeps spot phase ate (put ++ Done ∷ []) taken
   Keeps-done k thinks all no_done is_open = record {
     balanced = Balanced-put_mark spot phase ate put taken Done refl refl (λ log. refl) refl k.balanced;
-    put_in_turn = is_in_turn-push_done spot.lower put ∙ k.put_in_turn;
+    put_alternating = is_alternating-push_done spot.lower put ∙ k.put_alternating;
     done_last = is_done_last-push_first put Done no_done;
     close_last = is_close_last-push put Done is_open;
     put_forks = EachFork-push (IsForkAt spot) put Done k.put_forks (λ other is. absurd cc);
-    taken_in_turn = k.taken_in_turn;
+    taken_alternating = k.taken_alternating;
     taken_forks = k.taken_forks;
     forks_come_here = k.forks_come_here;
     done_after_all = λ _. all;
@@ -291,11 +291,11 @@ module _ (spot : Spot) (phase : Phase) (ate : ℕ) (put taken : List Letter) whe
   pub Keeps-close : Keeps spot phase ate put taken → has_close put ≡ false → Keeps spot phase ate (put ++ Close ∷ []) taken
   Keeps-close k is_open = record {
     balanced = Balanced-put_mark spot phase ate put taken Close refl refl (λ log. refl) refl k.balanced;
-    put_in_turn = is_in_turn-push_close spot.lower put ∙ k.put_in_turn;
+    put_alternating = is_alternating-push_close spot.lower put ∙ k.put_alternating;
     done_last = is_done_last-push_other put Close refl refl k.done_last;
     close_last = is_close_last-push put Close is_open;
     put_forks = EachFork-push (IsForkAt spot) put Close k.put_forks (λ other is. absurd cc);
-    taken_in_turn = k.taken_in_turn;
+    taken_alternating = k.taken_alternating;
     taken_forks = k.taken_forks;
     forks_come_here = k.forks_come_here;
     done_after_all = λ h. k.done_after_all (done_before Close refl h);
@@ -303,19 +303,19 @@ module _ (spot : Spot) (phase : Phase) (ate : ℕ) (put taken : List Letter) whe
   }
 
   pub Keeps-take_fork : Keeps spot phase ate put taken → fork_here spot put taken ≡ 0 → token_here spot put taken ≡ 0
-      → (fork : SeenFork) → IsForkAt spot fork → ends_at spot.ends.0 spot.site fork.log ≡ true → meals_of spot.site fork.log ≡ ate
+      → (fork : SeenFork) → IsForkAt spot fork → was_sent_to spot.ends.0 spot.site fork.log ≡ true → meals_of spot.site fork.log ≡ ate
       → Keeps spot phase ate put (taken ++ Fork fork ∷ [])
   Keeps-take_fork k no_fork no_token fork is_fork comes_here all =
       let parts = and_parts _ _ comes_here in
       record {
         balanced = Balanced-take_fork spot phase ate put taken k.balanced no_fork no_token fork (lawful_at spot fork is_fork) (eqb-true _ _ parts.1) (not-true _ parts.0) all;
-        put_in_turn = k.put_in_turn;
+        put_alternating = k.put_alternating;
         done_last = k.done_last;
         close_last = k.close_last;
         put_forks = k.put_forks;
-        taken_in_turn = is_in_turn-push_fork spot.higher taken fork k.taken_in_turn (omega (arith, k.balanced.counts));
+        taken_alternating = is_alternating-push_fork spot.higher taken fork k.taken_alternating (omega (arith, k.balanced.counts));
         taken_forks = EachFork-push (IsForkAt spot) taken (Fork fork) k.taken_forks (λ other is. subst (IsForkAt spot) (same_fork fork other is) is_fork);
-        forks_come_here = EachFork-push (λ fork. ends_at spot.ends.0 spot.site fork.log ≡ true) taken (Fork fork) k.forks_come_here (λ other is. subst (λ (f : SeenFork). ends_at spot.ends.0 spot.site f.log ≡ true) (same_fork fork other is) comes_here);
+        forks_come_here = EachFork-push (λ fork. was_sent_to spot.ends.0 spot.site fork.log ≡ true) taken (Fork fork) k.forks_come_here (λ other is. subst (λ (f : SeenFork). was_sent_to spot.ends.0 spot.site f.log ≡ true) (same_fork fork other is) comes_here);
         done_after_all = k.done_after_all;
         done_thinks = k.done_thinks;
       }
@@ -324,13 +324,13 @@ module _ (spot : Spot) (phase : Phase) (ate : ℕ) (put taken : List Letter) whe
       → (edge : ℕ) → Keeps spot phase ate put (taken ++ Request edge ∷ [])
   Keeps-take_request k one_fork no_token left edge = record {
     balanced = Balanced-take_request spot phase ate put taken k.balanced one_fork no_token left edge;
-    put_in_turn = k.put_in_turn;
+    put_alternating = k.put_alternating;
     done_last = k.done_last;
     close_last = k.close_last;
     put_forks = k.put_forks;
-    taken_in_turn = is_in_turn-push_request spot.higher taken edge k.taken_in_turn (omega (arith, k.balanced.counts));
+    taken_alternating = is_alternating-push_request spot.higher taken edge k.taken_alternating (omega (arith, k.balanced.counts));
     taken_forks = EachFork-push (IsForkAt spot) taken (Request edge) k.taken_forks (λ other is. absurd cc);
-    forks_come_here = EachFork-push (λ fork. ends_at spot.ends.0 spot.site fork.log ≡ true) taken (Request edge) k.forks_come_here (λ other is. absurd cc);
+    forks_come_here = EachFork-push (λ fork. was_sent_to spot.ends.0 spot.site fork.log ≡ true) taken (Request edge) k.forks_come_here (λ other is. absurd cc);
     done_after_all = k.done_after_all;
     done_thinks = k.done_thinks;
   }
@@ -338,13 +338,13 @@ module _ (spot : Spot) (phase : Phase) (ate : ℕ) (put taken : List Letter) whe
   pub Keeps-take_done : Keeps spot phase ate put taken → Keeps spot phase ate put (taken ++ Done ∷ [])
   Keeps-take_done k = record {
     balanced = Balanced-take_mark spot phase ate put taken Done refl refl (λ log. refl) refl k.balanced;
-    put_in_turn = k.put_in_turn;
+    put_alternating = k.put_alternating;
     done_last = k.done_last;
     close_last = k.close_last;
     put_forks = k.put_forks;
-    taken_in_turn = is_in_turn-push_done spot.higher taken ∙ k.taken_in_turn;
+    taken_alternating = is_alternating-push_done spot.higher taken ∙ k.taken_alternating;
     taken_forks = EachFork-push (IsForkAt spot) taken Done k.taken_forks (λ other is. absurd cc);
-    forks_come_here = EachFork-push (λ fork. ends_at spot.ends.0 spot.site fork.log ≡ true) taken Done k.forks_come_here (λ other is. absurd cc);
+    forks_come_here = EachFork-push (λ fork. was_sent_to spot.ends.0 spot.site fork.log ≡ true) taken Done k.forks_come_here (λ other is. absurd cc);
     done_after_all = k.done_after_all;
     done_thinks = k.done_thinks;
   }
@@ -352,13 +352,13 @@ module _ (spot : Spot) (phase : Phase) (ate : ℕ) (put taken : List Letter) whe
   pub Keeps-take_close : Keeps spot phase ate put taken → Keeps spot phase ate put (taken ++ Close ∷ [])
   Keeps-take_close k = record {
     balanced = Balanced-take_mark spot phase ate put taken Close refl refl (λ log. refl) refl k.balanced;
-    put_in_turn = k.put_in_turn;
+    put_alternating = k.put_alternating;
     done_last = k.done_last;
     close_last = k.close_last;
     put_forks = k.put_forks;
-    taken_in_turn = is_in_turn-push_close spot.higher taken ∙ k.taken_in_turn;
+    taken_alternating = is_alternating-push_close spot.higher taken ∙ k.taken_alternating;
     taken_forks = EachFork-push (IsForkAt spot) taken Close k.taken_forks (λ other is. absurd cc);
-    forks_come_here = EachFork-push (λ fork. ends_at spot.ends.0 spot.site fork.log ≡ true) taken Close k.forks_come_here (λ other is. absurd cc);
+    forks_come_here = EachFork-push (λ fork. was_sent_to spot.ends.0 spot.site fork.log ≡ true) taken Close k.forks_come_here (λ other is. absurd cc);
     done_after_all = k.done_after_all;
     done_thinks = k.done_thinks;
   }
@@ -366,11 +366,11 @@ module _ (spot : Spot) (phase : Phase) (ate : ℕ) (put taken : List Letter) whe
   pub Keeps-begin : IsSpot spot → (new_phase : Phase) → Keeps spot phase ate put taken → is_hungry phase ≡ true → fork_here spot put taken ≡ 1 → ate < spot.due_here → Keeps spot new_phase (ate + 1) put taken
   Keeps-begin is_spot new_phase k hungry one_fork left = record {
     balanced = Balanced-begin spot phase ate put taken is_spot new_phase k.balanced one_fork left;
-    put_in_turn = k.put_in_turn;
+    put_alternating = k.put_alternating;
     done_last = k.done_last;
     close_last = k.close_last;
     put_forks = k.put_forks;
-    taken_in_turn = k.taken_in_turn;
+    taken_alternating = k.taken_alternating;
     taken_forks = k.taken_forks;
     forks_come_here = k.forks_come_here;
     done_after_all = λ h. absurd (hungry_not_thinking phase hungry (k.done_thinks h));
@@ -381,11 +381,11 @@ module _ (spot : Spot) (phase : Phase) (ate : ℕ) (put taken : List Letter) whe
       → Keeps spot new_phase ate put taken
   Keeps-phase new_phase k still_hungry still_thinks = record {
     balanced = Balanced-phase spot phase ate put taken new_phase k.balanced still_hungry;
-    put_in_turn = k.put_in_turn;
+    put_alternating = k.put_alternating;
     done_last = k.done_last;
     close_last = k.close_last;
     put_forks = k.put_forks;
-    taken_in_turn = k.taken_in_turn;
+    taken_alternating = k.taken_alternating;
     taken_forks = k.taken_forks;
     forks_come_here = k.forks_come_here;
     done_after_all = k.done_after_all;

@@ -12,7 +12,7 @@ pub mod Across
 pub mod Offers
 pub mod Askers
 pub mod InHand
-pub mod WorldKept
+pub mod WorldStreams
 pub mod Joined
 pub mod Links
 pub mod EdgeSums

@@ -10,7 +10,7 @@ use Rattle.dine_rules.specs.World.{WorldState, state_of, place_of, put_to}
 use Rattle.dine_rules.specs.Links.{queue_to}
 use Rattle.dine_rules.proofs.Across.{across, place_of-edge_at}
 use Rattle.dine_rules.proofs.Placed.{placed}
-use Rattle.dine_rules.proofs.WorldKept.{WorldKeeps, neighbour_differs}
+use Rattle.dine_rules.proofs.WorldStreams.{WorldKeeps, neighbour_differs}
 use Rattle.dine_rules.proofs.Joined.{Joined, few_forks, few_requests, few_dones, few_closes, few_letters}
 
 -- a list is what a prefix of it is, and the rest

@@ -14,7 +14,7 @@ use Rattle.dine_rules.specs.Steps as step
 use Rattle.dine_rules.specs.World.{Reaches, WorldState, enabled_events, events_at, is_enabled, kinds_at, next_letter, state_of, step_of, world_after}
 use Rattle.dine_rules.proofs.KindNumbers.{choices, found_at, kind_ask, kind_close, kind_done, kind_give, kind_take, kinds_count, of_sites, passed, passed_next, past_gives, steps}
 use Rattle.dine_rules.proofs.EachOnce.{EachOnce, StandsIn, of_either, once_append, once_filter}
-use Rattle.dine_rules.proofs.WorldKept.{IsStepOf, event_is_step, option_map_parts, reached_kept}
+use Rattle.dine_rules.proofs.WorldStreams.{IsStepOf, event_is_step, option_map_parts, reached_kept}
 
 -- ---- the kinds of a site with d places
 

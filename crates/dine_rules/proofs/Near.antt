@@ -9,7 +9,7 @@ use Rattle.dine_rules.specs.World.{WorldState, state_of, put_to}
 use Rattle.dine_rules.specs.Links.{queue_to}
 use Rattle.dine_rules.proofs.Counting.{forks_in-append}
 use Rattle.dine_rules.proofs.Links.{link_holds}
-use Rattle.dine_rules.proofs.WorldKept.{WorldKeeps}
+use Rattle.dine_rules.proofs.WorldStreams.{WorldKeeps}
 
 module _ (plan : SeenPlan) (is_plan : IsPlan plan) (world : WorldState) (kept : WorldKeeps plan world) (s i : ℕ) (is_site : s < site_count plan) (within : i < length (edges_of plan s)) where
   abbrev taken : List Letter

@@ -14,7 +14,7 @@ use Rattle.dine_rules.proofs.EachSite.{reached_holds}
 use Rattle.dine_rules.proofs.InOrder.{IsOrderly, start_in_order, step_in_order}
 use Rattle.dine_rules.proofs.Joined.{Joined}
 use Rattle.dine_rules.proofs.Links.{other, other_place, joined, link_holds}
-use Rattle.dine_rules.proofs.WorldKept.{WorldKeeps, reached_kept, next_of}
+use Rattle.dine_rules.proofs.WorldStreams.{WorldKeeps, reached_kept, next_of}
 
 -- the letters of each site are in order
 pub in_order : (plan : SeenPlan) (events : List Event) (world : WorldState) → IsPlan plan → Reaches plan events world → (s : ℕ) → s < site_count plan → IsOrderly plan s (state_of world s)

@@ -11,7 +11,7 @@ use Rattle.dine_rules.specs.declared.events.EventKind.TheVariants as event
 use Rattle.dine_rules.specs.Local.{LocalState, Traffic, no_traffic, traffic_at, edge_at, neighbour_at}
 use Rattle.dine_rules.specs.Steps.{Step, Give, Ask, Hungry, Begin, End, Done, Close, Break, Take, after, may}
 use Rattle.dine_rules.specs.World.{WorldState, no_state, state_of, place_of, put_to, next_letter, step_of, local_after, site_after, world_after, is_enabled}
-use Rattle.dine_rules.proofs.WorldKept.{IsStepOf, event_is_step, option_map_parts, some_of}
+use Rattle.dine_rules.proofs.WorldStreams.{IsStepOf, event_is_step, option_map_parts, some_of}
 
 -- an element of a changed list is the old one, or the new one at its position
 pub set_cases : {X : Type 0} (xs : List X) (k j : ℕ) (y d : X) → (get_or (slice_set xs k y) j d ≡ get_or xs j d) ⊎ ((j ≡ k) × (get_or (slice_set xs k y) j d ≡ y))

@@ -2,8 +2,8 @@
 use Rattle.std.proofs.Common.{◌≡◌, ◌⊎◌, ℕ, zero, suc, ◌+◌, ◌<◌, Bool, true, eqb, List, [], ◌∷◌, filter, length, get_or, sym, ◌∙◌, subst, inl, inr, arith}
 use Rattle.std.specs.List.{range_with_len}
 use Rattle.std.proofs.lemmas.Bool.{cases_Bool, or_cases, eqb-true, cond-true, cond-false, false≢true}
-use Rattle.dine_plan.specs.Plan.{SeenPlan, IsPlan, edge_count, edges_of, lo_of, hi_of, is_end}
-use Rattle.dine_rules.specs.Local.{edge_at, neighbour_at, other_end}
+use Rattle.dine_plan.specs.Plan.{SeenPlan, IsPlan, edge_count, edges_of, lo_of, hi_of, is_end, other_of}
+use Rattle.dine_rules.specs.Local.{edge_at, neighbour_at}
 
 -- each element of the list has P and passes the test
 abbrev pub AllPass : (ℕ → Bool) → (ℕ → Type 0) → ℕ → List ℕ → Type 0
@@ -43,7 +43,7 @@ placed plan s i is_plan h =
     record { edge_within = w.0; ordered = lower_first; sides = ends (edge_at plan s i) lower_first w.1 }
   where
     ends : (e : ℕ) → lo_of plan e < hi_of plan e → is_end plan s e ≡ true
-        → ((lo_of plan e ≡ s) × (other_end plan s e ≡ hi_of plan e)) ⊎ ((hi_of plan e ≡ s) × (other_end plan s e ≡ lo_of plan e))
+        → ((lo_of plan e ≡ s) × (other_of plan e s ≡ hi_of plan e)) ⊎ ((hi_of plan e ≡ s) × (other_of plan e s ≡ lo_of plan e))
     ends e lower_first h = elim (cases_Bool (eqb (lo_of plan e) s)) [
       | inl same ↦ inl (eqb-true _ _ same, cond-true (eqb (lo_of plan e) s) (hi_of plan e) (lo_of plan e) same)
       | inr other ↦ elim (or_cases _ _ h) [

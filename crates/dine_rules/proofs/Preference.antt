@@ -8,10 +8,10 @@ use Rattle.dine_token.specs.declared.entry.Entry.{Entry}
 use Rattle.dine_token.specs.declared.entry.Entry.TheVariants.{Move}
 use Rattle.dine_token.specs.Log.{is_dirty, location_of, meals_of}
 use Rattle.dine_token.proofs.Logs.{is_dirty-push_move, location_of-push_move}
-use Rattle.dine_plan.specs.Plan.{SeenPlan, IsPlan, site_count, edge_count, edges_of, lo_of, hi_of}
+use Rattle.dine_plan.specs.Plan.{SeenPlan, IsPlan, site_count, edge_count, edges_of, lo_of, hi_of, other_of}
 use Rattle.dine_rules.specs.declared.letters.Letter.{Letter}
 use Rattle.dine_rules.specs.Letters.{forks_in, last_log_or}
-use Rattle.dine_rules.specs.Local.{LocalState, traffic_at, edge_at, neighbour_at, other_end}
+use Rattle.dine_rules.specs.Local.{LocalState, traffic_at, edge_at, neighbour_at}
 use Rattle.dine_rules.specs.Holdings.{fork_at, hand_at, meals_from}
 use Rattle.dine_rules.specs.Streams.{KeepsStreams, is_lower_at, logs_of}
 use Rattle.dine_rules.specs.World.{WorldState, state_of, place_of, put_to}
@@ -19,7 +19,7 @@ use Rattle.dine_rules.specs.Precedence.{is_sent_to, preferred_in, preferred_end}
 use Rattle.dine_rules.proofs.Counting.{forks_in-append, length-logs_of, last_log_or-at}
 use Rattle.dine_rules.proofs.Across.{edge_at-place_of}
 use Rattle.dine_rules.proofs.InHand.{hand-here}
-use Rattle.dine_rules.proofs.WorldKept.{WorldKeeps}
+use Rattle.dine_rules.proofs.WorldStreams.{WorldKeeps}
 
 -- ---- over plain logs
 
@@ -132,8 +132,8 @@ pub record IsEdge (plan : SeenPlan) (e : ℕ) : Type 0 where
   pub high_within : high_place plan e < length (edges_of plan (hi_of plan e))
   pub low_edge : edge_at plan (lo_of plan e) (low_place plan e) ≡ e
   pub high_edge : edge_at plan (hi_of plan e) (high_place plan e) ≡ e
-  pub from_low : other_end plan (lo_of plan e) e ≡ hi_of plan e
-  pub from_high : other_end plan (hi_of plan e) e ≡ lo_of plan e
+  pub from_low : other_of plan e (lo_of plan e) ≡ hi_of plan e
+  pub from_high : other_of plan e (hi_of plan e) ≡ lo_of plan e
 
 pub is_edge : (plan : SeenPlan) (e : ℕ) → IsPlan plan → e < edge_count plan → IsEdge plan e
 is_edge plan e is_plan within =
@@ -178,10 +178,10 @@ module _ (plan : SeenPlan) (is_plan : IsPlan plan) (world : WorldState) (kept : 
   edge_is = is_edge plan e is_plan within
 
   low_neighbour : neighbour_at plan low (low_place plan e) ≡ high
-  low_neighbour = ap (λ (x : ℕ). other_end plan low x) edge_is.low_edge ∙ edge_is.from_low
+  low_neighbour = ap (λ (x : ℕ). other_of plan x low) edge_is.low_edge ∙ edge_is.from_low
 
   high_neighbour : neighbour_at plan high (high_place plan e) ≡ low
-  high_neighbour = ap (λ (x : ℕ). other_end plan high x) edge_is.high_edge ∙ edge_is.from_high
+  high_neighbour = ap (λ (x : ℕ). other_of plan x high) edge_is.high_edge ∙ edge_is.from_high
 
   -- what is put to one end is what the other put
   put_to_low : put_to plan world low (low_place plan e) ≡ (traffic_at (state_of world high) (high_place plan e)).put

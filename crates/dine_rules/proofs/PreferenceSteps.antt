@@ -11,7 +11,7 @@ use Rattle.dine_rules.specs.declared.letters.Letter.TheVariants as letter
 use Rattle.dine_rules.specs.Letters.{forks_in, has_done, has_close, last_log_or}
 use Rattle.dine_rules.specs.Local.{LocalState, Traffic, no_traffic, traffic_at, edge_at, neighbour_at, is_eating}
 use Rattle.dine_rules.specs.Holdings.{fork_at, token_at, hand_at, hand, with_meals_to}
-use Rattle.dine_rules.specs.Breach.{ends_at, is_fork_of}
+use Rattle.dine_rules.specs.Breach.{was_sent_to, is_fork_of}
 use Rattle.dine_rules.specs.Steps.{Step, Give, Ask, Hungry, Begin, End, Done, Close, Break, Take, after, may, is_open, is_ready, fork_with, with_put, with_taken}
 use Rattle.dine_rules.specs.Streams.{KeepsStreams}
 use Rattle.dine_rules.proofs.Counting.{forks_in-append, last_log_or-append}
@@ -119,7 +119,7 @@ module _ (plan : SeenPlan) (s i : ℕ) where
       let numbers = and_parts _ _ front.1 in
       let none : fork_at plan s state k ≡ 0 = eqb-true (fork_at plan s state k) 0 numbers.0 in
       let no_token : token_at plan s state k ≡ 0 = eqb-true (token_at plan s state k) 0 numbers.1 in
-      let comes : ends_at (lo_of plan (edge_at plan s k)) s fork.log ≡ true = log.0 in
+      let comes : was_sent_to (lo_of plan (edge_at plan s k)) s fork.log ≡ true = log.0 in
       let clean : is_dirty fork.log ≡ false = not-true (is_dirty fork.log) (and_parts (not (is_dirty fork.log)) (location_of (lo_of plan (edge_at plan s k)) fork.log == s) comes).0 in
       let all : meals_of s fork.log ≡ state.ate = eqb-true (meals_of s fork.log) state.ate log.1 in
       set_changes state k (record { put = (traffic_at state k).put; taken = (traffic_at state k).taken ++ letter.Fork fork ∷ [] }) (λ e is. inr (inr (record {

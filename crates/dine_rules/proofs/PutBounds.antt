@@ -11,8 +11,8 @@ use Rattle.dine_rules.specs.declared.letters.Letter.TheVariants.{Fork, Request, 
 use Rattle.dine_rules.specs.Letters.{forks_in, requests_in, dones_in, closes_in, has_done}
 use Rattle.dine_rules.specs.Local.{LocalState, traffic_at, is_hungry}
 use Rattle.dine_rules.specs.Holdings.{fork_at, token_at, hand_at}
-use Rattle.dine_rules.specs.Breach.{ends_at}
-use Rattle.dine_rules.specs.Streams.{KeepsStreams, KeepsStreamsAt, is_lower_at, is_owed_a_meal, is_done_last, is_close_last}
+use Rattle.dine_rules.specs.Breach.{was_sent_to}
+use Rattle.dine_rules.specs.Streams.{KeepsStreams, KeepsStreamsAt, is_lower_at, has_asked_since_meal, is_done_last, is_close_last}
 use Rattle.dine_rules.proofs.Counting.{forks_in_turn}
 
 -- a list of letters, by their kinds
@@ -47,7 +47,7 @@ one_close (Close ∷ []) h = omega arith
 one_close (Close ∷ l ∷ xs) h = absurd (false≢true h)
 
 -- a log that was sent here ends in a Move here
-pub ends_in_move_here : (lower s : ℕ) (log : List Entry) → ends_at lower s log ≡ true → (before : List Entry) × (log ≡ before ++ Move s ∷ [])
+pub ends_in_move_here : (lower s : ℕ) (log : List Entry) → was_sent_to lower s log ≡ true → (before : List Entry) × (log ≡ before ++ Move s ∷ [])
 ends_in_move_here lower s log h =
     let parts = and_parts (not (is_dirty log)) (location_of lower log == s) h in
     let w = clean_ends_in_move log (not-true (is_dirty log) parts.0) in
@@ -57,7 +57,7 @@ ends_in_move_here lower s log h =
 
 module _ (plan : SeenPlan) (s : ℕ) (state : LocalState) (i : ℕ) where
   -- who is owed a meal is hungry
-  pub owed_is_hungry : KeepsStreamsAt plan s state i → is_owed_a_meal plan s state i ≡ true → is_hungry state.phase ≡ true
+  pub owed_is_hungry : KeepsStreamsAt plan s state i → has_asked_since_meal plan s state i ≡ true → is_hungry state.phase ≡ true
   owed_is_hungry k h = elim (or_cases (fork_at plan s state i == 0 && token_at plan s state i == 0) (fork_at plan s state i == 1 && not (is_dirty (hand_at s state i))) h) [
     | inl w ↦ let parts = and_parts (fork_at plan s state i == 0) (token_at plan s state i == 0) w in
         k.waiter_is_hungry (eqb-true (fork_at plan s state i) 0 parts.0) (eqb-true (token_at plan s state i) 0 parts.1)
@@ -73,14 +73,14 @@ module _ (plan : SeenPlan) (s : ℕ) (state : LocalState) (i : ℕ) where
 
   -- a Request for each meal at most
   pub requests_within : KeepsStreams plan s state → i < length state.traffic → requests_in (traffic_at state i).put ≤ job_count plan s
-  requests_within keeps within = elim (cases_Bool (is_owed_a_meal plan s state i)) [
-    | inl owed ↦ omega (arith, (keeps.places i within).asks_to_eat, cond-true {A = ℕ} (is_owed_a_meal plan s state i) 1 0 owed, keeps.hungry_has_left (owed_is_hungry (keeps.places i within) owed))
-    | inr not_owed ↦ omega (arith, (keeps.places i within).asks_to_eat, cond-false {A = ℕ} (is_owed_a_meal plan s state i) 1 0 not_owed, keeps.ate_within)
+  requests_within keeps within = elim (cases_Bool (has_asked_since_meal plan s state i)) [
+    | inl owed ↦ omega (arith, (keeps.places i within).requests_within, cond-true {A = ℕ} (has_asked_since_meal plan s state i) 1 0 owed, keeps.hungry_has_left (owed_is_hungry (keeps.places i within) owed))
+    | inr not_owed ↦ omega (arith, (keeps.places i within).requests_within, cond-false {A = ℕ} (has_asked_since_meal plan s state i) 1 0 not_owed, keeps.ate_within)
   ]
 
   -- a Fork for each Request put, and the lower end one more
   pub forks_after_requests : KeepsStreamsAt plan s state i → forks_in (traffic_at state i).put ≤ cond (is_lower_at plan s i) 1 0 + requests_in (traffic_at state i).put
-  forks_after_requests k = (forks_in_turn (is_lower_at plan s i) (traffic_at state i).put k.put_lawful.in_turn).0
+  forks_after_requests k = (forks_in_turn (is_lower_at plan s i) (traffic_at state i).put k.put_lawful.alternating).0
 
   pub forks_within : KeepsStreams plan s state → i < length state.traffic → forks_in (traffic_at state i).put ≤ job_count plan s + 1
   forks_within keeps within = omega (arith, forks_after_requests (keeps.places i within), at_most_one (is_lower_at plan s i), requests_within keeps within) where

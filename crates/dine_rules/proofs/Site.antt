@@ -11,8 +11,8 @@ use Rattle.dine_rules.specs.declared.phase.Phase.TheVariants.{Thinking}
 use Rattle.dine_rules.specs.Letters.{forks_in, requests_in, last_log_or}
 use Rattle.dine_rules.specs.Local.{LocalState, Traffic, no_traffic, traffic_at, start_of, edge_at, neighbour_at}
 use Rattle.dine_rules.specs.Holdings.{fork_at, token_at, hand_at, with_meals_to}
-use Rattle.dine_rules.specs.Breach.{ends_at}
-use Rattle.dine_rules.specs.Streams.{KeepsStreamsAt, KeepsStreams, ends_at_place, due_at_place, is_owed_a_meal, is_in_turn, logs_of}
+use Rattle.dine_rules.specs.Breach.{was_sent_to}
+use Rattle.dine_rules.specs.Streams.{KeepsStreamsAt, KeepsStreams, ends_at_place, due_at_place, has_asked_since_meal, is_alternating, logs_of}
 use Rattle.dine_rules.proofs.Counting.{length-logs_of, last_log_or-none, last_log_or-some, last_log_or-at, forks_in_turn, none_or_some}
 use Rattle.dine_rules.proofs.Hands.{location_of-hand}
 use Rattle.dine_rules.proofs.Placed.{IsPlaced, placed}
@@ -108,12 +108,12 @@ asks_so_often R ate fork token dirty once more = elim (cases_Bool (owed fork tok
 
 -- ---- the last log taken
 
-pub last_came_here : (lower s : ℕ) (taken : List Letter) → EachFork (λ fork. ends_at lower s fork.log ≡ true) taken → 1 ≤ forks_in taken → ends_at lower s (last_log_or [] taken) ≡ true
+pub last_came_here : (lower s : ℕ) (taken : List Letter) → EachFork (λ fork. was_sent_to lower s fork.log ≡ true) taken → 1 ≤ forks_in taken → was_sent_to lower s (last_log_or [] taken) ≡ true
 last_came_here lower s taken each some =
     let w = last_log_or-some [] taken some in
-    subst (λ (l : List Entry). ends_at lower s l ≡ true) (sym w.3) (each w.0 w.1 w.2)
+    subst (λ (l : List Entry). was_sent_to lower s l ≡ true) (sym w.3) (each w.0 w.1 w.2)
 
-last_taken : (lower s : ℕ) (taken : List Letter) → EachFork (λ fork. ends_at lower s fork.log ≡ true) taken → IsLastTaken (last_log_or [] taken) (logs_of taken)
+last_taken : (lower s : ℕ) (taken : List Letter) → EachFork (λ fork. was_sent_to lower s fork.log ≡ true) taken → IsLastTaken (last_log_or [] taken) (logs_of taken)
 last_taken lower s taken each = record {
   none = λ h. last_log_or-none [] taken (omega (arith, length-logs_of taken));
   at = λ k before h n. last_log_or-at [] taken k before h (omega (arith, length-logs_of taken));
@@ -121,7 +121,7 @@ last_taken lower s taken each = record {
 }
 
 -- a fork in hand is at the site
-in_hand_here : (spot : Spot) (ate F : ℕ) (taken : List Letter) → IsSpot spot → EachFork (λ fork. ends_at spot.ends.0 spot.site fork.log ≡ true) taken → cond spot.lower 1 0 + forks_in taken - F ≡ 1
+in_hand_here : (spot : Spot) (ate F : ℕ) (taken : List Letter) → IsSpot spot → EachFork (λ fork. was_sent_to spot.ends.0 spot.site fork.log ≡ true) taken → cond spot.lower 1 0 + forks_in taken - F ≡ 1
     → location_of spot.ends.0 (with_meals_to spot.site ate (last_log_or [] taken)) ≡ spot.site
 in_hand_here spot ate F taken is_spot each one_fork = location_of-hand spot.ends.0 spot.site ate (last_log_or [] taken) ∙ elim (none_or_some taken) [
   | inl none ↦ ap (λ (l : List Entry). location_of spot.ends.0 l) (last_log_or-none [] taken none) ∙ elim is_spot.sides [
@@ -140,9 +140,9 @@ module _ (plan : SeenPlan) (s : ℕ) (state : LocalState) (i : ℕ) where
   pub Keeps-from : IsPlaced plan s i → KeepsStreamsAt plan s state i → KeepsHere
   Keeps-from is_placed k =
       let is_spot = spot_is plan s i is_placed in
-      let taken_in_turn = ap (λ (b : Bool). is_in_turn b (traffic_at state i).taken) (sym (higher_is (spot_at plan s i) is_spot)) ∙ k.taken_in_turn in
-      let puts = forks_in_turn (spot_at plan s i).lower (traffic_at state i).put k.put_lawful.in_turn in
-      let takes = forks_in_turn (spot_at plan s i).higher (traffic_at state i).taken taken_in_turn in
+      let taken_alternating = ap (λ (b : Bool). is_alternating b (traffic_at state i).taken) (sym (higher_is (spot_at plan s i) is_spot)) ∙ k.taken_alternating in
+      let puts = forks_in_turn (spot_at plan s i).lower (traffic_at state i).put k.put_lawful.alternating in
+      let takes = forks_in_turn (spot_at plan s i).higher (traffic_at state i).taken taken_alternating in
       record {
         balanced = record {
           counts = record {
@@ -164,8 +164,8 @@ module _ (plan : SeenPlan) (s : ℕ) (state : LocalState) (i : ℕ) where
             clean_is_hungry = k.clean_is_hungry;
             waiter_is_hungry = k.waiter_is_hungry;
             asker_has_left = k.asker_has_left;
-            asks_once_more = asks_once _ _ (is_owed_a_meal plan s state i) k.asks_to_eat;
-            asks_to_eat = asks_no_more _ _ (fork_at plan s state i) (token_at plan s state i) (is_dirty (hand_at s state i)) k.asks_to_eat;
+            asks_once_more = asks_once _ _ (has_asked_since_meal plan s state i) k.requests_within;
+            requests_within = asks_no_more _ _ (fork_at plan s state i) (token_at plan s state i) (is_dirty (hand_at s state i)) k.requests_within;
             last_within = k.last_within;
             all_sent = k.all_sent;
           };
@@ -174,11 +174,11 @@ module _ (plan : SeenPlan) (s : ℕ) (state : LocalState) (i : ℕ) where
           puts = length-logs_of (traffic_at state i).put;
           takes = length-logs_of (traffic_at state i).taken;
         };
-        put_in_turn = k.put_lawful.in_turn;
+        put_alternating = k.put_lawful.alternating;
         done_last = k.put_lawful.done_last;
         close_last = k.put_lawful.close_last;
         put_forks = k.put_forks;
-        taken_in_turn = taken_in_turn;
+        taken_alternating = taken_alternating;
         taken_forks = k.taken_forks;
         forks_come_here = k.forks_come_here;
         done_after_all = k.done_after_all;
@@ -189,10 +189,10 @@ module _ (plan : SeenPlan) (s : ℕ) (state : LocalState) (i : ℕ) where
   Keeps-to is_placed k =
       let is_spot = spot_is plan s i is_placed in
       record {
-        put_lawful = record { in_turn = k.put_in_turn; done_last = k.done_last; close_last = k.close_last };
+        put_lawful = record { alternating = k.put_alternating; done_last = k.done_last; close_last = k.close_last };
         put_chained = record { first = k.balanced.chained.first; next = k.balanced.chained.next; answers = k.balanced.chained.answers };
         put_forks = k.put_forks;
-        taken_in_turn = ap (λ (b : Bool). is_in_turn b (traffic_at state i).taken) (higher_is (spot_at plan s i) is_spot) ∙ k.taken_in_turn;
+        taken_alternating = ap (λ (b : Bool). is_alternating b (traffic_at state i).taken) (higher_is (spot_at plan s i) is_spot) ∙ k.taken_alternating;
         taken_forks = k.taken_forks;
         forks_come_here = k.forks_come_here;
         last_within = k.balanced.held.last_within;
@@ -206,7 +206,7 @@ module _ (plan : SeenPlan) (s : ℕ) (state : LocalState) (i : ℕ) where
         clean_is_hungry = k.balanced.held.clean_is_hungry;
         waiter_is_hungry = k.balanced.held.waiter_is_hungry;
         asker_has_left = k.balanced.held.asker_has_left;
-        asks_to_eat = asks_so_often _ _ (fork_at plan s state i) (token_at plan s state i) (is_dirty (hand_at s state i)) k.balanced.held.asks_once_more k.balanced.held.asks_to_eat;
+        requests_within = asks_so_often _ _ (fork_at plan s state i) (token_at plan s state i) (is_dirty (hand_at s state i)) k.balanced.held.asks_once_more k.balanced.held.requests_within;
         done_after_all = k.done_after_all;
         done_thinks = k.done_thinks;
         all_sent = k.balanced.held.all_sent;
@@ -242,7 +242,7 @@ Keeps-start spot is_spot =
           waiter_is_hungry = λ e f. absurd (omega arith);
           asker_has_left = λ e f. absurd (omega arith);
           asks_once_more = omega arith;
-          asks_to_eat = λ _ _. omega arith;
+          requests_within = λ _ _. omega arith;
           last_within = omega arith;
           all_sent = λ e. refl;
         };
@@ -251,11 +251,11 @@ Keeps-start spot is_spot =
         puts = refl;
         takes = refl;
       };
-      put_in_turn = refl;
+      put_alternating = refl;
       done_last = refl;
       close_last = refl;
       put_forks = λ k fork h. absurd cc;
-      taken_in_turn = refl;
+      taken_alternating = refl;
       taken_forks = λ k fork h. absurd cc;
       forks_come_here = λ k fork h. absurd cc;
       done_after_all = λ h. absurd (false≢true h);

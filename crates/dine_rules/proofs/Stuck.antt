@@ -3,13 +3,13 @@ use Rattle.std.proofs.Common.{◌≡◌, ◌⊎◌, ℕ, zero, suc, ◌+◌, ◌
 use Rattle.std.specs.List.{range_with_len, list_all}
 use Rattle.std.proofs.lemmas.Bool.{true≢false, false≢true, cases_Bool, cases_eq, and_from, or_parts, not-false, not_from_false, false_from_ne_true, true_from_ne_false, lt-ltb, ltb-false, eq-eqb, eqb-false}
 use Rattle.dine_token.specs.Log.{is_dirty}
-use Rattle.dine_plan.specs.Plan.{SeenPlan, IsPlan, site_count, job_count, edges_of, lo_of, hi_of}
+use Rattle.dine_plan.specs.Plan.{SeenPlan, IsPlan, site_count, job_count, edges_of, lo_of, hi_of, other_of}
 use Rattle.dine_rules.specs.declared.letters.Letter.{Letter}
 use Rattle.dine_rules.specs.declared.letters.Letter.TheVariants as letter
 use Rattle.dine_rules.specs.declared.phase.Phase.{Phase}
 use Rattle.dine_rules.specs.declared.phase.Phase.TheVariants as phase
 use Rattle.dine_rules.specs.Letters.{forks_in, requests_in, has_done, has_close}
-use Rattle.dine_rules.specs.Local.{LocalState, traffic_at, edge_at, neighbour_at, other_end, is_thinking, is_hungry, is_eating}
+use Rattle.dine_rules.specs.Local.{LocalState, traffic_at, edge_at, neighbour_at, is_thinking, is_hungry, is_eating}
 use Rattle.dine_rules.specs.Holdings.{fork_at, token_at, hand_at}
 use Rattle.dine_rules.specs.Breach.{is_allowed}
 use Rattle.dine_rules.specs.Steps.{Give, Ask, Done, Close, Take, may, is_ready}
@@ -28,7 +28,7 @@ use Rattle.dine_rules.proofs.NextLetters.{next_allowed}
 use Rattle.dine_rules.proofs.Orders.{Before, before_from, in_order}
 use Rattle.dine_rules.proofs.Placed.{placed}
 use Rattle.dine_rules.proofs.Turns.{slice_get-behind}
-use Rattle.dine_rules.proofs.WorldKept.{WorldKeeps}
+use Rattle.dine_rules.proofs.WorldStreams.{WorldKeeps}
 
 -- ---- tests
 
@@ -243,9 +243,9 @@ module _ (plan : SeenPlan) (is_plan : IsPlan plan) (world : WorldState) (kept : 
           | inr w ↦ inl w.1
         ] in
         let first : preferred_end plan world (edge_at plan s i) ≡ there = clean_precedes plan is_plan world kept (edge_at plan s i) is_placed.edge_within there ends has in
-        let second : other_end plan there (edge_at plan s i) ≡ s = sym (ap (other_end plan there) over.same_edge) ∙ over.back in
+        let second : other_of plan (edge_at plan s i) there ≡ s = sym (ap (λ (e : ℕ). other_of plan e there) over.same_edge) ∙ over.back in
         before_from there s acyclic.order (subst (λ (x : ℕ). StandsBefore there x acyclic.order) second
-        (subst (λ (x : ℕ). StandsBefore x (other_end plan x (edge_at plan s i)) acyclic.order) first (acyclic.preferred_first (edge_at plan s i) is_placed.edge_within)))
+        (subst (λ (x : ℕ). StandsBefore x (other_of plan (edge_at plan s i) x) acyclic.order) first (acyclic.preferred_first (edge_at plan s i) is_placed.edge_within)))
 
   -- the sites that are hungry
   abbrev hungers : ℕ → Bool

@@ -5,7 +5,7 @@ use Rattle.dine_token.specs.Fork.{SeenFork}
 use Rattle.dine_rules.specs.declared.letters.Letter.{Letter}
 use Rattle.dine_rules.specs.declared.letters.Letter.TheVariants.{Fork, Request, Done, Close}
 use Rattle.dine_rules.specs.Letters.{forks_in, requests_in, has_done, has_close}
-use Rattle.dine_rules.specs.Streams.{is_in_turn, is_done_last, is_close_last, is_orderly}
+use Rattle.dine_rules.specs.Streams.{is_alternating, is_done_last, is_close_last, is_orderly}
 use Rattle.dine_rules.proofs.Counting.{requests_in-append, has_done-append, or_true}
 
 -- the letter behind a front is at the front's length
@@ -14,7 +14,7 @@ slice_get-behind [] rest l = refl
 slice_get-behind (x ∷ xs) rest l = slice_get-behind xs rest l
 
 -- before a Request in turn stand as many Forks as Requests, and one more where the stream starts with a Fork
-pub turn_of_request : (fork_next : Bool) (xs rest : List Letter) (edge : ℕ) → is_in_turn fork_next (xs ++ Request edge ∷ rest) ≡ true → cond fork_next 1 0 + requests_in xs ≡ forks_in xs
+pub turn_of_request : (fork_next : Bool) (xs rest : List Letter) (edge : ℕ) → is_alternating fork_next (xs ++ Request edge ∷ rest) ≡ true → cond fork_next 1 0 + requests_in xs ≡ forks_in xs
 turn_of_request true [] rest edge h = absurd (false≢true h)
 turn_of_request false [] rest edge h = refl
 turn_of_request true (Fork fork ∷ xs) rest edge h = omega (arith, turn_of_request false xs rest edge h)
@@ -27,7 +27,7 @@ turn_of_request true (Close ∷ xs) rest edge h = turn_of_request true xs rest e
 turn_of_request false (Close ∷ xs) rest edge h = turn_of_request false xs rest edge h
 
 -- before a Fork in turn stands one Fork less
-pub turn_of_fork : (fork_next : Bool) (xs rest : List Letter) (next : SeenFork) → is_in_turn fork_next (xs ++ Fork next ∷ rest) ≡ true → cond fork_next 1 0 + requests_in xs ≡ forks_in xs + 1
+pub turn_of_fork : (fork_next : Bool) (xs rest : List Letter) (next : SeenFork) → is_alternating fork_next (xs ++ Fork next ∷ rest) ≡ true → cond fork_next 1 0 + requests_in xs ≡ forks_in xs + 1
 turn_of_fork true [] rest next h = refl
 turn_of_fork false [] rest next h = absurd (false≢true h)
 turn_of_fork true (Fork fork ∷ xs) rest next h = omega (arith, turn_of_fork false xs rest next h)

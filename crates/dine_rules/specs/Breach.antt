@@ -22,8 +22,8 @@ number_of DoneOutOfTurn = 5
 number_of ClosedEarly = 6
 
 -- the log ends in a Move to the site
-abbrev pub ends_at : ℕ → ℕ → List Entry → Bool
-ends_at lo s log = not (is_dirty log) && location_of lo log == s
+abbrev pub was_sent_to : ℕ → ℕ → List Entry → Bool
+was_sent_to lo s log = not (is_dirty log) && location_of lo log == s
 
 -- the fork is that of the edge, with the plan's ends and due numbers
 abbrev pub is_fork_of : SeenPlan → ℕ → SeenFork → Bool
@@ -42,7 +42,7 @@ module _ (plan : SeenPlan) (s : ℕ) (state : LocalState) (i : ℕ) where
   may_come (Request edge) = edge == edge_at plan s i && (token_at plan s state i == 0 && fork_at plan s state i == 1)
       && (not (has_done (traffic_at state i).taken) && nat_lt (meals_of (neighbour_at plan s i) (hand_at s state i)) (job_count plan (neighbour_at plan s i)))
   may_come (Fork fork) = is_fork_of plan (edge_at plan s i) fork && (fork_at plan s state i == 0 && token_at plan s state i == 0)
-      && (ends_at (lo_of plan (edge_at plan s i)) s fork.log && meals_of s fork.log == state.ate)
+      && (was_sent_to (lo_of plan (edge_at plan s i)) s fork.log && meals_of s fork.log == state.ate)
       && (not (has_done (traffic_at state i).taken) || has_all_of_neighbour fork.log)
   may_come Done = not (has_done (traffic_at state i).taken) && (not (fork_at plan s state i == 1) || has_all_of_neighbour (hand_at s state i))
   may_come Close = has_done (traffic_at state i).taken && has_done (traffic_at state i).put
@@ -58,7 +58,7 @@ module _ (plan : SeenPlan) (s : ℕ) (state : LocalState) (i : ℕ) where
       then Some RequestOutOfTurn else None
   breach_before_close (Fork fork) =
       if not (fork_at plan s state i == 0) || not (token_at plan s state i == 0) then Some ForkOutOfTurn
-      else (if not (is_fork_of plan (edge_at plan s i) fork) || not (ends_at (lo_of plan (edge_at plan s i)) s fork.log)
+      else (if not (is_fork_of plan (edge_at plan s i) fork) || not (was_sent_to (lo_of plan (edge_at plan s i)) s fork.log)
       || not (meals_of s fork.log == state.ate) || (has_done (traffic_at state i).taken && not (has_all_of_neighbour fork.log))
       then Some StrangeFork else None)
   breach_before_close Done =

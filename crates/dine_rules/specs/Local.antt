@@ -1,6 +1,6 @@
 -- One site, by what it has put and taken.
 use Rattle.std.specs.Prelude.{ℕ, ◌==◌, Bool, true, false, List, [], map, slice_index_or, if◌then◌else◌}
-use Rattle.dine_plan.specs.Plan.{SeenPlan, edges_of, lo_of, hi_of}
+use Rattle.dine_plan.specs.Plan.{SeenPlan, edges_of, other_of}
 use Rattle.dine_rules.specs.declared.letters.Letter.{Letter}
 use Rattle.dine_rules.specs.declared.phase.Phase.{Phase}
 use Rattle.dine_rules.specs.declared.phase.Phase.TheVariants.{Thinking, Hungry, Eating}
@@ -40,12 +40,9 @@ abbrev pub is_eating : Phase → Bool
 is_eating Eating = true
 is_eating _ = false
 
--- the edge at place i of the site, and the site at its other end
+-- the edge at place i of the site, and the site at the other end of that edge
 abbrev pub edge_at : SeenPlan → ℕ → ℕ → ℕ
 edge_at plan s i = slice_index_or (edges_of plan s) i 0
 
-abbrev pub other_end : SeenPlan → ℕ → ℕ → ℕ
-other_end plan s edge = if lo_of plan edge == s then hi_of plan edge else lo_of plan edge
-
 abbrev pub neighbour_at : SeenPlan → ℕ → ℕ → ℕ
-neighbour_at plan s i = other_end plan s (edge_at plan s i)
+neighbour_at plan s i = other_of plan (edge_at plan s i) s

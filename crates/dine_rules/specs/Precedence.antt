@@ -5,9 +5,9 @@ use Rattle.std.specs.List.{range_with_len}
 use Rattle.std.specs.Prelude.{IsPermutation}
 use Rattle.dine_token.specs.declared.entry.Entry.{Entry}
 use Rattle.dine_token.specs.Log.{is_dirty, location_of}
-use Rattle.dine_plan.specs.Plan.{SeenPlan, site_count, edge_count, lo_of, hi_of}
+use Rattle.dine_plan.specs.Plan.{SeenPlan, site_count, edge_count, lo_of, hi_of, other_of}
 use Rattle.dine_rules.specs.Letters.{forks_in, last_log_or}
-use Rattle.dine_rules.specs.Local.{traffic_at, other_end}
+use Rattle.dine_rules.specs.Local.{traffic_at}
 use Rattle.dine_rules.specs.Holdings.{fork_at, hand_at}
 use Rattle.dine_rules.specs.World.{WorldState, state_of, place_of, put_to}
 
@@ -44,4 +44,4 @@ pub record IsAcyclic (plan : SeenPlan) (world : WorldState) : Type 0 where
   pub order : List ℕ
   pub each_once : IsPermutation order (range_with_len 0 (site_count plan))
   pub preferred_first : (edge : ℕ) → edge < edge_count plan
-      → StandsBefore (preferred_end plan world edge) (other_end plan (preferred_end plan world edge) edge) order
+      → StandsBefore (preferred_end plan world edge) (other_of plan edge (preferred_end plan world edge)) order

@@ -11,16 +11,16 @@ use Rattle.dine_rules.specs.declared.letters.Letter.TheVariants.{Fork, Request, 
 use Rattle.dine_rules.specs.Letters.{forks_in, requests_in, has_done, last_log_or}
 use Rattle.dine_rules.specs.Local.{LocalState, Traffic, traffic_at, edge_at, neighbour_at, is_thinking, is_hungry}
 use Rattle.dine_rules.specs.Holdings.{fork_at, token_at, hand_at, meals_from}
-use Rattle.dine_rules.specs.Breach.{ends_at, is_fork_of}
+use Rattle.dine_rules.specs.Breach.{was_sent_to, is_fork_of}
 use Rattle.dine_rules.specs.Steps.{Step, Take}
 
 -- Forks and Requests, read without Done and Close, take turns. `fork_next` says which of the two is next.
-abbrev pub is_in_turn : Bool → List Letter → Bool
-is_in_turn fork_next [] = true
-is_in_turn fork_next (Fork fork ∷ letters) = fork_next && is_in_turn false letters
-is_in_turn fork_next (Request edge ∷ letters) = not fork_next && is_in_turn true letters
-is_in_turn fork_next (Done ∷ letters) = is_in_turn fork_next letters
-is_in_turn fork_next (Close ∷ letters) = is_in_turn fork_next letters
+abbrev pub is_alternating : Bool → List Letter → Bool
+is_alternating fork_next [] = true
+is_alternating fork_next (Fork fork ∷ letters) = fork_next && is_alternating false letters
+is_alternating fork_next (Request edge ∷ letters) = not fork_next && is_alternating true letters
+is_alternating fork_next (Done ∷ letters) = is_alternating fork_next letters
+is_alternating fork_next (Close ∷ letters) = is_alternating fork_next letters
 
 -- no Done and no Request stands behind the first Done
 abbrev pub is_done_last : List Letter → Bool
@@ -41,7 +41,7 @@ is_close_last (Done ∷ letters) = is_close_last letters
 
 -- A lawful stream of one direction: the direction from the lower end starts with a Fork, that from the higher with a Request.
 pub record IsLawfulStream (from_lower : Bool) (letters : List Letter) : Type 0 where
-  pub in_turn : is_in_turn from_lower letters ≡ true
+  pub alternating : is_alternating from_lower letters ≡ true
   pub done_last : is_done_last letters ≡ true
   pub close_last : is_close_last letters ≡ true
 
@@ -96,8 +96,8 @@ abbrev pub due_at_place : SeenPlan → ℕ → ℕ → ℕ × ℕ
 due_at_place plan s i = (job_count plan (lo_of plan (edge_at plan s i)), job_count plan (hi_of plan (edge_at plan s i)))
 
 -- the site waits for the fork, or has it clean in hand: it asked, and did not eat since
-abbrev pub is_owed_a_meal : SeenPlan → ℕ → LocalState → ℕ → Bool
-is_owed_a_meal plan s state i = (fork_at plan s state i == 0 && token_at plan s state i == 0)
+abbrev pub has_asked_since_meal : SeenPlan → ℕ → LocalState → ℕ → Bool
+has_asked_since_meal plan s state i = (fork_at plan s state i == 0 && token_at plan s state i == 0)
     || (fork_at plan s state i == 1 && not (is_dirty (hand_at s state i)))
 
 -- What a site keeps at one place, whatever letters it is offered.
@@ -107,10 +107,10 @@ pub record KeepsStreamsAt (plan : SeenPlan) (s : ℕ) (state : LocalState) (i : 
   pub put_chained : IsChained s (neighbour_at plan s i) (is_lower_at plan s i) (traffic_at state i)
   pub put_forks : AreLawfulForks plan (edge_at plan s i) (traffic_at state i).put
   -- Forks and Requests that it took alternate as those of the other end's direction do
-  pub taken_in_turn : is_in_turn (not (is_lower_at plan s i)) (traffic_at state i).taken ≡ true
+  pub taken_alternating : is_alternating (not (is_lower_at plan s i)) (traffic_at state i).taken ≡ true
   pub taken_forks : AreLawfulForks plan (edge_at plan s i) (traffic_at state i).taken
   -- each Fork taken was sent here, and the last of them has no meal of the site that it did not eat
-  pub forks_come_here : (k : ℕ) (fork : SeenFork) → slice_get (traffic_at state i).taken k ≡ Some (Fork fork) → ends_at (lo_of plan (edge_at plan s i)) s fork.log ≡ true
+  pub forks_come_here : (k : ℕ) (fork : SeenFork) → slice_get (traffic_at state i).taken k ≡ Some (Fork fork) → was_sent_to (lo_of plan (edge_at plan s i)) s fork.log ≡ true
   pub last_within : meals_of s (last_log_or [] (traffic_at state i).taken) ≤ state.ate
   -- no more is put than came, and at most one fork and one token are here
   pub forks_counted : fork_at plan s state i + forks_in (traffic_at state i).put ≡ (if is_lower_at plan s i then 1 else 0) + forks_in (traffic_at state i).taken
@@ -128,7 +128,7 @@ pub record KeepsStreamsAt (plan : SeenPlan) (s : ℕ) (state : LocalState) (i : 
   -- who was asked for a fork in hand is asked by a neighbour with meals left
   pub asker_has_left : fork_at plan s state i ≡ 1 → token_at plan s state i ≡ 1 → meals_of (neighbour_at plan s i) (hand_at s state i) < job_count plan (neighbour_at plan s i)
   -- a Request is put again only after its fork came and was eaten with
-  pub asks_to_eat : requests_in (traffic_at state i).put ≤ state.ate + (if is_owed_a_meal plan s state i then 1 else 0)
+  pub requests_within : requests_in (traffic_at state i).put ≤ state.ate + (if has_asked_since_meal plan s state i then 1 else 0)
   -- who put Done has eaten all, and thinks
   pub done_after_all : has_done (traffic_at state i).put ≡ true → state.ate ≡ job_count plan s
   pub done_thinks : has_done (traffic_at state i).put ≡ true → is_thinking state.phase ≡ true

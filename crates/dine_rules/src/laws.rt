@@ -14,7 +14,7 @@ ghost use Rattle.dine_rules.specs.Letters.{closes_in, dones_in, forks_in, reques
 ghost use Rattle.dine_rules.specs.Links.{ForEachEdge, ForEachLink, forks_of_edge, queue_to, tokens_of_edge};
 ghost use Rattle.dine_rules.specs.Local.{LocalState, is_eating, neighbour_at, start_of, traffic_at};
 ghost use Rattle.dine_rules.specs.Precedence.{IsAcyclic, fork_log};
-ghost use Rattle.dine_rules.specs.Runs.{AreProper, LeadTo, begins_in, is_give_at};
+ghost use Rattle.dine_rules.specs.StepLists.{AreProper, LeadTo, begins_in, is_give_at};
 ghost use Rattle.dine_rules.specs.Schedules.{after_choices, finish_within, from_here, replay, whole_run};
 ghost use Rattle.dine_rules.specs.Steps.{LocalStep, Step};
 ghost use Rattle.dine_rules.specs.Streams.{IsProper, KeepsStreams};

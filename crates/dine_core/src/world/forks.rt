@@ -1,12 +1,11 @@
 // The forks of the world, wherever they lie.
 ghost use Rattle.std.specs.Prelude.{◌≡◌, ◌+◌, ◌*◌, ◌<◌, ◌≤◌, [], All, length, map, option_map, slice_get, vec_capacity};
 ghost use Rattle.dine_core.specs.Forks.{AreForksOf, HasAllForks, IsEdgeAt, emptied_at, fork_of_edge, without_fork, woken};
-ghost use Rattle.dine_core.specs.Seats.{FitsSeat, IsAwake};
+ghost use Rattle.dine_core.specs.WorldSites.{HasOwnMeal, IsAwake};
 
-use super::{EdgeEnds, World, opening};
-use crate::acts;
-use crate::queue::Queue;
-use crate::seats::Seat;
+use super::queue::Queue;
+use super::sites::WorldSite;
+use super::{EdgeEnds, World, acts, opening};
 use dine_token::Fork;
 
 impl World {
@@ -17,8 +16,8 @@ impl World {
         ensures { ForEachWorld self.now (λ plan world. option_map (λ fork. fork.now) result ≡ slice_get (forks_seen plan world) edge) }
     {
         let ends = self.edges.get(edge as usize)?;
-        let lower = &self.seats[ends.lower as usize];
-        let higher = &self.seats[ends.higher as usize];
+        let lower = &self.sites[ends.lower as usize];
+        let higher = &self.sites[ends.higher as usize];
         let link = 2 * (edge as usize);
         lower
             .fork(ends.lower_place)
@@ -32,61 +31,66 @@ impl World {
         ensures { ForEachWorld self (λ plan world. result.items ≡ forks_seen plan world) }
     {
         let World {
-            mut seats,
+            mut sites,
             mut links,
             edges,
             bound: _,
             mut forks,
         } = self;
-        wake_all(seats.as_mut_slice());
+        wake_all(sites.as_mut_slice());
         collect(
-            seats.as_mut_slice(),
+            sites.as_mut_slice(),
             links.as_mut_slice(),
             edges.as_slice(),
             &mut forks,
         );
-        opening::spend(seats);
+        opening::spend(sites);
         forks
     }
 }
 
 // Ends all meals.
-fn wake_all(seats: &mut [Seat])
-    requires { All FitsSeat seats.old }
-    ensures { seats.new ≡ map woken seats.old }
+fn wake_all(sites: &mut [WorldSite])
+    requires { All HasOwnMeal sites.old }
+    ensures { sites.new ≡ map woken sites.old }
 {
-    for seat in seats.iter_mut() {
-        acts::wake(seat);
+    for world_site in sites.iter_mut() {
+        acts::wake(world_site);
     }
 }
 
 // Takes the forks of all edges out, in edge order.
-fn collect(seats: &mut [Seat], links: &mut [Queue], edges: &[EdgeEnds], forks: &mut Vec<Fork>)
-    requires awake { All IsAwake seats.old }
-    requires all { HasAllForks seats.old links.old edges.now }
+fn collect(sites: &mut [WorldSite], links: &mut [Queue], edges: &[EdgeEnds], forks: &mut Vec<Fork>)
+    requires awake { All IsAwake sites.old }
+    requires all { HasAllForks sites.old links.old edges.now }
     requires none { forks.old.items ≡ [] }
     requires room { length edges.now ≤ vec_capacity forks.old }
-    ensures awake { All IsAwake seats.new }
-    ensures forks { AreForksOf seats.old links.old edges.now forks.new.items }
+    ensures awake { All IsAwake sites.new }
+    ensures forks { AreForksOf sites.old links.old edges.now forks.new.items }
 {
     for (edge, ends) in edges.iter().enumerate() {
-        let fork = take_out(seats, links, ends, edge).unwrap();
+        let fork = take_out(sites, links, ends, edge).unwrap();
         forks.push_reserved(fork);
     }
 }
 
 // Takes the fork of an edge out of where it lies: a site or a link.
-fn take_out(seats: &mut [Seat], links: &mut [Queue], ends: &EdgeEnds, edge: usize) -> Option<Fork>
-    requires awake { All IsAwake seats.old }
-    requires edge { IsEdgeAt seats.old links.old ends.now edge }
-    ensures fork { result ≡ fork_of_edge seats.old links.old ends.now edge }
-    ensures seats { seats.new ≡ emptied_at ends.now.higher ends.now.higher_place (emptied_at ends.now.lower ends.now.lower_place seats.old) }
+fn take_out(
+    sites: &mut [WorldSite],
+    links: &mut [Queue],
+    ends: &EdgeEnds,
+    edge: usize,
+) -> Option<Fork>
+    requires awake { All IsAwake sites.old }
+    requires edge { IsEdgeAt sites.old links.old ends.now edge }
+    ensures fork { result ≡ fork_of_edge sites.old links.old ends.now edge }
+    ensures sites { sites.new ≡ emptied_at ends.now.higher ends.now.higher_place (emptied_at ends.now.lower ends.now.lower_place sites.old) }
     ensures links { links.new ≡ without_fork (2 * edge) (without_fork (2 * edge + 1) links.old) }
 {
-    let lower = &mut seats[ends.lower as usize];
+    let lower = &mut sites[ends.lower as usize];
     let at_lower = lower.core.take_fork(ends.lower_place);
     let to_lower = links[2 * edge + 1].take_fork();
-    let higher = &mut seats[ends.higher as usize];
+    let higher = &mut sites[ends.higher as usize];
     let at_higher = higher.core.take_fork(ends.higher_place);
     let to_higher = links[2 * edge].take_fork();
     at_lower.or(to_lower).or(at_higher).or(to_higher)

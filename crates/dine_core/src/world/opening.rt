@@ -4,18 +4,16 @@ ghost use Rattle.std.specs.List.{range_with_len};
 ghost use Rattle.dine_plan.specs.Plan.{edge_count, edges_of, job_count, site_count};
 ghost use Rattle.dine_rules.specs.Bound.{bound_of, meals_due};
 ghost use Rattle.dine_rules.specs.declared.letters.Letter.{Letter};
-ghost use Rattle.dine_core.specs.Core.{fresh_forks as own_forks, fresh_tokens as own_tokens};
 ghost use Rattle.dine_rules.specs.Local.{start_of};
-ghost use Rattle.dine_core.specs.Seats.{IsAwake, IsSeatOf};
+ghost use Rattle.dine_core.specs.WorldSites.{IsAwake, IsSiteOf};
 ghost use Rattle.dine_rules.specs.World.{start};
-ghost use Rattle.dine_core.specs.Worlds.{SeatsStand, ends_seen};
+ghost use Rattle.dine_core.specs.Worlds.{SitesStand, ends_seen};
 
 use super::EdgeEnds;
-use crate::queue::Queue;
-use crate::seats::Seat;
-use crate::site_core::SiteCore;
+use super::queue::Queue;
+use super::sites::WorldSite;
+use crate::site::{SiteCore, fresh_forks, fresh_tokens};
 use dine_plan::Plan;
-use dine_token::{Fork, Token};
 use std::alloc::{AllocError, Global};
 
 /// Where the ends of all edges are.
@@ -49,86 +47,48 @@ pub(super) fn links_of(alloc: Global, plan: &Plan) -> Result<Vec<Queue>, AllocEr
 }
 
 /// All sites, each with the forks and tokens that it has at the start.
-pub(super) fn seats_of(alloc: Global, plan: &Plan) -> Result<Vec<Seat>, AllocError>
-    ensures { IfOk result (λ seats. SeatsStand plan.now (start plan.now) seats.items) }
+pub(super) fn sites_of(alloc: Global, plan: &Plan) -> Result<Vec<WorldSite>, AllocError>
+    ensures { IfOk result (λ sites. SitesStand plan.now (start plan.now) sites.items) }
 {
-    let mut seats = Vec::with_capacity(alloc, plan.sites() as usize)?;
+    let mut sites = Vec::with_capacity(alloc, plan.sites() as usize)?;
     for site in 0..plan.sites() {
-        match seat_of(alloc, plan, site) {
-            Ok(seat) => seats.push_reserved(seat),
+        match site_of(alloc, plan, site) {
+            Ok(world_site) => sites.push_reserved(world_site),
             Err(error) => {
-                spend(seats);
+                spend(sites);
                 return Err(error);
             }
         }
     }
-    Ok(seats)
+    Ok(sites)
 }
 
 // A site, before its first step.
-fn seat_of(alloc: Global, plan: &Plan, site: u32) -> Result<Seat, AllocError>
+fn site_of(alloc: Global, plan: &Plan, site: u32) -> Result<WorldSite, AllocError>
     requires { site < site_count plan.now }
-    ensures site { IfOk result (λ seat. seat.core.site ≡ site) }
-    ensures start { IfOk result (IsSeatOf plan.now (start_of plan.now site)) }
+    ensures site { IfOk result (λ world_site. world_site.core.site ≡ site) }
+    ensures start { IfOk result (IsSiteOf plan.now (start_of plan.now site)) }
     ensures awake { IfOk result IsAwake }
 {
     let forks = fresh_forks(alloc, plan, site)?;
     let tokens = fresh_tokens(alloc, plan, site)?;
     let core = SiteCore::open(alloc, plan, site, forks, tokens)?;
-    Ok(Seat { core, meal: None })
+    Ok(WorldSite { core, meal: None })
 }
 
 /// Lets the sites go, with all that they hold. None of them eats.
-pub(super) fn spend(seats: Vec<Seat>)
-    requires { All IsAwake seats.items }
+pub(super) fn spend(sites: Vec<WorldSite>)
+    requires { All IsAwake sites.items }
 {
-    let mut seats = seats;
-    while !seats.is_empty() {
-        let Seat { core, meal } = seats.take_last();
+    let mut sites = sites;
+    while !sites.is_empty() {
+        let WorldSite { core, meal } = sites.take_last();
         if let Some(_) = meal {
             unreachable!();
         }
         let _ = core.into_parts();
     }
-    seats.destroy_empty();
-}
-
-/// The forks that a site has at the start, in edge order.
-pub(crate) fn fresh_forks(alloc: Global, plan: &Plan, site: u32) -> Result<Vec<Fork>, AllocError>
-    requires { site < site_count plan.now }
-    ensures { IfOk result (λ forks. forks.items ≡ own_forks plan.now site (edges_of plan.now site)) }
-{
-    let mut forks = Vec::new(alloc);
-    for edge in plan.edges_of(site) {
-        let (lower, higher) = plan.ends(*edge);
-        if lower == site {
-            let fork = Fork::open(
-                alloc,
-                *edge,
-                lower,
-                higher,
-                plan.jobs(lower),
-                plan.jobs(higher),
-            )?;
-            forks.push(fork)?;
-        }
-    }
-    Ok(forks)
-}
-
-/// The tokens that a site has at the start, in edge order.
-pub(crate) fn fresh_tokens(alloc: Global, plan: &Plan, site: u32) -> Result<Vec<Token>, AllocError>
-    requires { site < site_count plan.now }
-    ensures { IfOk result (λ tokens. tokens.items ≡ own_tokens plan.now site (edges_of plan.now site)) }
-{
-    let mut tokens = Vec::new(alloc);
-    for edge in plan.edges_of(site) {
-        let (_, higher) = plan.ends(*edge);
-        if higher == site {
-            tokens.push(Token::open(*edge))?;
-        }
-    }
-    Ok(tokens)
+    sites.destroy_empty();
 }
 
 /// How many events the world of the plan can have: three a meal and, for each edge, four for each meal that is due at its

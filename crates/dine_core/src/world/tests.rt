@@ -4,9 +4,8 @@ mod model;
 mod side_by_side;
 
 use super::{NotEnabled, World};
-use dine_rules::{Event, EventKind};
-use dine_rules::Phase;
 use dine_plan::{Plan, read_plan};
+use dine_rules::{Event, EventKind, Phase};
 use dine_token::{Entry, Fork};
 use std::alloc::{AllocError, Global};
 use std::fmt::Write;

@@ -2,9 +2,7 @@
 
 use super::graph::Graph;
 use super::letters::{Letter, count_of, has, is_dirty, last_log, location_of, meals_of};
-use dine_rules::{Event, EventKind};
-use dine_rules::Kind4;
-use dine_rules::Phase;
+use dine_rules::{Event, EventKind, Kind4, Phase};
 use dine_token::Entry;
 use std::alloc::Global;
 use std::process::Abort;

@@ -1,17 +1,17 @@
 use Rattle.std.proofs.Common.{length, get_or, arith, ap, ◌∙◌, subst}
-use Rattle.dine_core.specs.declared.seats.Seat.{Seat}
+use Rattle.dine_core.specs.declared.world.sites.WorldSite.{WorldSite}
 use Rattle.dine_core.specs.Worlds.{IsWorldOf, SeenWorld}
-use Rattle.dine_core.proofs.Choices.{degree_is, edges_few}
+use Rattle.dine_core.proofs.EnabledEvents.{degree_is, edges_few}
 use Rattle.dine_core.proofs.world.World.degree_of.Goals as goal
 
 pub index-requires : goal.index-requires
-index-requires c = omega (arith, ap (λ (w : SeenWorld). length w.seats) c.self.view_is)
+index-requires c = omega (arith, ap (λ (w : SeenWorld). length w.sites) c.self.view_is)
 
 pub returns-clause-edges : goal.returns-clause-edges
 returns-clause-edges c plan world is =
     c.degree.ensures
-    ∙ ap (λ (seat : Seat). length seat.core.places) c.index.ensures
-    ∙ ap (λ (w : SeenWorld). length (get_or w.seats c.args.site c.index.result.now).core.places) c.self.view_is
+    ∙ ap (λ (world_site : WorldSite). length world_site.core.places) c.index.ensures
+    ∙ ap (λ (w : SeenWorld). length (get_or w.sites c.args.site c.index.result.now).core.places) c.self.view_is
     ∙ degree_is plan world c.args.self.now is c.args.site c.index.result.now c.requires
 
 pub returns-clause-few : goal.returns-clause-few

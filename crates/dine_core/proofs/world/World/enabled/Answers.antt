@@ -8,7 +8,7 @@ use Rattle.dine_core.proofs.world.World.enabled.Goals as goal
 pub returns-in-Found : goal.returns-in-Found
 returns-in-Found c plan world is =
     sym (ap (slice_get (enabled_events plan world)) (sym (c.loop-site.invariant plan world is))
-    ∙ found_at (is_enabled plan world) (events_at plan) c.loop-site.site (site_count plan) c.loop-site.left c.in-Found.event (omega (arith, is.seats.count)) (c.in-Found.ensures plan world is))
+    ∙ found_at (is_enabled plan world) (events_at plan) c.loop-site.site (site_count plan) c.loop-site.left c.in-Found.event (omega (arith, is.sites.count)) (c.in-Found.ensures plan world is))
 
 pub loop-site-preserved : goal.loop-site-preserved
 loop-site-preserved c plan world is =
@@ -16,6 +16,6 @@ loop-site-preserved c plan world is =
 
 pub returns : goal.returns
 returns c plan world is =
-    let all : site_count plan ≡ c.loop-site.site = omega (arith, is.seats.count) in
+    let all : site_count plan ≡ c.loop-site.site = omega (arith, is.sites.count) in
     let passed = ap (λ n. length (of_sites (is_enabled plan world) (events_at plan) n)) all in
     sym (slice_get_past (enabled_events plan world) c.args.n (omega (arith, passed, c.loop-site.invariant plan world is)))

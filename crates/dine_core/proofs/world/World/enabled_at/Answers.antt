@@ -2,7 +2,7 @@ use Rattle.std.proofs.Common.{◌≡◌, ◌+◌, ◌*◌, true, List, filter, l
 use Rattle.dine_rules.specs.declared.events.Event.{Event}
 use Rattle.dine_core.specs.Worlds.{can_happen}
 use Rattle.dine_rules.proofs.KindNumbers.{choices, passed, passed_all, passed_next, passed_none, passed_one}
-use Rattle.dine_core.proofs.Choices.{enabled_at}
+use Rattle.dine_core.proofs.EnabledEvents.{enabled_at}
 use Rattle.dine_core.proofs.world.World.enabled_at.Goals as goal
 use Rattle.dine_core.proofs.world.World.enabled_at.Goals.{then-can_happen+else-more-eq0, else-can_happen}
 

@@ -2,7 +2,7 @@ use Rattle.std.proofs.Common.{◌≡◌, ◌-◌, ◌≤◌, ℕ, sym, ◌∙◌
 use Rattle.dine_rules.specs.World.{enabled_events}
 use Rattle.dine_core.specs.Worlds.{IsWorldOf, SeenWorld}
 use Rattle.dine_rules.proofs.Finishing.{none_first, stuck_is_complete}
-use Rattle.dine_core.proofs.WorldRuns.{IsUnderWay, chosen_can, none_of, one_left, runs_to, under_way_at_start, under_way_next}
+use Rattle.dine_core.proofs.WorldSchedules.{IsUnderWay, chosen_can, none_of, one_left, runs_to, under_way_at_start, under_way_next}
 use Rattle.dine_core.proofs.world.World.finish.Goals as goal
 
 pub loop-event-init : goal.loop-event-init

@@ -10,10 +10,10 @@ pub invariant_of-result : goal.invariant_of-result
 invariant_of-result c = record {
   plan = c.args.plan.now;
   state = start c.args.plan.now;
-  stands = opened _ _ c.edges.ensures.plan c.in_ok-seats.ensures c.in_ok-links.ensures.count c.in_ok-links.ensures.empty c.in_ok-edges.ensures c.bound_of-bound.ensures;
+  stands = opened _ _ c.edges.ensures.plan c.in_ok-sites.ensures c.in_ok-links.ensures.count c.in_ok-links.ensures.empty c.in_ok-edges.ensures c.bound_of-bound.ensures;
   no_forks = c.in_ok-forks.ensures.items;
   room = omega (arith, ap length c.in_ok-edges.ensures, length-map-range_with_len (ends_seen c.args.plan.now) 0 (edge_count c.args.plan.now), c.in_ok-forks.ensures.capacity, c.edges.ensures.count);
 }
 
 pub returns : goal.returns
-returns c = opened _ _ c.edges.ensures.plan c.in_ok-seats.ensures c.in_ok-links.ensures.count c.in_ok-links.ensures.empty c.in_ok-edges.ensures c.bound_of-bound.ensures
+returns c = opened _ _ c.edges.ensures.plan c.in_ok-sites.ensures c.in_ok-links.ensures.count c.in_ok-links.ensures.empty c.in_ok-edges.ensures c.bound_of-bound.ensures

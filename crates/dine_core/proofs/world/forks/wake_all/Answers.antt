@@ -1,24 +1,24 @@
 use Rattle.std.proofs.Common.{◌<◌, length, set, sym, ◌∙◌, ap, subst, arith}
 use Rattle.std.proofs.lemmas.List.Edits.{map_over_more}
-use Rattle.dine_core.specs.declared.seats.Seat.{Seat}
+use Rattle.dine_core.specs.declared.world.sites.WorldSite.{WorldSite}
 use Rattle.dine_core.specs.Forks.{woken}
-use Rattle.dine_core.specs.Seats.{FitsSeat}
+use Rattle.dine_core.specs.WorldSites.{HasOwnMeal}
 use Rattle.dine_core.proofs.Lists.{get_or-map_over}
 use Rattle.dine_core.proofs.world.forks.wake_all.Goals as goal
 
 pub wake-requires : goal.wake-requires
 wake-requires c =
-    let xs = c.args.seats.now in
-    let ys = c.loop-seat.seats in
-    let i = c.loop-seat.seat-index in
+    let xs = c.args.sites.now in
+    let ys = c.loop-world_site.sites in
+    let i = c.loop-world_site.world_site-index in
     let within : i < length xs = omega arith in
-    subst FitsSeat (sym (get_or-map_over woken xs ys i c.seat-item.result within c.loop-seat.invariant)) (c.requires i c.seat-item.result within)
+    subst HasOwnMeal (sym (get_or-map_over woken xs ys i c.world_site-item.result within c.loop-world_site.invariant)) (c.requires i c.world_site-item.result within)
 
-pub loop-seat-preserved : goal.loop-seat-preserved
-loop-seat-preserved c =
-    let xs = c.args.seats.now in
-    let ys = c.loop-seat.seats in
-    let i = c.loop-seat.seat-index in
-    let d = c.seat-item.result in
+pub loop-world_site-preserved : goal.loop-world_site-preserved
+loop-world_site-preserved c =
+    let xs = c.args.sites.now in
+    let ys = c.loop-world_site.sites in
+    let i = c.loop-world_site.world_site-index in
+    let d = c.world_site-item.result in
     let within : i < length xs = omega arith in
-    ap (λ (seat : Seat). set ys i seat) (c.wake.ensures.woken ∙ ap woken (sym c.seat-item.is)) ∙ map_over_more woken xs ys i d within c.loop-seat.invariant c.seat-item.is
+    ap (λ (world_site : WorldSite). set ys i world_site) (c.wake.ensures.woken ∙ ap woken (sym c.world_site-item.is)) ∙ map_over_more woken xs ys i d within c.loop-world_site.invariant c.world_site-item.is

@@ -1,0 +1,17 @@
+-- How a world is kept: what stands for its value, and what is kept beside that.
+use Rattle.std.specs.Prelude.{◌≡◌, ◌≤◌, [], length, vec_capacity}
+use Rattle.dine_plan.specs.Plan.{SeenPlan}
+use Rattle.dine_core.specs.declared.world.World.TheInside.{Inside}
+use Rattle.dine_rules.specs.World.{WorldState}
+use Rattle.dine_core.specs.Worlds.{SeenWorld, IsWorldOf}
+
+abbrev pub seen_world : Inside → SeenWorld
+seen_world world = record { sites = world.sites.items; links = world.links.items; edges = world.edges.items; bound = world.bound }
+
+-- The world stands for some state that events reach from the start, and there is room for the forks of all edges.
+pub record IsKeptWorld (world : Inside) : Type 0 where
+  pub plan : SeenPlan
+  pub state : WorldState
+  pub stands : IsWorldOf plan state (seen_world world)
+  pub no_forks : world.forks.items ≡ []
+  pub room : length world.edges.items ≤ vec_capacity world.forks

@@ -1,0 +1,121 @@
+-- A site of the world, with the meal that it eats, and the links around it.
+use Rattle.std.specs.Prelude.{◌≡◌, ℕ, ◌<◌, ◌&&◌, not, nat_lt, Bool, false, true, List, [], ◌∷◌, ◌++◌, length, drop, slice_get, slice_index_or, slice_set, Option, Some, None, is_some, option_and_then, MatchOption, if◌then◌else◌}
+use Rattle.dine_token.specs.Meal.{SeenMeal}
+use Rattle.dine_plan.specs.Plan.{SeenPlan}
+use Rattle.dine_rules.specs.declared.letters.Letter.{Letter}
+use Rattle.dine_rules.specs.declared.events.EventKind.{EventKind}
+use Rattle.dine_rules.specs.declared.events.EventKind.TheVariants as event
+use Rattle.dine_core.specs.declared.world.sites.WorldSite.{WorldSite}
+use Rattle.dine_rules.specs.Local.{LocalState, is_eating}
+use Rattle.dine_rules.specs.Holdings.{EatsWithAll}
+use Rattle.dine_rules.specs.Steps.{Step, after, step_by, with_put}
+use Rattle.dine_rules.specs.Streams.{KeepsStreams}
+use Rattle.dine_core.specs.Core.{SeenCore, StandsFor, forks_in_hand}
+use Rattle.dine_core.specs.Places.{IsMealOf, place_at, can_give, can_ask, can_hunger, can_begin, can_say_done, can_close, breach_at}
+use Rattle.dine_core.specs.LinkNumbers.{link_to, link_from}
+use Rattle.dine_core.specs.Standing.{all_places}
+
+-- the letters of a link, and the next of those in the link to the site at place i
+abbrev pub letters_in : List (List Letter) → ℕ → List Letter
+letters_in links n = slice_index_or links n []
+
+abbrev pub next_in : List (List Letter) → SeenCore → ℕ → Option Letter
+next_in links core i = option_and_then (λ (letters : List Letter). slice_get letters 0) (slice_get links (link_to core.site (place_at core i)))
+
+-- there is a letter, and it is in turn at place i
+abbrev pub meets_no_breach : SeenCore → ℕ → Option Letter → Bool
+meets_no_breach core i None = false
+meets_no_breach core i (Some l) = not (is_some (breach_at core.site core.ate (place_at core i) l))
+
+-- what each event needs
+abbrev pub can_do : List (List Letter) → SeenCore → EventKind → Bool
+can_do links core (event.Take i) = nat_lt i (length core.places) && is_some (next_in links core i)
+can_do links core (event.Give i) = nat_lt i (length core.places) && can_give core i
+can_do links core event.End = is_eating core.phase
+can_do links core event.Begin = can_begin core
+can_do links core event.Hungry = can_hunger core
+can_do links core (event.Ask i) = nat_lt i (length core.places) && can_ask core i
+can_do links core (event.Done i) = nat_lt i (length core.places) && can_say_done core i
+can_do links core (event.Close i) = nat_lt i (length core.places) && can_close core i
+
+-- what a Take takes is in turn
+abbrev pub TakesAllowed : List (List Letter) → SeenCore → EventKind → Type 0
+TakesAllowed links core (event.Take i) = meets_no_breach core i (next_in links core i) ≡ true
+TakesAllowed links core (event.Give i) = Unit {0}
+TakesAllowed links core event.End = Unit {0}
+TakesAllowed links core event.Begin = Unit {0}
+TakesAllowed links core event.Hungry = Unit {0}
+TakesAllowed links core (event.Ask i) = Unit {0}
+TakesAllowed links core (event.Done i) = Unit {0}
+TakesAllowed links core (event.Close i) = Unit {0}
+
+-- the meal of a site that eats, by the whole lists
+abbrev pub meal_of : SeenPlan → ℕ → LocalState → Option SeenMeal
+meal_of plan s state = if is_eating state.phase
+    then Some (record { site = s; k = state.ate; forks = forks_in_hand plan s state (all_places state) })
+    else None
+
+-- the step that an event of the site is, by the next letter in the link
+abbrev pub step_in : List (List Letter) → SeenCore → EventKind → Option Step
+step_in links core = step_by (next_in links core)
+
+-- A site of the world stands for a state: the core does, and the meal is the state's.
+pub record IsSiteOf (plan : SeenPlan) (state : LocalState) (world_site : WorldSite) : Type 0 where
+  pub core : StandsFor plan state world_site.core
+  pub meal : world_site.meal ≡ meal_of plan world_site.core.site state
+
+-- a link has one letter more behind the others, or its first letter fewer
+abbrev pub with_letter : List (List Letter) → ℕ → Letter → List (List Letter)
+with_letter links n l = slice_set links n (letters_in links n ++ l ∷ [])
+
+abbrev pub without_next : List (List Letter) → ℕ → List (List Letter)
+without_next links n = slice_set links n (drop 1 (letters_in links n))
+
+-- the step puts a letter at place i, and it lies last in the link that leads away
+abbrev pub PutsAt : SeenPlan → LocalState → SeenCore → ℕ → Step → List (List Letter) → List (List Letter) → Type 0
+PutsAt plan state core i one old new = (l : Letter) × (after plan core.site state one ≡ with_put i l state) × (new ≡ with_letter old (link_from core.site (place_at core i)) l)
+
+-- what the step does to the links
+abbrev pub MovesLetters : SeenPlan → LocalState → SeenCore → EventKind → Step → List (List Letter) → List (List Letter) → Type 0
+MovesLetters plan state core (event.Take i) one old new = new ≡ without_next old (link_to core.site (place_at core i))
+MovesLetters plan state core (event.Give i) one old new = PutsAt plan state core i one old new
+MovesLetters plan state core event.End one old new = new ≡ old
+MovesLetters plan state core event.Begin one old new = new ≡ old
+MovesLetters plan state core event.Hungry one old new = new ≡ old
+MovesLetters plan state core (event.Ask i) one old new = PutsAt plan state core i one old new
+MovesLetters plan state core (event.Done i) one old new = PutsAt plan state core i one old new
+MovesLetters plan state core (event.Close i) one old new = PutsAt plan state core i one old new
+
+-- The site did the step: it stands for the state after it, and the letter went over the link.
+pub record SiteStep (plan : SeenPlan) (state : LocalState) (kind : EventKind) (one : Step) (old new : WorldSite) (links new_links : List (List Letter)) : Type 0 where
+  pub site : new.core.site ≡ old.core.site
+  pub stands : IsSiteOf plan (after plan old.core.site state one) new
+  pub letters : MovesLetters plan state old.core kind one links new_links
+
+-- so it is for each state that keeps the streams and for which the site stands
+abbrev pub SiteSteps : EventKind → WorldSite → WorldSite → List (List Letter) → List (List Letter) → Type 0
+SiteSteps kind old new links new_links = (plan : SeenPlan) (state : LocalState) (one : Step) → KeepsStreams plan old.core.site state → EatsWithAll plan old.core.site state
+    → IsSiteOf plan state old → step_in links old.core kind ≡ Some one → SiteStep plan state kind one old new links new_links
+
+-- the meal is that of the core, where it eats, and else there is none
+abbrev pub HasOwnMeal : WorldSite → Type 0
+HasOwnMeal world_site = MatchOption world_site.meal (is_eating world_site.core.phase ≡ false) (λ meal. (is_eating world_site.core.phase ≡ true) × IsMealOf world_site.core meal)
+
+-- there is room in the link that leads away at place i, and at the place where the event puts a letter
+abbrev pub HasRoomAt : List (List Letter) → SeenCore → ℕ → Type 0
+HasRoomAt links core i = (link_from core.site (place_at core i) < length links) × (length (letters_in links (link_from core.site (place_at core i))) < 4)
+
+abbrev pub HasRoomFor : List (List Letter) → SeenCore → EventKind → Type 0
+HasRoomFor links core (event.Take i) = Unit {0}
+HasRoomFor links core (event.Give i) = HasRoomAt links core i
+HasRoomFor links core event.End = Unit {0}
+HasRoomFor links core event.Begin = Unit {0}
+HasRoomFor links core event.Hungry = Unit {0}
+HasRoomFor links core (event.Ask i) = HasRoomAt links core i
+HasRoomFor links core (event.Done i) = HasRoomAt links core i
+HasRoomFor links core (event.Close i) = HasRoomAt links core i
+
+-- the site does not eat, and there is no meal
+pub record IsAwake (world_site : WorldSite) : Type 0 where
+  pub not_eating : is_eating world_site.core.phase ≡ false
+  pub no_meal : world_site.meal ≡ None

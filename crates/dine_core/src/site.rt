@@ -1,0 +1,441 @@
+//! One site.
+
+ghost use Rattle.std.specs.Prelude.{◌≡◌, ◌≢◌, ℕ, ◌<◌, ◌==◌, Some, None, is_some, true, false, length, map, IfOk, MatchOption, MatchResult};
+ghost use Rattle.std.specs.List.{list_all};
+ghost use Rattle.dine_token.specs.Fork.{eaten};
+ghost use Rattle.dine_plan.specs.Plan.{SeenPlan, site_count, edges_of};
+ghost use Rattle.dine_rules.specs.Letters.{has_close};
+ghost use Rattle.dine_rules.specs.Local.{LocalState, start_of, traffic_at, is_eating};
+ghost use Rattle.dine_rules.specs.Holdings.{fork_at, token_at};
+ghost use Rattle.dine_rules.specs.Steps as step;
+ghost use Rattle.dine_rules.specs.Steps.{after};
+ghost use Rattle.dine_core.specs.Core.{SeenCore, StandsFor, forks_in_hand, fresh_forks, fresh_tokens};
+ghost use Rattle.dine_core.specs.Places.{place_at, is_held, can_give, can_ask, can_hunger, can_begin, can_say_done, can_close, is_ready_at, is_over_at, is_closed_at, has_all_said, has_all_closed, breach_at, hungered, asked, gave, begun, ended, said_done, closed, took, forks_of, tokens_of, IsMealOf};
+ghost use Rattle.dine_core.specs.Forks.{hand_of};
+ghost use Rattle.dine_core.specs.LinkNumbers.{link_to, link_from};
+ghost use Rattle.dine_core.specs.Standing.{ForEachState, TellsMay, CoreSteps, CorePuts, TellsBreach, AreForksInHand, AreTokensInHand, all_places, has_finished, has_closed};
+
+mod meals;
+mod opening;
+pub(crate) mod places;
+#[cfg(test)]
+mod tests;
+
+use dine_plan::Plan;
+pub use dine_rules::{Breach, Kind4, Letter, Phase};
+use dine_token::{Fork, Held, Meal, Token};
+pub use opening::{fresh_forks, fresh_tokens};
+use places::{ForkSlot, Place};
+use std::alloc::{AllocError, Global};
+use std::marker::Model;
+use std::mem;
+
+/// A site: its phase, how many meals it ate, and at each place of its list of edges the fork, the token and what was said.
+/// It does one local step at a time, and each step puts or takes at most one letter. It has to be spent, by
+/// [`SiteCore::into_parts`].
+///
+/// The rules are those of Chandy and Misra's hygienic solution (ACM TOPLAS 6(4), 1984).
+pub struct SiteCore {
+    site: u32,
+    due: u32,
+    phase: Phase,
+    ate: u32,
+    places: Vec<Place>,
+    alloc: Global,
+    // Empty: the list that goes to a meal and comes back.
+    hands: Vec<Held>,
+    // Empty, with room for the forks and the tokens of all places.
+    parts: Parts,
+}
+
+/// What a site holds, in edge order.
+#[derive(Drop)]
+pub struct Parts {
+    pub forks: Vec<Fork>,
+    pub tokens: Vec<Token>,
+}
+
+impl Model for SiteCore {
+    ghost use Rattle.dine_core.specs.Core.{SeenCore};
+
+    ghost Value = { SeenCore };
+
+    ghost use Rattle.dine_core.specs.SiteFields.{seen, IsKept};
+
+    ghost view = { seen };
+
+    ghost invariant = { IsKept };
+}
+
+impl SiteCore {
+    /// The site `site` of the plan, before its first step: it thinks. It takes memory for all that comes, once, and fails where
+    /// that is refused; the forks and tokens are dropped then.
+    ///
+    /// `forks` are newly opened, those of the edges where the site is the lower end, and `tokens` those of the edges where it
+    /// is the higher end, each in edge order.
+    pub fn open(
+        alloc: Global,
+        plan: &Plan,
+        site: u32,
+        forks: Vec<Fork>,
+        tokens: Vec<Token>,
+    ) -> Result<SiteCore, AllocError>
+        requires site { site < site_count plan.now }
+        requires forks { forks.items ≡ fresh_forks plan.now site (edges_of plan.now site) }
+        requires tokens { tokens.items ≡ fresh_tokens plan.now site (edges_of plan.now site) }
+        ensures site { IfOk result (λ core. core.site ≡ site) }
+        ensures start { IfOk result (λ core. StandsFor plan.now (start_of plan.now site) core) }
+    {
+        let places = opening::places_of(alloc, plan, site, forks, tokens)?;
+        let forks = Vec::with_capacity(alloc, places.len())?;
+        let tokens = Vec::with_capacity(alloc, places.len())?;
+        let hands = Vec::with_capacity(alloc, places.len())?;
+        Ok(SiteCore {
+            site,
+            due: plan.jobs(site),
+            phase: Phase::Thinking,
+            ate: 0,
+            places,
+            alloc,
+            hands,
+            parts: Parts { forks, tokens },
+        })
+    }
+
+    /// The number of the site.
+    pub fn site(&self) -> u32
+        ensures { result ≡ self.now.site }
+    {
+        self.site
+    }
+
+    /// How many edges the site has. Its places are the numbers below.
+    pub fn degree(&self) -> u32
+        ensures { result ≡ length self.now.places }
+    {
+        self.places.len() as u32
+    }
+
+    /// What the site does.
+    pub fn phase(&self) -> Phase
+        ensures { result ≡ self.now.phase }
+    {
+        self.phase
+    }
+
+    /// How many meals the site began.
+    pub fn ate(&self) -> u32
+        ensures { result ≡ self.now.ate }
+    {
+        self.ate
+    }
+
+    /// Whether the site has the fork of place `i`, in hand or in its meal.
+    pub fn has_fork(&self, i: u32) -> bool
+        requires { i < length self.now.places }
+        ensures fork { result ≡ is_held (place_at self.now i).fork }
+        ensures by_lists { ForEachState self.now (λ plan state. result ≡ (fork_at plan self.now.site state i == 1)) }
+    {
+        self.places[i as usize].fork.is_held()
+    }
+
+    /// Whether the site has the token of place `i`.
+    pub fn has_token(&self, i: u32) -> bool
+        requires { i < length self.now.places }
+        ensures token { result ≡ is_some (place_at self.now i).token }
+        ensures by_lists { ForEachState self.now (λ plan state. result ≡ (token_at plan self.now.site state i == 1)) }
+    {
+        self.places[i as usize].token.is_some()
+    }
+
+    /// Whether Close was taken at place `i`.
+    pub fn has_taken_close(&self, i: u32) -> bool
+        requires { i < length self.now.places }
+        ensures close { result ≡ (place_at self.now i).close_taken }
+        ensures by_lists { ForEachState self.now (λ plan state. result ≡ has_close (traffic_at state i).taken) }
+    {
+        self.places[i as usize].close_taken
+    }
+
+    /// Whether Close is put at every place.
+    pub fn is_closed(&self) -> bool
+        ensures closed { result ≡ has_all_closed self.now }
+        ensures by_lists { ForEachState self.now (λ plan state. result ≡ has_closed state) }
+    {
+        self.are_all_closed()
+    }
+
+    /// Whether the site has done all: it thinks, all its meals are eaten, and Done and Close are put and taken everywhere.
+    pub fn is_finished(&self) -> bool
+        ensures finished { result ≡ has_all_said self.now }
+        ensures by_lists { ForEachState self.now (λ plan state. result ≡ has_finished plan self.now.site state) }
+    {
+        self.phase == Phase::Thinking && self.ate == self.due && self.are_all_over()
+    }
+
+    /// The number of the link of the world that leads to the site at place `i`.
+    pub(crate) fn link_to(&self, i: u32) -> usize
+        requires { i < length self.now.places }
+        ensures { result ≡ link_to self.now.site (place_at self.now i) }
+    {
+        let place = &self.places[i as usize];
+        2 * (place.edge as usize) + usize::from(place.ends.0 == self.site)
+    }
+
+    /// The number of the link that leads away.
+    pub(crate) fn link_from(&self, i: u32) -> usize
+        requires { i < length self.now.places }
+        ensures { result ≡ link_from self.now.site (place_at self.now i) }
+    {
+        let place = &self.places[i as usize];
+        2 * (place.edge as usize) + usize::from(place.ends.0 != self.site)
+    }
+
+    /// Where the fork of place `i` is.
+    pub(crate) fn slot(&self, i: u32) -> &ForkSlot
+        requires { i < length self.now.places }
+        ensures { result.now ≡ (place_at self.now i).fork }
+    {
+        &self.places[i as usize].fork
+    }
+
+    /// Hands out the fork of place `i`, where it is in hand.
+    pub(crate) fn take_fork(&mut self, i: u32) -> Option<Fork>
+        requires place { i < length self.old.places }
+        requires not_eating { is_eating self.old.phase ≡ false }
+        ensures fork { result ≡ hand_of (place_at self.old i).fork }
+        ensures away { self.new ≡ gave i self.old }
+    {
+        self.places[i as usize].take_fork()
+    }
+
+    // Whether Close is put at every place.
+    fn are_all_closed(&self) -> bool
+        ensures { result ≡ list_all is_closed_at self.now.places }
+    {
+        self.places.iter().all(|place| place.close_put)
+    }
+
+    // Whether everything was said at every place.
+    fn are_all_over(&self) -> bool
+        ensures { result ≡ list_all is_over_at self.now.places }
+    {
+        self.places.iter().all(|place| place.is_over())
+    }
+
+    // Whether a meal may begin as far as the places go.
+    fn are_all_ready(&self) -> bool
+        ensures { result ≡ list_all is_ready_at self.now.places }
+    {
+        self.places.iter().all(|place| place.is_ready())
+    }
+
+    /// Whether the site may grow hungry: it thinks, and has meals left.
+    pub fn may_hungry(&self) -> bool
+        ensures needs { result ≡ can_hunger self.now }
+        ensures may { TellsMay self.now step.Hungry result }
+    {
+        self.phase == Phase::Thinking && self.ate < self.due
+    }
+
+    /// Whether the request rule lets the site ask for the fork of place `i`.
+    pub fn may_ask(&self, i: u32) -> bool
+        requires { i < length self.now.places }
+        ensures needs { result ≡ can_ask self.now i }
+        ensures may { TellsMay self.now (step.Ask i) result }
+    {
+        let place = &self.places[i as usize];
+        self.phase == Phase::Hungry
+            && place.token.is_some()
+            && !place.fork.is_held()
+            && !place.close_put
+    }
+
+    /// Whether the release rule has the site send the fork of place `i`.
+    pub fn may_give(&self, i: u32) -> bool
+        requires { i < length self.now.places }
+        ensures needs { result ≡ can_give self.now i }
+        ensures may { TellsMay self.now (step.Give i) result }
+    {
+        self.phase != Phase::Eating && self.places[i as usize].may_give()
+    }
+
+    /// Whether a meal may begin: the site is hungry and has all its forks, each clean or not asked for.
+    pub fn may_begin(&self) -> bool
+        ensures needs { result ≡ can_begin self.now }
+        ensures may { TellsMay self.now step.Begin result }
+    {
+        self.phase == Phase::Hungry && self.are_all_ready()
+    }
+
+    /// Whether a meal may end: the site eats.
+    pub fn may_end(&self) -> bool
+        ensures needs { result ≡ is_eating self.now.phase }
+        ensures may { TellsMay self.now step.End result }
+    {
+        self.phase == Phase::Eating
+    }
+
+    /// Whether the site may say at place `i` that it is done.
+    pub fn may_done(&self, i: u32) -> bool
+        requires { i < length self.now.places }
+        ensures needs { result ≡ can_say_done self.now i }
+        ensures may { TellsMay self.now (step.Done i) result }
+    {
+        let place = &self.places[i as usize];
+        self.phase == Phase::Thinking && self.ate == self.due && !place.done_put && !place.close_put
+    }
+
+    /// Whether the site may close place `i` in order: both ends said that they are done.
+    pub fn may_close(&self, i: u32) -> bool
+        requires { i < length self.now.places }
+        ensures needs { result ≡ can_close self.now i }
+        ensures may { TellsMay self.now (step.Close i) result }
+    {
+        let place = &self.places[i as usize];
+        place.done_put && place.done_taken && !place.close_put
+    }
+
+    /// Grows hungry.
+    pub fn hungry(&mut self)
+        requires { can_hunger self.old ≡ true }
+        ensures hungry { self.new ≡ hungered self.old }
+        ensures step { CoreSteps step.Hungry self.old self.new }
+    {
+        self.phase = Phase::Hungry;
+    }
+
+    /// Asks for the fork of place `i`: the token goes.
+    pub fn ask(&mut self, i: u32) -> Letter
+        requires place { i < length self.old.places }
+        requires may { can_ask self.old i ≡ true }
+        ensures core { self.new ≡ asked i self.old }
+        ensures step { CorePuts i (step.Ask i) self.old self.new result }
+    {
+        let place = &mut self.places[i as usize];
+        Letter::Request(place.token.take().unwrap())
+    }
+
+    /// Sends the fork of place `i`, clean. The token stays.
+    pub fn give(&mut self, i: u32) -> Letter
+        requires place { i < length self.old.places }
+        requires may { can_give self.old i ≡ true }
+        ensures core { self.new ≡ gave i self.old }
+        ensures step { CorePuts i (step.Give i) self.old self.new result }
+    {
+        let site = self.site;
+        let place = &mut self.places[i as usize];
+        place.give(site)
+    }
+
+    /// Begins a meal with all forks, and writes it into each.
+    pub fn begin(&mut self) -> Meal
+        requires { can_begin self.old ≡ true }
+        ensures core { self.new ≡ begun self.old }
+        ensures meal { IsMealOf self.new result }
+        ensures forks { result.forks ≡ map (eaten self.new.site self.new.ate) (forks_of self.old.places) }
+        ensures step { CoreSteps step.Begin self.old self.new }
+        ensures in_hand { ForEachState self.old (λ plan state. result.forks ≡ forks_in_hand plan self.old.site (after plan self.old.site state step.Begin) (all_places state)) }
+    {
+        self.phase = Phase::Eating;
+        self.ate += 1;
+        let mut hands = mem::replace(&mut self.hands, Vec::new(self.alloc));
+        meals::lift(self.site, self.places.as_mut_slice(), &mut hands);
+        Meal::begin(self.site, self.ate, hands)
+    }
+
+    /// Ends the meal that [`SiteCore::begin`] gave. The forks are back in hand.
+    pub fn end(&mut self, meal: Meal)
+        requires eating { is_eating self.old.phase ≡ true }
+        requires meal { IsMealOf self.old meal }
+        ensures core { self.new ≡ ended meal.forks self.old }
+        ensures step { ForEachState self.old (λ plan state. meal.forks ≡ forks_in_hand plan self.old.site state (all_places state) → StandsFor plan (after plan self.old.site state step.End) self.new) }
+    {
+        let mut hands = meal.end();
+        meals::lay_down(self.places.as_mut_slice(), &mut hands);
+        self.phase = Phase::Thinking;
+        mem::replace(&mut self.hands, hands).destroy_empty();
+    }
+
+    /// Says at place `i` that the site will ask no more.
+    pub fn done(&mut self, i: u32) -> Letter
+        requires place { i < length self.old.places }
+        requires may { can_say_done self.old i ≡ true }
+        ensures core { self.new ≡ said_done i self.old }
+        ensures step { CorePuts i (step.Done i) self.old self.new result }
+    {
+        let place = &mut self.places[i as usize];
+        place.done_put = true;
+        Letter::Done
+    }
+
+    /// Closes place `i`: the site will send nothing more there.
+    pub fn close(&mut self, i: u32) -> Letter
+        requires place { i < length self.old.places }
+        requires may { can_close self.old i ≡ true }
+        ensures core { self.new ≡ closed i self.old }
+        ensures step { CorePuts i (step.Close i) self.old self.new result }
+    {
+        let place = &mut self.places[i as usize];
+        place.close_put = true;
+        Letter::Close
+    }
+
+    /// Closes place `i` out of order, to give the link up. None where it is closed, and then nothing changes.
+    pub fn break_off(&mut self, i: u32) -> Option<Letter>
+        requires place { i < length self.old.places }
+        requires not_eating { is_eating self.old.phase ≡ false }
+        ensures none { MatchOption result ((place_at self.old i).close_put ≡ true) (λ _. (place_at self.old i).close_put ≡ false) }
+        ensures core { self.new ≡ closed i self.old }
+        ensures letter { MatchOption result (self.new ≡ self.old) (λ l. l ≡ Letter.Close) }
+        ensures step { MatchOption result (ForEachState self.old (λ plan state. has_close (traffic_at state i).put ≡ true)) (CorePuts i (step.Break i) self.old self.new) }
+    {
+        let place = &mut self.places[i as usize];
+        if place.close_put {
+            return None;
+        }
+        place.close_put = true;
+        Some(Letter::Close)
+    }
+
+    /// Takes a letter that came at place `i`. A letter that is not in turn is handed back with the cause, and then nothing
+    /// changes.
+    pub fn take(&mut self, i: u32, letter: Letter) -> Result<(), (Letter, Breach)>
+        requires { i < length self.old.places }
+        ensures breach { MatchResult result (λ _. breach_at self.old.site self.old.ate (place_at self.old i) letter ≡ None) (λ e. breach_at self.old.site self.old.ate (place_at self.old i) letter ≡ Some e.1) }
+        ensures core { MatchResult result (λ _. self.new ≡ took i letter self.old) (λ e. (self.new ≡ self.old) × (e.0 ≡ letter)) }
+        ensures taken { MatchResult result (λ _. ForEachState self.old (λ plan state. step.may plan self.old.site state (step.Take i letter) ≡ true)) (λ e. TellsBreach self.old i letter (Some e.1)) }
+        ensures step { MatchResult result (λ _. CoreSteps (step.Take i letter) self.old self.new) (λ _. Unit {0}) }
+    {
+        let (site, ate) = (self.site, self.ate);
+        let place = &mut self.places[i as usize];
+        if let Some(breach) = place.breach_of(site, ate, &letter) {
+            return Err((letter, breach));
+        }
+        place.note(letter);
+        Ok(())
+    }
+
+    /// The forks and tokens that the site holds, in edge order.
+    pub fn into_parts(self) -> Parts
+        requires { is_eating self.phase ≡ false }
+        ensures forks { result.forks.items ≡ forks_of self.places }
+        ensures tokens { result.tokens.items ≡ tokens_of self.places }
+        ensures forks_by_lists { AreForksInHand self result.forks.items }
+        ensures tokens_by_lists { AreTokensInHand self result.tokens.items }
+    {
+        let SiteCore {
+            site: _,
+            due: _,
+            phase: _,
+            ate: _,
+            mut places,
+            alloc: _,
+            hands,
+            mut parts,
+        } = self;
+        hands.destroy_empty();
+        meals::collect(places.as_mut_slice(), &mut parts);
+        parts
+    }
+}

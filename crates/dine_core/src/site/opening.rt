@@ -1,0 +1,103 @@
+// The places of a site before its first step.
+ghost use Rattle.std.specs.Prelude.{◌≡◌, ℕ, ◌<◌, ◌∷◌, List, IfOk, map};
+ghost use Rattle.dine_plan.specs.Plan.{site_count, edge_count, edges_of};
+ghost use Rattle.dine_core.specs.Core.{fresh_forks, fresh_tokens, kept_of};
+ghost use Rattle.dine_rules.specs.Local.{no_traffic};
+ghost use Rattle.dine_rules.specs.declared.phase.Phase.TheVariants.{Thinking};
+
+use super::places::Place;
+use dine_plan::Plan;
+use dine_token::{Fork, Token};
+use std::alloc::{AllocError, Global};
+use std::collections::VecDeque;
+
+/// The forks that the site `site` has at the start, newly opened: those of the edges where it is the lower end, in edge order.
+/// It takes memory for them and their logs, and fails where that is refused.
+pub fn fresh_forks(alloc: Global, plan: &Plan, site: u32) -> Result<Vec<Fork>, AllocError>
+    requires { site < site_count plan.now }
+    ensures { IfOk result (λ forks. forks.items ≡ fresh_forks plan.now site (edges_of plan.now site)) }
+{
+    let mut forks = Vec::new(alloc);
+    for edge in plan.edges_of(site) {
+        let (lower, higher) = plan.ends(*edge);
+        if lower == site {
+            let fork = Fork::open(
+                alloc,
+                *edge,
+                lower,
+                higher,
+                plan.jobs(lower),
+                plan.jobs(higher),
+            )?;
+            forks.push(fork)?;
+        }
+    }
+    Ok(forks)
+}
+
+/// The tokens that the site `site` has at the start: those of the edges where it is the higher end, in edge order. It takes
+/// memory for the list, and fails where that is refused.
+pub fn fresh_tokens(alloc: Global, plan: &Plan, site: u32) -> Result<Vec<Token>, AllocError>
+    requires { site < site_count plan.now }
+    ensures { IfOk result (λ tokens. tokens.items ≡ fresh_tokens plan.now site (edges_of plan.now site)) }
+{
+    let mut tokens = Vec::new(alloc);
+    for edge in plan.edges_of(site) {
+        let (_, higher) = plan.ends(*edge);
+        if higher == site {
+            tokens.push(Token::open(*edge))?;
+        }
+    }
+    Ok(tokens)
+}
+
+/// The places of the site, with its forks and tokens.
+pub(crate) fn places_of(
+    alloc: Global,
+    plan: &Plan,
+    site: u32,
+    forks: Vec<Fork>,
+    tokens: Vec<Token>,
+) -> Result<Vec<Place>, AllocError>
+    requires site { site < site_count plan.now }
+    requires forks { forks.items ≡ fresh_forks plan.now site (edges_of plan.now site) }
+    requires tokens { tokens.items ≡ fresh_tokens plan.now site (edges_of plan.now site) }
+    ensures { IfOk result (λ places. places.items ≡ map (λ edge. kept_of plan.now site Thinking 0 edge no_traffic) (edges_of plan.now site)) }
+{
+    let edges = plan.edges_of(site);
+    let mut places = Vec::with_capacity(alloc, edges.len())?;
+    let mut forks = VecDeque::from_vec(forks);
+    let mut tokens = VecDeque::from_vec(tokens);
+    for edge in edges {
+        places.push_reserved(next_place(plan, site, *edge, &mut forks, &mut tokens));
+    }
+    Ok(places)
+}
+
+// The place of an edge, with the fork or the token that comes next.
+fn next_place(
+    plan: &Plan,
+    site: u32,
+    edge: u32,
+    forks: &mut VecDeque<Fork>,
+    tokens: &mut VecDeque<Token>,
+) -> Place
+    requires { edge < edge_count plan.now }
+    ensures place { (edges : List ℕ) → forks.old.items ≡ fresh_forks plan.now site (edge ∷ edges) → tokens.old.items ≡ fresh_tokens plan.now site (edge ∷ edges) → result ≡ kept_of plan.now site Thinking 0 edge no_traffic }
+    ensures forks { (edges : List ℕ) → forks.old.items ≡ fresh_forks plan.now site (edge ∷ edges) → forks.new.items ≡ fresh_forks plan.now site edges }
+    ensures tokens { (edges : List ℕ) → tokens.old.items ≡ fresh_tokens plan.now site (edge ∷ edges) → tokens.new.items ≡ fresh_tokens plan.now site edges }
+{
+    let (lower, higher) = plan.ends(edge);
+    let due = (plan.jobs(lower), plan.jobs(higher));
+    let fork = if lower == site {
+        forks.pop_front()
+    } else {
+        None
+    };
+    let token = if higher == site {
+        tokens.pop_front()
+    } else {
+        None
+    };
+    Place::new(edge, (lower, higher), due, fork, token)
+}

@@ -1,0 +1,310 @@
+ghost use Rattle.std.specs.Prelude.{◌≡◌, ◌⊎◌, ◌+◌, ◌<◌, ◌++◌, ◌==◌, not, true, Some, is_some, option_to_list, vec_len, vec_capacity};
+ghost use Rattle.dine_token.specs.Fork.{SeenFork, IsEnd, MayMove, moved};
+
+use super::Parts;
+use dine_rules::{Breach, Letter};
+use dine_token::{Fork, Held, Token};
+use std::mem;
+
+/// Where the fork of a place is, for the site.
+#[derive(Drop)]
+pub(crate) enum ForkSlot {
+    /// At the other end, or on its way.
+    Away,
+    /// In hand.
+    Here(Fork),
+    /// In the meal of the site, with so many meals of the other end.
+    InMeal(u32),
+}
+
+/// What a site keeps at a place: the edge with its ends, the lower first, and their due meals; its fork and its token; and
+/// which of the last letters were put and taken.
+#[derive(Drop)]
+pub(crate) struct Place {
+    pub(crate) edge: u32,
+    pub(crate) ends: (u32, u32),
+    pub(crate) due: (u32, u32),
+    pub(crate) fork: ForkSlot,
+    pub(crate) token: Option<Token>,
+    pub(crate) done_put: bool,
+    pub(crate) done_taken: bool,
+    pub(crate) close_put: bool,
+    pub(crate) close_taken: bool,
+}
+
+impl ForkSlot {
+    ghost use Rattle.dine_core.specs.Places.{is_held, is_dirty_in_hand, meals_in, EndsOf};
+
+    /// Whether the site has the fork, in hand or in its meal.
+    pub(crate) fn is_held(&self) -> bool
+        ensures { result ≡ is_held self.now }
+    {
+        match self {
+            ForkSlot::Away => false,
+            ForkSlot::Here(_) | ForkSlot::InMeal(_) => true,
+        }
+    }
+
+    /// Whether the fork is in hand and dirty.
+    pub(crate) fn is_dirty_in_hand(&self) -> bool
+        ensures { result ≡ is_dirty_in_hand self.now }
+    {
+        match self {
+            ForkSlot::Here(fork) => fork.is_dirty(),
+            ForkSlot::Away | ForkSlot::InMeal(_) => false,
+        }
+    }
+
+    /// How many meals of this end the fork has: the other end than the site, for a fork in the meal.
+    pub(crate) fn meals_of(&self, end: u32) -> u32
+        requires { EndsOf self.now end }
+        ensures { result ≡ meals_in end self.now }
+    {
+        match self {
+            ForkSlot::Away => 0,
+            ForkSlot::Here(fork) => fork.meals_of(end),
+            ForkSlot::InMeal(meals) => *meals,
+        }
+    }
+}
+
+impl Place {
+    ghost use Rattle.dine_core.specs.Forks.{hand_of};
+    ghost use Rattle.dine_core.specs.Places.{neighbour_of, due_of_neighbour, is_held, is_dirty_in_hand, meals_in, has_all, is_ready_at, can_give_at, is_own_fork, breach_of_request, breach_of_fork, breach_of_done, breach_of_close, breach_at, noted, lifted, opened, is_over_at, fork_in_hand, EndsOf, OnHere, with_fork};
+
+    /// The site at the other end.
+    pub(crate) fn neighbour(&self, site: u32) -> u32
+        ensures { result ≡ neighbour_of site self.now }
+    {
+        let (lower, higher) = self.ends;
+        if lower == site { higher } else { lower }
+    }
+
+    /// How many meals are due to the other end.
+    pub(crate) fn due_of_neighbour(&self, site: u32) -> u32
+        ensures { result ≡ due_of_neighbour site self.now }
+    {
+        let (lower, _) = self.ends;
+        let (lower_due, higher_due) = self.due;
+        if self.neighbour(site) == lower {
+            lower_due
+        } else {
+            higher_due
+        }
+    }
+
+    /// How many meals of the other end the fork has.
+    pub(crate) fn neighbour_meals(&self, site: u32) -> u32
+        requires { EndsOf self.now.fork (neighbour_of site self.now) }
+        ensures { result ≡ meals_in (neighbour_of site self.now) self.now.fork }
+    {
+        self.fork.meals_of(self.neighbour(site))
+    }
+
+    /// Whether a meal may begin as far as this place goes: the fork is here, and clean or not asked for.
+    pub(crate) fn is_ready(&self) -> bool
+        ensures { result ≡ is_ready_at self.now }
+    {
+        self.fork.is_held() && (!self.fork.is_dirty_in_hand() || !self.token.is_some())
+    }
+
+    /// Whether the fork is due to be sent, by the release rule.
+    pub(crate) fn may_give(&self) -> bool
+        ensures { result ≡ can_give_at self.now }
+    {
+        self.fork.is_dirty_in_hand() && self.token.is_some() && !self.close_put
+    }
+
+    /// Why the letter is not in turn here, for a site that ate so many meals. The first cause.
+    pub(crate) fn breach_of(&self, site: u32, ate: u32, letter: &Letter) -> Option<Breach>
+        requires ends { EndsOf self.now.fork (neighbour_of site self.now) }
+        requires site { (site ≡ self.now.ends.0) ⊎ (site ≡ self.now.ends.1) }
+        ensures { result ≡ breach_at site ate self.now letter.now }
+    {
+        if self.close_taken {
+            return Some(Breach::AfterClose);
+        }
+        match letter {
+            Letter::Fork(fork) => self.breach_of_fork(site, ate, fork),
+            Letter::Request(token) => self.breach_of_request(site, token),
+            Letter::Done => self.breach_of_done(site),
+            Letter::Close => self.breach_of_close(),
+        }
+    }
+
+    fn breach_of_request(&self, site: u32, token: &Token) -> Option<Breach>
+        requires ends { EndsOf self.now.fork (neighbour_of site self.now) }
+        ensures { result ≡ breach_of_request site self.now token.now }
+    {
+        let is_out_of_turn = self.token.is_some() || !self.fork.is_held() || self.done_taken;
+        if is_out_of_turn
+            || token.edge() != self.edge
+            || self.due_of_neighbour(site) <= self.neighbour_meals(site)
+        {
+            return Some(Breach::RequestOutOfTurn);
+        }
+        None
+    }
+
+    fn breach_of_fork(&self, site: u32, ate: u32, fork: &Fork) -> Option<Breach>
+        requires site { (site ≡ self.now.ends.0) ⊎ (site ≡ self.now.ends.1) }
+        ensures { result ≡ breach_of_fork site ate self.now fork.now }
+    {
+        if self.fork.is_held() || self.token.is_some() {
+            return Some(Breach::ForkOutOfTurn);
+        }
+        if !self.is_own_fork(fork)
+            || fork.is_dirty()
+            || fork.at() != site
+            || fork.meals_of(site) != ate
+            || (self.done_taken
+                && fork.meals_of(self.neighbour(site)) != self.due_of_neighbour(site))
+        {
+            return Some(Breach::StrangeFork);
+        }
+        None
+    }
+
+    // Whether the fork is that of the edge, with its ends and their due meals.
+    fn is_own_fork(&self, fork: &Fork) -> bool
+        ensures { result ≡ is_own_fork self.now fork.now }
+    {
+        let (lower, higher) = self.ends;
+        let (lower_due, higher_due) = self.due;
+        let ends = fork.ends();
+        fork.edge() == self.edge
+            && ends.0 == lower
+            && ends.1 == higher
+            && fork.due_of(lower) == lower_due
+            && fork.due_of(higher) == higher_due
+    }
+
+    fn breach_of_done(&self, site: u32) -> Option<Breach>
+        requires ends { EndsOf self.now.fork (neighbour_of site self.now) }
+        ensures { result ≡ breach_of_done site self.now }
+    {
+        let is_short = self.fork.is_held()
+            && self.neighbour_meals(site) != self.due_of_neighbour(site);
+        if self.done_taken || is_short {
+            return Some(Breach::DoneOutOfTurn);
+        }
+        None
+    }
+
+    fn breach_of_close(&self) -> Option<Breach>
+        ensures { result ≡ breach_of_close self.now }
+    {
+        if !self.done_taken || !self.done_put {
+            return Some(Breach::ClosedEarly);
+        }
+        None
+    }
+
+    /// Notes a letter that was taken.
+    pub(crate) fn note(&mut self, letter: Letter)
+        ensures { self.new ≡ noted letter self.old }
+    {
+        match letter {
+            Letter::Fork(fork) => self.fork = ForkSlot::Here(fork),
+            Letter::Request(token) => self.token = Some(token),
+            Letter::Done => self.done_taken = true,
+            Letter::Close => self.close_taken = true,
+        }
+    }
+
+    /// Sends the fork to the other end.
+    pub(crate) fn give(&mut self, site: u32) -> Letter
+        requires { OnHere (MayMove (neighbour_of site self.old)) self.old.fork }
+        ensures letter { OnHere (λ fork. result ≡ Letter.Fork (moved (neighbour_of site self.old) fork)) self.old.fork }
+        ensures away { self.new ≡ with_fork ForkSlot.Away self.old }
+    {
+        let to = self.neighbour(site);
+        match mem::replace(&mut self.fork, ForkSlot::Away) {
+            ForkSlot::Here(fork) => Letter::Fork(Held::take(fork).give(to)),
+            _ => unreachable!(),
+        }
+    }
+
+    /// A place before the first step of its site.
+    pub(crate) fn new(
+        edge: u32,
+        ends: (u32, u32),
+        due: (u32, u32),
+        fork: Option<Fork>,
+        token: Option<Token>,
+    ) -> Place
+        ensures { result ≡ opened edge ends due fork token }
+    {
+        let fork = match fork {
+            Some(fork) => ForkSlot::Here(fork),
+            None => ForkSlot::Away,
+        };
+        Place {
+            edge,
+            ends,
+            due,
+            fork,
+            token,
+            done_put: false,
+            done_taken: false,
+            close_put: false,
+            close_taken: false,
+        }
+    }
+
+    /// Takes the fork in hand for a meal, and keeps how many meals of the other end it has.
+    pub(crate) fn lift(&mut self, site: u32) -> Held
+        requires { OnHere (λ fork. IsEnd fork (neighbour_of site self.old)) self.old.fork }
+        ensures held { OnHere (λ fork. result ≡ fork) self.old.fork }
+        ensures lifted { self.new ≡ lifted site self.old }
+    {
+        let meals = self.neighbour_meals(site);
+        match mem::replace(&mut self.fork, ForkSlot::InMeal(meals)) {
+            ForkSlot::Here(fork) => Held::take(fork),
+            _ => unreachable!(),
+        }
+    }
+
+    /// Lays a fork down here.
+    pub(crate) fn lay(&mut self, held: Held)
+        ensures { self.new ≡ with_fork (ForkSlot.Here held) self.old }
+    {
+        self.fork = ForkSlot::Here(held.keep());
+    }
+
+    /// Hands out the fork, where it is in hand.
+    pub(crate) fn take_fork(&mut self) -> Option<Fork>
+        ensures fork { result ≡ hand_of self.old.fork }
+        ensures away { self.new ≡ with_fork ForkSlot.Away self.old }
+    {
+        match mem::replace(&mut self.fork, ForkSlot::Away) {
+            ForkSlot::Here(fork) => Some(fork),
+            ForkSlot::Away | ForkSlot::InMeal(_) => None,
+        }
+    }
+
+    /// Hands out the fork, where it is in hand, and the token.
+    pub(crate) fn empty(&mut self, parts: &mut Parts)
+        requires room_for_forks { vec_len parts.old.forks < vec_capacity parts.old.forks }
+        requires room_for_tokens { vec_len parts.old.tokens < vec_capacity parts.old.tokens }
+        ensures forks { parts.new.forks.items ≡ parts.old.forks.items ++ fork_in_hand self.old.fork }
+        ensures tokens { parts.new.tokens.items ≡ parts.old.tokens.items ++ option_to_list self.old.token }
+        ensures fork_room { vec_capacity parts.new.forks ≡ vec_capacity parts.old.forks }
+        ensures token_room { vec_capacity parts.new.tokens ≡ vec_capacity parts.old.tokens }
+    {
+        match mem::replace(&mut self.fork, ForkSlot::Away) {
+            ForkSlot::Here(fork) => parts.forks.push_reserved(fork),
+            ForkSlot::Away | ForkSlot::InMeal(_) => {}
+        }
+        if let Some(token) = self.token.take() {
+            parts.tokens.push_reserved(token);
+        }
+    }
+
+    /// Whether all was said at this place: Done and Close are put and taken.
+    pub(crate) fn is_over(&self) -> bool
+        ensures { result ≡ is_over_at self.now }
+    {
+        self.done_put && self.done_taken && self.close_put && self.close_taken
+    }
+}

@@ -1,0 +1,142 @@
+// What a site of the world may do, and does.
+ghost use Rattle.std.specs.Prelude.{◌≡◌, ◌<◌, ◌+◌, IfSome, List, MatchOption, None, length, is_some, option_and_then, option_map, slice_get, true};
+ghost use Rattle.dine_rules.specs.declared.letters.Letter.{Letter};
+ghost use Rattle.dine_rules.specs.Local.{is_eating};
+ghost use Rattle.dine_core.specs.Forks.{woken};
+ghost use Rattle.dine_core.specs.LinkNumbers.{link_to};
+ghost use Rattle.dine_rules.specs.Steps.{Begin, End, Take, after};
+ghost use Rattle.dine_core.specs.Core.{StandsFor, forks_in_hand};
+ghost use Rattle.dine_core.specs.Places.{begun, can_begin, ended, place_at, took};
+ghost use Rattle.dine_core.specs.WorldSites.{SiteSteps, HasOwnMeal, HasRoomFor, IsAwake, TakesAllowed, can_do, meets_no_breach, next_in, without_next};
+ghost use Rattle.dine_core.specs.Standing.{ForEachState, CoreSteps, all_places};
+
+use super::queue::Queue;
+use super::sites::WorldSite;
+use crate::site::SiteCore;
+use dine_rules::{EventKind, Letter};
+use std::mem;
+
+/// Does that, where it may be done.
+pub(crate) fn act(world_site: &mut WorldSite, links: &mut [Queue], kind: EventKind)
+    requires can { can_do links.old world_site.old.core kind ≡ true }
+    requires allowed { TakesAllowed links.old world_site.old.core kind }
+    requires meal { HasOwnMeal world_site.old }
+    requires room { HasRoomFor links.old world_site.old.core kind }
+    ensures count { length links.new ≡ length links.old }
+    ensures does { SiteSteps kind world_site.old world_site.new links.old links.new }
+{
+    match kind {
+        EventKind::Take(i) => take(world_site, links, i),
+        EventKind::Give(i) => {
+            let link = world_site.core.link_from(i);
+            let letter = world_site.core.give(i);
+            links[link].put(letter);
+        }
+        EventKind::End => end(world_site),
+        EventKind::Begin => begin(world_site),
+        EventKind::Hungry => world_site.core.hungry(),
+        EventKind::Ask(i) => {
+            let link = world_site.core.link_from(i);
+            let letter = world_site.core.ask(i);
+            links[link].put(letter);
+        }
+        EventKind::Done(i) => {
+            let link = world_site.core.link_from(i);
+            let letter = world_site.core.done(i);
+            links[link].put(letter);
+        }
+        EventKind::Close(i) => {
+            let link = world_site.core.link_from(i);
+            let letter = world_site.core.close(i);
+            links[link].put(letter);
+        }
+    }
+}
+
+// Takes the next letter at place i, which is in turn.
+fn take(world_site: &mut WorldSite, links: &mut [Queue], i: u32)
+    requires within { i < length world_site.old.core.places }
+    requires allowed { meets_no_breach world_site.old.core i (next_in links.old world_site.old.core i) ≡ true }
+    ensures meal { world_site.new.meal ≡ world_site.old.meal }
+    ensures links { links.new ≡ without_next links.old (link_to world_site.old.core.site (place_at world_site.old.core i)) }
+    ensures core { MatchOption (next_in links.old world_site.old.core i) ⊥ (λ letter. (world_site.new.core ≡ took i letter world_site.old.core) × CoreSteps (Take i letter) world_site.old.core world_site.new.core) }
+{
+    let link = world_site.core.link_to(i);
+    let letter = links[link].take().unwrap();
+    if world_site.core.take(i, letter).is_err() {
+        unreachable!();
+    }
+}
+
+// Begins a meal, and keeps it.
+fn begin(world_site: &mut WorldSite)
+    requires can { can_begin world_site.old.core ≡ true }
+    requires none { world_site.old.meal ≡ None }
+    ensures core { world_site.new.core ≡ begun world_site.old.core }
+    ensures step { CoreSteps Begin world_site.old.core world_site.new.core }
+    ensures meal { MatchOption world_site.new.meal ⊥ (λ meal. (meal.site ≡ world_site.old.core.site) × (meal.k ≡ world_site.old.core.ate + 1)
+        × ForEachState world_site.old.core (λ plan state. meal.forks ≡ forks_in_hand plan world_site.old.core.site (after plan world_site.old.core.site state Begin) (all_places state))) }
+{
+    let meal = world_site.core.begin();
+    if let Some(_) = mem::replace(&mut world_site.meal, Some(meal)) {
+        unreachable!();
+    }
+}
+
+/// Ends the meal, where the site eats.
+pub(crate) fn wake(world_site: &mut WorldSite)
+    requires { HasOwnMeal world_site.old }
+    ensures woken { world_site.new ≡ woken world_site.old }
+    ensures awake { IsAwake world_site.new }
+{
+    match world_site.meal.take() {
+        Some(meal) => world_site.core.end(meal),
+        None => {}
+    }
+}
+
+// Ends the meal.
+fn end(world_site: &mut WorldSite)
+    requires eating { is_eating world_site.old.core.phase ≡ true }
+    requires meal { HasOwnMeal world_site.old }
+    ensures none { world_site.new.meal ≡ None }
+    ensures core { IfSome world_site.old.meal (λ meal. world_site.new.core ≡ ended meal.forks world_site.old.core) }
+    ensures step { IfSome world_site.old.meal (λ meal. ForEachState world_site.old.core (λ plan state. meal.forks ≡ forks_in_hand plan world_site.old.core.site state (all_places state)
+        → StandsFor plan (after plan world_site.old.core.site state End) world_site.new.core)) }
+{
+    match world_site.meal.take() {
+        Some(meal) => world_site.core.end(meal),
+        None => unreachable!(),
+    }
+}
+
+/// Whether the site may do that now, with these letters in the links.
+pub(crate) fn can_do(links: &[Queue], core: &SiteCore, kind: EventKind) -> bool
+    ensures { result ≡ can_do links.now core.now kind }
+{
+    match kind {
+        EventKind::Take(i) => i < core.degree() && can_take(links, core, i),
+        EventKind::Give(i) => i < core.degree() && core.may_give(i),
+        EventKind::End => core.may_end(),
+        EventKind::Begin => core.may_begin(),
+        EventKind::Hungry => core.may_hungry(),
+        EventKind::Ask(i) => i < core.degree() && core.may_ask(i),
+        EventKind::Done(i) => i < core.degree() && core.may_done(i),
+        EventKind::Close(i) => i < core.degree() && core.may_close(i),
+    }
+}
+
+// Whether a letter lies in the link to the site at place i.
+fn can_take(links: &[Queue], core: &SiteCore, i: u32) -> bool
+    requires { i < length core.now.places }
+    ensures { result ≡ is_some (next_in links.now core.now i) }
+{
+    next_letter(links, core.link_to(i)).is_some()
+}
+
+// The next letter of a link.
+fn next_letter(links: &[Queue], link: usize) -> Option<&Letter>
+    ensures { option_map (λ letter. letter.now) result ≡ option_and_then (λ (letters : List Letter). slice_get letters 0) (slice_get links.now link) }
+{
+    links.get(link)?.next()
+}
