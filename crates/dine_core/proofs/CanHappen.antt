@@ -51,7 +51,7 @@ drop_false true b = refl
 drop_false false b = refl
 
 -- the test of a place, where its number is small enough
-guarded : (i n m : ℕ) (a b : Bool) → n ≡ m → (i < n → a ≡ b) → (nat_lt i n && a) ≡ (nat_lt i m && b)
+pub guarded : (i n m : ℕ) (a b : Bool) → n ≡ m → (i < n → a ≡ b) → (nat_lt i n && a) ≡ (nat_lt i m && b)
 guarded i n m a b same h = and_along (nat_lt i n) a b (λ lt. h (ltb-true i n lt)) ∙ ap (λ (k : ℕ). nat_lt i k && b) same
 
 -- a place's test for a Give
@@ -93,7 +93,7 @@ no_breach_test false (Some b) none allow = refl
 module _ (plan : SeenPlan) (state : LocalState) (core : SeenCore) (stands : StandsFor plan state core) (keeps : KeepsStreams plan core.site state) where
   -- each test of a place, by the core and by the state
   module _ (i : ℕ) (within : i < length core.places) where
-    give_is : can_give core i ≡ (not (is_eating state.phase) && (fork_at plan core.site state i == 1 && token_at plan core.site state i == 1) && (is_dirty (hand_at core.site state i) && is_open plan core.site state i))
+    pub give_is : can_give core i ≡ (not (is_eating state.phase) && (fork_at plan core.site state i == 1 && token_at plan core.site state i == 1) && (is_dirty (hand_at core.site state i) && is_open plan core.site state i))
     give_is = ap (λ (phase : Phase). not (is_eating phase) && can_give_at (place_at core i)) stands.phase
         ∙ ap (λ (p : Place). not (is_eating state.phase) && can_give_at p) (place_is plan state core stands i within)
         ∙ give_test state.phase (fork_at plan core.site state i == 1) (token_at plan core.site state i == 1) (meals_of (neighbour_at plan core.site i) (hand_at core.site state i)) (edge_at plan core.site i)
@@ -111,19 +111,19 @@ module _ (plan : SeenPlan) (state : LocalState) (core : SeenCore) (stands : Stan
     open_is : not (place_at core i).close_put ≡ is_open plan core.site state i
     open_is = ap (λ (p : Place). not p.close_put) (place_is plan state core stands i within)
 
-    ask_is : can_ask core i ≡ (is_hungry state.phase && (token_at plan core.site state i == 1 && fork_at plan core.site state i == 0) && is_open plan core.site state i)
+    pub ask_is : can_ask core i ≡ (is_hungry state.phase && (token_at plan core.site state i == 1 && fork_at plan core.site state i == 0) && is_open plan core.site state i)
     ask_is = ap (λ (phase : Phase). is_hungry phase && (is_some (place_at core i).token && not (is_held (place_at core i).fork) && not (place_at core i).close_put)) stands.phase
         ∙ ap (λ (b : Bool). is_hungry state.phase && (b && not (is_held (place_at core i).fork) && not (place_at core i).close_put)) token_is
         ∙ ap (λ (b : Bool). is_hungry state.phase && (token_at plan core.site state i == 1 && b && not (place_at core i).close_put)) held_is
         ∙ ap (λ (b : Bool). is_hungry state.phase && (token_at plan core.site state i == 1 && fork_at plan core.site state i == 0 && b)) open_is
         ∙ and_regroup (is_hungry state.phase) (token_at plan core.site state i == 1 && fork_at plan core.site state i == 0) (is_open plan core.site state i)
 
-    done_is : can_say_done core i ≡ (is_thinking state.phase && state.ate == job_count plan core.site && (not (has_done (traffic_at state i).put) && is_open plan core.site state i))
+    pub done_is : can_say_done core i ≡ (is_thinking state.phase && state.ate == job_count plan core.site && (not (has_done (traffic_at state i).put) && is_open plan core.site state i))
     done_is = ap (λ (phase : Phase). is_thinking phase && core.ate == core.due && (not (place_at core i).done_put && not (place_at core i).close_put)) stands.phase
         ∙ ap₂ (λ (a due : ℕ). is_thinking state.phase && a == due && (not (place_at core i).done_put && not (place_at core i).close_put)) stands.ate stands.due
         ∙ ap (λ (p : Place). is_thinking state.phase && state.ate == job_count plan core.site && (not p.done_put && not p.close_put)) (place_is plan state core stands i within)
 
-    close_is : can_close core i ≡ (has_done (traffic_at state i).put && has_done (traffic_at state i).taken && is_open plan core.site state i)
+    pub close_is : can_close core i ≡ (has_done (traffic_at state i).put && has_done (traffic_at state i).taken && is_open plan core.site state i)
     close_is = ap (λ (p : Place). p.done_put && p.done_taken && not p.close_put) (place_is plan state core stands i within)
 
     -- a letter is in turn where it is allowed
@@ -132,7 +132,7 @@ module _ (plan : SeenPlan) (state : LocalState) (core : SeenCore) (stands : Stan
         ∙ no_breach_test (is_allowed plan core.site state i l) (first_breach plan core.site state i l) (no_breach plan core.site state i l) (allowed plan core.site state i l)
 
   -- the site may grow hungry
-  hunger_is : can_hunger core ≡ (is_thinking state.phase && nat_lt state.ate (job_count plan core.site))
+  pub hunger_is : can_hunger core ≡ (is_thinking state.phase && nat_lt state.ate (job_count plan core.site))
   hunger_is = ap (λ (phase : Phase). is_thinking phase && nat_lt core.ate core.due) stands.phase
       ∙ ap₂ (λ (a due : ℕ). is_thinking state.phase && nat_lt a due) stands.ate stands.due
 

@@ -20,3 +20,4 @@ pub mod ForkPlaces
 pub mod EnabledEvents
 pub mod ForksOut
 pub mod Woken
+pub mod NextEvents

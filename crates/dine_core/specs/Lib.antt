@@ -21,3 +21,4 @@ pub mod Forks
 pub mod EventSearch
 pub mod Worlds
 pub mod WorldFields
+pub mod NextEvent

@@ -16,6 +16,7 @@ ghost use Rattle.dine_core.specs.LinkNumbers.{link_to, link_from};
 ghost use Rattle.dine_core.specs.Standing.{ForEachState, TellsMay, CoreSteps, CorePuts, TellsBreach, AreForksInHand, AreTokensInHand, all_places, has_finished, has_closed};
 
 mod meals;
+mod next;
 mod opening;
 pub(crate) mod places;
 #[cfg(test)]

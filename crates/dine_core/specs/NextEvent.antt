@@ -1,0 +1,46 @@
+-- The events that a site does by itself, without a letter to take.
+use Rattle.std.specs.Prelude.{ℕ, ◌&&◌, nat_lt, Bool, false, List, [], ◌∷◌, ◌++◌, length, map, find, Option, None, option_map}
+use Rattle.std.specs.List.{range_with_len}
+use Rattle.std.specs.Option.{option_map_or, option_or}
+use Rattle.dine_plan.specs.Plan.{SeenPlan}
+use Rattle.dine_rules.specs.declared.events.EventKind.{EventKind}
+use Rattle.dine_rules.specs.declared.events.EventKind.TheVariants as event
+use Rattle.dine_rules.specs.Local.{LocalState, is_eating}
+use Rattle.dine_rules.specs.Steps.{may, step_by}
+use Rattle.dine_core.specs.Core.{SeenCore}
+use Rattle.dine_core.specs.Places.{can_give, can_ask, can_hunger, can_begin, can_say_done, can_close}
+use Rattle.dine_core.specs.Standing.{all_places}
+
+-- all events but Take that a site of these places can have, in the fixed order
+abbrev pub own_kinds : List ℕ → List EventKind
+own_kinds places = map event.Give places ++ event.End ∷ event.Begin ∷ event.Hungry ∷ []
+    ++ map event.Ask places ++ map event.Done places ++ map event.Close places
+
+-- the rules allow the event, for which no letter lies anywhere
+abbrev pub may_by_itself : SeenPlan → ℕ → LocalState → EventKind → Bool
+may_by_itself plan s state kind = option_map_or (may plan s state) (step_by (λ i. None) kind) false
+
+-- the first event that a site may do by itself
+abbrev pub next_event : SeenPlan → ℕ → LocalState → Option EventKind
+next_event plan s state = find (may_by_itself plan s state) (own_kinds (all_places state))
+
+-- the same, by what a core keeps
+abbrev pub can_by_itself : SeenCore → EventKind → Bool
+can_by_itself core (event.Take i) = false
+can_by_itself core (event.Give i) = nat_lt i (length core.places) && can_give core i
+can_by_itself core event.End = is_eating core.phase
+can_by_itself core event.Begin = can_begin core
+can_by_itself core event.Hungry = can_hunger core
+can_by_itself core (event.Ask i) = nat_lt i (length core.places) && can_ask core i
+can_by_itself core (event.Done i) = nat_lt i (length core.places) && can_say_done core i
+can_by_itself core (event.Close i) = nat_lt i (length core.places) && can_close core i
+
+abbrev pub next_of : SeenCore → Option EventKind
+next_of core = find (can_by_itself core) (own_kinds (range_with_len 0 (length core.places)))
+
+-- the first Ask, Done or Close by what a core keeps
+abbrev pub next_word_of : SeenCore → Option EventKind
+next_word_of core =
+    let places = range_with_len 0 (length core.places) in
+    option_or (option_or (option_map event.Ask (find (can_ask core) places)) (option_map event.Done (find (can_say_done core) places)))
+    (option_map event.Close (find (can_close core) places))
