@@ -126,8 +126,7 @@ module _ (spot : Spot) (phase : Phase) (ate : ℕ) (put taken : List Letter) whe
         held = Held-along spot phase ate 1 0 (requests_in put) _ _ _ _ _ _ _ (omega (arith, b.counts.forks_counted)) (sym no_token) refl refl refl
             (Held-take_fork spot phase ate (requests_in put) (last_log_or [] put) (last_log_or [] taken) fork.log
             (Held-along spot phase ate _ _ (requests_in put) _ _ _ _ _ _ _ no_fork no_token refl refl refl b.held) lawful here clean all);
-        chained = Chained-take spot.site spot.other spot.lower (logs_of put) (logs_of taken) fork.log b.chained
-            (λ low. omega (arith, cond-true {A = ℕ} spot.lower 1 0 low, b.puts, b.takes, b.counts.forks_counted)) (λ high. omega (arith, cond-false {A = ℕ} spot.lower 1 0 high, b.puts, b.takes, b.counts.forks_counted));
+        chained = Chained-take spot.site spot.other spot.lower (logs_of put) (logs_of taken) fork.log b.chained;
         last_is = IsLastTaken-push (logs_of taken) fork.log clean;
         puts = b.puts;
         takes = omega (arith, length_push (logs_of taken) fork.log, b.takes);

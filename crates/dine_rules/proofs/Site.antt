@@ -167,7 +167,7 @@ module _ (plan : SeenPlan) (s : ℕ) (state : LocalState) (i : ℕ) where
             asks_once_more = asks_once _ _ (has_asked_since_meal plan s state i) k.requests_within;
             requests_within = asks_no_more _ _ (fork_at plan s state i) (token_at plan s state i) (is_dirty (hand_at s state i)) k.requests_within;
             last_within = k.last_within;
-            all_sent = k.all_sent;
+            all_sent = k.put_chained.last;
           };
           chained = record { first = k.put_chained.first; next = k.put_chained.next; answers = k.put_chained.answers };
           last_is = last_taken (lo_of plan (edge_at plan s i)) s (traffic_at state i).taken k.forks_come_here;
@@ -190,7 +190,7 @@ module _ (plan : SeenPlan) (s : ℕ) (state : LocalState) (i : ℕ) where
       let is_spot = spot_is plan s i is_placed in
       record {
         put_lawful = record { alternating = k.put_alternating; done_last = k.done_last; close_last = k.close_last };
-        put_chained = record { first = k.balanced.chained.first; next = k.balanced.chained.next; answers = k.balanced.chained.answers };
+        put_chained = record { first = k.balanced.chained.first; next = k.balanced.chained.next; answers = k.balanced.chained.answers; last = k.balanced.held.all_sent };
         put_forks = k.put_forks;
         taken_alternating = ap (λ (b : Bool). is_alternating b (traffic_at state i).taken) (higher_is (spot_at plan s i) is_spot) ∙ k.taken_alternating;
         taken_forks = k.taken_forks;
@@ -209,7 +209,6 @@ module _ (plan : SeenPlan) (s : ℕ) (state : LocalState) (i : ℕ) where
         requests_within = asks_so_often _ _ (fork_at plan s state i) (token_at plan s state i) (is_dirty (hand_at s state i)) k.balanced.held.asks_once_more k.balanced.held.requests_within;
         done_after_all = k.done_after_all;
         done_thinks = k.done_thinks;
-        all_sent = k.balanced.held.all_sent;
       }
 
 -- ---- the start
@@ -246,7 +245,7 @@ Keeps-start spot is_spot =
           last_within = omega arith;
           all_sent = λ e. refl;
         };
-        chained = record { first = λ low log h. absurd cc; next = λ low k before log h. absurd cc; answers = λ high k before log h. absurd cc };
+        chained = record { first = λ low log h. absurd cc; next = λ low k log h. absurd cc; answers = λ high k log h. absurd cc };
         last_is = record { none = λ h. refl; at = λ k before h n. absurd cc; clean = λ h. absurd (omega arith) };
         puts = refl;
         takes = refl;

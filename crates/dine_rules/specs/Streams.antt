@@ -5,12 +5,12 @@ use Rattle.dine_token.specs.declared.entry.Entry.TheVariants.{Move}
 use Rattle.dine_token.specs.Fork.{SeenFork, IsFork}
 use Rattle.dine_token.specs.Log.{is_dirty, meals_of}
 use Rattle.dine_token.specs.Lawful.{IsLawful}
-use Rattle.dine_plan.specs.Plan.{SeenPlan, edges_of, job_count, lo_of, hi_of}
+use Rattle.dine_plan.specs.Plan.{SeenPlan, edges_of, job_count, lo_of, hi_of, other_of}
 use Rattle.dine_rules.specs.declared.letters.Letter.{Letter}
 use Rattle.dine_rules.specs.declared.letters.Letter.TheVariants.{Fork, Request, Done, Close}
 use Rattle.dine_rules.specs.Letters.{forks_in, requests_in, has_done, last_log_or}
 use Rattle.dine_rules.specs.Local.{LocalState, Traffic, traffic_at, edge_at, neighbour_at, is_thinking, is_hungry}
-use Rattle.dine_rules.specs.Holdings.{fork_at, token_at, hand_at, meals_from}
+use Rattle.dine_rules.specs.Holdings.{forks_held, fork_at, token_at, hand_at, meals_from}
 use Rattle.dine_rules.specs.Breach.{was_sent_to, is_fork_of}
 use Rattle.dine_rules.specs.Steps.{Step, Take}
 
@@ -72,12 +72,20 @@ pub record CarriesOnEaten (s to : ℕ) (before log : List Entry) : Type 0 where
   pub some : 1 ≤ meals
   pub is : log ≡ before ++ meals_from s (meals_of s before + 1) meals ++ Move to ∷ []
 
--- The chain of an end: the k-th Fork put carries on the log of the Fork taken before it. The lower end starts with the
--- empty log, and its first Fork may go without a meal; the higher end puts its first Fork after its first was taken.
-pub record IsChained (s to : ℕ) (from_lower : Bool) (traffic : Traffic) : Type 0 where
-  pub first : from_lower ≡ true → (log : List Entry) → slice_get (logs_of traffic.put) 0 ≡ Some log → CarriesOn s to [] log
-  pub next : from_lower ≡ true → (k : ℕ) (before log : List Entry) → slice_get (logs_of traffic.taken) k ≡ Some before → slice_get (logs_of traffic.put) (k + 1) ≡ Some log → CarriesOnEaten s to before log
-  pub answers : from_lower ≡ false → (k : ℕ) (before log : List Entry) → slice_get (logs_of traffic.taken) k ≡ Some before → slice_get (logs_of traffic.put) k ≡ Some log → CarriesOnEaten s to before log
+-- The k-th of the logs taken, from 0, is there, and the log carries it on, with at least one meal.
+pub record CarriesOnTaken (s to : ℕ) (taken : List (List Entry)) (k : ℕ) (log : List Entry) : Type 0 where
+  pub before : List Entry
+  pub is_taken : slice_get taken k ≡ Some before
+  pub carries : CarriesOnEaten s to before log
+
+-- The chain of a site at an edge. Its first Fork from the lower end carries on the empty log, and may go without a meal. Each
+-- other Fork that it puts carries on the Fork taken before it: from the lower end the next one the k-th taken, from the higher
+-- end the k-th one the k-th. Where the fork is gone, the last Fork put has all meals that the site ate.
+pub record IsChained (plan : SeenPlan) (s edge ate : ℕ) (traffic : Traffic) : Type 0 where
+  pub first : (lo_of plan edge == s) ≡ true → (log : List Entry) → slice_get (logs_of traffic.put) 0 ≡ Some log → CarriesOn s (other_of plan edge s) [] log
+  pub next : (lo_of plan edge == s) ≡ true → (k : ℕ) (log : List Entry) → slice_get (logs_of traffic.put) (k + 1) ≡ Some log → CarriesOnTaken s (other_of plan edge s) (logs_of traffic.taken) k log
+  pub answers : (lo_of plan edge == s) ≡ false → (k : ℕ) (log : List Entry) → slice_get (logs_of traffic.put) k ≡ Some log → CarriesOnTaken s (other_of plan edge s) (logs_of traffic.taken) k log
+  pub last : forks_held plan s edge traffic ≡ 0 → meals_of s (last_log_or [] traffic.put) ≡ ate
 
 -- each Fork among the letters is that of the edge, with a lawful log
 abbrev pub AreLawfulForks : SeenPlan → ℕ → List Letter → Type 0
@@ -104,7 +112,7 @@ has_asked_since_meal plan s state i = (fork_at plan s state i == 0 && token_at p
 pub record KeepsStreamsAt (plan : SeenPlan) (s : ℕ) (state : LocalState) (i : ℕ) : Type 0 where
   -- what it put is a lawful stream, in a chain, of lawful forks
   pub put_lawful : IsLawfulStream (is_lower_at plan s i) (traffic_at state i).put
-  pub put_chained : IsChained s (neighbour_at plan s i) (is_lower_at plan s i) (traffic_at state i)
+  pub put_chained : IsChained plan s (edge_at plan s i) state.ate (traffic_at state i)
   pub put_forks : AreLawfulForks plan (edge_at plan s i) (traffic_at state i).put
   -- Forks and Requests that it took alternate as those of the other end's direction do
   pub taken_alternating : is_alternating (not (is_lower_at plan s i)) (traffic_at state i).taken ≡ true
@@ -132,8 +140,6 @@ pub record KeepsStreamsAt (plan : SeenPlan) (s : ℕ) (state : LocalState) (i : 
   -- who put Done has eaten all, and thinks
   pub done_after_all : has_done (traffic_at state i).put ≡ true → state.ate ≡ job_count plan s
   pub done_thinks : has_done (traffic_at state i).put ≡ true → is_thinking state.phase ≡ true
-  -- where the fork is gone, all meals eaten are in the last Fork put
-  pub all_sent : fork_at plan s state i ≡ 0 → meals_of s (last_log_or [] (traffic_at state i).put) ≡ state.ate
 
 -- What a site keeps: the same at every place, and never more meals than are due.
 pub record KeepsStreams (plan : SeenPlan) (s : ℕ) (state : LocalState) : Type 0 where
