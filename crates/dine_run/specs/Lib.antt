@@ -1,0 +1,4 @@
+pub mod Diners
+pub mod Ports
+pub mod SiteEnds
+pub mod Running

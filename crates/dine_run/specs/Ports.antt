@@ -1,0 +1,40 @@
+-- The two link ends of a site at a place, as contracts see them, whatever lane they are of.
+use Rattle.std.specs.Prelude.{◌≡◌, ◌⊎◌, ℕ, ◌<◌, Bool, true, false, List, [], ◌∷◌, ◌++◌, All, length, slice_get, Option, Some, option_to_list}
+use Rattle.dine_rules.specs.declared.letters.Letter.{Letter}
+use Rattle.dine_rules.specs.declared.letters.Letter.TheVariants.{Close}
+use Rattle.dine_link.specs.declared.lane.TxEnd.{TxEnd}
+use Rattle.dine_link.specs.declared.lane.TxEnd.TheVariants.{Live, Shut}
+use Rattle.dine_link.specs.Lanes.{seen_end}
+use Rattle.dine_link.specs.Links.{SeenEnd}
+
+-- The end that the site puts in, whether more can be put in it, and the end that it takes from.
+pub record SeenPort (Identity : Type 0) : Type 0 where
+  pub tx : SeenEnd Identity
+  pub is_live : Bool
+  pub rx : SeenEnd Identity
+
+abbrev pub is_live_end : {Tx Closed : Type 0} → TxEnd Tx Closed → Bool
+is_live_end (Live tx) = true
+is_live_end (Shut tx) = false
+
+abbrev pub seen_port : {Tx Closed Rx Identity : Type 0} → (Tx → SeenEnd Identity) → (Closed → SeenEnd Identity) → (Rx → SeenEnd Identity) → TxEnd Tx Closed → Rx → SeenPort Identity
+seen_port live shut taking tx rx = record { tx = seen_end live shut tx; is_live = is_live_end tx; rx = taking rx }
+
+-- nothing was put or taken yet
+pub record IsFreshPort {Identity : Type 0} (port : SeenPort Identity) : Type 0 where
+  pub live : port.is_live ≡ true
+  pub nothing_put : port.tx.letters ≡ []
+  pub nothing_taken : port.rx.letters ≡ []
+
+-- the ends are those of the same two links
+pub record SameLinks {Identity : Type 0} (old new : SeenPort Identity) : Type 0 where
+  pub tx : new.tx.link ≡ old.tx.link
+  pub rx : new.rx.link ≡ old.rx.link
+
+-- What a core put at a place is what was put on the link, but for a letter that the link refused, and for a Close that it refused.
+pub record PutsFit (refused : Option Letter) (by_core on_link : List Letter) : Type 0 where
+  pub front : List Letter
+  pub closing : List Letter
+  pub closes : (closing ≡ []) ⊎ (closing ≡ Close ∷ [])
+  pub core : by_core ≡ front ++ option_to_list refused ++ closing
+  pub link : (on_link ≡ front ++ closing) ⊎ (on_link ≡ front)

@@ -1,0 +1,40 @@
+//! What a site leaves when it ends.
+use crate::diner::Diner;
+use crate::port::Port;
+use dine_link::Lane;
+use dine_rules::{Breach, Letter};
+use dine_token::{Fork, Token};
+
+/// A letter that was handed back: the place where it came, or where it was to go.
+#[derive(Drop)]
+pub struct Stray {
+    pub link: u32,
+    pub letter: Letter,
+}
+
+/// Why a site ended before it did all.
+#[derive(Clone, Copy, Debug, PartialEq, Eq)]
+pub enum SiteFault {
+    /// A letter that came at the place was not in turn.
+    Breach(u32, Breach),
+    /// A put, a close or a take was refused at the place. Where it is the number of places, a ring or the wait for the bell was.
+    Lost(u32),
+    /// The site was not started, and did nothing.
+    NotStarted,
+}
+
+/// What a site leaves when it ends: how many meals it began and how many of their jobs failed, its diner, the forks and tokens
+/// in its hands in edge order, its link ends in order, and, where it ended before it did all, the first cause with the letter
+/// that was handed back.
+#[derive(Drop)]
+pub struct SiteEnd<L: Lane, D: Diner> {
+    pub site: u32,
+    pub ate: u32,
+    pub failed: u32,
+    pub diner: D,
+    pub forks: Vec<Fork>,
+    pub tokens: Vec<Token>,
+    pub ports: Vec<Port<L>>,
+    pub stray: Option<Stray>,
+    pub fault: Option<SiteFault>,
+}

@@ -1,0 +1,35 @@
+//! One site on its thread, from its first step to its last.
+
+mod running;
+
+use crate::diner::Diner;
+use crate::port::Port;
+use crate::site_end::SiteEnd;
+use dine_core::SiteCore;
+use dine_link::{Bell, Lane};
+use running::Running;
+use std::sync::Wait;
+
+/// Runs a site: until it is finished it does the events other than Take that the rules allow, in the fixed order, until there is
+/// none; then it waits for its bell, and takes one letter at the place that rang. Where Close was taken at that place, it takes
+/// none. After each letter that it puts, it rings the neighbour's bell once. Between the begin and the end of a meal it calls
+/// [`Diner::eat`] once.
+///
+/// A letter that is not in turn, and a link or bell that refuses, is a fault. After the first fault the site puts Close at each place
+/// where it has put none, in order, and ends. Faults that it meets then are not told. It may wait.
+pub fn run_site<R: Wait, L: Lane, D: Diner>(
+    rt: &R,
+    core: SiteCore,
+    ports: Vec<Port<L>>,
+    bell: Bell,
+    diner: D,
+) -> SiteEnd<L, D> {
+    let mut site = Running::new(core, ports, bell, diner);
+    match site.work(rt) {
+        Ok(()) => site.end(None, None),
+        Err(stop) => {
+            site.break_off(rt);
+            site.end(stop.stray, Some(stop.fault))
+        }
+    }
+}
