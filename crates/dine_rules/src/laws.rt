@@ -10,9 +10,10 @@ ghost use Rattle.dine_rules.specs.Bound.{bound_of, effects_of};
 ghost use Rattle.dine_rules.specs.Examples.{alone, enabled_at_start, ends_complete, next_after, outcome_of, pair, path};
 ghost use Rattle.dine_rules.specs.Breach.{first_breach, is_allowed};
 ghost use Rattle.dine_rules.specs.Holdings.{fork_at, token_at};
+ghost use Rattle.dine_rules.specs.JoinedEnds.{AccountsForFork, AreWhollyTaken, HaveOneWholeFork};
 ghost use Rattle.dine_rules.specs.Letters.{closes_in, dones_in, forks_in, requests_in};
 ghost use Rattle.dine_rules.specs.Links.{ForEachEdge, ForEachLink, forks_of_edge, queue_to, tokens_of_edge};
-ghost use Rattle.dine_rules.specs.Local.{LocalState, is_eating, neighbour_at, start_of, traffic_at};
+ghost use Rattle.dine_rules.specs.Local.{LocalState, Traffic, is_eating, neighbour_at, start_of, traffic_at};
 ghost use Rattle.dine_rules.specs.Precedence.{IsAcyclic, fork_log};
 ghost use Rattle.dine_rules.specs.StepLists.{AreProper, LeadTo, begins_in, is_give_at};
 ghost use Rattle.dine_rules.specs.Schedules.{after_choices, finish_within, from_here, replay, whole_run};
@@ -214,4 +215,13 @@ pub fn forks_are_lawful_and_whole()
     ensures run_whole { (plan : SeenPlan) (choices : List ℕ) (edge : ℕ) → IsPlan plan → edge < edge_count plan
         → (meals_of (lo_of plan edge) (fork_log plan (whole_run plan choices).world edge) ≡ job_count plan (lo_of plan edge))
         × (meals_of (hi_of plan edge) (fork_log plan (whole_run plan choices).world edge) ≡ job_count plan (hi_of plan edge)) }
+{}
+
+/// Where only the lists of an edge's two ends are left, as after their threads have joined: if each end accounts for the fork and
+/// both links are wholly taken, exactly one end holds the fork, and its log is lawful and has each meal that either end ate
+/// once. It asks for no order of events.
+pub fn joined_ends_have_one_whole_fork()
+    ensures { (plan : SeenPlan) (edge low_ate high_ate : ℕ) (low high : Traffic) → IsPlan plan → edge < edge_count plan
+        → AccountsForFork plan (lo_of plan edge) edge low_ate low → AccountsForFork plan (hi_of plan edge) edge high_ate high → AreWhollyTaken low high
+        → HaveOneWholeFork plan edge low_ate high_ate low high }
 {}
