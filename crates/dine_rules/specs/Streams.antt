@@ -8,7 +8,7 @@ use Rattle.dine_token.specs.Lawful.{IsLawful}
 use Rattle.dine_plan.specs.Plan.{SeenPlan, edges_of, job_count, lo_of, hi_of, other_of}
 use Rattle.dine_rules.specs.declared.letters.Letter.{Letter}
 use Rattle.dine_rules.specs.declared.letters.Letter.TheVariants.{Fork, Request, Done, Close}
-use Rattle.dine_rules.specs.Letters.{forks_in, requests_in, has_done, last_log_or}
+use Rattle.dine_rules.specs.Letters.{forks_in, requests_in, has_done, has_close, last_log_or}
 use Rattle.dine_rules.specs.Local.{LocalState, Traffic, traffic_at, edge_at, neighbour_at, is_thinking, is_hungry}
 use Rattle.dine_rules.specs.Holdings.{forks_held, fork_at, token_at, hand_at, meals_from}
 use Rattle.dine_rules.specs.Breach.{was_sent_to, is_fork_of}
@@ -92,6 +92,10 @@ abbrev pub AreLawfulForks : SeenPlan → ℕ → List Letter → Type 0
 AreLawfulForks plan edge letters = (k : ℕ) (fork : SeenFork) → slice_get letters k ≡ Some (Fork fork)
     → (is_fork_of plan edge fork ≡ true) × IsLawful fork.ends fork.due fork.log
 
+-- each Request among the letters names the edge
+abbrev pub AreRequestsOf : ℕ → List Letter → Type 0
+AreRequestsOf edge letters = (k e : ℕ) → slice_get letters k ≡ Some (Request e) → e ≡ edge
+
 -- the lower end starts with the fork, the higher with the token
 abbrev pub is_lower_at : SeenPlan → ℕ → ℕ → Bool
 is_lower_at plan s i = lo_of plan (edge_at plan s i) == s
@@ -110,13 +114,16 @@ has_asked_since_meal plan s state i = (fork_at plan s state i == 0 && token_at p
 
 -- What a site keeps at one place, whatever letters it is offered.
 pub record KeepsStreamsAt (plan : SeenPlan) (s : ℕ) (state : LocalState) (i : ℕ) : Type 0 where
-  -- what it put is a lawful stream, in a chain, of lawful forks
+  -- what it put is a lawful stream, in a chain, of lawful forks, and asks for the edge's fork
   pub put_lawful : IsLawfulStream (is_lower_at plan s i) (traffic_at state i).put
   pub put_chained : IsChained plan s (edge_at plan s i) state.ate (traffic_at state i)
   pub put_forks : AreLawfulForks plan (edge_at plan s i) (traffic_at state i).put
-  -- Forks and Requests that it took alternate as those of the other end's direction do
-  pub taken_alternating : is_alternating (not (is_lower_at plan s i)) (traffic_at state i).taken ≡ true
+  pub put_requests : AreRequestsOf (edge_at plan s i) (traffic_at state i).put
+  -- what it took is a lawful stream of the other end's direction, each Close behind a Done, of lawful forks, and asks for this fork
+  pub taken_lawful : IsLawfulStream (not (is_lower_at plan s i)) (traffic_at state i).taken
+  pub taken_orderly : is_orderly (traffic_at state i).taken ≡ true
   pub taken_forks : AreLawfulForks plan (edge_at plan s i) (traffic_at state i).taken
+  pub taken_requests : AreRequestsOf (edge_at plan s i) (traffic_at state i).taken
   -- each Fork taken was sent here, and the last of them has no meal of the site that it did not eat
   pub forks_come_here : (k : ℕ) (fork : SeenFork) → slice_get (traffic_at state i).taken k ≡ Some (Fork fork) → was_sent_to (lo_of plan (edge_at plan s i)) s fork.log ≡ true
   pub last_within : meals_of s (last_log_or [] (traffic_at state i).taken) ≤ state.ate
@@ -140,6 +147,8 @@ pub record KeepsStreamsAt (plan : SeenPlan) (s : ℕ) (state : LocalState) (i : 
   -- who put Done has eaten all, and thinks
   pub done_after_all : has_done (traffic_at state i).put ≡ true → state.ate ≡ job_count plan s
   pub done_thinks : has_done (traffic_at state i).put ≡ true → is_thinking state.phase ≡ true
+  -- Close is taken only after Done was put
+  pub closed_after : has_close (traffic_at state i).taken ≡ true → has_done (traffic_at state i).put ≡ true
 
 -- What a site keeps: the same at every place, and never more meals than are due.
 pub record KeepsStreams (plan : SeenPlan) (s : ℕ) (state : LocalState) : Type 0 where
