@@ -228,7 +228,7 @@ module _ (plan : SeenPlan) (s i j : ℕ) (near far : LocalState) (going : List L
   -- ---- any letter
 
   -- nothing comes after Close
-  still_open : (l : Letter) (rest : List Letter) → Joined plan s i (neighbour_at plan s i) j near far (l ∷ rest) going → not (has_close (traffic_at near i).taken) ≡ true
+  pub still_open : (l : Letter) (rest : List Letter) → Joined plan s i (neighbour_at plan s i) j near far (l ∷ rest) going → not (has_close (traffic_at near i).taken) ≡ true
   still_open l rest ends = not_from_false (has_close (traffic_at near i).taken) (open_before (traffic_at near i).taken rest l (ap is_close_last (sym ends.comes) ∙ (keeps_there (l ∷ rest) ends).put_lawful.close_last))
 
   -- a letter that may come is allowed

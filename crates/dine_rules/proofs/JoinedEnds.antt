@@ -8,18 +8,20 @@ use Rattle.dine_token.specs.Lawful.{IsLawful, due_at, count_from}
 use Rattle.dine_token.specs.Log.{location_of, meals_of, numbers_of}
 use Rattle.dine_token.proofs.Lawfulness.{IsLawful-none, IsLawful-push_meal, due_at-lower, due_at-higher}
 use Rattle.dine_token.proofs.Logs.{location_of-push_move}
-use Rattle.dine_plan.specs.Plan.{SeenPlan, IsPlan, job_count, edge_count, lo_of, hi_of, other_of}
+use Rattle.dine_plan.specs.Plan.{SeenPlan, IsPlan, edges_of, job_count, lo_of, hi_of, other_of}
 use Rattle.dine_rules.specs.declared.letters.Letter.{Letter}
-use Rattle.dine_rules.specs.Letters.{forks_in, last_log_or}
-use Rattle.dine_rules.specs.Local.{Traffic}
-use Rattle.dine_rules.specs.Holdings.{forks_held, hand, with_meals_to}
-use Rattle.dine_rules.specs.JoinedEnds.{AccountsForFork, AreWhollyTaken, IsWholeLog, HaveOneWholeFork}
+use Rattle.dine_rules.specs.Letters.{forks_in, requests_in, last_log_or}
+use Rattle.dine_rules.specs.Local.{LocalState, Traffic, traffic_at, edge_at}
+use Rattle.dine_rules.specs.Holdings.{forks_held, tokens_held, hand, with_meals_to}
+use Rattle.dine_rules.specs.JoinedEnds.{AccountsForFork, AccountsForToken, AreLinked, AreWhollyTaken, IsWholeLog, HaveOneWholeFork}
 use Rattle.dine_rules.specs.Steps.{fork_with}
-use Rattle.dine_rules.specs.Streams.{AreLawfulForks, CarriesOnTaken, IsChained, logs_of}
-use Rattle.dine_rules.proofs.Counting.{length-logs_of, last_log_or-none, last_log_or-some, none_or_some}
+use Rattle.dine_rules.specs.Streams.{AreLawfulForks, CarriesOnTaken, IsChained, KeepsStreams, KeepsStreamsAt, logs_of}
+use Rattle.dine_rules.proofs.Counting.{prefix_forks, prefix_requests, length-logs_of, last_log_or-none, last_log_or-some, none_or_some}
 use Rattle.dine_rules.proofs.Hands.{with_meals, with_meals-none, with_meals-more, meals_of-with_meals, location_of-with_meals, meals_of-hand}
 use Rattle.dine_rules.proofs.Owned.{own_is}
+use Rattle.dine_rules.proofs.Placed.{placed}
 use Rattle.dine_rules.proofs.Sent.{IsSent, last_sent, meals_of-with_meals_other}
+use Rattle.dine_rules.proofs.Site.{spot_at, spot_is, token_end}
 
 -- ---- a log in hand
 
@@ -132,26 +134,32 @@ module _ (plan : SeenPlan) (edge : ℕ) (ordered : lo_of plan edge < hi_of plan 
 
   -- ---- both ends
 
+  -- the lower end starts with the fork, the higher with the token
+  starts_low : cond {A = ℕ} (lo_of plan edge == lo_of plan edge) 1 0 ≡ 1
+  starts_low = cond-true {A = ℕ} (lo_of plan edge == lo_of plan edge) 1 0 (eq-eqb (lo_of plan edge) (lo_of plan edge) refl)
+
+  starts_high : cond {A = ℕ} (lo_of plan edge == hi_of plan edge) 1 0 ≡ 0
+  starts_high = cond-false {A = ℕ} (lo_of plan edge == hi_of plan edge) 1 0 (ne_eqb (lo_of plan edge) (hi_of plan edge) (λ same. omega arith))
+
+  token_low : cond {A = ℕ} (hi_of plan edge == lo_of plan edge) 1 0 ≡ 0
+  token_low = cond-false {A = ℕ} (hi_of plan edge == lo_of plan edge) 1 0 (ne_eqb (hi_of plan edge) (lo_of plan edge) (λ same. omega arith))
+
+  token_high : cond {A = ℕ} (hi_of plan edge == hi_of plan edge) 1 0 ≡ 1
+  token_high = cond-true {A = ℕ} (hi_of plan edge == hi_of plan edge) 1 0 (eq-eqb (hi_of plan edge) (hi_of plan edge) refl)
+
   module _ (low_ate high_ate : ℕ) (low high : Traffic) (accounts_low : AccountsForFork plan (lo_of plan edge) edge low_ate low) (accounts_high : AccountsForFork plan (hi_of plan edge) edge high_ate high) (taken : AreWhollyTaken low high) where
-    -- the lower end starts with the fork, the higher without
-    at_low : cond {A = ℕ} (lo_of plan edge == lo_of plan edge) 1 0 ≡ 1
-    at_low = cond-true {A = ℕ} (lo_of plan edge == lo_of plan edge) 1 0 (eq-eqb (lo_of plan edge) (lo_of plan edge) refl)
-
-    at_high : cond {A = ℕ} (lo_of plan edge == hi_of plan edge) 1 0 ≡ 0
-    at_high = cond-false {A = ℕ} (lo_of plan edge == hi_of plan edge) 1 0 (ne_eqb (lo_of plan edge) (hi_of plan edge) (λ same. omega arith))
-
     -- the lower end put as many Forks as the higher, or one more
     low_few : forks_in low.put ≤ 1 + forks_in high.put
-    low_few = omega (arith, chain_counted plan (lo_of plan edge) edge low_ate low accounts_low.chained, at_low, ap forks_in taken.to_low)
+    low_few = omega (arith, chain_counted plan (lo_of plan edge) edge low_ate low accounts_low.chained, starts_low, ap forks_in taken.comes)
 
     high_few : forks_in high.put ≤ forks_in low.put
-    high_few = omega (arith, chain_counted plan (hi_of plan edge) edge high_ate high accounts_high.chained, at_high, ap forks_in taken.to_high)
+    high_few = omega (arith, chain_counted plan (hi_of plan edge) edge high_ate high accounts_high.chained, starts_high, ap forks_in taken.goes)
 
     low_holds : forks_held plan (lo_of plan edge) edge low ≡ 1 + forks_in high.put - forks_in low.put
-    low_holds = omega (arith, at_low, ap forks_in taken.to_low)
+    low_holds = omega (arith, starts_low, ap forks_in taken.comes)
 
     high_holds : forks_held plan (hi_of plan edge) edge high ≡ forks_in low.put - forks_in high.put
-    high_holds = omega (arith, at_high, ap forks_in taken.to_high)
+    high_holds = omega (arith, starts_high, ap forks_in taken.goes)
 
     -- from each end the other is seen
     from_low : other_of plan edge (lo_of plan edge) ≡ hi_of plan edge
@@ -165,28 +173,73 @@ module _ (plan : SeenPlan) (edge : ℕ) (ordered : lo_of plan edge < hi_of plan 
         let none : forks_held plan (hi_of plan edge) edge high ≡ 0 = omega (arith, low_holds, high_holds, high_few) in
         let differ : lo_of plan edge ≢ hi_of plan edge = λ same. omega arith in
         let starts : forks_in high.put ≡ 0 → lo_of plan edge ≡ lo_of plan edge = λ h. refl in
-        let away : forks_in high.put ≡ cond (lo_of plan edge == hi_of plan edge) 1 0 + forks_in high.taken = omega (arith, low_holds, low_few, high_few, at_high, ap forks_in taken.to_high) in
+        let away : forks_in high.put ≡ cond (lo_of plan edge == hi_of plan edge) 1 0 + forks_in high.taken = omega (arith, low_holds, low_few, high_few, starts_high, ap forks_in taken.goes) in
         let due_low = due_at-lower ends due (lo_of plan edge) refl in
         whole low_ate high_ate (hand (lo_of plan edge) low_ate low)
-        (held_lawful (lo_of plan edge) (hi_of plan edge) low_ate high_ate low high differ from_high due_low accounts_low accounts_high taken.to_low none starts away)
-        (held_own (lo_of plan edge) (hi_of plan edge) low_ate high_ate low high differ from_high due_low accounts_low accounts_high taken.to_low none starts away)
-        (held_theirs (lo_of plan edge) (hi_of plan edge) low_ate high_ate low high differ from_high due_low accounts_low accounts_high taken.to_low none starts away)
+        (held_lawful (lo_of plan edge) (hi_of plan edge) low_ate high_ate low high differ from_high due_low accounts_low accounts_high taken.comes none starts away)
+        (held_own (lo_of plan edge) (hi_of plan edge) low_ate high_ate low high differ from_high due_low accounts_low accounts_high taken.comes none starts away)
+        (held_theirs (lo_of plan edge) (hi_of plan edge) low_ate high_ate low high differ from_high due_low accounts_low accounts_high taken.comes none starts away)
 
     high_whole : forks_held plan (hi_of plan edge) edge high ≡ 1 → IsWholeLog plan edge low_ate high_ate (hand (hi_of plan edge) high_ate high)
     high_whole held =
         let none : forks_held plan (lo_of plan edge) edge low ≡ 0 = omega (arith, low_holds, high_holds, low_few) in
         let differ : hi_of plan edge ≢ lo_of plan edge = λ same. omega arith in
         let starts : forks_in low.put ≡ 0 → lo_of plan edge ≡ hi_of plan edge = λ h. absurd (omega (arith, high_holds)) in
-        let away : forks_in low.put ≡ cond (lo_of plan edge == lo_of plan edge) 1 0 + forks_in low.taken = omega (arith, high_holds, low_few, at_low, ap forks_in taken.to_low) in
+        let away : forks_in low.put ≡ cond (lo_of plan edge == lo_of plan edge) 1 0 + forks_in low.taken = omega (arith, high_holds, low_few, starts_low, ap forks_in taken.comes) in
         let due_high = due_at-higher ends due (hi_of plan edge) ordered refl in
         whole low_ate high_ate (hand (hi_of plan edge) high_ate high)
-        (held_lawful (hi_of plan edge) (lo_of plan edge) high_ate low_ate high low differ from_low due_high accounts_high accounts_low taken.to_high none starts away)
-        (held_theirs (hi_of plan edge) (lo_of plan edge) high_ate low_ate high low differ from_low due_high accounts_high accounts_low taken.to_high none starts away)
-        (held_own (hi_of plan edge) (lo_of plan edge) high_ate low_ate high low differ from_low due_high accounts_high accounts_low taken.to_high none starts away)
+        (held_lawful (hi_of plan edge) (lo_of plan edge) high_ate low_ate high low differ from_low due_high accounts_high accounts_low taken.goes none starts away)
+        (held_theirs (hi_of plan edge) (lo_of plan edge) high_ate low_ate high low differ from_low due_high accounts_high accounts_low taken.goes none starts away)
+        (held_own (hi_of plan edge) (lo_of plan edge) high_ate low_ate high low differ from_low due_high accounts_high accounts_low taken.goes none starts away)
 
+    -- so one of them holds it, with a whole log
     pub joined_whole : HaveOneWholeFork plan edge low_ate high_ate low high
     joined_whole = record {
       one_fork = omega (arith, low_holds, high_holds, low_few, high_few);
       at_lower = low_whole;
       at_higher = high_whole;
     }
+
+  -- ---- counts alone
+
+  -- ends whose links are wholly taken hold one token
+  pub joined_token : (low high : Traffic) → AccountsForToken plan (lo_of plan edge) edge low → AccountsForToken plan (hi_of plan edge) edge high → AreWhollyTaken low high
+      → tokens_held plan (lo_of plan edge) edge low + tokens_held plan (hi_of plan edge) edge high ≡ 1
+  joined_token low high accounts_low accounts_high taken = omega (arith, token_low, token_high, ap requests_in taken.comes, ap requests_in taken.goes)
+
+  -- ends that broke off hold at most one fork
+  pub linked_fork : (low_ate high_ate : ℕ) (low high : Traffic) → IsChained plan (lo_of plan edge) edge low_ate low → IsChained plan (hi_of plan edge) edge high_ate high → AreLinked low high
+      → forks_held plan (lo_of plan edge) edge low + forks_held plan (hi_of plan edge) edge high ≤ 1
+  linked_fork low_ate high_ate low high chained_low chained_high linked =
+      omega (
+        arith,
+        starts_low,
+        starts_high,
+        prefix_forks low.taken high.put linked.comes,
+        prefix_forks high.taken low.put linked.goes,
+        chain_counted plan (lo_of plan edge) edge low_ate low chained_low,
+        chain_counted plan (hi_of plan edge) edge high_ate high chained_high,
+      )
+
+  -- and at most one token
+  pub linked_token : (low high : Traffic) → AccountsForToken plan (lo_of plan edge) edge low → AccountsForToken plan (hi_of plan edge) edge high → AreLinked low high
+      → tokens_held plan (lo_of plan edge) edge low + tokens_held plan (hi_of plan edge) edge high ≤ 1
+  linked_token low high accounts_low accounts_high linked = omega (arith, token_low, token_high, prefix_requests low.taken high.put linked.comes, prefix_requests high.taken low.put linked.goes)
+
+-- ---- a site that keeps its streams accounts for the fork and the token of each place
+
+module _ (plan : SeenPlan) (s : ℕ) (state : LocalState) (i : ℕ) (keeps : KeepsStreams plan s state) (within : i < length (edges_of plan s)) where
+  -- what it keeps at the place
+  kept_here : KeepsStreamsAt plan s state i
+  kept_here = keeps.places i (omega (arith, within, keeps.every_place))
+
+  pub accounts_for_fork : AccountsForFork plan s (edge_at plan s i) state.ate (traffic_at state i)
+  accounts_for_fork = record {
+    chained = kept_here.put_chained;
+    put_forks = kept_here.put_forks;
+    ate_within = keeps.ate_within;
+    last_within = kept_here.last_within;
+  }
+
+  pub accounts_for_token : IsPlan plan → AccountsForToken plan s (edge_at plan s i) (traffic_at state i)
+  accounts_for_token is_plan = omega (arith, kept_here.tokens_counted, token_end (spot_at plan s i) (spot_is plan s i (placed plan s i is_plan within)))

@@ -45,3 +45,4 @@ pub mod Owned
 pub mod Near
 pub mod ForkLogs
 pub mod JoinedEnds
+pub mod TwoEnds
