@@ -212,6 +212,8 @@ module _ (core : SeenCore) (sound : IsSound core) (can : can_begin core ≡ true
   -- the new core stands for the state after the step
   pub stands_begun : (plan : SeenPlan) (state : LocalState) → KeepsStreams plan core.site state → StandsFor plan state core → StandsFor plan (after plan core.site state Begin) (begun core)
   stands_begun plan state keeps stands = record {
+    is_plan = stands.is_plan;
+    is_site = stands.is_site;
     due = stands.due;
     phase = refl;
     ate = ap (λ (n : ℕ). n + 1) stands.ate;

@@ -1,5 +1,7 @@
 pub mod PlacesAfter
 pub mod Stands
+pub mod SiteTests
+pub mod CoreSteps
 pub mod Sound
 pub mod Breaches
 pub mod Lists

@@ -12,7 +12,7 @@ use Rattle.dine_rules.specs.Streams.{KeepsStreams}
 use Rattle.dine_core.specs.Core.{SeenCore, StandsFor}
 use Rattle.dine_core.specs.NextEvent.{can_by_itself, may_by_itself, next_event, next_of, next_word_of, own_kinds}
 use Rattle.dine_core.specs.Places.{can_give, can_ask, can_say_done, can_close}
-use Rattle.dine_core.proofs.CanHappen.{ask_is, close_is, done_is, give_is, guarded, hunger_is}
+use Rattle.dine_core.proofs.SiteTests.{ask_is, close_is, done_is, give_is, guarded, hunger_is}
 use Rattle.dine_core.proofs.Ranges.{begin_by}
 
 -- ---- finding

@@ -24,7 +24,8 @@ use Rattle.dine_rules.specs.Links.{queue_to}
 use Rattle.dine_core.specs.WorldSites.{SiteSteps, PutsAt, HasRoomAt, HasRoomFor, IsSiteOf, MovesLetters, TakesAllowed, can_do, meets_no_breach, letters_in, next_in, step_in, with_letter, without_next}
 use Rattle.dine_core.specs.Worlds.{IsReached, IsWorldOf, LinksStand, SitesStand, SeenWorld, can_at, number_to}
 use Rattle.dine_rules.proofs.Across.{across}
-use Rattle.dine_core.proofs.CanHappen.{next_here, take_is}
+use Rattle.dine_core.proofs.CanHappen.{next_here}
+use Rattle.dine_core.proofs.SiteTests.{take_is}
 use Rattle.dine_rules.proofs.NextLetters.{reached_allowed}
 use Rattle.dine_core.proofs.Stands.{place_is}
 use Rattle.dine_rules.proofs.WorldStreams.{IsStepOf, option_map_parts, WorldKeeps, event_is_step, event_keeps, events_then, reached_kept, some_of}

@@ -44,3 +44,5 @@ pub mod Listed
 pub mod Owned
 pub mod Near
 pub mod ForkLogs
+pub mod JoinedEnds
+pub mod TwoEnds

@@ -11,3 +11,4 @@ pub mod Precedence
 pub mod Bound
 pub mod Schedules
 pub mod Examples
+pub mod JoinedEnds

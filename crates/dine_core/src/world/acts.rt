@@ -5,10 +5,10 @@ ghost use Rattle.dine_rules.specs.Local.{is_eating};
 ghost use Rattle.dine_core.specs.Forks.{woken};
 ghost use Rattle.dine_core.specs.LinkNumbers.{link_to};
 ghost use Rattle.dine_rules.specs.Steps.{Begin, End, Take, after};
-ghost use Rattle.dine_core.specs.Core.{StandsFor, forks_in_hand};
+ghost use Rattle.dine_core.specs.Core.{forks_in_hand};
 ghost use Rattle.dine_core.specs.Places.{begun, can_begin, ended, place_at, took};
 ghost use Rattle.dine_core.specs.WorldSites.{SiteSteps, HasOwnMeal, HasRoomFor, IsAwake, TakesAllowed, can_do, meets_no_breach, next_in, without_next};
-ghost use Rattle.dine_core.specs.Standing.{ForEachState, CoreSteps, all_places};
+ghost use Rattle.dine_core.specs.Standing.{ForEachState, CoreStep, CoreSteps, all_places};
 
 use super::queue::Queue;
 use super::sites::WorldSite;
@@ -102,7 +102,7 @@ fn end(world_site: &mut WorldSite)
     ensures none { world_site.new.meal ≡ None }
     ensures core { IfSome world_site.old.meal (λ meal. world_site.new.core ≡ ended meal.forks world_site.old.core) }
     ensures step { IfSome world_site.old.meal (λ meal. ForEachState world_site.old.core (λ plan state. meal.forks ≡ forks_in_hand plan world_site.old.core.site state (all_places state)
-        → StandsFor plan (after plan world_site.old.core.site state End) world_site.new.core)) }
+        → CoreStep plan state End world_site.old.core world_site.new.core)) }
 {
     match world_site.meal.take() {
         Some(meal) => world_site.core.end(meal),

@@ -1,4 +1,4 @@
-use Rattle.std.proofs.Common.{◌≡◌, ◌++◌, take, drop, ◌+◌, true, List, map, length, sym, ◌∙◌, ap, subst, arith}
+use Rattle.std.proofs.Common.{◌≡◌, ◌++◌, take, drop, ◌+◌, true, List, map, length, refl, sym, ◌∙◌, ap, subst, arith}
 use Rattle.std.specs.List.{All}
 use Rattle.std.proofs.lemmas.Bool.{false≢true}
 use Rattle.std.proofs.lemmas.Grind.{common_steps}
@@ -8,6 +8,8 @@ use Rattle.dine_core.specs.SiteFields.{seen}
 use Rattle.dine_core.specs.Core.{SeenCore, StandsFor}
 use Rattle.dine_rules.specs.Steps.{after, Begin}
 use Rattle.dine_core.specs.Places.{can_begin, forks_of, lifted, begun, IsMealOf, IsSound}
+use Rattle.dine_core.proofs.CoreSteps.{stepped}
+use Rattle.dine_core.proofs.SiteTests.{may_begin}
 use Rattle.dine_core.proofs.Eating.{all_may_eat, forks_are_all, length_map_place, fork_at_place, is_meal, sound_begun, stands_begun, in_hand_begun}
 use Rattle.dine_core.proofs.site.SiteCore.begin.Goals as goal
 
@@ -62,7 +64,7 @@ pub returns-clause-step : goal.returns-clause-step
 returns-clause-step c plan state keeps stands =
     let core = c.args.self.now in
     let sound : IsSound core = subst IsSound c.self.view_is c.self.invariant.sound in
-    subst (λ (new : SeenCore). StandsFor plan (after plan core.site state Begin) new) (sym (returns-clause-core c)) (stands_begun core sound c.requires plan state keeps stands)
+    stepped plan state core stands keeps Begin _ _ (returns-clause-core c) refl tt (may_begin plan state core stands keeps c.requires) (stands_begun core sound c.requires plan state keeps stands)
 
 pub returns-clause-in_hand : goal.returns-clause-in_hand
 returns-clause-in_hand c plan state keeps stands =

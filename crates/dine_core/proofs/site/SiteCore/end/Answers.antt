@@ -1,4 +1,4 @@
-use Rattle.std.proofs.Common.{◌≡◌, ◌++◌, take, drop, true, List, length, vec_capacity, sym, ap, subst, arith}
+use Rattle.std.proofs.Common.{◌≡◌, ◌++◌, take, drop, true, List, length, vec_capacity, refl, sym, ap, subst, arith}
 use Rattle.std.proofs.lemmas.Grind.{common_steps}
 use Rattle.dine_core.specs.declared.site.places.Place.{Place}
 use Rattle.dine_rules.specs.Local.{is_eating}
@@ -6,6 +6,8 @@ use Rattle.dine_core.specs.SiteFields.{seen}
 use Rattle.dine_core.specs.Core.{SeenCore, StandsFor}
 use Rattle.dine_rules.specs.Steps.{after, End}
 use Rattle.dine_core.specs.Places.{laid_down, ended, IsMealOf, IsSound}
+use Rattle.dine_core.proofs.CoreSteps.{stepped}
+use Rattle.dine_core.proofs.SiteTests.{may_end}
 use Rattle.dine_core.proofs.Ending.{sound_ended, stands_ended}
 use Rattle.dine_core.proofs.site.SiteCore.end.Goals as goal
 
@@ -16,7 +18,8 @@ pub returns-clause-step : goal.returns-clause-step
 returns-clause-step c plan state keeps stands forks =
     let core = c.args.self.now in
     let sound : IsSound core = subst IsSound c.self.view_is c.self.invariant.sound in
-    subst (λ (new : SeenCore). StandsFor plan (after plan core.site state End) new) (sym (returns-clause-core c)) (stands_ended core c.args.meal sound c.requires.eating c.requires.meal plan state stands forks)
+    stepped plan state core stands keeps End _ _ (returns-clause-core c) refl tt (may_end plan state core stands keeps c.requires.eating)
+    (stands_ended core c.args.meal sound c.requires.eating c.requires.meal plan state stands forks)
 
 pub invariant_of-self : goal.invariant_of-self
 invariant_of-self c =

@@ -31,7 +31,7 @@ returns-in-Done-clause-does c plan state one keeps eats world_site is =
     (subst (λ (x : Step). SiteStep plan state (event.Done i) x c.args.world_site.now (record { core = c.done-letter.new.self; meal = c.args.world_site.now.meal }) c.args.links.now (slice_set c.args.links.now c.link_from-link-in-Done.result c.put-in-Done.new.self)) same (record {
       site = site;
       stands = record {
-        core = subst (λ (x : LocalState). StandsFor plan x c.done-letter.new.self) (sym did.0) did.1;
+        core = did.1.stands;
         meal = world_site.meal ∙ sym (meal-put plan core.site state i within letter.Done refl) ∙ ap (λ x. meal_of plan x (step.with_put i letter.Done state)) (sym site);
       };
       letters = (c.done-letter.result, did.0, links);
@@ -51,7 +51,7 @@ returns-in-Close-clause-does c plan state one keeps eats world_site is =
     (subst (λ (x : Step). SiteStep plan state (event.Close i) x c.args.world_site.now (record { core = c.close-letter.new.self; meal = c.args.world_site.now.meal }) c.args.links.now (slice_set c.args.links.now c.link_from-link-in-Close.result c.put-in-Close.new.self)) same (record {
       site = site;
       stands = record {
-        core = subst (λ (x : LocalState). StandsFor plan x c.close-letter.new.self) (sym did.0) did.1;
+        core = did.1.stands;
         meal = world_site.meal ∙ sym (meal-put plan core.site state i within letter.Close refl) ∙ ap (λ x. meal_of plan x (step.with_put i letter.Close state)) (sym site);
       };
       letters = (c.close-letter.result, did.0, links);
@@ -72,7 +72,7 @@ returns-in-Begin-clause-does c plan state one keeps eats world_site is =
     (subst (λ (x : Step). SiteStep plan state event.Begin x c.args.world_site.now new links links) same (record {
       site = site;
       stands = record {
-        core = c.begin.ensures.step plan state keeps world_site.core;
+        core = (c.begin.ensures.step plan state keeps world_site.core).stands;
         meal = meal ∙ ap (λ (x : ℕ). meal_of plan x next) (sym site);
       };
       letters = refl;
@@ -98,7 +98,7 @@ returns-in-Take-clause-does c plan state one keeps eats world_site is =
     (subst (λ (x : Step). SiteStep plan state (event.Take i) x c.args.world_site.now new links c.take.new.links) same (record {
       site = site;
       stands = record {
-        core = did.2.1 plan state keeps world_site.core;
+        core = (did.2.1 plan state keeps world_site.core).stands;
         meal = c.take.ensures.meal ∙ world_site.meal ∙ sym (meal-taken plan core.site state i l eats may_be) ∙ ap (λ (x : ℕ). meal_of plan x next) (sym site);
       };
       letters = c.take.ensures.links;

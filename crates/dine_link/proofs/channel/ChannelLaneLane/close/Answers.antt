@@ -1,0 +1,10 @@
+use Rattle.std.proofs.Common.{ap}
+use Rattle.crossbeam_channel.specs.Claims.{view}
+use Rattle.dine_link.proofs.Endings.{ended-added, close_last-added}
+use Rattle.dine_link.proofs.channel.ChannelLaneLane.close.Goals as goal
+
+pub invariant_of-result-clause-ended : goal.invariant_of-result-clause-ended
+invariant_of-result-clause-ended g c = rw (ap (λ end. end.letters) c.in-Ok.ensures) (ended-added (view c.args.tx.putting.pass).put)
+
+pub invariant_of-result-clause-close_last : goal.invariant_of-result-clause-close_last
+invariant_of-result-clause-close_last g c = rw (ap (λ end. end.letters) c.in-Ok.ensures) (close_last-added (view c.args.tx.putting.pass).put c.args.tx.unclosed)

@@ -1,0 +1,38 @@
+-- The ends of a link over a channel, as contracts see them.
+use Rattle.std.specs.Prelude.{Option}
+use Rattle.dine_rules.specs.declared.letters.Letter.{Letter}
+use Rattle.crossbeam_channel.specs.Claims.{view}
+use Rattle.crossbeam_channel.specs.Ends.{sends_on, receives_on}
+use Rattle.crossbeam_channel.specs.declared.flavors.array.Rows.{Rows}
+use Rattle.crossbeam_channel.specs.declared.flavors.array.Key.{Key}
+use Rattle.crossbeam_channel.specs.declared.flavors.array.Doing.{Doing}
+use Rattle.crossbeam_channel.specs.declared.flavors.array.Rounds.{Rounds}
+use Rattle.crossbeam_channel.specs.declared.flavors.array.Lockers.{Lockers}
+use Rattle.crossbeam_channel.specs.declared.flavors.array.Whole.{Whole}
+use Rattle.atomic_table.specs.declared.badge.Badge.{Badge}
+use Rattle.std.specs.declared.alloc.Global.{Global}
+use Rattle.dine_link.specs.declared.rule.Known.{Known}
+use Rattle.dine_link.specs.declared.rule.InOrder.{InOrder}
+use Rattle.dine_link.specs.declared.channel.Putting.{Putting}
+use Rattle.dine_link.specs.declared.channel.ChannelTx.{ChannelTx}
+use Rattle.dine_link.specs.declared.channel.ChannelClosedTx.{ChannelClosedTx}
+use Rattle.dine_link.specs.declared.channel.ChannelRx.{ChannelRx}
+use Rattle.dine_link.specs.Links.{SeenEnd}
+
+-- the channel itself, which tells a link from every other
+abbrev pub Channel : Type 0
+Channel = Rows (Badge (Key Letter)) (Doing Letter Known) (Rounds InOrder) (Option Letter) (Key Letter) (Lockers Whole) Global
+
+-- the end that letters are put in: all that was put in it
+abbrev pub seen_putting : Putting → SeenEnd Channel
+seen_putting tx = record { link = record { identity = sends_on tx.sender; edge = tx.edge; from = tx.from }; letters = (view tx.pass).put }
+
+abbrev pub seen_tx : ChannelTx → SeenEnd Channel
+seen_tx tx = seen_putting tx.putting
+
+abbrev pub seen_closed : ChannelClosedTx → SeenEnd Channel
+seen_closed tx = seen_putting tx.putting
+
+-- the end that letters are taken from: all that was taken
+abbrev pub seen_rx : ChannelRx → SeenEnd Channel
+seen_rx rx = record { link = record { identity = receives_on rx.receiver; edge = rx.edge; from = rx.from }; letters = (view rx.pass).taken }

@@ -1,0 +1,30 @@
+-- Both ends of a link that were brought together, of whichever lane, as contracts see them.
+use Rattle.std.specs.Prelude.{◌≡◌, true, List, length}
+use mathlib.Core.List.{IsPrefix}
+use Rattle.crossbeam_channel.specs.Claims.{view}
+use Rattle.dine_rules.specs.declared.letters.Letter.{Letter}
+use Rattle.dine_rules.specs.Streams.{is_close_last}
+use Rattle.dine_link.specs.declared.link_end.BothEnds.{BothEnds}
+use Rattle.dine_link.specs.declared.link_end.BothEnds.TheVariants.{Channel}
+use Rattle.dine_link.specs.declared.link_end.LinkEnd.TheInside.{Inside}
+use Rattle.dine_link.specs.Closing.{ends_in_close}
+use Rattle.dine_link.specs.Links.{SeenLink}
+
+-- all that was put, and all that was taken
+abbrev pub put_in : BothEnds → List Letter
+put_in (Channel ends) = (view ends.pass).put
+
+abbrev pub taken_from : BothEnds → List Letter
+taken_from (Channel ends) = (view ends.pass).taken
+
+-- what the fields of a LinkEnd stand for
+abbrev pub seen_link : Inside → SeenLink
+seen_link link = record { edge = link.edge; from = link.from; put = put_in link.ends; taken = taken_from link.ends }
+
+-- The numbers are those of the lists, the taken list is a prefix of the put list, and nothing was put behind Close.
+pub record IsKeptLink (link : Inside) : Type 0 where
+  pub put : link.put ≡ length (put_in link.ends)
+  pub taken : link.taken ≡ length (taken_from link.ends)
+  pub shut : link.shut ≡ ends_in_close (put_in link.ends)
+  pub prefix : IsPrefix (taken_from link.ends) (put_in link.ends)
+  pub close_last : is_close_last (put_in link.ends) ≡ true

@@ -1,0 +1,6 @@
+pub mod Closing
+pub mod Links
+pub mod Lanes
+pub mod Rule
+pub mod Channels
+pub mod Ends

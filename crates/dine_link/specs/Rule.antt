@@ -1,0 +1,43 @@
+-- The rule of a link's channel.
+use Rattle.std.specs.Prelude.{◌≡◌, ℕ, Bool, true, false, List, [], ◌∷◌, ◌++◌}
+use mathlib.Core.Option.{some}
+use lib.ListN.{get_elem?}
+use Rattle.dine_rules.specs.declared.letters.Letter.{Letter}
+use Rattle.dine_link.specs.declared.rule.Known.{Known}
+
+-- what a pass knows: whether it may put and whether it may take, all that was put where it may put, and all that was taken where it may take
+abbrev pub known : Bool → Bool → List Letter → List Letter → Known
+known puts takes put taken = record { puts = puts; takes = takes; put = put; taken = taken }
+
+-- the pass that may put is one alone, and has the list of all that was put; the same of the pass that may take
+abbrev pub Fits : ℕ → ℕ → List Letter → List Letter → ℕ → Known → Type 0
+Fits writer reader put taken pass view = (view.puts ≡ true → (pass ≡ writer) × (view.put ≡ put)) × (view.takes ≡ true → (pass ≡ reader) × (view.taken ≡ taken))
+
+-- At each moment what was put is what was taken and then what the channel holds, oldest first, and each pass fits these lists.
+abbrev pub IsInOrder : List Letter → List Known → Type 0
+IsInOrder queue views = (writer : ℕ) × (reader : ℕ) × (put : List Letter) × (taken : List Letter) × (put ≡ taken ++ queue)
+    × ((pass : ℕ) (view : Known) → get_elem? views pass ≡ some view → Fits writer reader put taken pass view)
+
+-- the pass that may do both, before any letter; and one that may do nothing
+abbrev pub fresh : Known
+fresh = known true true [] []
+
+abbrev pub spent : Known
+spent = known false false [] []
+
+-- the part of a pass that may put, the part that may take, and both parts in one again
+abbrev pub putting : Known → Known
+putting view = known true false view.put []
+
+abbrev pub taking : Known → Known
+taking view = known false true [] view.taken
+
+abbrev pub both : Known → Known → Known
+both putter taker = known true true putter.put taker.taken
+
+-- what a pass knows after it put a letter, and after it took one
+abbrev pub after_put : Known → Letter → Known
+after_put view letter = known view.puts view.takes (view.put ++ letter ∷ []) view.taken
+
+abbrev pub after_take : Known → Letter → Known
+after_take view letter = known view.puts view.takes view.put (view.taken ++ letter ∷ [])

@@ -1,0 +1,221 @@
+// Links over channels under a rule.
+ghost use Rattle.std.specs.Prelude.{◌≡◌, ◌<◌, ◌^◌, true, false, length, MatchResult};
+ghost use Rattle.crossbeam_channel.specs.Claims.{view, IsSeatAt};
+ghost use Rattle.crossbeam_channel.specs.Ends.{sends_on, receives_on};
+ghost use Rattle.dine_rules.specs.Letters.{has_close};
+ghost use Rattle.dine_rules.specs.Streams.{is_close_last};
+ghost use Rattle.dine_link.specs.Closing.{is_close, ends_in_close};
+
+use crate::closing::is_close;
+use crate::faults::{LinkFault, Lost};
+use crate::lane::{Lane, TxEnd};
+use crate::link_end::{BothEnds, LinkEnd};
+use crate::rule::{Ends, InOrder, Known, Puts, Reconciles, Takes};
+use crate::waiting;
+use crossbeam_channel::{Pass, RuledReceiver, RuledSender, bounded_with};
+use dine_rules::Letter;
+use std::alloc::Global;
+use std::sync::Wait;
+
+// How many letters a link holds that were put and not yet taken.
+const CAPACITY: usize = 4;
+
+type LetterSender = RuledSender<Letter, Known, InOrder>;
+
+type LetterReceiver = RuledReceiver<Letter, Known, InOrder>;
+
+type LetterPass = Pass<Letter, Known>;
+
+// The end of a channel that letters are put in.
+#[derive(Drop)]
+pub struct Putting {
+    edge: u32,
+    from: u32,
+    put: u64,
+    sender: LetterSender,
+    pass: LetterPass,
+    pub ghost seated: { IsSeatAt (sends_on sender) pass },
+    pub ghost puts: { (view pass).puts ≡ true },
+    pub ghost counted: { put ≡ length (view pass).put },
+}
+
+/// The end of a link over a channel that letters are put in.
+#[derive(Drop)]
+pub struct ChannelTx {
+    putting: Putting,
+    pub ghost unclosed: { has_close (view putting.pass).put ≡ false },
+}
+
+/// That end after Close was put.
+#[derive(Drop)]
+pub struct ChannelClosedTx {
+    putting: Putting,
+    pub ghost ended: { ends_in_close (view putting.pass).put ≡ true },
+    pub ghost close_last: { is_close_last (view putting.pass).put ≡ true },
+}
+
+/// The end of a link over a channel that letters are taken from.
+#[derive(Drop)]
+pub struct ChannelRx {
+    edge: u32,
+    from: u32,
+    taken: u64,
+    closed: bool,
+    receiver: LetterReceiver,
+    pass: LetterPass,
+    pub ghost seated: { IsSeatAt (receives_on receiver) pass },
+    pub ghost takes: { (view pass).takes ≡ true },
+    pub ghost counted: { taken ≡ length (view pass).taken },
+    pub ghost told: { closed ≡ has_close (view pass).taken },
+}
+
+// Both ends of a channel, and the one pass of both.
+#[derive(Drop)]
+pub struct ChannelEnds {
+    sender: LetterSender,
+    receiver: LetterReceiver,
+    pass: LetterPass,
+}
+
+impl Putting {
+    ghost use Rattle.dine_link.specs.Channels.{seen_putting, seen_rx};
+    ghost use Rattle.dine_link.specs.Links.{IsLink, with_letter, link_of};
+
+    // Puts the letter last, or hands it back.
+    fn send<R: Wait>(&mut self, rt: &R, letter: Letter) -> Result<(), Letter>
+        requires room { length (seen_putting self.old).letters < 2 ^ 61 }
+        ensures { MatchResult result (λ _. seen_putting self.new ≡ with_letter letter (seen_putting self.old)) (λ back. (back ≡ letter) × (seen_putting self.new ≡ seen_putting self.old)) }
+    {
+        waiting::send::<Letter, Known, InOrder, Puts, R>(rt, &self.sender, &mut self.pass, letter)?;
+        self.put += 1;
+        Ok(())
+    }
+
+    // Brings both ends together.
+    fn join(self, rx: ChannelRx, shut: bool) -> LinkEnd
+        requires pair { (seen_rx rx).link ≡ (seen_putting self).link }
+        requires shut { shut ≡ ends_in_close (seen_putting self).letters }
+        requires close_last { is_close_last (seen_putting self).letters ≡ true }
+        ensures lists { result ≡ link_of (seen_putting self) (seen_rx rx) }
+        ensures prefix { IsLink result }
+        ensures whole { has_close (seen_rx rx).letters ≡ true → result.taken ≡ result.put }
+        ensures close_last { is_close_last result.put ≡ true }
+    {
+        let Putting {
+            edge,
+            from,
+            put,
+            sender,
+            mut pass,
+        } = self;
+        let ChannelRx {
+            edge: _,
+            from: _,
+            taken,
+            closed: _,
+            receiver,
+            pass: taking,
+        } = rx;
+        sender.absorb::<Ends>(&mut pass, taking);
+        sender.learn_as::<Reconciles>(&mut pass);
+        let ends = ChannelEnds {
+            sender,
+            receiver,
+            pass,
+        };
+        LinkEnd::keep(edge, from, put, taken, shut, BothEnds::Channel(ends))
+    }
+}
+
+/// Links over channels. A step is refused where the other end is gone.
+pub struct ChannelLane;
+
+impl Lane for ChannelLane {
+    type Tx = ChannelTx;
+
+    type ClosedTx = ChannelClosedTx;
+
+    type Rx = ChannelRx;
+
+    ghost use Rattle.dine_link.specs.Channels as channels;
+    ghost use Rattle.dine_link.specs.Lanes.{seen_end};
+    ghost use Rattle.dine_link.specs.Links.{IsLink, link_of};
+
+    ghost Identity = { channels.Channel };
+
+    ghost seen_tx = { channels.seen_tx };
+
+    ghost seen_closed = { channels.seen_closed };
+
+    ghost seen_rx = { channels.seen_rx };
+
+    fn pair(alloc: Global, edge: u32, from: u32) -> Result<(ChannelTx, ChannelRx), LinkFault> {
+        let Ok((sender, receiver, mut putting)) = bounded_with::<Letter, Known, InOrder, Global>(
+            alloc, CAPACITY,
+        ) else {
+            return Err(LinkFault::Memory);
+        };
+        let taking = sender.another::<Ends>(&mut putting);
+        let tx = Putting {
+            edge,
+            from,
+            put: 0,
+            sender,
+            pass: putting,
+        };
+        let rx = ChannelRx {
+            edge,
+            from,
+            taken: 0,
+            closed: false,
+            receiver,
+            pass: taking,
+        };
+        Ok((ChannelTx { putting: tx }, rx))
+    }
+
+    fn put<R: Wait>(rt: &R, tx: &mut ChannelTx, letter: Letter) -> Result<(), (Letter, Lost)> {
+        match tx.putting.send(rt, letter) {
+            Ok(()) => Ok(()),
+            Err(letter) => Err((letter, Lost)),
+        }
+    }
+
+    fn close<R: Wait>(rt: &R, tx: ChannelTx) -> Result<ChannelClosedTx, (ChannelTx, Lost)> {
+        let ChannelTx { mut putting } = tx;
+        match putting.send(rt, Letter::Close) {
+            Ok(()) => Ok(ChannelClosedTx { putting }),
+            Err(_) => Err((ChannelTx { putting }, Lost)),
+        }
+    }
+
+    fn take<R: Wait>(rt: &R, rx: &mut ChannelRx) -> Result<Letter, Lost> {
+        let Some(letter) = waiting::receive::<Letter, Known, InOrder, Takes, R>(
+            rt,
+            &rx.receiver,
+            &mut rx.pass,
+        ) else {
+            return Err(Lost);
+        };
+        rx.taken += 1;
+        rx.closed = is_close(&letter);
+        Ok(letter)
+    }
+
+    fn is_closed(rx: &ChannelRx) -> bool {
+        rx.closed
+    }
+
+    fn reconcile(tx: TxEnd<ChannelTx, ChannelClosedTx>, rx: ChannelRx) -> LinkEnd
+        requires pair { (channels.seen_rx rx).link ≡ (seen_end channels.seen_tx channels.seen_closed tx).link }
+        ensures lists { result ≡ link_of (seen_end channels.seen_tx channels.seen_closed tx) (channels.seen_rx rx) }
+        ensures prefix { IsLink result }
+        ensures whole { has_close (channels.seen_rx rx).letters ≡ true → result.taken ≡ result.put }
+        ensures close_last { is_close_last result.put ≡ true }
+    {
+        match tx {
+            TxEnd::Live(ChannelTx { putting }) => putting.join(rx, false),
+            TxEnd::Shut(ChannelClosedTx { putting }) => putting.join(rx, true),
+        }
+    }
+}

@@ -1,0 +1,90 @@
+// What a link is, whatever carries its letters.
+ghost use Rattle.std.specs.Prelude.{◌≡◌, ◌<◌, ◌^◌, true, false, [], length, IfOk, MatchResult};
+ghost use Rattle.dine_rules.specs.declared.letters.Letter.TheVariants.{Close};
+ghost use Rattle.dine_rules.specs.Letters.{has_close};
+ghost use Rattle.dine_rules.specs.Streams.{is_close_last};
+ghost use Rattle.dine_link.specs.Closing.{is_close};
+ghost use Rattle.dine_link.specs.Links.{SeenEnd, IsLink, with_letter, link_of};
+ghost use Rattle.dine_link.specs.Lanes.{seen_end};
+
+use crate::faults::{LinkFault, Lost};
+use crate::link_end::LinkEnd;
+use dine_rules::Letter;
+use std::alloc::Global;
+use std::sync::Wait;
+
+/// The end of a link that letters are put in, closed or not.
+#[derive(Drop)]
+pub enum TxEnd<Tx, ClosedTx> {
+    /// More letters may be put in it.
+    Live(Tx),
+    /// Close was put in it.
+    Shut(ClosedTx),
+}
+
+/// A kind of links. A link has two ends, which may be in two threads: what is put in the one is taken from the other, in
+/// order and each letter once. A link holds at most four letters that were put and not yet taken. Ends may be dropped.
+pub trait Lane: Send {
+    /// The end that letters are put in.
+    type Tx: Drop + Send;
+
+    /// The end that letters were put in, after Close was.
+    type ClosedTx: Drop + Send;
+
+    /// The end that letters are taken from.
+    type Rx: Drop + Send;
+
+    // What tells one link from every other.
+    ghost Identity: { Type 0 };
+
+    // The ends as contracts see them: their link, and all that was put in them or taken from them.
+    ghost seen_tx: { Self.Tx → SeenEnd Identity };
+
+    ghost seen_closed: { Self.ClosedTx → SeenEnd Identity };
+
+    ghost seen_rx: { Self.Rx → SeenEnd Identity };
+
+    /// The two ends of a new link of edge `edge`, in which the site `from` puts. Nothing was put in it yet.
+    ///
+    /// Fails where memory is refused.
+    fn pair(alloc: Global, edge: u32, from: u32) -> Result<(Self::Tx, Self::Rx), LinkFault>
+        ensures pair { IfOk result (λ ends. (seen_rx ends.1).link ≡ (seen_tx ends.0).link) }
+        ensures name { IfOk result (λ ends. ((seen_tx ends.0).link.edge ≡ edge) × ((seen_tx ends.0).link.from ≡ from)) }
+        ensures empty { IfOk result (λ ends. ((seen_tx ends.0).letters ≡ []) × ((seen_rx ends.1).letters ≡ [])) };
+
+    /// Puts a letter other than Close. It may wait, where the link is full.
+    ///
+    /// Where the link refuses it, the letter is handed back and nothing was put.
+    fn put<R: Wait>(rt: &R, tx: &mut Self::Tx, letter: Letter) -> Result<(), (Letter, Lost)>
+        requires letter { is_close letter ≡ false }
+        requires room { length (seen_tx tx.old).letters < 2 ^ 61 }
+        ensures { MatchResult result (λ _. seen_tx tx.new ≡ with_letter letter (seen_tx tx.old)) (λ refused. (refused.0 ≡ letter) × (seen_tx tx.new ≡ seen_tx tx.old)) };
+
+    /// Puts Close, after which nothing can be put. It may wait, where the link is full.
+    ///
+    /// Where the link refuses it, the end is handed back as it was.
+    fn close<R: Wait>(rt: &R, tx: Self::Tx) -> Result<Self::ClosedTx, (Self::Tx, Lost)>
+        requires room { length (seen_tx tx).letters < 2 ^ 61 }
+        ensures { MatchResult result (λ closed. seen_closed closed ≡ with_letter Close (seen_tx tx)) (λ refused. seen_tx refused.0 ≡ seen_tx tx) };
+
+    /// Takes the next letter. It may wait, where the link is empty. Close must not have been taken.
+    ///
+    /// Where the link refuses it, nothing was taken.
+    fn take<R: Wait>(rt: &R, rx: &mut Self::Rx) -> Result<Letter, Lost>
+        requires open { has_close (seen_rx rx.old).letters ≡ false }
+        requires room { length (seen_rx rx.old).letters < 2 ^ 61 }
+        ensures { MatchResult result (λ letter. seen_rx rx.new ≡ with_letter letter (seen_rx rx.old)) (λ _. seen_rx rx.new ≡ seen_rx rx.old) };
+
+    /// Whether Close was taken.
+    fn is_closed(rx: &Self::Rx) -> bool
+        ensures { result ≡ has_close (seen_rx rx.now).letters };
+
+    /// Brings the two ends of one link together: what was taken is a prefix of what was put, and all of it where Close
+    /// was taken. Nothing was put behind Close.
+    fn reconcile(tx: TxEnd<Self::Tx, Self::ClosedTx>, rx: Self::Rx) -> LinkEnd
+        requires pair { (seen_rx rx).link ≡ (seen_end seen_tx seen_closed tx).link }
+        ensures lists { result ≡ link_of (seen_end seen_tx seen_closed tx) (seen_rx rx) }
+        ensures prefix { IsLink result }
+        ensures whole { has_close (seen_rx rx).letters ≡ true → result.taken ≡ result.put }
+        ensures close_last { is_close_last result.put ≡ true };
+}

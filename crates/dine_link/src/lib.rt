@@ -1,0 +1,17 @@
+//! Links: letters in order from one site to one other, whichever threads these run in.
+#![tactic(auto)]
+
+mod channel;
+mod closing;
+mod faults;
+mod lane;
+mod link_end;
+mod rule;
+#[cfg(test)]
+mod tests;
+mod waiting;
+
+pub use channel::{ChannelClosedTx, ChannelLane, ChannelRx, ChannelTx};
+pub use faults::{LinkFault, Lost};
+pub use lane::{Lane, TxEnd};
+pub use link_end::LinkEnd;

@@ -1,0 +1,85 @@
+// The rule of a link's channel, and the steps that its passes may do. A pass is a token without bytes, and what it knows
+// exists in proofs alone.
+use crossbeam_channel::protocol::{Join, Lesson, Outcome, Protocol, Split};
+use dine_rules::Letter;
+use std::collections::LinkedList;
+
+// What a pass knows: whether it may put, whether it may take, and the letters that were put and taken by it. No value of
+// it is made.
+pub struct Known {
+    pub puts: bool,
+    pub takes: bool,
+    pub put: LinkedList<Letter>,
+    pub taken: LinkedList<Letter>,
+}
+
+// What was put is what was taken, and then what the channel holds.
+pub struct InOrder;
+
+impl Protocol<Letter, Known> for InOrder {
+    ghost use Rattle.dine_link.specs.Rule.{IsInOrder, fresh};
+
+    ghost holds = { IsInOrder };
+
+    ghost first = { fresh };
+}
+
+// One end puts and the other takes.
+pub struct Ends;
+
+impl Split<Known> for Ends {
+    ghost use Rattle.dine_link.specs.Rule.{putting, taking};
+
+    ghost left = { putting };
+
+    ghost right = { taking };
+}
+
+impl Join<Known> for Ends {
+    ghost use Rattle.dine_link.specs.Rule.{both, spent};
+
+    ghost both = { both };
+
+    ghost spent = { spent };
+}
+
+// A send adds its letter to what was put.
+pub struct Puts;
+
+impl Outcome<Letter, Known> for Puts {
+    ghost use Rattle.std.specs.Prelude.{◌≡◌};
+    ghost use Rattle.dine_link.specs.Rule.{after_put};
+
+    ghost then = { λ before letter after. after ≡ after_put before letter };
+}
+
+impl Lesson<Letter, Known> for Puts {
+    ghost use Rattle.std.specs.Prelude.{⊤};
+
+    ghost fact = { λ view queue. ⊤ };
+}
+
+// A receive adds the letter that it gives to what was taken.
+pub struct Takes;
+
+impl Outcome<Letter, Known> for Takes {
+    ghost use Rattle.std.specs.Prelude.{◌≡◌};
+    ghost use Rattle.dine_link.specs.Rule.{after_take};
+
+    ghost then = { λ before letter after. after ≡ after_take before letter };
+}
+
+impl Lesson<Letter, Known> for Takes {
+    ghost use Rattle.std.specs.Prelude.{⊤};
+
+    ghost fact = { λ view queue. ⊤ };
+}
+
+// Who may put and take learns that the rest of what was put lies in the channel.
+pub struct Reconciles;
+
+impl Lesson<Letter, Known> for Reconciles {
+    ghost use Rattle.std.specs.Prelude.{◌≡◌, ◌++◌};
+
+    ghost fact = { λ view queue. view.put ≡ view.taken ++ queue };
+}

@@ -1,0 +1,1 @@
+// Letters over links, in one thread and between two.
