@@ -68,7 +68,7 @@ module _ (plan : SeenPlan) (s i j : ℕ) (near far : LocalState) (going : List L
     hand_has_theirs one =
         let alone = alone_first (fork_at plan s near i) (forks_in coming) (fork_at plan (neighbour_at plan s i) far j) (forks_in going) (one_fork plan s i (neighbour_at plan s i) j near far coming going ends) one in
         meals_of-with_meals_other (neighbour_at plan s i) s _ (last_log_or [] (traffic_at near i).taken) ends.differ
-        ∙ ap (λ (l : List Entry). meals_of (neighbour_at plan s i) l) (sym (last_put_is_taken alone.0)) ∙ keeps_there.all_sent alone.1
+        ∙ ap (λ (l : List Entry). meals_of (neighbour_at plan s i) l) (sym (last_put_is_taken alone.0)) ∙ keeps_there.put_chained.last alone.1
 
     -- Done taken here was put there, and so the other end ate all its meals
     done_there : has_done (traffic_at near i).taken ≡ true → has_done (traffic_at far j).put ≡ true
@@ -166,7 +166,7 @@ module _ (plan : SeenPlan) (s i j : ℕ) (near far : LocalState) (going : List L
         let some : 1 ≤ forks_in (traffic_at far j).put = omega (arith, forks_coming plan s i (neighbour_at plan s i) j near far forks going ends) in
         subst (IsSent s (meals_of s (last_log_or [] (traffic_at far j).taken))) fork_is_last
         (subst (λ (to : ℕ). IsSent to (meals_of to (last_log_or [] (traffic_at far j).taken)) (last_log_or [] (traffic_at far j).put)) ends.back
-        (last_sent (neighbour_at plan s i) (neighbour_at plan (neighbour_at plan s i) j) (is_lower_at plan (neighbour_at plan s i) j) (traffic_at far j) (λ same. ends.differ (sym (same ∙ ends.back))) (keeps_there forks ends).put_chained away some))
+        (last_sent plan (neighbour_at plan s i) (edge_at plan (neighbour_at plan s i) j) far.ate (traffic_at far j) (λ same. ends.differ (sym (same ∙ ends.back))) (keeps_there forks ends).put_chained away some))
 
     -- its log ends here
     fork_ends_here : was_sent_to (lo_of plan (edge_at plan s i)) s fork.log ≡ true
@@ -178,11 +178,11 @@ module _ (plan : SeenPlan) (s i j : ℕ) (near far : LocalState) (going : List L
     -- it has the meals that this site put into it, and no others of it
     fork_has_ours : meals_of s fork.log ≡ near.ate
     fork_has_ours = ap (meals_of s) fork_sent.is ∙ meals_of-push_move s fork_sent.before s ∙ fork_sent.meals_are
-        ∙ ap (meals_of s) (sym (last_taken_is_put forks ends fork_places.3)) ∙ (keeps_here forks ends).all_sent fork_places.0
+        ∙ ap (meals_of s) (sym (last_taken_is_put forks ends fork_places.3)) ∙ (keeps_here forks ends).put_chained.last fork_places.0
 
     -- and all meals of the other end
     fork_has_theirs : meals_of (neighbour_at plan s i) fork.log ≡ far.ate
-    fork_has_theirs = ap (meals_of (neighbour_at plan s i)) (sym fork_is_last) ∙ (keeps_there forks ends).all_sent fork_places.2
+    fork_has_theirs = ap (meals_of (neighbour_at plan s i)) (sym fork_is_last) ∙ (keeps_there forks ends).put_chained.last fork_places.2
 
     -- where Done came before it, it has all meals that are due to the other end
     fork_after_done : (not (has_done (traffic_at near i).taken) || has_all_of_neighbour plan s near i fork.log) ≡ true

@@ -116,6 +116,12 @@ slice_get-push [] x y (suc k) h = absurd cc
 slice_get-push (z ∷ xs) x y zero h = inl h
 slice_get-push (z ∷ xs) x y (suc k) h = elim (slice_get-push xs x y k h) [ inl w ↦ inl w | inr w ↦ inr (omega (arith, w.0), w.1) ]
 
+-- an element of the first of two lists is one of both
+pub slice_get-before : {X : Type 0} (xs ys : List X) (y : X) (k : ℕ) → slice_get xs k ≡ Some y → slice_get (xs ++ ys) k ≡ Some y
+slice_get-before [] ys y k h = absurd cc
+slice_get-before (x ∷ xs) ys y zero h = h
+slice_get-before (x ∷ xs) ys y (suc k) h = slice_get-before xs ys y k h
+
 -- ---- turns
 
 pub forks_in_turn : (fork_next : Bool) (xs : List Letter) → is_alternating fork_next xs ≡ true → (forks_in xs ≤ cond fork_next 1 0 + requests_in xs) × (cond fork_next 1 0 + requests_in xs ≤ forks_in xs + 1)

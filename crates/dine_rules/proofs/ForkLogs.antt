@@ -80,7 +80,7 @@ module _ (plan : SeenPlan) (is_plan : IsPlan plan) (world : WorldState) (kept : 
         let none : fork_at plan other (state_of world other) other_place ≡ 0 = omega (arith, held, fork_of_place plan is_plan world kept s i is_site within) in
         meals_of-with_meals_other other s _ (last_log_or [] (traffic_at (state_of world s) i).taken) (λ same. neighbour_differs plan s i (placed plan s i is_plan within) (sym same))
         ∙ ap (λ (l : List Letter). meals_of other (last_log_or [] l)) (complete.all_taken s i is_site within)
-        ∙ there.all_sent none ∙ complete.all_ate other over.is_site
+        ∙ there.put_chained.last none ∙ complete.all_ate other over.is_site
 
     -- so the log in hand has all meals of both
     held_whole : fork_at plan s (state_of world s) i ≡ 1 → HasAllMeals plan s other (hand_at s (state_of world s) i)

@@ -1,6 +1,6 @@
 -- What a site keeps at one place, and each change of the place.
 use Rattle.std.proofs.Common.{◌≡◌, ℕ, ◌+◌, ◌-◌, ◌<◌, Bool, true, false, cond, ◌&&◌, ◌||◌, ◌==◌, List, [], ◌∷◌, ◌++◌, length, slice_get, Some, refl, sym, ◌∙◌, ap, ap₂, subst, inl, inr, arith, append-nil}
-use Rattle.std.proofs.lemmas.Bool.{false≢true, and_parts, not-true, cond-true, cond-false, eqb-true, eq-eqb, false_from_ne_true, and_from}
+use Rattle.std.proofs.lemmas.Bool.{false≢true, and_parts, not-true, cond-true, cond-false, eqb-true, eq-eqb, false_from_ne_true, and_from, or_left}
 use Rattle.std.proofs.lemmas.List.{length_push}
 use Rattle.dine_token.specs.declared.entry.Entry.{Entry}
 use Rattle.dine_token.specs.declared.entry.Entry.TheVariants.{Move}
@@ -15,8 +15,9 @@ use Rattle.dine_rules.specs.Letters.{forks_in, requests_in, has_done, has_close,
 use Rattle.dine_rules.specs.Local.{is_thinking, is_hungry}
 use Rattle.dine_rules.specs.Holdings.{with_meals_to}
 use Rattle.dine_rules.specs.Breach.{was_sent_to}
-use Rattle.dine_rules.specs.Streams.{is_alternating, is_done_last, is_close_last, logs_of}
-use Rattle.dine_rules.proofs.Counting.{forks_in-append, requests_in-append, has_done-append, last_log_or-append, logs_of-append, slice_get-push, is_alternating-push_fork, is_alternating-push_request, is_alternating-push_done, is_alternating-push_close, is_done_last-push_other, is_done_last-push_first, is_close_last-push, or_false}
+use Rattle.dine_rules.specs.Streams.{IsLawfulStream, AreRequestsOf, is_orderly, logs_of}
+use Rattle.dine_rules.proofs.Counting.{forks_in-append, requests_in-append, has_done-append, has_close-append, last_log_or-append, logs_of-append, slice_get-push, or_false}
+use Rattle.dine_rules.proofs.Turns.{is_orderly-push_other, is_orderly-push_close, stream-push_fork, stream-push_request, stream-push_done, stream-push_close}
 use Rattle.dine_rules.proofs.Held.{Spot, IsSpot, Counts, Counts-give, Counts-ask, Counts-take_fork, Counts-take_request, Held, Held-along, Held-give, Held-ask, Held-take_fork, Held-take_request, Held-begin, Held-phase, given_lawful}
 use Rattle.dine_rules.proofs.Chains.{Chained, IsLastTaken, IsLastTaken-push, Chained-give, Chained-take}
 
@@ -126,8 +127,7 @@ module _ (spot : Spot) (phase : Phase) (ate : ℕ) (put taken : List Letter) whe
         held = Held-along spot phase ate 1 0 (requests_in put) _ _ _ _ _ _ _ (omega (arith, b.counts.forks_counted)) (sym no_token) refl refl refl
             (Held-take_fork spot phase ate (requests_in put) (last_log_or [] put) (last_log_or [] taken) fork.log
             (Held-along spot phase ate _ _ (requests_in put) _ _ _ _ _ _ _ no_fork no_token refl refl refl b.held) lawful here clean all);
-        chained = Chained-take spot.site spot.other spot.lower (logs_of put) (logs_of taken) fork.log b.chained
-            (λ low. omega (arith, cond-true {A = ℕ} spot.lower 1 0 low, b.puts, b.takes, b.counts.forks_counted)) (λ high. omega (arith, cond-false {A = ℕ} spot.lower 1 0 high, b.puts, b.takes, b.counts.forks_counted));
+        chained = Chained-take spot.site spot.other spot.lower (logs_of put) (logs_of taken) fork.log b.chained;
         last_is = IsLastTaken-push (logs_of taken) fork.log clean;
         puts = b.puts;
         takes = omega (arith, length_push (logs_of taken) fork.log, b.takes);
@@ -216,17 +216,31 @@ fork_is_at spot fork same_edge same_ends same_due lawful = (
   subst (λ (d : ℕ × ℕ). IsLawful fork.ends d fork.log) (sym same_due) (subst (λ (e : ℕ × ℕ). IsLawful e spot.due fork.log) (sym same_ends) lawful),
 )
 
-pub record Keeps (spot : Spot) (phase : Phase) (ate : ℕ) (put taken : List Letter) : Type 0 where
-  pub balanced : BalancedBy spot phase ate put taken
-  pub put_alternating : is_alternating spot.lower put ≡ true
-  pub done_last : is_done_last put ≡ true
-  pub close_last : is_close_last put ≡ true
-  pub put_forks : EachFork (IsForkAt spot) put
-  pub taken_alternating : is_alternating spot.higher taken ≡ true
-  pub taken_forks : EachFork (IsForkAt spot) taken
-  pub forks_come_here : EachFork (λ fork. was_sent_to spot.ends.0 spot.site fork.log ≡ true) taken
+-- what a site keeps of the letters that it put at a place
+pub record Puts (spot : Spot) (phase : Phase) (ate : ℕ) (put : List Letter) : Type 0 where
+  pub lawful : IsLawfulStream spot.lower put
+  pub forks : EachFork (IsForkAt spot) put
+  pub requests : AreRequestsOf spot.edge put
   pub done_after_all : has_done put ≡ true → ate ≡ spot.due_here
   pub done_thinks : has_done put ≡ true → is_thinking phase ≡ true
+
+-- the fork was sent to the site of the place
+abbrev pub ComesHere : Spot → SeenFork → Type 0
+ComesHere spot fork = was_sent_to spot.ends.0 spot.site fork.log ≡ true
+
+-- what a site keeps of the letters that it took at a place
+pub record Takes (spot : Spot) (put taken : List Letter) : Type 0 where
+  pub lawful : IsLawfulStream spot.higher taken
+  pub orderly : is_orderly taken ≡ true
+  pub forks : EachFork (IsForkAt spot) taken
+  pub requests : AreRequestsOf spot.edge taken
+  pub come_here : EachFork (ComesHere spot) taken
+  pub closed_after : has_close taken ≡ true → has_done put ≡ true
+
+pub record Keeps (spot : Spot) (phase : Phase) (ate : ℕ) (put taken : List Letter) : Type 0 where
+  pub balanced : BalancedBy spot phase ate put taken
+  pub puts : Puts spot phase ate put
+  pub takes : Takes spot put taken
 
 -- one phase at a time
 pub hungry_not_thinking : (phase : Phase) → is_hungry phase ≡ true → is_thinking phase ≡ true → ⊥
@@ -234,160 +248,172 @@ hungry_not_thinking Thinking h t = false≢true h
 hungry_not_thinking Hungry h t = false≢true t
 hungry_not_thinking Eating h t = false≢true h
 
-module _ (spot : Spot) (phase : Phase) (ate : ℕ) (put taken : List Letter) where
-  -- Done was put only if it was put before, or is the letter
-  done_before : (l : Letter) → has_done (l ∷ []) ≡ false → has_done (put ++ l ∷ []) ≡ true → has_done put ≡ true
-  done_before l no_done h = sym (has_done-append put (l ∷ []) ∙ ap (λ (b : Bool). has_done put || b) no_done ∙ or_false (has_done put)) ∙ h
+-- Done was put only if it was put before, or is the letter
+done_before : (xs : List Letter) (l : Letter) → has_done (l ∷ []) ≡ false → has_done (xs ++ l ∷ []) ≡ true → has_done xs ≡ true
+done_before xs l no_done h = sym (has_done-append xs (l ∷ []) ∙ ap (λ (b : Bool). has_done xs || b) no_done ∙ or_false (has_done xs)) ∙ h
 
+-- and so it is of Close
+close_before : (xs : List Letter) (l : Letter) → has_close (l ∷ []) ≡ false → has_close (xs ++ l ∷ []) ≡ true → has_close xs ≡ true
+close_before xs l no_close h = sym (has_close-append xs (l ∷ []) ∙ ap (λ (b : Bool). has_close xs || b) no_close ∙ or_false (has_close xs)) ∙ h
+
+-- each Request with one more names the edge
+requests-push : (edge : ℕ) (xs : List Letter) (l : Letter) → AreRequestsOf edge xs → ((e : ℕ) → l ≡ Request e → e ≡ edge) → AreRequestsOf edge (xs ++ l ∷ [])
+requests-push edge xs l each last k e h = elim (slice_get-push xs l (Request e) k h) [
+  | inl before ↦ each k e before
+  | inr now ↦ last e now.1
+]
+
+module _ (spot : Spot) (phase : Phase) (ate : ℕ) (put : List Letter) where
+  -- a letter that is not Done is put
+  puts_other : (l : Letter) → has_done (l ∷ []) ≡ false → ((fork : SeenFork) → l ≡ Fork fork → IsForkAt spot fork) → ((e : ℕ) → l ≡ Request e → e ≡ spot.edge)
+      → IsLawfulStream spot.lower (put ++ l ∷ []) → Puts spot phase ate put → Puts spot phase ate (put ++ l ∷ [])
+  puts_other l no_done own named lawful k = record {
+    lawful = lawful;
+    forks = EachFork-push (IsForkAt spot) put l k.forks own;
+    requests = requests-push spot.edge put l k.requests named;
+    done_after_all = λ h. k.done_after_all (done_before put l no_done h);
+    done_thinks = λ h. k.done_thinks (done_before put l no_done h);
+  }
+
+  puts_done : IsLawfulStream spot.lower (put ++ Done ∷ []) → is_thinking phase ≡ true → ate ≡ spot.due_here → Puts spot phase ate put → Puts spot phase ate (put ++ Done ∷ [])
+  puts_done lawful thinks all k = record {
+    lawful = lawful;
+    forks = EachFork-push (IsForkAt spot) put Done k.forks (λ other is. absurd cc);
+    requests = requests-push spot.edge put Done k.requests (λ e is. absurd cc);
+    done_after_all = λ _. all;
+    done_thinks = λ _. thinks;
+  }
+
+  -- another phase or number of meals, where Done still says the same
+  puts_still : (new_phase : Phase) (meals : ℕ) → (has_done put ≡ true → (meals ≡ spot.due_here) × (is_thinking new_phase ≡ true)) → Puts spot phase ate put → Puts spot new_phase meals put
+  puts_still new_phase meals still k = record {
+    lawful = k.lawful;
+    forks = k.forks;
+    requests = k.requests;
+    done_after_all = λ h. (still h).0;
+    done_thinks = λ h. (still h).1;
+  }
+
+module _ (spot : Spot) (put taken : List Letter) where
+  -- what is put changes nothing of what was taken
+  takes_still : (l : Letter) → Takes spot put taken → Takes spot (put ++ l ∷ []) taken
+  takes_still l k = record {
+    lawful = k.lawful;
+    orderly = k.orderly;
+    forks = k.forks;
+    requests = k.requests;
+    come_here = k.come_here;
+    closed_after = λ h. has_done-append put (l ∷ []) ∙ or_left (has_done put) (has_done (l ∷ [])) (k.closed_after h);
+  }
+
+  -- a letter that is not Close is taken
+  takes_other : (l : Letter) → has_close (l ∷ []) ≡ false → ((fork : SeenFork) → l ≡ Fork fork → IsForkAt spot fork × ComesHere spot fork) → ((e : ℕ) → l ≡ Request e → e ≡ spot.edge)
+      → IsLawfulStream spot.higher (taken ++ l ∷ []) → Takes spot put taken → Takes spot put (taken ++ l ∷ [])
+  takes_other l no_close own named lawful k = record {
+    lawful = lawful;
+    orderly = is_orderly-push_other taken l no_close k.orderly;
+    forks = EachFork-push (IsForkAt spot) taken l k.forks (λ fork is. (own fork is).0);
+    requests = requests-push spot.edge taken l k.requests named;
+    come_here = EachFork-push (ComesHere spot) taken l k.come_here (λ fork is. (own fork is).1);
+    closed_after = λ h. k.closed_after (close_before taken l no_close h);
+  }
+
+  takes_close : has_close taken ≡ false → has_done taken ≡ true → has_done put ≡ true → Takes spot put taken → Takes spot put (taken ++ Close ∷ [])
+  takes_close is_open done done_put k = record {
+    lawful = stream-push_close spot.higher taken k.lawful is_open;
+    orderly = is_orderly-push_close taken done k.orderly;
+    forks = EachFork-push (IsForkAt spot) taken Close k.forks (λ other is. absurd cc);
+    requests = requests-push spot.edge taken Close k.requests (λ e is. absurd cc);
+    come_here = EachFork-push (ComesHere spot) taken Close k.come_here (λ other is. absurd cc);
+    closed_after = λ _. done_put;
+  }
+
+module _ (spot : Spot) (phase : Phase) (ate : ℕ) (put taken : List Letter) where
   pub Keeps-give : IsSpot spot → Keeps spot phase ate put taken → fork_here spot put taken ≡ 1 → token_here spot put taken ≡ 1 → is_dirty (hand_here spot ate taken) ≡ true → has_close put ≡ false
       → (fork : SeenFork) → fork.edge ≡ spot.edge → fork.ends ≡ spot.ends → fork.due ≡ spot.due → fork.log ≡ hand_here spot ate taken ++ Move spot.other ∷ []
       → Keeps spot phase ate (put ++ Fork fork ∷ []) taken
   Keeps-give is_spot k one_fork one_token dirty is_open fork same_edge same_ends same_due is_log =
       let held = Held-along spot phase ate _ _ (requests_in put) _ _ _ _ _ _ _ one_fork one_token refl refl refl k.balanced.held in
       let lawful = given_lawful spot phase ate (requests_in put) (last_log_or [] put) (last_log_or [] taken) is_spot held dirty in
+      let own : IsForkAt spot fork = fork_is_at spot fork same_edge same_ends same_due (subst (λ (l : List Entry). IsLawful spot.ends spot.due l) (sym is_log) lawful) in
       record {
         balanced = Balanced-give spot phase ate put taken is_spot k.balanced one_fork one_token dirty fork is_log;
-        put_alternating = is_alternating-push_fork spot.lower put fork k.put_alternating (omega (arith, k.balanced.counts));
-        done_last = is_done_last-push_other put (Fork fork) refl refl k.done_last;
-        close_last = is_close_last-push put (Fork fork) is_open;
-        put_forks = EachFork-push (IsForkAt spot) put (Fork fork) k.put_forks (λ other is. subst (IsForkAt spot) (same_fork fork other is) (fork_is_at spot fork same_edge same_ends same_due (subst (λ (l : List Entry). IsLawful spot.ends spot.due l) (sym is_log) lawful)));
-        taken_alternating = k.taken_alternating;
-        taken_forks = k.taken_forks;
-        forks_come_here = k.forks_come_here;
-        done_after_all = λ h. k.done_after_all (done_before (Fork fork) refl h);
-        done_thinks = λ h. k.done_thinks (done_before (Fork fork) refl h);
+        puts = puts_other spot phase ate put (Fork fork) refl (λ other is. subst (IsForkAt spot) (same_fork fork other is) own) (λ e is. absurd cc)
+            (stream-push_fork spot.lower put fork k.puts.lawful is_open (omega (arith, k.balanced.counts))) k.puts;
+        takes = takes_still spot put taken (Fork fork) k.takes;
       }
 
   pub Keeps-ask : Keeps spot phase ate put taken → fork_here spot put taken ≡ 0 → token_here spot put taken ≡ 1 → is_hungry phase ≡ true → has_close put ≡ false
-      → (edge : ℕ) → Keeps spot phase ate (put ++ Request edge ∷ []) taken
-  Keeps-ask k no_fork one_token hungry is_open edge = record {
-    balanced = Balanced-ask spot phase ate put taken k.balanced no_fork one_token hungry edge;
-    put_alternating = is_alternating-push_request spot.lower put edge k.put_alternating (omega (arith, k.balanced.counts));
-    done_last = is_done_last-push_first put (Request edge) (false_from_ne_true (has_done put) (λ h. hungry_not_thinking phase hungry (k.done_thinks h)));
-    close_last = is_close_last-push put (Request edge) is_open;
-    put_forks = EachFork-push (IsForkAt spot) put (Request edge) k.put_forks (λ other is. absurd cc);
-    taken_alternating = k.taken_alternating;
-    taken_forks = k.taken_forks;
-    forks_come_here = k.forks_come_here;
-    done_after_all = λ h. k.done_after_all (done_before (Request edge) refl h);
-    done_thinks = λ h. k.done_thinks (done_before (Request edge) refl h);
+      → Keeps spot phase ate (put ++ Request spot.edge ∷ []) taken
+  Keeps-ask k no_fork one_token hungry is_open = record {
+    balanced = Balanced-ask spot phase ate put taken k.balanced no_fork one_token hungry spot.edge;
+    puts = puts_other spot phase ate put (Request spot.edge) refl (λ other is. absurd cc) (λ e is. cc)
+        (stream-push_request spot.lower put spot.edge k.puts.lawful is_open (false_from_ne_true (has_done put) (λ h. hungry_not_thinking phase hungry (k.puts.done_thinks h))) (omega (arith, k.balanced.counts))) k.puts;
+    takes = takes_still spot put taken (Request spot.edge) k.takes;
   }
 
   pub Keeps-done : Keeps spot phase ate put taken → is_thinking phase ≡ true → ate ≡ spot.due_here → has_done put ≡ false → has_close put ≡ false
       → Keeps spot phase ate (put ++ Done ∷ []) taken
   Keeps-done k thinks all no_done is_open = record {
     balanced = Balanced-put_mark spot phase ate put taken Done refl refl (λ log. refl) refl k.balanced;
-    put_alternating = is_alternating-push_done spot.lower put ∙ k.put_alternating;
-    done_last = is_done_last-push_first put Done no_done;
-    close_last = is_close_last-push put Done is_open;
-    put_forks = EachFork-push (IsForkAt spot) put Done k.put_forks (λ other is. absurd cc);
-    taken_alternating = k.taken_alternating;
-    taken_forks = k.taken_forks;
-    forks_come_here = k.forks_come_here;
-    done_after_all = λ _. all;
-    done_thinks = λ _. thinks;
+    puts = puts_done spot phase ate put (stream-push_done spot.lower put k.puts.lawful is_open no_done) thinks all k.puts;
+    takes = takes_still spot put taken Done k.takes;
   }
 
   pub Keeps-close : Keeps spot phase ate put taken → has_close put ≡ false → Keeps spot phase ate (put ++ Close ∷ []) taken
   Keeps-close k is_open = record {
     balanced = Balanced-put_mark spot phase ate put taken Close refl refl (λ log. refl) refl k.balanced;
-    put_alternating = is_alternating-push_close spot.lower put ∙ k.put_alternating;
-    done_last = is_done_last-push_other put Close refl refl k.done_last;
-    close_last = is_close_last-push put Close is_open;
-    put_forks = EachFork-push (IsForkAt spot) put Close k.put_forks (λ other is. absurd cc);
-    taken_alternating = k.taken_alternating;
-    taken_forks = k.taken_forks;
-    forks_come_here = k.forks_come_here;
-    done_after_all = λ h. k.done_after_all (done_before Close refl h);
-    done_thinks = λ h. k.done_thinks (done_before Close refl h);
+    puts = puts_other spot phase ate put Close refl (λ other is. absurd cc) (λ e is. absurd cc) (stream-push_close spot.lower put k.puts.lawful is_open) k.puts;
+    takes = takes_still spot put taken Close k.takes;
   }
 
-  pub Keeps-take_fork : Keeps spot phase ate put taken → fork_here spot put taken ≡ 0 → token_here spot put taken ≡ 0
-      → (fork : SeenFork) → IsForkAt spot fork → was_sent_to spot.ends.0 spot.site fork.log ≡ true → meals_of spot.site fork.log ≡ ate
+  pub Keeps-take_fork : Keeps spot phase ate put taken → fork_here spot put taken ≡ 0 → token_here spot put taken ≡ 0 → has_close taken ≡ false
+      → (fork : SeenFork) → IsForkAt spot fork → ComesHere spot fork → meals_of spot.site fork.log ≡ ate
       → Keeps spot phase ate put (taken ++ Fork fork ∷ [])
-  Keeps-take_fork k no_fork no_token fork is_fork comes_here all =
+  Keeps-take_fork k no_fork no_token is_open fork is_fork comes_here all =
       let parts = and_parts _ _ comes_here in
+      let own : IsForkAt spot fork × ComesHere spot fork = (is_fork, comes_here) in
       record {
         balanced = Balanced-take_fork spot phase ate put taken k.balanced no_fork no_token fork (lawful_at spot fork is_fork) (eqb-true _ _ parts.1) (not-true _ parts.0) all;
-        put_alternating = k.put_alternating;
-        done_last = k.done_last;
-        close_last = k.close_last;
-        put_forks = k.put_forks;
-        taken_alternating = is_alternating-push_fork spot.higher taken fork k.taken_alternating (omega (arith, k.balanced.counts));
-        taken_forks = EachFork-push (IsForkAt spot) taken (Fork fork) k.taken_forks (λ other is. subst (IsForkAt spot) (same_fork fork other is) is_fork);
-        forks_come_here = EachFork-push (λ fork. was_sent_to spot.ends.0 spot.site fork.log ≡ true) taken (Fork fork) k.forks_come_here (λ other is. subst (λ (f : SeenFork). was_sent_to spot.ends.0 spot.site f.log ≡ true) (same_fork fork other is) comes_here);
-        done_after_all = k.done_after_all;
-        done_thinks = k.done_thinks;
+        puts = k.puts;
+        takes = takes_other spot put taken (Fork fork) refl (λ other is. subst (λ (f : SeenFork). IsForkAt spot f × ComesHere spot f) (same_fork fork other is) own) (λ e is. absurd cc)
+            (stream-push_fork spot.higher taken fork k.takes.lawful is_open (omega (arith, k.balanced.counts))) k.takes;
       }
 
-  pub Keeps-take_request : Keeps spot phase ate put taken → fork_here spot put taken ≡ 1 → token_here spot put taken ≡ 0 → meals_of spot.other (hand_here spot ate taken) < spot.due_there
-      → (edge : ℕ) → Keeps spot phase ate put (taken ++ Request edge ∷ [])
-  Keeps-take_request k one_fork no_token left edge = record {
+  pub Keeps-take_request : Keeps spot phase ate put taken → fork_here spot put taken ≡ 1 → token_here spot put taken ≡ 0 → meals_of spot.other (hand_here spot ate taken) < spot.due_there → has_close taken ≡ false → has_done taken ≡ false
+      → (edge : ℕ) → edge ≡ spot.edge → Keeps spot phase ate put (taken ++ Request edge ∷ [])
+  Keeps-take_request k one_fork no_token left is_open no_done edge names = record {
     balanced = Balanced-take_request spot phase ate put taken k.balanced one_fork no_token left edge;
-    put_alternating = k.put_alternating;
-    done_last = k.done_last;
-    close_last = k.close_last;
-    put_forks = k.put_forks;
-    taken_alternating = is_alternating-push_request spot.higher taken edge k.taken_alternating (omega (arith, k.balanced.counts));
-    taken_forks = EachFork-push (IsForkAt spot) taken (Request edge) k.taken_forks (λ other is. absurd cc);
-    forks_come_here = EachFork-push (λ fork. was_sent_to spot.ends.0 spot.site fork.log ≡ true) taken (Request edge) k.forks_come_here (λ other is. absurd cc);
-    done_after_all = k.done_after_all;
-    done_thinks = k.done_thinks;
+    puts = k.puts;
+    takes = takes_other spot put taken (Request edge) refl (λ other is. absurd cc) (λ e is. cc)
+        (stream-push_request spot.higher taken edge k.takes.lawful is_open no_done (omega (arith, k.balanced.counts))) k.takes;
   }
 
-  pub Keeps-take_done : Keeps spot phase ate put taken → Keeps spot phase ate put (taken ++ Done ∷ [])
-  Keeps-take_done k = record {
+  pub Keeps-take_done : Keeps spot phase ate put taken → has_close taken ≡ false → has_done taken ≡ false → Keeps spot phase ate put (taken ++ Done ∷ [])
+  Keeps-take_done k is_open no_done = record {
     balanced = Balanced-take_mark spot phase ate put taken Done refl refl (λ log. refl) refl k.balanced;
-    put_alternating = k.put_alternating;
-    done_last = k.done_last;
-    close_last = k.close_last;
-    put_forks = k.put_forks;
-    taken_alternating = is_alternating-push_done spot.higher taken ∙ k.taken_alternating;
-    taken_forks = EachFork-push (IsForkAt spot) taken Done k.taken_forks (λ other is. absurd cc);
-    forks_come_here = EachFork-push (λ fork. was_sent_to spot.ends.0 spot.site fork.log ≡ true) taken Done k.forks_come_here (λ other is. absurd cc);
-    done_after_all = k.done_after_all;
-    done_thinks = k.done_thinks;
+    puts = k.puts;
+    takes = takes_other spot put taken Done refl (λ other is. absurd cc) (λ e is. absurd cc) (stream-push_done spot.higher taken k.takes.lawful is_open no_done) k.takes;
   }
 
-  pub Keeps-take_close : Keeps spot phase ate put taken → Keeps spot phase ate put (taken ++ Close ∷ [])
-  Keeps-take_close k = record {
+  pub Keeps-take_close : Keeps spot phase ate put taken → has_close taken ≡ false → has_done taken ≡ true → has_done put ≡ true → Keeps spot phase ate put (taken ++ Close ∷ [])
+  Keeps-take_close k is_open done done_put = record {
     balanced = Balanced-take_mark spot phase ate put taken Close refl refl (λ log. refl) refl k.balanced;
-    put_alternating = k.put_alternating;
-    done_last = k.done_last;
-    close_last = k.close_last;
-    put_forks = k.put_forks;
-    taken_alternating = is_alternating-push_close spot.higher taken ∙ k.taken_alternating;
-    taken_forks = EachFork-push (IsForkAt spot) taken Close k.taken_forks (λ other is. absurd cc);
-    forks_come_here = EachFork-push (λ fork. was_sent_to spot.ends.0 spot.site fork.log ≡ true) taken Close k.forks_come_here (λ other is. absurd cc);
-    done_after_all = k.done_after_all;
-    done_thinks = k.done_thinks;
+    puts = k.puts;
+    takes = takes_close spot put taken is_open done done_put k.takes;
   }
 
   pub Keeps-begin : IsSpot spot → (new_phase : Phase) → Keeps spot phase ate put taken → is_hungry phase ≡ true → fork_here spot put taken ≡ 1 → ate < spot.due_here → Keeps spot new_phase (ate + 1) put taken
   Keeps-begin is_spot new_phase k hungry one_fork left = record {
     balanced = Balanced-begin spot phase ate put taken is_spot new_phase k.balanced one_fork left;
-    put_alternating = k.put_alternating;
-    done_last = k.done_last;
-    close_last = k.close_last;
-    put_forks = k.put_forks;
-    taken_alternating = k.taken_alternating;
-    taken_forks = k.taken_forks;
-    forks_come_here = k.forks_come_here;
-    done_after_all = λ h. absurd (hungry_not_thinking phase hungry (k.done_thinks h));
-    done_thinks = λ h. absurd (hungry_not_thinking phase hungry (k.done_thinks h));
+    puts = puts_still spot phase ate put new_phase (ate + 1) (λ h. absurd (hungry_not_thinking phase hungry (k.puts.done_thinks h))) k.puts;
+    takes = k.takes;
   }
 
   pub Keeps-phase : (new_phase : Phase) → Keeps spot phase ate put taken → (is_hungry phase ≡ true → is_hungry new_phase ≡ true) → (has_done put ≡ true → is_thinking phase ≡ true → is_thinking new_phase ≡ true)
       → Keeps spot new_phase ate put taken
   Keeps-phase new_phase k still_hungry still_thinks = record {
     balanced = Balanced-phase spot phase ate put taken new_phase k.balanced still_hungry;
-    put_alternating = k.put_alternating;
-    done_last = k.done_last;
-    close_last = k.close_last;
-    put_forks = k.put_forks;
-    taken_alternating = k.taken_alternating;
-    taken_forks = k.taken_forks;
-    forks_come_here = k.forks_come_here;
-    done_after_all = k.done_after_all;
-    done_thinks = λ h. still_thinks h (k.done_thinks h);
+    puts = puts_still spot phase ate put new_phase ate (λ h. (k.puts.done_after_all h, still_thinks h (k.puts.done_thinks h))) k.puts;
+    takes = k.takes;
   }

@@ -79,28 +79,19 @@ module _ (plan : SeenPlan) (s : ℕ) (state : LocalState) (keeps : KeepsStreams 
   abbrev put_logs : List (List Entry)
   put_logs = logs_of (traffic_at state i).put
 
-  abbrev taken_logs : List (List Entry)
-  taken_logs = logs_of (traffic_at state i).taken
-
-  -- the log taken before
-  before_at : (k : ℕ) → k < forks_in (traffic_at state i).taken → slice_get taken_logs k ≡ Some (get_or taken_logs k [])
-  before_at k h = slice_get-get_or taken_logs k [] (omega (arith, length-logs_of (traffic_at state i).taken))
-
   lower_went : is_lower_at plan s i ≡ true → (k : ℕ) (log : List Entry) → slice_get put_logs k ≡ Some log → k + 1 ≡ forks_in (traffic_at state i).put → CameTo lo (neighbour_at plan s i) log
   lower_went is_lower zero log at last =
       let w = (keeps.places i within).put_chained.first is_lower log at in
       came_by_move lo (neighbour_at plan s i) [] (meals_from s (meals_of s [] + 1) w.meals) log w.is
   lower_went is_lower (suc k) log at last =
       let next : slice_get put_logs (k + 1) ≡ Some log = ap (λ (n : ℕ). slice_get put_logs n) (omega arith) ∙ at in
-      let few : k < forks_in (traffic_at state i).taken = omega (arith, (keeps.places i within).forks_counted, cond-true {A = ℕ} (is_lower_at plan s i) 1 0 is_lower) in
-      let w = (keeps.places i within).put_chained.next is_lower k (get_or taken_logs k []) log (before_at k few) next in
-      came_by_move lo (neighbour_at plan s i) (get_or taken_logs k []) (meals_from s (meals_of s (get_or taken_logs k []) + 1) w.meals) log w.is
+      let w = (keeps.places i within).put_chained.next is_lower k log next in
+      came_by_move lo (neighbour_at plan s i) w.before (meals_from s (meals_of s w.before + 1) w.carries.meals) log w.carries.is
 
   higher_went : is_lower_at plan s i ≡ false → (k : ℕ) (log : List Entry) → slice_get put_logs k ≡ Some log → k + 1 ≡ forks_in (traffic_at state i).put → CameTo lo (neighbour_at plan s i) log
   higher_went is_higher k log at last =
-      let few : k < forks_in (traffic_at state i).taken = omega (arith, (keeps.places i within).forks_counted, cond-false {A = ℕ} (is_lower_at plan s i) 1 0 is_higher) in
-      let w = (keeps.places i within).put_chained.answers is_higher k (get_or taken_logs k []) log (before_at k few) at in
-      came_by_move lo (neighbour_at plan s i) (get_or taken_logs k []) (meals_from s (meals_of s (get_or taken_logs k []) + 1) w.meals) log w.is
+      let w = (keeps.places i within).put_chained.answers is_higher k log at in
+      came_by_move lo (neighbour_at plan s i) w.before (meals_from s (meals_of s w.before + 1) w.carries.meals) log w.carries.is
 
   -- the last Fork put went clean to the other end
   pub last_went : 1 ≤ forks_in (traffic_at state i).put → CameTo lo (neighbour_at plan s i) (last_log_or [] (traffic_at state i).put)

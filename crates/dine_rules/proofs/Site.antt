@@ -12,7 +12,7 @@ use Rattle.dine_rules.specs.Letters.{forks_in, requests_in, last_log_or}
 use Rattle.dine_rules.specs.Local.{LocalState, Traffic, no_traffic, traffic_at, start_of, edge_at, neighbour_at}
 use Rattle.dine_rules.specs.Holdings.{fork_at, token_at, hand_at, with_meals_to}
 use Rattle.dine_rules.specs.Breach.{was_sent_to}
-use Rattle.dine_rules.specs.Streams.{KeepsStreamsAt, KeepsStreams, ends_at_place, due_at_place, has_asked_since_meal, is_alternating, logs_of}
+use Rattle.dine_rules.specs.Streams.{KeepsStreamsAt, KeepsStreams, ends_at_place, due_at_place, has_asked_since_meal, IsLawfulStream, logs_of}
 use Rattle.dine_rules.proofs.Counting.{length-logs_of, last_log_or-none, last_log_or-some, last_log_or-at, forks_in_turn, none_or_some}
 use Rattle.dine_rules.proofs.Hands.{location_of-hand}
 use Rattle.dine_rules.proofs.Placed.{IsPlaced, placed}
@@ -140,9 +140,9 @@ module _ (plan : SeenPlan) (s : ℕ) (state : LocalState) (i : ℕ) where
   pub Keeps-from : IsPlaced plan s i → KeepsStreamsAt plan s state i → KeepsHere
   Keeps-from is_placed k =
       let is_spot = spot_is plan s i is_placed in
-      let taken_alternating = ap (λ (b : Bool). is_alternating b (traffic_at state i).taken) (sym (higher_is (spot_at plan s i) is_spot)) ∙ k.taken_alternating in
+      let taken_lawful = subst (λ (b : Bool). IsLawfulStream b (traffic_at state i).taken) (higher_is (spot_at plan s i) is_spot) k.taken_lawful in
       let puts = forks_in_turn (spot_at plan s i).lower (traffic_at state i).put k.put_lawful.alternating in
-      let takes = forks_in_turn (spot_at plan s i).higher (traffic_at state i).taken taken_alternating in
+      let takes = forks_in_turn (spot_at plan s i).higher (traffic_at state i).taken taken_lawful.alternating in
       record {
         balanced = record {
           counts = record {
@@ -167,34 +167,43 @@ module _ (plan : SeenPlan) (s : ℕ) (state : LocalState) (i : ℕ) where
             asks_once_more = asks_once _ _ (has_asked_since_meal plan s state i) k.requests_within;
             requests_within = asks_no_more _ _ (fork_at plan s state i) (token_at plan s state i) (is_dirty (hand_at s state i)) k.requests_within;
             last_within = k.last_within;
-            all_sent = k.all_sent;
+            all_sent = k.put_chained.last;
           };
           chained = record { first = k.put_chained.first; next = k.put_chained.next; answers = k.put_chained.answers };
           last_is = last_taken (lo_of plan (edge_at plan s i)) s (traffic_at state i).taken k.forks_come_here;
           puts = length-logs_of (traffic_at state i).put;
           takes = length-logs_of (traffic_at state i).taken;
         };
-        put_alternating = k.put_lawful.alternating;
-        done_last = k.put_lawful.done_last;
-        close_last = k.put_lawful.close_last;
-        put_forks = k.put_forks;
-        taken_alternating = taken_alternating;
-        taken_forks = k.taken_forks;
-        forks_come_here = k.forks_come_here;
-        done_after_all = k.done_after_all;
-        done_thinks = k.done_thinks;
+        puts = record {
+          lawful = k.put_lawful;
+          forks = k.put_forks;
+          requests = k.put_requests;
+          done_after_all = k.done_after_all;
+          done_thinks = k.done_thinks;
+        };
+        takes = record {
+          lawful = taken_lawful;
+          orderly = k.taken_orderly;
+          forks = k.taken_forks;
+          requests = k.taken_requests;
+          come_here = k.forks_come_here;
+          closed_after = k.closed_after;
+        };
       }
 
   pub Keeps-to : IsPlaced plan s i → KeepsHere → KeepsStreamsAt plan s state i
   Keeps-to is_placed k =
       let is_spot = spot_is plan s i is_placed in
       record {
-        put_lawful = record { alternating = k.put_alternating; done_last = k.done_last; close_last = k.close_last };
-        put_chained = record { first = k.balanced.chained.first; next = k.balanced.chained.next; answers = k.balanced.chained.answers };
-        put_forks = k.put_forks;
-        taken_alternating = ap (λ (b : Bool). is_alternating b (traffic_at state i).taken) (higher_is (spot_at plan s i) is_spot) ∙ k.taken_alternating;
-        taken_forks = k.taken_forks;
-        forks_come_here = k.forks_come_here;
+        put_lawful = k.puts.lawful;
+        put_chained = record { first = k.balanced.chained.first; next = k.balanced.chained.next; answers = k.balanced.chained.answers; last = k.balanced.held.all_sent };
+        put_forks = k.puts.forks;
+        put_requests = k.puts.requests;
+        taken_lawful = subst (λ (b : Bool). IsLawfulStream b (traffic_at state i).taken) (sym (higher_is (spot_at plan s i) is_spot)) k.takes.lawful;
+        taken_orderly = k.takes.orderly;
+        taken_forks = k.takes.forks;
+        taken_requests = k.takes.requests;
+        forks_come_here = k.takes.come_here;
         last_within = k.balanced.held.last_within;
         forks_counted = k.balanced.counts.forks_counted;
         tokens_counted = k.balanced.counts.tokens_counted ∙ ap (λ (x : ℕ). x + requests_in (traffic_at state i).taken) (sym (token_end (spot_at plan s i) is_spot));
@@ -207,9 +216,9 @@ module _ (plan : SeenPlan) (s : ℕ) (state : LocalState) (i : ℕ) where
         waiter_is_hungry = k.balanced.held.waiter_is_hungry;
         asker_has_left = k.balanced.held.asker_has_left;
         requests_within = asks_so_often _ _ (fork_at plan s state i) (token_at plan s state i) (is_dirty (hand_at s state i)) k.balanced.held.asks_once_more k.balanced.held.requests_within;
-        done_after_all = k.done_after_all;
-        done_thinks = k.done_thinks;
-        all_sent = k.balanced.held.all_sent;
+        done_after_all = k.puts.done_after_all;
+        done_thinks = k.puts.done_thinks;
+        closed_after = k.takes.closed_after;
       }
 
 -- ---- the start
@@ -246,20 +255,26 @@ Keeps-start spot is_spot =
           last_within = omega arith;
           all_sent = λ e. refl;
         };
-        chained = record { first = λ low log h. absurd cc; next = λ low k before log h. absurd cc; answers = λ high k before log h. absurd cc };
+        chained = record { first = λ low log h. absurd cc; next = λ low k log h. absurd cc; answers = λ high k log h. absurd cc };
         last_is = record { none = λ h. refl; at = λ k before h n. absurd cc; clean = λ h. absurd (omega arith) };
         puts = refl;
         takes = refl;
       };
-      put_alternating = refl;
-      done_last = refl;
-      close_last = refl;
-      put_forks = λ k fork h. absurd cc;
-      taken_alternating = refl;
-      taken_forks = λ k fork h. absurd cc;
-      forks_come_here = λ k fork h. absurd cc;
-      done_after_all = λ h. absurd (false≢true h);
-      done_thinks = λ h. absurd (false≢true h);
+      puts = record {
+        lawful = record { alternating = refl; done_last = refl; close_last = refl };
+        forks = λ k fork h. absurd cc;
+        requests = λ k e h. absurd cc;
+        done_after_all = λ h. absurd (false≢true h);
+        done_thinks = λ h. absurd (false≢true h);
+      };
+      takes = record {
+        lawful = record { alternating = refl; done_last = refl; close_last = refl };
+        orderly = refl;
+        forks = λ k fork h. absurd cc;
+        requests = λ k e h. absurd cc;
+        come_here = λ k fork h. absurd cc;
+        closed_after = λ h. absurd (false≢true h);
+      };
     }
 
 pub no_traffic_yet : (edges : List ℕ) (i : ℕ) → get_or (map (λ edge. no_traffic) edges) i no_traffic ≡ no_traffic

@@ -89,7 +89,7 @@ module _ (plan : SeenPlan) (s : ℕ) (state : LocalState) where
       let numbers = and_parts _ _ front.1 in
       changed_at is_plan keeps i within _
       (Keeps-ask (spot_at plan s i) state.phase state.ate (traffic_at state i).put (traffic_at state i).taken (keeps_at is_plan keeps i within)
-      (eqb-true _ _ numbers.1) (eqb-true _ _ numbers.0) front.0 (not-true _ needs.1) (edge_at plan s i))
+      (eqb-true _ _ numbers.1) (eqb-true _ _ numbers.0) front.0 (not-true _ needs.1))
 
   done_keeps : (i : ℕ) → IsPlan plan → KeepsStreams plan s state → may plan s state (Done i) ≡ true → KeepsStreams plan s (after plan s state (Done i))
   done_keeps i is_plan keeps h =
@@ -115,7 +115,7 @@ module _ (plan : SeenPlan) (s : ℕ) (state : LocalState) where
             let k = keeps_at is_plan keeps i within in
             Keeps-to plan s (record state { phase = phase.Hungry }) i (placed_at is_plan keeps i within)
             (Keeps-phase (spot_at plan s i) state.phase state.ate (traffic_at state i).put (traffic_at state i).taken phase.Hungry k (λ _. refl)
-            (λ done _. absurd (ate_all left (k.done_after_all done))));
+            (λ done _. absurd (ate_all left (k.puts.done_after_all done))));
         every_place = keeps.every_place;
         ate_within = keeps.ate_within;
         hungry_has_left = λ _. left;
@@ -158,32 +158,41 @@ module _ (plan : SeenPlan) (s : ℕ) (state : LocalState) where
   take_keeps i (letter.Fork fork) is_plan keeps is_proper h =
       let parts = and_parts _ _ h in
       let within : i < length state.traffic = ltb-true _ _ parts.0 in
-      let allowed = and_parts _ _ (and_parts _ _ parts.1).1 in
+      let letters = and_parts _ _ parts.1 in
+      let allowed = and_parts _ _ letters.1 in
       let rest = and_parts _ _ allowed.0 in
       let log = and_parts _ _ rest.1 in
       let front = and_parts _ _ rest.0 in
       let numbers = and_parts _ _ front.1 in
       changed_at is_plan keeps i within _
       (Keeps-take_fork (spot_at plan s i) state.phase state.ate (traffic_at state i).put (traffic_at state i).taken (keeps_at is_plan keeps i within)
-      (eqb-true _ _ numbers.0) (eqb-true _ _ numbers.1) fork (front.0, is_proper.lawful) log.0 (eqb-true _ _ log.1))
+      (eqb-true _ _ numbers.0) (eqb-true _ _ numbers.1) (not-true _ letters.0) fork (front.0, is_proper.lawful) log.0 (eqb-true _ _ log.1))
   take_keeps i (letter.Request edge) is_plan keeps is_proper h =
       let parts = and_parts _ _ h in
       let within : i < length state.traffic = ltb-true _ _ parts.0 in
-      let allowed = and_parts _ _ (and_parts _ _ parts.1).1 in
+      let letters = and_parts _ _ parts.1 in
+      let allowed = and_parts _ _ letters.1 in
       let front = and_parts _ _ allowed.0 in
       let numbers = and_parts _ _ front.1 in
       let rest = and_parts _ _ allowed.1 in
       changed_at is_plan keeps i within _
       (Keeps-take_request (spot_at plan s i) state.phase state.ate (traffic_at state i).put (traffic_at state i).taken (keeps_at is_plan keeps i within)
-      (eqb-true _ _ numbers.1) (eqb-true _ _ numbers.0) (ltb-true _ _ rest.1) edge)
+      (eqb-true _ _ numbers.1) (eqb-true _ _ numbers.0) (ltb-true _ _ rest.1) (not-true _ letters.0) (not-true _ rest.0) edge (eqb-true _ _ front.0))
   take_keeps i letter.Done is_plan keeps is_proper h =
-      let within : i < length state.traffic = ltb-true _ _ (and_parts _ _ h).0 in
+      let parts = and_parts _ _ h in
+      let within : i < length state.traffic = ltb-true _ _ parts.0 in
+      let letters = and_parts _ _ parts.1 in
       changed_at is_plan keeps i within _
-      (Keeps-take_done (spot_at plan s i) state.phase state.ate (traffic_at state i).put (traffic_at state i).taken (keeps_at is_plan keeps i within))
+      (Keeps-take_done (spot_at plan s i) state.phase state.ate (traffic_at state i).put (traffic_at state i).taken (keeps_at is_plan keeps i within)
+      (not-true _ letters.0) (not-true _ (and_parts _ _ letters.1).0))
   take_keeps i letter.Close is_plan keeps is_proper h =
-      let within : i < length state.traffic = ltb-true _ _ (and_parts _ _ h).0 in
+      let parts = and_parts _ _ h in
+      let within : i < length state.traffic = ltb-true _ _ parts.0 in
+      let letters = and_parts _ _ parts.1 in
+      let done = and_parts _ _ letters.1 in
       changed_at is_plan keeps i within _
-      (Keeps-take_close (spot_at plan s i) state.phase state.ate (traffic_at state i).put (traffic_at state i).taken (keeps_at is_plan keeps i within))
+      (Keeps-take_close (spot_at plan s i) state.phase state.ate (traffic_at state i).put (traffic_at state i).taken (keeps_at is_plan keeps i within)
+      (not-true _ letters.0) done.0 done.1)
 
   after_keeps : (step : Step) → IsPlan plan → KeepsStreams plan s state → IsProper step → may plan s state step ≡ true → KeepsStreams plan s (after plan s state step)
   after_keeps (Give i) is_plan keeps is_proper h = give_keeps i is_plan keeps h

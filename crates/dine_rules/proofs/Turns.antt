@@ -1,12 +1,12 @@
 -- A letter in the middle of a stream: what stands before it.
-use Rattle.std.proofs.Common.{◌≡◌, ℕ, ◌+◌, Bool, true, false, cond, not, ◌==◌, List, [], ◌∷◌, ◌++◌, length, slice_get, Some, refl, sym, ◌∙◌, arith}
+use Rattle.std.proofs.Common.{◌≡◌, ℕ, ◌+◌, Bool, true, false, cond, not, ◌==◌, List, [], ◌∷◌, ◌++◌, length, slice_get, Some, refl, sym, ◌∙◌, ap, arith}
 use Rattle.std.proofs.lemmas.Bool.{false≢true, true≢false, and_parts, not-true, eqb-true}
 use Rattle.dine_token.specs.Fork.{SeenFork}
 use Rattle.dine_rules.specs.declared.letters.Letter.{Letter}
 use Rattle.dine_rules.specs.declared.letters.Letter.TheVariants.{Fork, Request, Done, Close}
 use Rattle.dine_rules.specs.Letters.{forks_in, requests_in, has_done, has_close}
-use Rattle.dine_rules.specs.Streams.{is_alternating, is_done_last, is_close_last, is_orderly}
-use Rattle.dine_rules.proofs.Counting.{requests_in-append, has_done-append, or_true}
+use Rattle.dine_rules.specs.Streams.{IsLawfulStream, is_alternating, is_done_last, is_close_last, is_orderly}
+use Rattle.dine_rules.proofs.Counting.{requests_in-append, has_done-append, or_true, is_alternating-push_fork, is_alternating-push_request, is_alternating-push_done, is_alternating-push_close, is_done_last-push_other, is_done_last-push_first, is_close_last-push}
 
 -- the letter behind a front is at the front's length
 pub slice_get-behind : (xs rest : List Letter) (l : Letter) → slice_get (xs ++ l ∷ rest) (length xs) ≡ Some l
@@ -75,6 +75,15 @@ done_before_close (Request e ∷ xs) rest h = done_before_close xs rest h
 done_before_close (Done ∷ xs) rest h = refl
 done_before_close (Close ∷ xs) rest h = absurd (false≢true h)
 
+-- a stream with a Close, behind which nothing stands, ends in Close
+pub ends_in_close : (xs : List Letter) → is_close_last xs ≡ true → has_close xs ≡ true → (before : List Letter) × (xs ≡ before ++ Close ∷ [])
+ends_in_close [] last closed = absurd (false≢true closed)
+ends_in_close (Close ∷ []) last closed = ([], refl)
+ends_in_close (Close ∷ x ∷ xs) last closed = absurd (false≢true last)
+ends_in_close (Fork fork ∷ xs) last closed = let w = ends_in_close xs last closed in (Fork fork ∷ w.0, ap (λ (l : List Letter). Fork fork ∷ l) w.1)
+ends_in_close (Request edge ∷ xs) last closed = let w = ends_in_close xs last closed in (Request edge ∷ w.0, ap (λ (l : List Letter). Request edge ∷ l) w.1)
+ends_in_close (Done ∷ xs) last closed = let w = ends_in_close xs last closed in (Done ∷ w.0, ap (λ (l : List Letter). Done ∷ l) w.1)
+
 -- an orderly stream stays so where any letter but Close follows
 pub is_orderly-push_other : (xs : List Letter) (l : Letter) → has_close (l ∷ []) ≡ false → is_orderly xs ≡ true → is_orderly (xs ++ l ∷ []) ≡ true
 is_orderly-push_other [] (Fork fork) no_close h = refl
@@ -93,3 +102,33 @@ is_orderly-push_close (Fork fork ∷ xs) done h = is_orderly-push_close xs done 
 is_orderly-push_close (Request edge ∷ xs) done h = is_orderly-push_close xs done h
 is_orderly-push_close (Done ∷ xs) done h = refl
 is_orderly-push_close (Close ∷ xs) done h = absurd (false≢true h)
+
+-- ---- a lawful stream with one letter more
+
+pub stream-push_fork : (fork_next : Bool) (xs : List Letter) (fork : SeenFork) → IsLawfulStream fork_next xs → has_close xs ≡ false → cond fork_next 1 0 + requests_in xs ≡ forks_in xs + 1 → IsLawfulStream fork_next (xs ++ Fork fork ∷ [])
+stream-push_fork fork_next xs fork lawful is_open turn = record {
+  alternating = is_alternating-push_fork fork_next xs fork lawful.alternating turn;
+  done_last = is_done_last-push_other xs (Fork fork) refl refl lawful.done_last;
+  close_last = is_close_last-push xs (Fork fork) is_open;
+}
+
+pub stream-push_request : (fork_next : Bool) (xs : List Letter) (edge : ℕ) → IsLawfulStream fork_next xs → has_close xs ≡ false → has_done xs ≡ false → cond fork_next 1 0 + requests_in xs ≡ forks_in xs → IsLawfulStream fork_next (xs ++ Request edge ∷ [])
+stream-push_request fork_next xs edge lawful is_open no_done turn = record {
+  alternating = is_alternating-push_request fork_next xs edge lawful.alternating turn;
+  done_last = is_done_last-push_first xs (Request edge) no_done;
+  close_last = is_close_last-push xs (Request edge) is_open;
+}
+
+pub stream-push_done : (fork_next : Bool) (xs : List Letter) → IsLawfulStream fork_next xs → has_close xs ≡ false → has_done xs ≡ false → IsLawfulStream fork_next (xs ++ Done ∷ [])
+stream-push_done fork_next xs lawful is_open no_done = record {
+  alternating = is_alternating-push_done fork_next xs ∙ lawful.alternating;
+  done_last = is_done_last-push_first xs Done no_done;
+  close_last = is_close_last-push xs Done is_open;
+}
+
+pub stream-push_close : (fork_next : Bool) (xs : List Letter) → IsLawfulStream fork_next xs → has_close xs ≡ false → IsLawfulStream fork_next (xs ++ Close ∷ [])
+stream-push_close fork_next xs lawful is_open = record {
+  alternating = is_alternating-push_close fork_next xs ∙ lawful.alternating;
+  done_last = is_done_last-push_other xs Close refl refl lawful.done_last;
+  close_last = is_close_last-push xs Close is_open;
+}

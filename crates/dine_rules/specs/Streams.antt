@@ -5,12 +5,12 @@ use Rattle.dine_token.specs.declared.entry.Entry.TheVariants.{Move}
 use Rattle.dine_token.specs.Fork.{SeenFork, IsFork}
 use Rattle.dine_token.specs.Log.{is_dirty, meals_of}
 use Rattle.dine_token.specs.Lawful.{IsLawful}
-use Rattle.dine_plan.specs.Plan.{SeenPlan, edges_of, job_count, lo_of, hi_of}
+use Rattle.dine_plan.specs.Plan.{SeenPlan, edges_of, job_count, lo_of, hi_of, other_of}
 use Rattle.dine_rules.specs.declared.letters.Letter.{Letter}
 use Rattle.dine_rules.specs.declared.letters.Letter.TheVariants.{Fork, Request, Done, Close}
-use Rattle.dine_rules.specs.Letters.{forks_in, requests_in, has_done, last_log_or}
+use Rattle.dine_rules.specs.Letters.{forks_in, requests_in, has_done, has_close, last_log_or}
 use Rattle.dine_rules.specs.Local.{LocalState, Traffic, traffic_at, edge_at, neighbour_at, is_thinking, is_hungry}
-use Rattle.dine_rules.specs.Holdings.{fork_at, token_at, hand_at, meals_from}
+use Rattle.dine_rules.specs.Holdings.{forks_held, fork_at, token_at, hand_at, meals_from}
 use Rattle.dine_rules.specs.Breach.{was_sent_to, is_fork_of}
 use Rattle.dine_rules.specs.Steps.{Step, Take}
 
@@ -53,6 +53,12 @@ is_orderly (Close ∷ letters) = false
 is_orderly (Fork fork ∷ letters) = is_orderly letters
 is_orderly (Request edge ∷ letters) = is_orderly letters
 
+-- The stream is whole: each Close has a Done before it, and the last letter is Close.
+pub record IsClosedInOrder (letters : List Letter) : Type 0 where
+  pub orderly : is_orderly letters ≡ true
+  pub before_close : List Letter
+  pub ends_in_close : letters ≡ before_close ++ Close ∷ []
+
 -- the logs of the Forks among the letters, in order
 abbrev pub logs_of : List Letter → List (List Entry)
 logs_of [] = []
@@ -72,17 +78,29 @@ pub record CarriesOnEaten (s to : ℕ) (before log : List Entry) : Type 0 where
   pub some : 1 ≤ meals
   pub is : log ≡ before ++ meals_from s (meals_of s before + 1) meals ++ Move to ∷ []
 
--- The chain of an end: the k-th Fork put carries on the log of the Fork taken before it. The lower end starts with the
--- empty log, and its first Fork may go without a meal; the higher end puts its first Fork after its first was taken.
-pub record IsChained (s to : ℕ) (from_lower : Bool) (traffic : Traffic) : Type 0 where
-  pub first : from_lower ≡ true → (log : List Entry) → slice_get (logs_of traffic.put) 0 ≡ Some log → CarriesOn s to [] log
-  pub next : from_lower ≡ true → (k : ℕ) (before log : List Entry) → slice_get (logs_of traffic.taken) k ≡ Some before → slice_get (logs_of traffic.put) (k + 1) ≡ Some log → CarriesOnEaten s to before log
-  pub answers : from_lower ≡ false → (k : ℕ) (before log : List Entry) → slice_get (logs_of traffic.taken) k ≡ Some before → slice_get (logs_of traffic.put) k ≡ Some log → CarriesOnEaten s to before log
+-- The k-th of the logs taken, from 0, is there, and the log carries it on, with at least one meal.
+pub record CarriesOnTaken (s to : ℕ) (taken : List (List Entry)) (k : ℕ) (log : List Entry) : Type 0 where
+  pub before : List Entry
+  pub is_taken : slice_get taken k ≡ Some before
+  pub carries : CarriesOnEaten s to before log
+
+-- The chain of a site at an edge. Its first Fork from the lower end carries on the empty log, and may go without a meal. Each
+-- other Fork that it puts carries on the Fork taken before it: from the lower end the next one the k-th taken, from the higher
+-- end the k-th one the k-th. Where the fork is gone, the last Fork put has all meals that the site ate.
+pub record IsChained (plan : SeenPlan) (s edge ate : ℕ) (traffic : Traffic) : Type 0 where
+  pub first : (lo_of plan edge == s) ≡ true → (log : List Entry) → slice_get (logs_of traffic.put) 0 ≡ Some log → CarriesOn s (other_of plan edge s) [] log
+  pub next : (lo_of plan edge == s) ≡ true → (k : ℕ) (log : List Entry) → slice_get (logs_of traffic.put) (k + 1) ≡ Some log → CarriesOnTaken s (other_of plan edge s) (logs_of traffic.taken) k log
+  pub answers : (lo_of plan edge == s) ≡ false → (k : ℕ) (log : List Entry) → slice_get (logs_of traffic.put) k ≡ Some log → CarriesOnTaken s (other_of plan edge s) (logs_of traffic.taken) k log
+  pub last : forks_held plan s edge traffic ≡ 0 → meals_of s (last_log_or [] traffic.put) ≡ ate
 
 -- each Fork among the letters is that of the edge, with a lawful log
 abbrev pub AreLawfulForks : SeenPlan → ℕ → List Letter → Type 0
 AreLawfulForks plan edge letters = (k : ℕ) (fork : SeenFork) → slice_get letters k ≡ Some (Fork fork)
     → (is_fork_of plan edge fork ≡ true) × IsLawful fork.ends fork.due fork.log
+
+-- each Request among the letters names the edge
+abbrev pub AreRequestsOf : ℕ → List Letter → Type 0
+AreRequestsOf edge letters = (k e : ℕ) → slice_get letters k ≡ Some (Request e) → e ≡ edge
 
 -- the lower end starts with the fork, the higher with the token
 abbrev pub is_lower_at : SeenPlan → ℕ → ℕ → Bool
@@ -102,13 +120,16 @@ has_asked_since_meal plan s state i = (fork_at plan s state i == 0 && token_at p
 
 -- What a site keeps at one place, whatever letters it is offered.
 pub record KeepsStreamsAt (plan : SeenPlan) (s : ℕ) (state : LocalState) (i : ℕ) : Type 0 where
-  -- what it put is a lawful stream, in a chain, of lawful forks
+  -- what it put is a lawful stream, in a chain, of lawful forks, and asks for the edge's fork
   pub put_lawful : IsLawfulStream (is_lower_at plan s i) (traffic_at state i).put
-  pub put_chained : IsChained s (neighbour_at plan s i) (is_lower_at plan s i) (traffic_at state i)
+  pub put_chained : IsChained plan s (edge_at plan s i) state.ate (traffic_at state i)
   pub put_forks : AreLawfulForks plan (edge_at plan s i) (traffic_at state i).put
-  -- Forks and Requests that it took alternate as those of the other end's direction do
-  pub taken_alternating : is_alternating (not (is_lower_at plan s i)) (traffic_at state i).taken ≡ true
+  pub put_requests : AreRequestsOf (edge_at plan s i) (traffic_at state i).put
+  -- what it took is a lawful stream of the other end's direction, each Close behind a Done, of lawful forks, and asks for this fork
+  pub taken_lawful : IsLawfulStream (not (is_lower_at plan s i)) (traffic_at state i).taken
+  pub taken_orderly : is_orderly (traffic_at state i).taken ≡ true
   pub taken_forks : AreLawfulForks plan (edge_at plan s i) (traffic_at state i).taken
+  pub taken_requests : AreRequestsOf (edge_at plan s i) (traffic_at state i).taken
   -- each Fork taken was sent here, and the last of them has no meal of the site that it did not eat
   pub forks_come_here : (k : ℕ) (fork : SeenFork) → slice_get (traffic_at state i).taken k ≡ Some (Fork fork) → was_sent_to (lo_of plan (edge_at plan s i)) s fork.log ≡ true
   pub last_within : meals_of s (last_log_or [] (traffic_at state i).taken) ≤ state.ate
@@ -132,8 +153,8 @@ pub record KeepsStreamsAt (plan : SeenPlan) (s : ℕ) (state : LocalState) (i : 
   -- who put Done has eaten all, and thinks
   pub done_after_all : has_done (traffic_at state i).put ≡ true → state.ate ≡ job_count plan s
   pub done_thinks : has_done (traffic_at state i).put ≡ true → is_thinking state.phase ≡ true
-  -- where the fork is gone, all meals eaten are in the last Fork put
-  pub all_sent : fork_at plan s state i ≡ 0 → meals_of s (last_log_or [] (traffic_at state i).put) ≡ state.ate
+  -- Close is taken only after Done was put
+  pub closed_after : has_close (traffic_at state i).taken ≡ true → has_done (traffic_at state i).put ≡ true
 
 -- What a site keeps: the same at every place, and never more meals than are due.
 pub record KeepsStreams (plan : SeenPlan) (s : ℕ) (state : LocalState) : Type 0 where
