@@ -6,11 +6,15 @@ use Rattle.dine_plan.specs.Plan.{SeenPlan, job_count}
 use Rattle.dine_rules.specs.declared.letters.Letter.{Letter}
 use Rattle.dine_rules.specs.declared.breach.Breach.{Breach}
 use Rattle.dine_rules.specs.Letters.{has_done, has_close}
-use Rattle.dine_rules.specs.Local.{LocalState, traffic_at, is_thinking}
+use Rattle.dine_rules.specs.Local.{LocalState, start_of, traffic_at, is_thinking}
 use Rattle.dine_rules.specs.Breach.{first_breach}
 use Rattle.dine_rules.specs.Steps.{Step, LocalStep, may, after, with_put}
 use Rattle.dine_rules.specs.Streams.{KeepsStreams}
 use Rattle.dine_core.specs.Core.{SeenCore, StandsFor, forks_in_hand, tokens_in_hand}
+
+-- the core is that of a site before its first step
+abbrev pub IsFresh : SeenCore → Type 0
+IsFresh core = (plan : SeenPlan) × StandsFor plan (start_of plan core.site) core
 
 -- so it is for each state that keeps the streams and for which the core stands
 abbrev pub ForEachState : SeenCore → (SeenPlan → LocalState → Type 0) → Type 0

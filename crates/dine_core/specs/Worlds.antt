@@ -61,6 +61,10 @@ pub record IsWorldOf (plan : SeenPlan) (world : WorldState) (seen : SeenWorld) :
 abbrev pub IsOpenedFor : SeenPlan → SeenWorld → Type 0
 IsOpenedFor plan seen = (state : WorldState) × IsWorldOf plan state seen
 
+-- the world stands for a state that events reach, of some plan
+abbrev pub IsOpened : SeenWorld → Type 0
+IsOpened seen = (plan : SeenPlan) × IsOpenedFor plan seen
+
 -- so it is for each plan and each state that the world stands for
 abbrev pub ForEachWorld : SeenWorld → (SeenPlan → WorldState → Type 0) → Type 0
 ForEachWorld seen P = (plan : SeenPlan) (world : WorldState) → IsWorldOf plan world seen → P plan world

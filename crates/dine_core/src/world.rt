@@ -61,7 +61,7 @@ impl Model for World {
 impl World {
     ghost use Rattle.dine_rules.specs.Bound.{bound_of};
     ghost use Rattle.dine_rules.specs.World.{is_enabled, start};
-    ghost use Rattle.dine_core.specs.Worlds.{ForEachWorld, WorldSteps, IsWorldOf, can_happen};
+    ghost use Rattle.dine_core.specs.Worlds.{ForEachWorld, WorldSteps, IsOpened, IsWorldOf, can_happen};
 
     /// The world of the plan before its first event. It takes memory for all that comes, once, and fails where that is refused.
     pub fn open(alloc: Global, plan: &Plan) -> Result<World, AllocError>
@@ -81,9 +81,10 @@ impl World {
         })
     }
 
-    /// How many events there can be since the start.
+    /// How many events there can be since the start, for the plan that the world was opened for.
     pub fn bound(&self) -> u64
-        ensures { ForEachWorld self.now (λ plan world. result ≡ bound_of plan) }
+        ensures bound { ForEachWorld self.now (λ plan world. result ≡ bound_of plan) }
+        ensures opened { IsOpened self.now }
     {
         self.bound
     }

@@ -11,7 +11,8 @@ use Rattle.toml.specs.Data.{Data}
 use Rattle.dine_plan.specs.Document.{sites_in, edges_in}
 use Rattle.dine_plan.specs.Fault.{number_of_fault, position_of_fault}
 use Rattle.dine_plan.specs.Refuses.{no_table, PassesAt, Refuses, IsFirst, site_names, joined_pairs}
-use Rattle.dine_plan.specs.Refusals.{first_some, first_refusal, first_twice, stands_before, form_refusals, graph_refusals, site_refusals, end_refusals, pair_refusals, on, refuses_version, refuses_unknown_key, refuses_missing_key, refuses_wrong_kind, has_bad_name, has_many_jobs, has_many_turns, has_unknown_end, is_loop, same_ends}
+use Rattle.dine_plan.specs.Refusals.{first_some, first_refusal, first_twice, stands_before, form_refusals, graph_refusals, site_refusals, end_refusals, pair_refusals, on, refuses_version, refuses_unknown_key, refuses_missing_key, refuses_wrong_kind, has_bad_name, has_many_jobs, has_many_turns, has_unknown_end, joined_by, is_loop, same_ends}
+use Rattle.dine_plan.proofs.ListLemmas.{length-map}
 use Rattle.dine_plan.specs.declared.faults.PlanFault.{PlanFault}
 use Rattle.dine_plan.specs.declared.faults.PlanFault.TheVariants.{NotToml, Version, UnknownKey, MissingKey, WrongKind, BadName, SiteTwice, NoSite, TooManySites, TooManyJobs, TurnsTooLarge, UnknownEnd, Loop, EdgeTwice, TooManyEdges, Memory}
 
@@ -75,6 +76,17 @@ from_map : (doc : Data) (fault : ℕ → PlanFault) (f : PlanFault) (n : ℕ) (o
 from_map doc fault f n None numbered holds h = absurd (cc)
 from_map doc fault f n (Some i) numbered holds h = subst (Describes doc n) (same_Some _ _ h) (numbered i, holds i refl)
 
+-- there are as many pairs as edges
+many_edges : (doc : Data) → 512 < length (joined_pairs doc) → 512 < length (edges_in doc)
+many_edges doc h =
+    let same = length-map (joined_by (site_names doc)) (edges_in doc) in
+    omega arith
+
+many_joined : (doc : Data) → 512 < length (edges_in doc) → 512 < length (joined_pairs doc)
+many_joined doc h =
+    let same = length-map (joined_by (site_names doc)) (edges_in doc) in
+    omega arith
+
 entry_holds : (doc : Data) (k : ℕ) (f : PlanFault) → slice_get (entries doc) k ≡ Some (Some f) → Describes doc (k + 2) f
 unfolding form_refusals graph_refusals site_refusals end_refusals pair_refusals
 entry_holds doc zero f at = from_on doc Version f 2 (refuses_version doc) refl (λ h. h) (same_Some _ _ at)
@@ -89,8 +101,8 @@ entry_holds doc (suc (suc (suc (suc (suc (suc (suc (suc zero)))))))) f at = from
 entry_holds doc (suc (suc (suc (suc (suc (suc (suc (suc (suc zero))))))))) f at = from_map doc TurnsTooLarge f 11 (position has_many_turns (sites_in doc)) (λ _. refl) (passes_at has_many_turns (sites_in doc)) (same_Some _ _ at)
 entry_holds doc (suc (suc (suc (suc (suc (suc (suc (suc (suc (suc zero)))))))))) f at = from_map doc UnknownEnd f 12 (position (has_unknown_end (site_names doc)) (edges_in doc)) (λ _. refl) (passes_at (has_unknown_end (site_names doc)) (edges_in doc)) (same_Some _ _ at)
 entry_holds doc (suc (suc (suc (suc (suc (suc (suc (suc (suc (suc (suc zero))))))))))) f at = from_map doc Loop f 13 (position (is_loop (site_names doc)) (edges_in doc)) (λ _. refl) (passes_at (is_loop (site_names doc)) (edges_in doc)) (same_Some _ _ at)
-entry_holds doc (suc (suc (suc (suc (suc (suc (suc (suc (suc (suc (suc (suc zero)))))))))))) f at = from_map doc EdgeTwice f 14 (first_twice same_ends (0, 0) (joined_pairs doc)) (λ _. refl) (twice_at same_ends (0, 0) (joined_pairs doc)) (same_Some _ _ at)
-entry_holds doc (suc (suc (suc (suc (suc (suc (suc (suc (suc (suc (suc (suc (suc zero))))))))))))) f at = from_on doc TooManyEdges f 15 (ltb 512 (length (joined_pairs doc))) refl (ltb-true 512 (length (joined_pairs doc))) (same_Some _ _ at)
+entry_holds doc (suc (suc (suc (suc (suc (suc (suc (suc (suc (suc (suc (suc zero)))))))))))) f at = from_map doc EdgeTwice f 14 (first_twice same_ends None (joined_pairs doc)) (λ _. refl) (twice_at same_ends None (joined_pairs doc)) (same_Some _ _ at)
+entry_holds doc (suc (suc (suc (suc (suc (suc (suc (suc (suc (suc (suc (suc (suc zero))))))))))))) f at = from_on doc TooManyEdges f 15 (ltb 512 (length (joined_pairs doc))) refl (λ h. many_edges doc (ltb-true 512 (length (joined_pairs doc)) h)) (same_Some _ _ at)
 entry_holds doc (suc (suc (suc (suc (suc (suc (suc (suc (suc (suc (suc (suc (suc (suc k)))))))))))))) f at = absurd (cc)
 
 -- the entry of a cause that holds
@@ -122,9 +134,9 @@ entry_of doc (UnknownEnd place) holds =
 entry_of doc (Loop place) holds =
     let found = least (is_loop (site_names doc)) (edges_in doc) place no_table holds.0 holds.1 in (11, Loop found.0, refl, ap (λ o. Some (option_map Loop o)) found.1, found.2)
 entry_of doc (EdgeTwice place) holds =
-    let found = twice_least same_ends (0, 0) (joined_pairs doc) place holds.0 holds.1 in (12, EdgeTwice found.0, refl, ap (λ o. Some (option_map EdgeTwice o)) found.1, found.2)
+    let found = twice_least same_ends None (joined_pairs doc) place holds.0 holds.1 in (12, EdgeTwice found.0, refl, ap (λ o. Some (option_map EdgeTwice o)) found.1, found.2)
 entry_of doc TooManyEdges holds =
-    (13, TooManyEdges, refl, ap (λ b. Some (on b TooManyEdges)) (lt-ltb 512 (length (joined_pairs doc)) holds), omega arith)
+    (13, TooManyEdges, refl, ap (λ b. Some (on b TooManyEdges)) (lt-ltb 512 (length (joined_pairs doc)) (many_joined doc holds)), omega arith)
 entry_of doc Memory holds = absurd holds
 
 same_entry : (os : List (Option PlanFault)) (f h : PlanFault) (k j : ℕ) → j ≡ k → slice_get os k ≡ Some (Some f) → slice_get os j ≡ Some (Some h) → h ≡ f

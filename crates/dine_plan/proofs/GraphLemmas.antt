@@ -4,14 +4,14 @@ use Rattle.std.specs.List.{position}
 use Rattle.std.specs.Option.{option_or}
 use Rattle.std.specs.Str.{bytes_eq}
 use Rattle.std.proofs.lemmas.Bool.{false≢true, ltb-false, eqb-false, eq-eqb}
-use Rattle.std.proofs.lemmas.List.{get_or-map}
+use Rattle.std.proofs.lemmas.List.{get_or-map, ext_get_or}
 use Rattle.std.proofs.lemmas.Slice.Eq.{bytes_eq-Decides}
 use Rattle.toml.specs.Data.{Data, Members, boolean, table}
 use Rattle.toml.specs.Parse.{parse_document}
 use Rattle.dine_plan.specs.Plan.{SeenSite, IsPlan, no_site, no_job, is_name}
 use Rattle.dine_plan.specs.Document.{sites_in, edges_in, jobs_in, name_in, turns_in, end_in}
 use Rattle.dine_plan.specs.PlanOf.{job_in, site_in, ends_in, number_of, plan_in}
-use Rattle.dine_plan.specs.Refusals.{first_some, first_refusal, fault_of, first_fault, graph_refusals, form_refusals, on, site_refusals, end_refusals, pair_refusals, first_twice, same_ends, has_bad_name, has_many_jobs, has_many_turns, is_unnamed, is_unknown, has_unknown_end, is_loop}
+use Rattle.dine_plan.specs.Refusals.{first_some, first_refusal, fault_of, first_fault, graph_refusals, form_refusals, on, site_refusals, end_refusals, pair_refusals, first_twice, same_ends, has_bad_name, has_many_jobs, has_many_turns, is_unnamed, is_unknown, has_unknown_end, joined_by, is_loop}
 use Rattle.dine_plan.specs.declared.faults.PlanFault.{PlanFault}
 use Rattle.dine_plan.proofs.ListLemmas.{length-map, position_none_at, list_any_false_at, position_within, first_twice_none_apart, first_some-append}
 
@@ -75,11 +75,11 @@ are_ends names edges h =
     record { known = option_map_none _ _ a.0; no_loop = option_map_none _ _ b.0 }
 
 -- what holds of pairs that are not refused
-pub record ArePairs (pairs : List (ℕ × ℕ)) : Type 0 where
-  pub apart : first_twice same_ends (0, 0) pairs ≡ None
+pub record ArePairs (pairs : List (Option (ℕ × ℕ))) : Type 0 where
+  pub apart : first_twice same_ends None pairs ≡ None
   pub few : nat_lt 512 (length pairs) ≡ false
 
-pub are_pairs : (pairs : List (ℕ × ℕ)) → first_some (pair_refusals pairs) ≡ None → ArePairs pairs
+pub are_pairs : (pairs : List (Option (ℕ × ℕ))) → first_some (pair_refusals pairs) ≡ None → ArePairs pairs
 unfolding pair_refusals
 are_pairs pairs h =
     let a = option_or_none _ _ h in
@@ -154,11 +154,16 @@ names_apart sites s t apart before within same =
     let equal : get_or names s [] ≡ get_or names t [] = sym (name_at sites s (omega arith)) ∙ same ∙ name_at sites t within in
     false≢true (sym (first_twice_none_apart bytes_eq [] names s t apart before (omega arith)) ∙ same_bytes _ _ equal)
 
+-- the two sites that an edge joins whose ends are known
+pub joins_known : (names : List (List ℕ)) (edge : Data) → has_unknown_end names edge ≡ false → joined_by names edge ≡ Some (ends_in names edge)
+unfolding joined_by
+joins_known names edge known = rw known refl
+
 -- an edge that is no loop and has known ends joins two sites
-ends_ordered : (names : List (List ℕ)) (edge : Data) → is_loop names edge ≡ false → (ends_in names edge).0 < (ends_in names edge).1
+ends_ordered : (names : List (List ℕ)) (edge : Data) → has_unknown_end names edge ≡ false → is_loop names edge ≡ false → (ends_in names edge).0 < (ends_in names edge).1
 unfolding ends_in is_loop
-ends_ordered names edge h =
-    let apart = eqb-false _ _ h in
+ends_ordered names edge known h =
+    let apart = eqb-false _ _ (rw (joins_known names edge known) at h) in
     let a = number_of names (end_in 0 edge) in
     let b = number_of names (end_in 1 edge) in
     let differ : min a b ≢ max a b = apart in
@@ -175,15 +180,33 @@ ends_within names edge h =
     let b = known_within names (end_in 1 edge) parts.1 in
     omega arith
 
-same_pair : (a b : ℕ × ℕ) → a ≡ b → same_ends b a ≡ true
+same_pair : (a b : ℕ × ℕ) → a ≡ b → same_ends (Some b) (Some a) ≡ true
 same_pair a b same = rw (eq-eqb b.0 a.0 (ap (λ p. p.0) (sym same)), eq-eqb b.1 a.1 (ap (λ p. p.1) (sym same)))
 
-pairs_apart : (pairs : List (ℕ × ℕ)) (e f : ℕ) → first_twice same_ends (0, 0) pairs ≡ None → e < f → f < length pairs → get_or pairs e (0, 0) ≢ get_or pairs f (0, 0)
+-- edges whose ends are known join the pairs of their ends
+pub join_known : (names : List (List ℕ)) (edges : List Data) → position (has_unknown_end names) edges ≡ None → map (joined_by names) edges ≡ map Some (map (ends_in names) edges)
+join_known names edges known =
+    let ends = map (ends_in names) edges in
+    let long : length ends ≡ length edges = length-map (ends_in names) edges in
+    let joined : length (map (joined_by names) edges) ≡ length edges = length-map (joined_by names) edges in
+    let pairs : length (map Some ends) ≡ length ends = length-map Some ends in
+    ext_get_or None _ _ (omega arith)
+    (λ i h.
+    let within : i < length edges = omega arith in
+    rw (
+      get_or-map (joined_by names) edges i no_data None within,
+      get_or-map Some ends i (0, 0) None (omega arith),
+      get_or-map (ends_in names) edges i no_data (0, 0) within,
+    )
+    (joins_known names (get_or edges i no_data) (position_none_at (has_unknown_end names) edges i no_data known within)))
+
+pairs_apart : (pairs : List (ℕ × ℕ)) (e f : ℕ) → first_twice same_ends None (map Some pairs) ≡ None → e < f → f < length pairs → get_or pairs e (0, 0) ≢ get_or pairs f (0, 0)
 pairs_apart pairs e f apart before within same =
-    false≢true (sym (first_twice_none_apart same_ends (0, 0) pairs e f apart before within) ∙ same_pair _ _ same)
+    let long : length (map Some pairs) ≡ length pairs = length-map Some pairs in
+    false≢true (sym (rw (get_or-map Some pairs e (0, 0) None (omega arith), get_or-map Some pairs f (0, 0) None within) at (first_twice_none_apart same_ends None (map Some pairs) e f apart before (omega arith))) ∙ same_pair _ _ same)
 
 -- sites, ends and pairs that are not refused make a plan
-pub is_plan : (sites edges : List Data) → AreSites sites → AreEnds (map name_in sites) edges → ArePairs (map (ends_in (map name_in sites)) edges) → IsPlan (plan_in sites edges)
+pub is_plan : (sites edges : List Data) → AreSites sites → AreEnds (map name_in sites) edges → ArePairs (map (joined_by (map name_in sites)) edges) → IsPlan (plan_in sites edges)
 is_plan sites edges are ends pairs =
     let names = map name_in sites in
     let count : length (map site_in sites) ≡ length sites = length-map site_in sites in
@@ -193,11 +216,12 @@ is_plan sites edges are ends pairs =
     let some = eqb-false _ _ are.some in
     let few = ltb-false 64 _ are.few in
     let few_edges = ltb-false 512 _ pairs.few in
+    let joined : length (map (joined_by names) edges) ≡ length edges = length-map (joined_by names) edges in
     let in_sites : (s : ℕ) → s < length (map site_in sites) → s < length sites = λ s h. omega arith in
     record {
       has_site = omega arith;
       few_sites = omega arith;
-      few_edges = few_edges;
+      few_edges = omega arith;
       few_jobs = λ s h.
           let within = in_sites s h in
           subst (λ (x : SeenSite). length x.jobs ≤ 1000) (sym (site_at sites s within)) (site_few_jobs _ (position_none_at has_many_jobs sites s no_data are.few_jobs within));
@@ -215,21 +239,21 @@ is_plan sites edges are ends pairs =
       names_differ = λ s t before h. names_apart sites s t are.apart before (in_sites t h);
       ordered = λ e h.
           let within : e < length edges = omega arith in
-          subst (λ (x : ℕ × ℕ). x.0 < x.1) (sym (at e within)) (ends_ordered names _ (position_none_at (is_loop names) edges e no_data ends.no_loop within));
+          subst (λ (x : ℕ × ℕ). x.0 < x.1) (sym (at e within)) (ends_ordered names _ (position_none_at (has_unknown_end names) edges e no_data ends.known within) (position_none_at (is_loop names) edges e no_data ends.no_loop within));
       within = λ e h.
           let within : e < length edges = omega arith in
           let below = ends_within names _ (position_none_at (has_unknown_end names) edges e no_data ends.known within) in
           subst (λ (x : ℕ × ℕ). x.1 < length (map site_in sites)) (sym (at e within)) (omega arith);
-      edges_differ = λ e f before h. pairs_apart _ e f pairs.apart before h;
+      edges_differ = λ e f before h. pairs_apart _ e f (rw (join_known names edges ends.known) at pairs.apart) before h;
     }
 
 -- the first refusal of sites and edges is the first of the three groups that has one
-pub first_of_graph : (sites edges : List Data) → first_some (graph_refusals sites edges) ≡ option_or (first_some (site_refusals sites)) (option_or (first_some (end_refusals (map name_in sites) edges)) (first_some (pair_refusals (map (ends_in (map name_in sites)) edges))))
+pub first_of_graph : (sites edges : List Data) → first_some (graph_refusals sites edges) ≡ option_or (first_some (site_refusals sites)) (option_or (first_some (end_refusals (map name_in sites) edges)) (first_some (pair_refusals (map (joined_by (map name_in sites)) edges))))
 unfolding graph_refusals
 first_of_graph sites edges =
     let names = map name_in sites in
-    first_some-append (site_refusals sites) (end_refusals names edges ++ pair_refusals (map (ends_in names) edges))
-    ∙ ap (option_or (first_some (site_refusals sites))) (first_some-append (end_refusals names edges) (pair_refusals (map (ends_in names) edges)))
+    first_some-append (site_refusals sites) (end_refusals names edges ++ pair_refusals (map (joined_by names) edges))
+    ∙ ap (option_or (first_some (site_refusals sites))) (first_some-append (end_refusals names edges) (pair_refusals (map (joined_by names) edges)))
 
 pub first_of_document : (doc : Data) → first_refusal doc ≡ option_or (first_some (form_refusals doc)) (first_some (graph_refusals (sites_in doc) (edges_in doc)))
 unfolding first_refusal

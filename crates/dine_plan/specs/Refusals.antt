@@ -79,10 +79,6 @@ stands_before same none xs i = list_any (same (slice_index_or xs i none)) (take 
 abbrev pub first_twice : {A : Type 0} → (A → A → Bool) → A → List A → Option ℕ
 first_twice same none xs = position (stands_before same none xs) (range_with_len 0 (length xs))
 
--- both ends are the same numbers
-abbrev pub same_ends : ℕ × ℕ → ℕ × ℕ → Bool
-same_ends a b = (a.0 == b.0) && (a.1 == b.1)
-
 -- `version` is absent or is not the whole number 1
 unfoldable pub refuses_version : Data → Bool
 refuses_version doc = not (option_map_or is_version (get (codes "version") doc) false)
@@ -136,9 +132,21 @@ is_unknown names name = not (list_any (bytes_eq name) names)
 unfoldable pub has_unknown_end : List (List ℕ) → Data → Bool
 has_unknown_end names edge = is_unknown names (end_in 0 edge) || is_unknown names (end_in 1 edge)
 
+-- the two sites that an edge joins, the lower one first; none where an end is the name of no site
+unfoldable pub joined_by : List (List ℕ) → Data → Option (ℕ × ℕ)
+joined_by names edge = if has_unknown_end names edge then None else Some (ends_in names edge)
+
 -- both ends are one site
+abbrev pub is_one_site : ℕ × ℕ → Bool
+is_one_site ends = ends.0 == ends.1
+
 unfoldable pub is_loop : List (List ℕ) → Data → Bool
-is_loop names edge = let ends = ends_in names edge in ends.0 == ends.1
+is_loop names edge = option_map_or is_one_site (joined_by names edge) false
+
+-- two edges join the same two sites
+abbrev pub same_ends : Option (ℕ × ℕ) → Option (ℕ × ℕ) → Bool
+same_ends (Some a) (Some b) = (a.0 == b.0) && (a.1 == b.1)
+same_ends _ _ = false
 
 -- the fault where the test holds
 abbrev pub on : Bool → PlanFault → Option PlanFault
@@ -170,9 +178,9 @@ end_refusals names edges =
     ∷ option_map fault.Loop (position (is_loop names) edges)
     ∷ []
 
-unfoldable pub pair_refusals : List (ℕ × ℕ) → List (Option PlanFault)
+unfoldable pub pair_refusals : List (Option (ℕ × ℕ)) → List (Option PlanFault)
 pair_refusals pairs =
-    option_map fault.EdgeTwice (first_twice same_ends (0, 0) pairs)
+    option_map fault.EdgeTwice (first_twice same_ends None pairs)
     ∷ on (nat_lt 512 (length pairs)) fault.TooManyEdges
     ∷ []
 
@@ -185,7 +193,7 @@ first_some (o ∷ os) = option_or o (first_some os)
 unfoldable pub graph_refusals : List Data → List Data → List (Option PlanFault)
 graph_refusals sites edges =
     let names = map name_in sites in
-    site_refusals sites ++ (end_refusals names edges ++ pair_refusals (map (ends_in names) edges))
+    site_refusals sites ++ (end_refusals names edges ++ pair_refusals (map (joined_by names) edges))
 
 -- the first refusal of a document that holds, at the least position
 unfoldable pub first_refusal : Data → Option PlanFault

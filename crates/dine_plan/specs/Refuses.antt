@@ -1,11 +1,10 @@
 -- The causes to refuse a document, each as a fact of the whole document, and the first of them.
-use Rattle.std.specs.Prelude.{◌≡◌, ℕ, ◌<◌, ◌≤◌, ◌⊎◌, Bool, IsTrue, List, [], map, length, slice_index_or}
+use Rattle.std.specs.Prelude.{◌≡◌, ℕ, ◌<◌, ◌≤◌, ◌⊎◌, Bool, IsTrue, List, [], map, length, slice_index_or, Option, None}
 use Rattle.std.specs.Str.{bytes_eq}
 use Rattle.toml.specs.Data.{Data, table, no_members}
 use Rattle.dine_plan.specs.Document.{sites_in, edges_in, name_in}
-use Rattle.dine_plan.specs.PlanOf.{ends_in}
 use Rattle.dine_plan.specs.Fault.{number_of_fault, position_of_fault}
-use Rattle.dine_plan.specs.Refusals.{refuses_version, refuses_unknown_key, refuses_missing_key, refuses_wrong_kind, has_bad_name, has_many_jobs, has_many_turns, has_unknown_end, is_loop, same_ends, stands_before}
+use Rattle.dine_plan.specs.Refusals.{refuses_version, refuses_unknown_key, refuses_missing_key, refuses_wrong_kind, has_bad_name, has_many_jobs, has_many_turns, has_unknown_end, joined_by, is_loop, same_ends, stands_before}
 use Rattle.dine_plan.specs.declared.faults.PlanFault.{PlanFault}
 use Rattle.dine_plan.specs.declared.faults.PlanFault.TheVariants.{NotToml, Version, UnknownKey, MissingKey, WrongKind, BadName, SiteTwice, NoSite, TooManySites, TooManyJobs, TurnsTooLarge, UnknownEnd, Loop, EdgeTwice, TooManyEdges, Memory}
 
@@ -17,12 +16,12 @@ no_table = table no_members
 abbrev pub PassesAt : (Data → Bool) → List Data → ℕ → Type 0
 PassesAt test items i = (i < length items) × IsTrue (test (slice_index_or items i no_table))
 
--- the names of the sites, and the pairs of sites that the edges join
+-- the names of the sites, and for each edge the two sites that it joins, where its ends are sites
 abbrev pub site_names : Data → List (List ℕ)
 site_names doc = map name_in (sites_in doc)
 
-abbrev pub joined_pairs : Data → List (ℕ × ℕ)
-joined_pairs doc = map (ends_in (site_names doc)) (edges_in doc)
+abbrev pub joined_pairs : Data → List (Option (ℕ × ℕ))
+joined_pairs doc = map (joined_by (site_names doc)) (edges_in doc)
 
 -- the fault holds of the document, at its position where it has one
 abbrev pub Refuses : Data → PlanFault → Type 0
@@ -39,8 +38,8 @@ Refuses doc (TooManyJobs site) = PassesAt has_many_jobs (sites_in doc) site
 Refuses doc (TurnsTooLarge site) = PassesAt has_many_turns (sites_in doc) site
 Refuses doc (UnknownEnd edge) = PassesAt (has_unknown_end (site_names doc)) (edges_in doc) edge
 Refuses doc (Loop edge) = PassesAt (is_loop (site_names doc)) (edges_in doc) edge
-Refuses doc (EdgeTwice edge) = (edge < length (joined_pairs doc)) × IsTrue (stands_before same_ends (0, 0) (joined_pairs doc) edge)
-Refuses doc TooManyEdges = 512 < length (joined_pairs doc)
+Refuses doc (EdgeTwice edge) = (edge < length (joined_pairs doc)) × IsTrue (stands_before same_ends None (joined_pairs doc) edge)
+Refuses doc TooManyEdges = 512 < length (edges_in doc)
 Refuses doc Memory = ⊥
 
 -- f is an earlier cause in the list than g, or the same cause at no greater position

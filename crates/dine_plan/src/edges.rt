@@ -1,5 +1,5 @@
 //! The checks on the edges of a document, and the pairs of sites that they join.
-ghost use Rattle.std.specs.Prelude.{◌≡◌, ℕ, ◌≤◌, map, length, position, IfOk};
+ghost use Rattle.std.specs.Prelude.{◌≡◌, ℕ, ◌≤◌, map, length, position, Some, None, IfOk};
 ghost use Rattle.std.specs.List.{list_any};
 ghost use Rattle.toml.specs.View.{view};
 ghost use Rattle.dine_plan.specs.Document.{name_in};
@@ -50,12 +50,12 @@ fn first_loop(sites: &[Value], edges: &[Value]) -> Option<usize>
 }
 
 // Whether both ends of the edge are one site.
-#[tactic(auto, unfolding(crate::specs::Refusals::is_loop))]
+#[tactic(auto, unfolding(crate::specs::Refusals::is_loop, crate::specs::Refusals::joined_by))]
 fn is_loop(sites: &[Value], edge: &Value) -> bool
     ensures { result ≡ is_loop (map name_in (map view sites.now)) (view edge.now) }
 {
     let (lo, hi) = ends_in(sites, edge);
-    lo == hi
+    lo == hi && !has_unknown_end(sites, edge)
 }
 
 // The numbers of the two sites that an edge joins, the lower one first.
@@ -103,7 +103,7 @@ pub(crate) fn pairs_in(
 /// The first fault in the pairs of sites that the edges join.
 #[tactic(auto, unfolding(crate::specs::Refusals::pair_refusals))]
 pub(crate) fn first_pair_fault(pairs: &[(u32, u32)]) -> Option<PlanFault>
-    ensures { result ≡ first_some (pair_refusals pairs.now) }
+    ensures { result ≡ first_some (pair_refusals (map Some pairs.now)) }
 {
     if let Some(edge) = first_edge_twice(pairs) {
         return Some(PlanFault::EdgeTwice(edge));
@@ -116,7 +116,7 @@ pub(crate) fn first_pair_fault(pairs: &[(u32, u32)]) -> Option<PlanFault>
 
 // The least position of an edge that joins the two sites of an earlier one.
 fn first_edge_twice(pairs: &[(u32, u32)]) -> Option<usize>
-    ensures { result ≡ first_twice same_ends (0, 0) pairs.now }
+    ensures { result ≡ first_twice same_ends None (map Some pairs.now) }
 {
     for (i, pair) in pairs.iter().enumerate() {
         if has_pair(&pairs[..i], *pair) {
@@ -127,7 +127,7 @@ fn first_edge_twice(pairs: &[(u32, u32)]) -> Option<usize>
 }
 
 fn has_pair(pairs: &[(u32, u32)], pair: (u32, u32)) -> bool
-    ensures { result ≡ list_any (same_ends pair) pairs.now }
+    ensures { result ≡ list_any (λ other. same_ends (Some pair) (Some other)) pairs.now }
 {
     pairs
         .iter()

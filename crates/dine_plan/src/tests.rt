@@ -102,7 +102,7 @@ fn reads_both_forms_of_a_plan(rt: HostRuntime) -> Result<(), Fail> {
     Ok(())
 }
 
-const CAUSES: [(&str, &str); 28] = [
+const CAUSES: [(&str, &str); 41] = [
     ("", "a;b;"),
     ("[[site", "1 NotToml"),
     ("[[site]]\nname = \"c\"\nturns = 1\n", "3 UnknownKey"),
@@ -115,6 +115,11 @@ const CAUSES: [(&str, &str); 28] = [
         "3 UnknownKey",
     ),
     ("[edges]\n", "3 UnknownKey"),
+    ("[[site]]\nname = \"c\"\nname = \"d\"\n", "1 NotToml"),
+    (
+        "[[site]]\nname = \"c\"\njobs = [{ name = \"x\", turns = 9223372036854775808 }]\n",
+        "1 NotToml",
+    ),
     ("[[site]]\n", "4 MissingKey"),
     (
         "[[site]]\nname = \"c\"\njobs = [{ turns = 1 }]\n",
@@ -123,6 +128,16 @@ const CAUSES: [(&str, &str); 28] = [
     ("[[edge]]\n", "4 MissingKey"),
     ("[edge]\n", "5 WrongKind"),
     ("[[site]]\nname = 1\n", "5 WrongKind"),
+    ("[[site]]\nname = 1984-10-01\n", "5 WrongKind"),
+    ("[[site]]\nname = \"c\"\njobs = 1\n", "5 WrongKind"),
+    ("[[site]]\nname = \"c\"\n[site.jobs]\n", "5 WrongKind"),
+    (
+        "[[site]]\nname = \"c\"\njobs = [{ name = \"x\", turns = 1984-10-01 }]\n",
+        "5 WrongKind",
+    ),
+    ("[[edge]]\nends = \"a\"\n", "5 WrongKind"),
+    ("[[edge]]\nends = [\"a\"]\n", "5 WrongKind"),
+    ("[[edge]]\nends = []\n", "5 WrongKind"),
     ("[[site]]\nname = \"c\"\njobs = [\"x\"]\n", "5 WrongKind"),
     (
         "[[site]]\nname = \"c\"\njobs = [{ name = \"x\", turns = -1 }]\n",
@@ -138,6 +153,7 @@ const CAUSES: [(&str, &str); 28] = [
     ),
     ("[[edge]]\nends = [\"a\", \"b\", \"a\"]\n", "5 WrongKind"),
     ("[[edge]]\nends = [\"a\", 1]\n", "5 WrongKind"),
+    ("[[site]]\nname = \"\"\n", "6 BadName at site 2"),
     (
         "[[site]]\nname = \"c d\"\n[[site]]\nname = \"\"\n",
         "6 BadName at site 2",
@@ -166,7 +182,15 @@ const CAUSES: [(&str, &str); 28] = [
         "[[site]]\nname = \"c\"\njobs = [{ name = \"x\" }, { name = \"y\", turns = 1000001 }]\n",
         "11 TurnsTooLarge at site 2",
     ),
+    (
+        "[[site]]\nname = \"c\"\njobs = [{ name = \"x\", turns = 4294967296 }]\n",
+        "11 TurnsTooLarge at site 2",
+    ),
     ("[[edge]]\nends = [\"b\", \"a\"]\n", "a;b; 0-1"),
+    (
+        "[[edge]]\nends = [\"b\", \"a\"]\n[[edge]]\nends = [\"c\", \"c\"]\n",
+        "12 UnknownEnd at edge 1",
+    ),
     (
         "[[edge]]\nends = [\"b\", \"a\"]\n[[edge]]\nends = [\"b\", \"c\"]\n",
         "12 UnknownEnd at edge 1",
@@ -174,6 +198,10 @@ const CAUSES: [(&str, &str); 28] = [
     (
         "[[edge]]\nends = [\"b\", \"a\"]\n[[edge]]\nends = [\"b\", \"b\"]\n",
         "13 Loop at edge 1",
+    ),
+    (
+        "[[edge]]\nends = [\"a\", \"b\"]\n[[edge]]\nends = [\"a\", \"b\"]\n[[edge]]\nends = [\"b\", \"b\"]\n",
+        "13 Loop at edge 2",
     ),
     (
         "[[edge]]\nends = [\"b\", \"a\"]\n[[edge]]\nends = [\"a\", \"b\"]\n[[edge]]\nends = [\"a\", \"b\"]\n",
@@ -192,20 +220,56 @@ fn answers_each_cause(rt: HostRuntime) -> Result<(), Fail> {
     Ok(())
 }
 
-const DOCUMENTS: [(&str, &str); 10] = [
+const DOCUMENTS: [(&str, &str); 22] = [
     ("", "2 Version"),
     ("version = 2\nsite = [{ name = \"a\" }]", "2 Version"),
     ("version = \"1\"\nsite = [{ name = \"a\" }]", "2 Version"),
     ("version = 1.0\nsite = [{ name = \"a\" }]", "2 Version"),
+    ("version = true\nsite = [{ name = \"a\" }]", "2 Version"),
+    (
+        "version = 1984-10-01\nsite = [{ name = \"a\" }]",
+        "2 Version",
+    ),
+    (
+        "version = 4294967297\nsite = [{ name = \"a\" }]",
+        "2 Version",
+    ),
+    ("version =", "1 NotToml"),
     ("version = 0x1\nsite = [{ name = \"a\" }]", "a;"),
     ("version = 1\nsite = 1", "5 WrongKind"),
     ("version = 1\nsite = [1]", "5 WrongKind"),
+    ("version = 1\nsite.name = \"a\"", "5 WrongKind"),
+    ("version = 1\n[site]\nname = \"a\"", "5 WrongKind"),
     (
         "version = 1\nsite = [{ name = \"a\" }]\nedge = \"a\"",
         "5 WrongKind",
     ),
     ("version = 1", "8 NoSite"),
     ("version = 1\nsite = []\nedge = []", "8 NoSite"),
+    (
+        "version = 1\n[[site]]\nname = \"a\"\n[[site]]\nname = \"a\"\n",
+        "7 SiteTwice at site 1",
+    ),
+    (
+        "version = 1\n[[site]]\nname = \"a\"\n[[edge]]\nends = [\"a\", \"a\"]\n",
+        "13 Loop at edge 0",
+    ),
+    (
+        "version = 1\nsite = [{ name = \"a\" }, { name = \"b\" }]\nedge = [{ ends = [\"a\", \"b\"] }, { ends = [\"b\", \"a\"] }]\n",
+        "14 EdgeTwice at edge 1",
+    ),
+    (
+        "version = 1\n[[site]]\nname = \"xxxxxxxxxxxxxxxxxxxxxxxxxxxxxxxx\"\n",
+        "xxxxxxxxxxxxxxxxxxxxxxxxxxxxxxxx;",
+    ),
+    (
+        "version = 1\n[[site]]\nname = \"xxxxxxxxxxxxxxxxxxxxxxxxxxxxxxxxx\"\n",
+        "6 BadName at site 0",
+    ),
+    (
+        "version = 1\n[[site]]\nname = \"a\"\njobs = [{ name = \"xxxxxxxxxxxxxxxxxxxxxxxxxxxxxxxxx\" }]\n",
+        "6 BadName at site 0",
+    ),
 ];
 
 #[test]
@@ -218,13 +282,15 @@ fn answers_what_holds_of_the_document_alone(rt: HostRuntime) -> Result<(), Fail>
     Ok(())
 }
 
-const LIMITS: [(u32, u32, u32, u32); 6] = [
-    (64, 0, 0, 0),
-    (65, 0, 0, 9),
-    (63, 1000, 0, 0),
-    (2, 1001, 0, 10),
-    (64, 0, 512, 0),
-    (64, 0, 513, 15),
+const LIMITS: [(u32, u32, u32, &str); 8] = [
+    (64, 0, 0, "64 sites, 0 jobs, 0 edges"),
+    (65, 0, 0, "9 TooManySites"),
+    (63, 1000, 0, "64 sites, 1000 jobs, 0 edges"),
+    (2, 1001, 0, "10 TooManyJobs at site 2"),
+    (64, 0, 512, "64 sites, 0 jobs, 512 edges"),
+    (64, 0, 513, "15 TooManyEdges"),
+    (33, 0, 512, "33 sites, 0 jobs, 512 edges"),
+    (33, 0, 528, "15 TooManyEdges"),
 ];
 
 #[test]
@@ -232,10 +298,21 @@ fn keeps_each_limit(rt: HostRuntime) -> Result<(), Fail> {
     let alloc = rt.alloc();
     for (sites, jobs, edges, want) in LIMITS {
         let text = sized_text(alloc, sites, jobs, edges)?;
-        let number = number_of(alloc, text.as_str());
-        assert_eq!(rt; number, want, "{sites} {jobs} {edges}");
+        let answer = match read_plan(alloc, text.as_str()) {
+            Ok(plan) => counts_of(alloc, &plan)?,
+            Err(fault) => format!(in alloc; "{fault}")?,
+        };
+        assert_eq!(rt; answer.as_str(), want);
     }
     Ok(())
+}
+
+// How many sites, jobs of the last site and edges there are.
+fn counts_of(alloc: Global, plan: &Plan) -> Result<String, AllocError> {
+    let sites = plan.sites();
+    let jobs = plan.jobs(sites - 1);
+    let edges = plan.edges();
+    format!(in alloc; "{sites} sites, {jobs} jobs, {edges} edges")
 }
 
 // The number of the fault of a text, and 0 for the text of a plan.
@@ -321,15 +398,23 @@ fn answers_the_first_of_two_limits(rt: HostRuntime) -> Result<(), Fail> {
     Ok(())
 }
 
+const WHOLE: &str =
+    "version = 1\n[[site]]\nname = \"a\"\njobs = [{ name = \"x\" }, { name = \"y\", turns = 5, fails = true }]\n[[site]]\nname = \"b\"\n[[site]]\nname = \"c\"\njobs = [{ name = \"z\", turns = 1000000 }]\n[[edge]]\nends = [\"c\", \"b\"]\n[[edge]]\nends = [\"a\", \"c\"]\n";
+
+// Every reader of the plan of a text.
 #[test]
-fn lists_the_edges_of_each_site(rt: HostRuntime) -> Result<(), Fail> {
+fn reads_the_whole_plan(rt: HostRuntime) -> Result<(), Fail> {
     let alloc = rt.alloc();
-    let text = format!(in alloc;
-        "{BASE}[[site]]\nname = \"c\"\n[[edge]]\nends = [\"c\", \"b\"]\n[[edge]]\nends = [\"a\", \"c\"]\n"
-    )?;
-    let plan = read_plan(alloc, text.as_str())?;
+    let plan = read_plan(alloc, WHOLE)?;
+    let short = in_short(alloc, &plan)?;
+    assert_eq!(rt;
+        short.as_str(),
+        "a x/0/false y/5/true;b;c z/1000000/false; 1-2 0-2"
+    );
     assert_eq!(rt; plan.sites(), 3);
     assert_eq!(rt; plan.edges(), 2);
+    assert_eq!(rt; (plan.name(0), plan.name(1), plan.name(2)), ("a", "b", "c"));
+    assert_eq!(rt; (plan.jobs(0), plan.jobs(1), plan.jobs(2)), (2, 0, 1));
     assert_eq!(rt; plan.edges_of(0), [1].as_slice());
     assert_eq!(rt; plan.edges_of(1), [0].as_slice());
     assert_eq!(rt; plan.edges_of(2), [0, 1].as_slice());
@@ -381,10 +466,8 @@ fn prints_each_fault_by_its_number(rt: HostRuntime) -> Result<(), Fail> {
 // Under `--fail-alloc` each allocation fails in turn, and the answer is then want of memory.
 #[test]
 fn answers_the_plan_or_memory(rt: HostRuntime) -> Result<(), Fail> {
-    let text =
-        "version = 1\n[[site]]\nname = \"a\"\njobs = [{ name = \"x\" }]\n[[site]]\nname = \"b\"\n[[edge]]\nends = [\"a\", \"b\"]\n";
-    match read_plan(rt.alloc(), text) {
-        Ok(plan) => assert_eq!(rt; plan.edges(), 1),
+    match read_plan(rt.alloc(), WHOLE) {
+        Ok(plan) => assert_eq!(rt; (plan.sites(), plan.edges()), (3, 2)),
         Err(fault) => assert_eq!(rt; fault, PlanFault::Memory),
     }
     Ok(())

@@ -1,9 +1,16 @@
-use Rattle.std.proofs.Common.{map, sym, ◌∙◌, arith}
+use Rattle.std.proofs.Common.{◌≡◌, ℕ, List, map, Some, None, sym, ap, ◌∙◌, arith}
 use Rattle.std.proofs.lemmas.Bool.{ltb-false}
+use Rattle.toml.specs.Data.{Data}
 use Rattle.toml.specs.View.{view}
+use Rattle.dine_plan.specs.PlanOf.{ends_in}
+use Rattle.dine_plan.specs.Refusals.{first_some, end_refusals, joined_by}
 use Rattle.dine_plan.proofs.ListLemmas.{length-map}
-use Rattle.dine_plan.proofs.GraphLemmas.{are_sites, are_ends, are_pairs, is_plan, first_of_graph}
+use Rattle.dine_plan.proofs.GraphLemmas.{are_sites, are_ends, are_pairs, join_known, is_plan, first_of_graph}
 use Rattle.dine_plan.proofs.reading.read_graph.Goals as goal
+
+-- the pairs that are read are those that the edges join, since the ends are not refused
+joined : (names : List (List ℕ)) (edges : List Data) (pairs : List (ℕ × ℕ)) → first_some (end_refusals names edges) ≡ None → pairs ≡ map (ends_in names) edges → map (joined_by names) edges ≡ map Some pairs
+joined names edges pairs no_end is = join_known names edges (are_ends names edges no_end).known ∙ ap (map Some) (sym is)
 
 pub returns-in-Some-clause-refused : goal.returns-in-Some-clause-refused
 returns-in-Some-clause-refused c _ =
@@ -22,21 +29,23 @@ pairs_in-requires c =
 
 pub returns-in-Some-first_pair_fault-clause-refused : goal.returns-in-Some-first_pair_fault-clause-refused
 returns-in-Some-first_pair_fault-clause-refused c _ =
-    let pairs = c.as_slice.ensures.value ∙ c.in_ok-pairs.ensures in
-    first_of_graph _ _ ∙ rw (sym c.in_ok-site_fault.ensures ∙ c.in_default.is, sym c.first_end_fault.ensures ∙ c.in_default-first_end_fault.is, ← pairs) (sym c.first_pair_fault.ensures ∙ c.in-Some-first_pair_fault.is)
+    let no_end = sym c.first_end_fault.ensures ∙ c.in_default-first_end_fault.is in
+    let pairs = joined _ _ _ no_end (c.as_slice.ensures.value ∙ c.in_ok-pairs.ensures) in
+    first_of_graph _ _ ∙ rw (sym c.in_ok-site_fault.ensures ∙ c.in_default.is, no_end, pairs) (sym c.first_pair_fault.ensures ∙ c.in-Some-first_pair_fault.is)
 
 pub build-requires-clause-turns : goal.build-requires-clause-turns
 build-requires-clause-turns c = (are_sites _ (sym c.in_ok-site_fault.ensures ∙ c.in_default.is)).few_turns
 
 pub build-requires-clause-plan : goal.build-requires-clause-plan
 build-requires-clause-plan c =
-    let pairs = c.as_slice.ensures.value ∙ c.in_ok-pairs.ensures in
+    let no_end = sym c.first_end_fault.ensures ∙ c.in_default-first_end_fault.is in
+    let pairs = joined _ _ _ no_end (c.as_slice.ensures.value ∙ c.in_ok-pairs.ensures) in
     let sites = are_sites _ (sym c.in_ok-site_fault.ensures ∙ c.in_default.is) in
-    let ends = are_ends _ _ (sym c.first_end_fault.ensures ∙ c.in_default-first_end_fault.is) in
-    let apart = are_pairs _ (rw pairs at (sym c.first_pair_fault.ensures ∙ c.in_default-first_pair_fault.is)) in
-    rw c.in_ok-pairs.ensures (is_plan (map view c.args.sites.now) (map view c.args.edges.now) sites ends apart)
+    let apart = are_pairs _ (rw (sym pairs) at (sym c.first_pair_fault.ensures ∙ c.in_default-first_pair_fault.is)) in
+    rw c.in_ok-pairs.ensures (is_plan (map view c.args.sites.now) (map view c.args.edges.now) sites (are_ends _ _ no_end) apart)
 
 pub returns-clause-unrefused : goal.returns-clause-unrefused
 returns-clause-unrefused c =
-    let pairs = c.as_slice.ensures.value ∙ c.in_ok-pairs.ensures in
-    first_of_graph _ _ ∙ rw (sym c.in_ok-site_fault.ensures ∙ c.in_default.is, sym c.first_end_fault.ensures ∙ c.in_default-first_end_fault.is, ← pairs) (sym c.first_pair_fault.ensures ∙ c.in_default-first_pair_fault.is)
+    let no_end = sym c.first_end_fault.ensures ∙ c.in_default-first_end_fault.is in
+    let pairs = joined _ _ _ no_end (c.as_slice.ensures.value ∙ c.in_ok-pairs.ensures) in
+    first_of_graph _ _ ∙ rw (sym c.in_ok-site_fault.ensures ∙ c.in_default.is, no_end, pairs) (sym c.first_pair_fault.ensures ∙ c.in_default-first_pair_fault.is)
