@@ -1,8 +1,8 @@
 -- What the calls of a site core say of each state for which the core stands.
-use Rattle.std.specs.Prelude.{◌≡◌, ℕ, ◌==◌, ◌&&◌, Bool, List, length, Option}
+use Rattle.std.specs.Prelude.{◌≡◌, ℕ, ◌<◌, ◌==◌, ◌&&◌, Bool, List, length, Option}
 use Rattle.std.specs.List.{list_all, range_with_len}
 use Rattle.dine_token.specs.Fork.{SeenFork}
-use Rattle.dine_plan.specs.Plan.{SeenPlan, job_count}
+use Rattle.dine_plan.specs.Plan.{SeenPlan, IsPlan, job_count, site_count}
 use Rattle.dine_rules.specs.declared.letters.Letter.{Letter}
 use Rattle.dine_rules.specs.declared.breach.Breach.{Breach}
 use Rattle.dine_rules.specs.Letters.{has_done, has_close}
@@ -12,9 +12,15 @@ use Rattle.dine_rules.specs.Steps.{Step, LocalStep, may, after, with_put}
 use Rattle.dine_rules.specs.Streams.{KeepsStreams}
 use Rattle.dine_core.specs.Core.{SeenCore, StandsFor, forks_in_hand, tokens_in_hand}
 
--- the core is that of a site before its first step
+-- The core is that of one of the plan's sites, before its first step.
+pub record IsFreshFor (plan : SeenPlan) (core : SeenCore) : Type 0 where
+  pub is_plan : IsPlan plan
+  pub is_site : core.site < site_count plan
+  pub stands : StandsFor plan (start_of plan core.site) core
+
+-- so it is for some plan
 abbrev pub IsFresh : SeenCore → Type 0
-IsFresh core = (plan : SeenPlan) × StandsFor plan (start_of plan core.site) core
+IsFresh core = (plan : SeenPlan) × IsFreshFor plan core
 
 -- so it is for each state that keeps the streams and for which the core stands
 abbrev pub ForEachState : SeenCore → (SeenPlan → LocalState → Type 0) → Type 0

@@ -15,7 +15,7 @@ ghost use Rattle.dine_core.specs.Core.{SeenCore, StandsFor, forks_in_hand, fresh
 ghost use Rattle.dine_core.specs.Places.{place_at, is_held, can_give, can_ask, can_hunger, can_begin, can_say_done, can_close, is_ready_at, is_over_at, is_closed_at, neighbour_of, OnHere, has_all_said, has_all_closed, breach_at, hungered, asked, gave, begun, ended, said_done, closed, took, forks_of, tokens_of, IsMealOf};
 ghost use Rattle.dine_core.specs.Forks.{hand_of};
 ghost use Rattle.dine_core.specs.LinkNumbers.{link_to, link_from};
-ghost use Rattle.dine_core.specs.Standing.{ForEachState, IsFresh, TellsMay, CoreStep, CoreSteps, CorePuts, TellsBreach, AreForksInHand, AreTokensInHand, all_places, has_finished, has_closed};
+ghost use Rattle.dine_core.specs.Standing.{ForEachState, IsFreshFor, TellsMay, CoreStep, CoreSteps, CorePuts, TellsBreach, AreForksInHand, AreTokensInHand, all_places, has_finished, has_closed};
 
 mod meals;
 mod next;
@@ -88,7 +88,7 @@ impl SiteCore {
         requires tokens { tokens.items ≡ fresh_tokens plan.now site (edges_of plan.now site) }
         ensures site { IfOk result (λ core. core.site ≡ site) }
         ensures start { IfOk result (λ core. StandsFor plan.now (start_of plan.now site) core) }
-        ensures fresh { IfOk result IsFresh }
+        ensures fresh { IfOk result (IsFreshFor plan.now) }
     {
         let places = opening::places_of(alloc, plan, site, forks, tokens)?;
         let forks = Vec::with_capacity(alloc, places.len())?;
