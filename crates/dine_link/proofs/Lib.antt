@@ -1,2 +1,3 @@
 pub mod Relays
 pub mod Endings
+pub mod BellSteps

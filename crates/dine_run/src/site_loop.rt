@@ -1,4 +1,10 @@
 //! One site on its thread, from its first step to its last.
+ghost use Rattle.std.specs.Prelude.{◌≡◌, ◌≤◌, ◌+◌, All, length, map, vec_len};
+ghost use Rattle.dine_plan.specs.Plan.{SeenPlan};
+ghost use Rattle.dine_core.specs.Standing.{IsFresh, IsFreshFor};
+ghost use Rattle.dine_run.specs.Diners.{HasEaten};
+ghost use Rattle.dine_run.specs.Ports.{IsFreshPort, seen_port};
+ghost use Rattle.dine_run.specs.SiteEnds.{IsSiteEnd};
 
 mod running;
 
@@ -23,7 +29,23 @@ pub fn run_site<R: Wait, L: Lane, D: Diner>(
     ports: Vec<Port<L>>,
     bell: Bell,
     diner: D,
-) -> SiteEnd<L, D> {
+) -> SiteEnd<L, D>
+    requires fresh { IsFresh core }
+    requires ports { vec_len ports ≡ length core.places }
+    requires unused { All (λ p. IsFreshPort (seen_port L.seen_tx L.seen_closed L.seen_rx p.tx p.rx)) ports.items }
+    requires bell { bell ≡ length core.places }
+    requires room { core.due ≤ D.room_left diner }
+    ensures end { (plan : SeenPlan) → IsFreshFor plan core → IsSiteEnd plan core.site (map (λ p. seen_port L.seen_tx L.seen_closed L.seen_rx p.tx p.rx) ports.items) (record {
+        site = result.site;
+        ate = result.ate;
+        forks = result.forks.items;
+        tokens = result.tokens.items;
+        ports = map (λ p. seen_port L.seen_tx L.seen_closed L.seen_rx p.tx p.rx) result.ports.items;
+        stray = result.stray;
+        fault = result.fault;
+    }) }
+    ensures eaten { HasEaten D.calls D.marks D.fits result.ate result.failed diner result.diner }
+{
     let mut site = Running::new(core, ports, bell, diner);
     match site.work(rt) {
         Ok(()) => site.end(None, None),

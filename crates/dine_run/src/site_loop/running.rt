@@ -204,7 +204,8 @@ impl<L: Lane, D: Diner> Running<L, D> {
 
 // Puts Close at place i, where the end is live. Where that is refused, the end stays live.
 fn close_port<R: Wait, L: Lane>(rt: &R, ports: &mut Vec<Port<L>>, i: usize) -> Result<(), Lost> {
-    let Port { tx, rx, ringer } = ports.remove(i);
+    // The last port stands in for this one until it comes back: an end has to be owned to be closed.
+    let Port { tx, rx, ringer } = ports.swap_remove(i);
     let (tx, closed) = match tx {
         TxEnd::Live(tx) => match L::close(rt, tx) {
             Ok(tx) => (TxEnd::Shut(tx), Ok(())),
@@ -212,6 +213,8 @@ fn close_port<R: Wait, L: Lane>(rt: &R, ports: &mut Vec<Port<L>>, i: usize) -> R
         },
         TxEnd::Shut(_) => unreachable!(),
     };
-    ports.insert_reserved(i, Port { tx, rx, ringer });
+    let last = ports.len();
+    ports.push_reserved(Port { tx, rx, ringer });
+    ports.swap(i, last);
     closed
 }
