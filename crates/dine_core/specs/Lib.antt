@@ -14,6 +14,7 @@ pub use Rattle.dine_rules.specs.Examples
 pub mod Core
 pub mod Places
 pub mod SiteFields
+pub mod PackedFields
 pub mod LinkNumbers
 pub mod Standing
 pub mod WorldSites

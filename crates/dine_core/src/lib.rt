@@ -6,5 +6,5 @@ pub mod site;
 pub mod world;
 
 pub use dine_rules::{Breach, Event, EventKind, Kind4, Letter, Phase, laws};
-pub use site::{Parts, SiteCore};
+pub use site::{Packed, Parts, SiteCore};
 pub use world::{NotEnabled, World};

@@ -20,6 +20,7 @@ ghost use Rattle.dine_core.specs.Standing.{ForEachState, IsFreshFor, TellsMay, C
 mod meals;
 mod next;
 mod opening;
+mod packed;
 pub(crate) mod places;
 #[cfg(test)]
 mod tests;
@@ -28,6 +29,7 @@ use dine_plan::Plan;
 pub use dine_rules::{Breach, Kind4, Letter, Phase};
 use dine_token::{Fork, Held, Meal, Token};
 pub use opening::{fresh_forks, fresh_tokens};
+pub use packed::Packed;
 use places::{ForkSlot, Place};
 use std::alloc::{AllocError, Global};
 use std::marker::Model;
