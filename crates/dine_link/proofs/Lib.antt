@@ -1,3 +1,4 @@
 pub mod Relays
 pub mod Endings
+pub mod Passes
 pub mod BellSteps

@@ -6,6 +6,9 @@ ghost use Rattle.crossbeam_channel.specs.Ends.{sends_on};
 ghost use Rattle.dine_link.specs.BellRule.{no_ringers};
 ghost use Rattle.dine_link.specs.declared.bell_rule.Part.TheVariants.{Waits};
 
+#[cfg(test)]
+mod tests;
+
 use crate::bell_rule::{Hears, OfRingers, OneMore, Part, Sounds};
 use crate::faults::{LinkFault, Lost};
 use crate::waiting;

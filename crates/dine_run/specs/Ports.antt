@@ -1,7 +1,8 @@
 -- The two link ends of a site at a place, as contracts see them, whatever lane they are of.
-use Rattle.std.specs.Prelude.{◌≡◌, ◌⊎◌, ℕ, ◌<◌, Bool, true, false, List, [], ◌∷◌, ◌++◌, All, length, slice_get, Option, Some, option_to_list}
+use Rattle.std.specs.Prelude.{◌≡◌, ◌⊎◌, Bool, true, false, List, [], ◌∷◌, ◌++◌, map, Option, option_to_list}
 use Rattle.dine_rules.specs.declared.letters.Letter.{Letter}
 use Rattle.dine_rules.specs.declared.letters.Letter.TheVariants.{Close}
+use Rattle.dine_run.specs.declared.port.Port.{Port}
 use Rattle.dine_link.specs.declared.lane.TxEnd.{TxEnd}
 use Rattle.dine_link.specs.declared.lane.TxEnd.TheVariants.{Live, Shut}
 use Rattle.dine_link.specs.Lanes.{seen_end}
@@ -17,8 +18,13 @@ abbrev pub is_live_end : {Tx Closed : Type 0} → TxEnd Tx Closed → Bool
 is_live_end (Live tx) = true
 is_live_end (Shut tx) = false
 
-abbrev pub seen_port : {Tx Closed Rx Identity : Type 0} → (Tx → SeenEnd Identity) → (Closed → SeenEnd Identity) → (Rx → SeenEnd Identity) → TxEnd Tx Closed → Rx → SeenPort Identity
-seen_port live shut taking tx rx = record { tx = seen_end live shut tx; is_live = is_live_end tx; rx = taking rx }
+-- a port, by what is seen of the ends of its lane; and the ports of all places
+module _ {Lane Tx Closed Rx Identity : Type 0} (live : Tx → SeenEnd Identity) (shut : Closed → SeenEnd Identity) (taking : Rx → SeenEnd Identity) where
+  abbrev pub seen_port : Port Lane Tx Closed Rx → SeenPort Identity
+  seen_port port = record { tx = seen_end live shut port.tx; is_live = is_live_end port.tx; rx = taking port.rx }
+
+  abbrev pub seen_ports : List (Port Lane Tx Closed Rx) → List (SeenPort Identity)
+  seen_ports ports = map seen_port ports
 
 -- nothing was put or taken yet
 pub record IsFreshPort {Identity : Type 0} (port : SeenPort Identity) : Type 0 where

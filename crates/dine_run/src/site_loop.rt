@@ -1,9 +1,9 @@
 //! One site on its thread, from its first step to its last.
-ghost use Rattle.std.specs.Prelude.{◌≡◌, ◌≤◌, ◌+◌, All, length, map, vec_len};
+ghost use Rattle.std.specs.Prelude.{◌≡◌, ◌≤◌, ◌+◌, All, length, vec_len};
 ghost use Rattle.dine_plan.specs.Plan.{SeenPlan};
 ghost use Rattle.dine_core.specs.Standing.{IsFresh, IsFreshFor};
 ghost use Rattle.dine_run.specs.Diners.{HasEaten};
-ghost use Rattle.dine_run.specs.Ports.{IsFreshPort, seen_port};
+ghost use Rattle.dine_run.specs.Ports.{IsFreshPort, seen_ports};
 ghost use Rattle.dine_run.specs.SiteEnds.{IsSiteEnd};
 
 mod running;
@@ -32,15 +32,15 @@ pub fn run_site<R: Wait, L: Lane, D: Diner>(
 ) -> SiteEnd<L, D>
     requires fresh { IsFresh core }
     requires ports { vec_len ports ≡ length core.places }
-    requires unused { All (λ p. IsFreshPort (seen_port L.seen_tx L.seen_closed L.seen_rx p.tx p.rx)) ports.items }
+    requires unused { All IsFreshPort (seen_ports L.seen_tx L.seen_closed L.seen_rx ports.items) }
     requires bell { bell ≡ length core.places }
     requires room { core.due ≤ D.room_left diner }
-    ensures end { (plan : SeenPlan) → IsFreshFor plan core → IsSiteEnd plan core.site (map (λ p. seen_port L.seen_tx L.seen_closed L.seen_rx p.tx p.rx) ports.items) (record {
+    ensures end { (plan : SeenPlan) → IsFreshFor plan core → IsSiteEnd plan core.site (seen_ports L.seen_tx L.seen_closed L.seen_rx ports.items) (record {
         site = result.site;
         ate = result.ate;
         forks = result.forks.items;
         tokens = result.tokens.items;
-        ports = map (λ p. seen_port L.seen_tx L.seen_closed L.seen_rx p.tx p.rx) result.ports.items;
+        ports = seen_ports L.seen_tx L.seen_closed L.seen_rx result.ports.items;
         stray = result.stray;
         fault = result.fault;
     }) }
