@@ -25,8 +25,8 @@ impl Model for Packed {
 
 impl Drop for Packed {
     fn drop(self) {
-        let Packed { core } = self;
-        let _ = core.into_parts();
+        let Packed { core: unused } = self;
+        let _ = unused.into_parts();
     }
 }
 

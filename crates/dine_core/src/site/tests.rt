@@ -525,6 +525,40 @@ fn fresh_tokens_are_those_of_the_higher_end(rt: HostRuntime) -> Result<(), Fail>
     Ok(())
 }
 
+// The packed core of a site.
+fn packed_site(rt: &impl Abort, alloc: Global, plan: &Plan, site: u32) -> Packed {
+    assert!(rt; site < plan.sites());
+    let forks = fresh_forks(alloc, plan, site).expect(rt, "memory");
+    let tokens = fresh_tokens(alloc, plan, site).expect(rt, "memory");
+    SiteCore::open(alloc, plan, site, forks, tokens)
+        .expect(rt, "memory")
+        .pack()
+}
+
+#[test]
+fn packed_core_comes_back_as_it_was(rt: HostRuntime) {
+    let alloc = rt.alloc();
+    let plan = plan_of(&rt, alloc, JOB, TWO_JOBS);
+    let mut core = packed_site(&rt, alloc, &plan, 0).unpack();
+    assert_eq!(&rt; (core.site(), core.degree(), core.ate()), (0, 1, 0));
+    assert!(&rt; 0 < core.degree());
+    assert!(&rt; core.has_fork(0));
+    assert!(&rt; !core.has_token(0));
+    grow_hungry(&rt, &mut core);
+    eat(&rt, &mut core);
+    assert_eq!(&rt; core.ate(), 1);
+    assert_eq!(&rt; spend(&rt, core).forks.len(), 1);
+}
+
+#[test]
+fn packed_core_may_be_dropped(rt: HostRuntime) {
+    let alloc = rt.alloc();
+    let plan = plan_of(&rt, alloc, JOB, TWO_JOBS);
+    for site in 0..2 {
+        let _ = packed_site(&rt, alloc, &plan, site);
+    }
+}
+
 #[test]
 fn breaches_have_the_numbers_one_to_six(rt: HostRuntime) {
     assert_eq!(&rt; Breach::AfterClose.number(), 1);
