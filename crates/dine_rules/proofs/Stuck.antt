@@ -27,7 +27,7 @@ use Rattle.dine_rules.proofs.Links.{joined, link_holds, puts_back}
 use Rattle.dine_rules.proofs.NextLetters.{next_allowed}
 use Rattle.dine_rules.proofs.Orders.{Before, before_from, in_order}
 use Rattle.dine_rules.proofs.Placed.{placed}
-use Rattle.dine_rules.proofs.Turns.{slice_get-behind}
+use Rattle.dine_rules.proofs.Turns.{slice_get-behind, ends_in_close}
 use Rattle.dine_rules.proofs.WorldStreams.{WorldKeeps}
 
 -- ---- tests
@@ -291,13 +291,9 @@ module _ (plan : SeenPlan) (is_plan : IsPlan plan) (world : WorldState) (kept : 
     still_is_complete = record {
       all_think = thinks;
       all_ate = λ s is_site. thinker_all s is_site (thinks s is_site);
-      all_over = λ s i is_site within.
-          let other : ℕ = there s i is_site within in
-          let j : ℕ = place s i is_site within in
-          let other_site = there_is_site s i is_site within in
-          let other_within = there_within s i is_site within in
-          let taken = all_taken s i is_site within in
-          and_from _ _ (and_from _ _ (order s is_site i).orderly (close_put s i is_site within))
-          (and_from _ _ (ap is_orderly taken ∙ (order other other_site j).orderly) (ap has_close taken ∙ close_put other j other_site other_within));
+      all_closed = λ s i is_site within.
+          let put : List Letter = (traffic_at (state_of world s) i).put in
+          let last = ends_in_close put (keeps_here s i is_site within).put_lawful.close_last (close_put s i is_site within) in
+          record { orderly = (order s is_site i).orderly; before_close = last.0; ends_in_close = last.1 };
       all_taken = all_taken;
     }

@@ -1,5 +1,5 @@
 -- A letter in the middle of a stream: what stands before it.
-use Rattle.std.proofs.Common.{◌≡◌, ℕ, ◌+◌, Bool, true, false, cond, not, ◌==◌, List, [], ◌∷◌, ◌++◌, length, slice_get, Some, refl, sym, ◌∙◌, arith}
+use Rattle.std.proofs.Common.{◌≡◌, ℕ, ◌+◌, Bool, true, false, cond, not, ◌==◌, List, [], ◌∷◌, ◌++◌, length, slice_get, Some, refl, sym, ◌∙◌, ap, arith}
 use Rattle.std.proofs.lemmas.Bool.{false≢true, true≢false, and_parts, not-true, eqb-true}
 use Rattle.dine_token.specs.Fork.{SeenFork}
 use Rattle.dine_rules.specs.declared.letters.Letter.{Letter}
@@ -74,6 +74,15 @@ done_before_close (Fork fork ∷ xs) rest h = done_before_close xs rest h
 done_before_close (Request e ∷ xs) rest h = done_before_close xs rest h
 done_before_close (Done ∷ xs) rest h = refl
 done_before_close (Close ∷ xs) rest h = absurd (false≢true h)
+
+-- a stream with a Close, behind which nothing stands, ends in Close
+pub ends_in_close : (xs : List Letter) → is_close_last xs ≡ true → has_close xs ≡ true → (before : List Letter) × (xs ≡ before ++ Close ∷ [])
+ends_in_close [] last closed = absurd (false≢true closed)
+ends_in_close (Close ∷ []) last closed = ([], refl)
+ends_in_close (Close ∷ x ∷ xs) last closed = absurd (false≢true last)
+ends_in_close (Fork fork ∷ xs) last closed = let w = ends_in_close xs last closed in (Fork fork ∷ w.0, ap (λ (l : List Letter). Fork fork ∷ l) w.1)
+ends_in_close (Request edge ∷ xs) last closed = let w = ends_in_close xs last closed in (Request edge ∷ w.0, ap (λ (l : List Letter). Request edge ∷ l) w.1)
+ends_in_close (Done ∷ xs) last closed = let w = ends_in_close xs last closed in (Done ∷ w.0, ap (λ (l : List Letter). Done ∷ l) w.1)
 
 -- an orderly stream stays so where any letter but Close follows
 pub is_orderly-push_other : (xs : List Letter) (l : Letter) → has_close (l ∷ []) ≡ false → is_orderly xs ≡ true → is_orderly (xs ++ l ∷ []) ≡ true

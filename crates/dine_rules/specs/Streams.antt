@@ -53,6 +53,12 @@ is_orderly (Close ∷ letters) = false
 is_orderly (Fork fork ∷ letters) = is_orderly letters
 is_orderly (Request edge ∷ letters) = is_orderly letters
 
+-- The stream is whole: each Close has a Done before it, and the last letter is Close.
+pub record IsClosedInOrder (letters : List Letter) : Type 0 where
+  pub orderly : is_orderly letters ≡ true
+  pub before_close : List Letter
+  pub ends_in_close : letters ≡ before_close ++ Close ∷ []
+
 -- the logs of the Forks among the letters, in order
 abbrev pub logs_of : List Letter → List (List Entry)
 logs_of [] = []

@@ -1,5 +1,5 @@
 -- The world of all sites in one thread.
-use Rattle.std.specs.Prelude.{◌≡◌, ℕ, ◌<◌, ◌==◌, ◌&&◌, nat_lt, Bool, true, List, [], ◌∷◌, ◌++◌, map, filter, length, position, slice_get, slice_index_or, slice_set, Option, Some, None, is_some, unwrap_or, option_map, option_and_then, if◌then◌else◌}
+use Rattle.std.specs.Prelude.{◌≡◌, ℕ, ◌<◌, ◌==◌, nat_lt, Bool, true, List, [], ◌∷◌, ◌++◌, map, filter, length, position, slice_get, slice_index_or, slice_set, Option, Some, None, is_some, unwrap_or, option_map, option_and_then, if◌then◌else◌}
 use Rattle.std.specs.List.{flat_map, range_with_len}
 use mathlib.Core.List.{IsPrefix}
 use Rattle.dine_plan.specs.Plan.{SeenPlan, site_count, job_count, edges_of}
@@ -8,10 +8,9 @@ use Rattle.dine_rules.specs.declared.events.Event.{Event}
 use Rattle.dine_rules.specs.declared.events.EventKind.{EventKind}
 use Rattle.dine_rules.specs.declared.events.EventKind.TheVariants as event
 use Rattle.dine_rules.specs.declared.phase.Phase.TheVariants.{Thinking}
-use Rattle.dine_rules.specs.Letters.{has_close}
-use Rattle.dine_rules.specs.Local.{LocalState, Traffic, traffic_at, start_of, edge_at, neighbour_at, is_thinking}
+use Rattle.dine_rules.specs.Local.{LocalState, traffic_at, start_of, edge_at, neighbour_at, is_thinking}
 use Rattle.dine_rules.specs.Steps.{Step, may, after, step_by}
-use Rattle.dine_rules.specs.Streams.{is_orderly}
+use Rattle.dine_rules.specs.Streams.{IsClosedInOrder}
 
 -- one local state a site
 abbrev pub WorldState : Type 0
@@ -85,13 +84,10 @@ abbrev pub LinksAreOrdered : SeenPlan → WorldState → Type 0
 LinksAreOrdered plan world = (s i : ℕ) → s < site_count plan → i < length (edges_of plan s)
     → IsPrefix (traffic_at (state_of world s) i).taken (put_to plan world s i)
 
--- a place is over: the stream that was put is orderly, ends in Close, and so does all that was taken
-abbrev pub is_over : Traffic → Bool
-is_over traffic = (is_orderly traffic.put && has_close traffic.put) && (is_orderly traffic.taken && has_close traffic.taken)
-
--- The closed whole: every site thinks and ate all its meals, and every link is closed in order and wholly taken.
+-- The closed whole: every site thinks and ate all its meals, what it put on each link is orderly and ends in Close, and what it
+-- took from each link is all that was put there.
 pub record IsComplete (plan : SeenPlan) (world : WorldState) : Type 0 where
   pub all_think : (s : ℕ) → s < site_count plan → is_thinking (state_of world s).phase ≡ true
   pub all_ate : (s : ℕ) → s < site_count plan → (state_of world s).ate ≡ job_count plan s
-  pub all_over : (s i : ℕ) → s < site_count plan → i < length (edges_of plan s) → is_over (traffic_at (state_of world s) i) ≡ true
+  pub all_closed : (s i : ℕ) → s < site_count plan → i < length (edges_of plan s) → IsClosedInOrder (traffic_at (state_of world s) i).put
   pub all_taken : (s i : ℕ) → s < site_count plan → i < length (edges_of plan s) → (traffic_at (state_of world s) i).taken ≡ put_to plan world s i
