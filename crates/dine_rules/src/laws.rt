@@ -1,7 +1,8 @@
 //! Laws over the definitions alone. Each function does nothing: its contract is the law.
 
-ghost use Rattle.std.specs.Prelude.{◌≡◌, ◌≢◌, ◌<◌, ◌≤◌, ◌+◌, ◌*◌, ◌↔◌, ℕ, List, [], ◌∷◌, ◌++◌, None, Some, false, length, slice_get, true};
+ghost use Rattle.std.specs.Prelude.{Bool, ◌≡◌, ◌≢◌, ◌<◌, ◌≤◌, ◌+◌, ◌*◌, ◌↔◌, ℕ, List, [], ◌∷◌, ◌++◌, None, Some, false, length, slice_get, true};
 ghost use Rattle.std.specs.List.{list_any};
+ghost use mathlib.Core.List.{IsPrefix};
 ghost use Rattle.dine_plan.specs.Plan.{IsPlan, SeenPlan, edge_count, edges_of, hi_of, job_count, lo_of, site_count};
 ghost use Rattle.dine_token.specs.Lawful.{IsLawful};
 ghost use Rattle.dine_token.specs.Log.{meals_of};
@@ -10,15 +11,15 @@ ghost use Rattle.dine_rules.specs.Bound.{bound_of, effects_of};
 ghost use Rattle.dine_rules.specs.Examples.{alone, enabled_at_start, ends_complete, next_after, outcome_of, pair, path};
 ghost use Rattle.dine_rules.specs.Breach.{first_breach, is_allowed};
 ghost use Rattle.dine_rules.specs.Holdings.{fork_at, forks_held, token_at, tokens_held};
-ghost use Rattle.dine_rules.specs.JoinedEnds.{AccountsForFork, AccountsForToken, AreEndsOfEdge, AreLinked, AreWhollyTaken, HaveOneWholeFork, next_between};
-ghost use Rattle.dine_rules.specs.Letters.{closes_in, dones_in, forks_in, requests_in};
+ghost use Rattle.dine_rules.specs.JoinedEnds.{AccountsForFork, AccountsForToken, AreEndsOfEdge, AreLinked, AreWhollyTaken, HaveOneWholeFork, next_between, traffic_across};
+ghost use Rattle.dine_rules.specs.Letters.{closes_in, dones_in, forks_in, has_close, requests_in};
 ghost use Rattle.dine_rules.specs.Links.{ForEachEdge, ForEachLink, forks_of_edge, queue_to, tokens_of_edge};
 ghost use Rattle.dine_rules.specs.Local.{LocalState, Traffic, edge_at, is_eating, neighbour_at, start_of, traffic_at};
 ghost use Rattle.dine_rules.specs.Precedence.{IsAcyclic, fork_log};
 ghost use Rattle.dine_rules.specs.StepLists.{AreProper, LeadTo, begins_in, is_give_at};
 ghost use Rattle.dine_rules.specs.Schedules.{after_choices, finish_within, from_here, replay, whole_run};
 ghost use Rattle.dine_rules.specs.Steps.{LocalStep, Step};
-ghost use Rattle.dine_rules.specs.Streams.{IsProper, KeepsStreams};
+ghost use Rattle.dine_rules.specs.Streams.{IsLawfulStream, IsProper, KeepsStreams};
 ghost use Rattle.dine_rules.specs.World.{LinksAreOrdered, IsComplete, Reaches, WorldState, enabled_events, is_enabled, next_letter, place_of, put_to, start, state_of, world_after};
 ghost use Rattle.dine_rules.specs.declared.events.Event.{Event};
 ghost use Rattle.dine_rules.specs.declared.breach.Breach.{Breach};
@@ -227,6 +228,19 @@ pub fn edges_have_a_place_at_each_end()
     ensures edge { (plan : SeenPlan) (edge : ℕ) → IsPlan plan → edge < edge_count plan → edge_at plan (lo_of plan edge) (place_of plan (lo_of plan edge) edge) ≡ edge }
     ensures places { (plan : SeenPlan) (s i : ℕ) → IsPlan plan → i < length (edges_of plan s)
         → AreEndsOfEdge plan s i (neighbour_at plan s i) (place_of plan (neighbour_at plan s i) (edge_at plan s i)) }
+{}
+
+/// In every world that events reach from the start the two ends of each link took prefixes of what the other put. Where the world
+/// is complete, they took all.
+pub fn reached_worlds_have_linked_ends()
+    ensures linked { ForEachLink (λ plan world s i. AreLinked (traffic_at (state_of world s) i) (traffic_across plan world s i)) }
+    ensures joined { ForEachLink (λ plan world s i. IsComplete plan world → AreWhollyTaken (traffic_at (state_of world s) i) (traffic_across plan world s i)) }
+{}
+
+/// Where Close was taken from a link all was taken: what was put is a lawful stream, what was taken is a prefix of it, and
+/// nothing stands behind Close.
+pub fn closed_links_are_wholly_taken()
+    ensures { (from_lower : Bool) (taken put : List Letter) → IsLawfulStream from_lower put → IsPrefix taken put → has_close taken ≡ true → taken ≡ put }
 {}
 
 /// A letter that comes next and is not allowed is a Close, and its breach is that it came early. So it is for two sites that keep
