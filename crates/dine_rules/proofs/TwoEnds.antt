@@ -1,7 +1,7 @@
 -- Two ends of an edge whose sites keep their streams, by whole lists: a letter that comes next and is not allowed is a Close.
-use Rattle.std.proofs.Common.{◌≡◌, ◌≢◌, ℕ, ◌<◌, Bool, true, false, not, ◌||◌, ◌==◌, cond, List, [], ◌∷◌, ◌++◌, append-nil, length, drop, slice_get, Some, None, refl, sym, ◌∙◌, ap, subst, inl, inr, arith}
+use Rattle.std.proofs.Common.{◌≡◌, ℕ, ◌<◌, Bool, true, false, not, ◌||◌, ◌==◌, cond, List, [], ◌∷◌, ◌++◌, append-nil, length, drop, slice_get, Some, None, refl, sym, ◌∙◌, ap, subst, inl, inr, arith}
 use mathlib.Core.List.{IsPrefix}
-use Rattle.std.proofs.lemmas.Bool.{false≢true, true≢false, cases_Bool, cond-true, cond-false, not-true}
+use Rattle.std.proofs.lemmas.Bool.{false≢true, true≢false, cond-false, not-true}
 use Rattle.std.proofs.lemmas.Option.{same_Some}
 use Rattle.dine_plan.specs.Plan.{SeenPlan, IsPlan, site_count, edge_count, edges_of, lo_of, hi_of, other_of}
 use Rattle.dine_rules.specs.declared.breach.Breach.{Breach}

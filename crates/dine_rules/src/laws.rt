@@ -1,33 +1,37 @@
 //! Laws over the definitions alone. Each function does nothing: its contract is the law.
 
-ghost use Rattle.std.specs.Prelude.{Bool, ◌≡◌, ◌≢◌, ◌<◌, ◌≤◌, ◌+◌, ◌*◌, ◌↔◌, ℕ, List, [], ◌∷◌, ◌++◌, None, Some, false, length, slice_get, true};
+ghost use Rattle.std.specs.Prelude.{◌≡◌, ◌≢◌, ◌<◌, ◌≤◌, ◌+◌, ◌*◌, ◌↔◌, ℕ, List, [], ◌∷◌, ◌++◌, None, Some, false, length, slice_get, true};
 ghost use Rattle.std.specs.List.{list_any};
-ghost use mathlib.Core.List.{IsPrefix};
-ghost use Rattle.dine_plan.specs.Plan.{IsPlan, SeenPlan, edge_count, edges_of, hi_of, job_count, lo_of, site_count};
+ghost use Rattle.dine_plan.specs.Plan.{IsPlan, SeenPlan, edge_count, hi_of, job_count, lo_of, site_count};
 ghost use Rattle.dine_token.specs.Lawful.{IsLawful};
 ghost use Rattle.dine_token.specs.Log.{meals_of};
 ghost use Rattle.dine_token.specs.declared.entry.Entry.TheVariants.{Meal, Move};
 ghost use Rattle.dine_rules.specs.Bound.{bound_of, effects_of};
 ghost use Rattle.dine_rules.specs.Examples.{alone, enabled_at_start, ends_complete, next_after, outcome_of, pair, path};
 ghost use Rattle.dine_rules.specs.Breach.{first_breach, is_allowed};
-ghost use Rattle.dine_rules.specs.Holdings.{fork_at, forks_held, token_at, tokens_held};
-ghost use Rattle.dine_rules.specs.JoinedEnds.{AccountsForFork, AccountsForToken, AreEndsOfEdge, AreLinked, AreWhollyTaken, HaveOneWholeFork, next_between, traffic_across};
-ghost use Rattle.dine_rules.specs.Letters.{closes_in, dones_in, forks_in, has_close, requests_in};
+ghost use Rattle.dine_rules.specs.Holdings.{fork_at, token_at};
+ghost use Rattle.dine_rules.specs.Letters.{closes_in, dones_in, forks_in, requests_in};
 ghost use Rattle.dine_rules.specs.Links.{ForEachEdge, ForEachLink, forks_of_edge, queue_to, tokens_of_edge};
-ghost use Rattle.dine_rules.specs.Local.{LocalState, Traffic, edge_at, is_eating, neighbour_at, start_of, traffic_at};
+ghost use Rattle.dine_rules.specs.Local.{LocalState, is_eating, neighbour_at, start_of, traffic_at};
 ghost use Rattle.dine_rules.specs.Precedence.{IsAcyclic, fork_log};
 ghost use Rattle.dine_rules.specs.StepLists.{AreProper, LeadTo, begins_in, is_give_at};
 ghost use Rattle.dine_rules.specs.Schedules.{after_choices, finish_within, from_here, replay, whole_run};
 ghost use Rattle.dine_rules.specs.Steps.{LocalStep, Step};
-ghost use Rattle.dine_rules.specs.Streams.{IsLawfulStream, IsProper, KeepsStreams};
-ghost use Rattle.dine_rules.specs.World.{LinksAreOrdered, IsComplete, Reaches, WorldState, enabled_events, is_enabled, next_letter, place_of, put_to, start, state_of, world_after};
+ghost use Rattle.dine_rules.specs.Streams.{IsProper, KeepsStreams};
+ghost use Rattle.dine_rules.specs.World.{LinksAreOrdered, IsComplete, Reaches, WorldState, enabled_events, is_enabled, next_letter, put_to, start, state_of, world_after};
 ghost use Rattle.dine_rules.specs.declared.events.Event.{Event};
-ghost use Rattle.dine_rules.specs.declared.breach.Breach.{Breach};
-ghost use Rattle.dine_rules.specs.declared.breach.Breach.TheVariants.{ClosedEarly};
 ghost use Rattle.dine_rules.specs.declared.letters.Letter.{Letter};
-ghost use Rattle.dine_rules.specs.declared.letters.Letter.TheVariants.{Close};
 ghost use Rattle.dine_rules.specs.declared.events.EventKind.TheVariants.{Hungry};
 ghost use Rattle.dine_rules.specs.declared.letters.Kind4.TheVariants as kind;
+
+mod joined;
+
+pub use joined::{
+    closed_links_are_wholly_taken, early_close_comes_as_worked, edges_have_a_place_at_each_end,
+    joined_ends_have_one_whole_fork_and_one_token, kept_streams_account_for_fork_and_token,
+    linked_ends_have_at_most_one_fork_and_token, reached_worlds_have_linked_ends,
+    refused_letters_are_closes,
+};
 
 /// What the definitions come to on small plans: the log of each edge and the number of events, computed from the list
 /// of choices alone. A choice with no event is passed over.
@@ -219,69 +223,4 @@ pub fn forks_are_lawful_and_whole()
     ensures run_whole { (plan : SeenPlan) (choices : List ℕ) (edge : ℕ) → IsPlan plan → edge < edge_count plan
         → (meals_of (lo_of plan edge) (fork_log plan (whole_run plan choices).world edge) ≡ job_count plan (lo_of plan edge))
         × (meals_of (hi_of plan edge) (fork_log plan (whole_run plan choices).world edge) ≡ job_count plan (hi_of plan edge)) }
-{}
-
-/// Each edge has a place at its lower end and one at its higher, and each place of a site is an end of its edge.
-pub fn edges_have_a_place_at_each_end()
-    ensures ends { (plan : SeenPlan) (edge : ℕ) → IsPlan plan → edge < edge_count plan
-        → AreEndsOfEdge plan (lo_of plan edge) (place_of plan (lo_of plan edge) edge) (hi_of plan edge) (place_of plan (hi_of plan edge) edge) }
-    ensures edge { (plan : SeenPlan) (edge : ℕ) → IsPlan plan → edge < edge_count plan → edge_at plan (lo_of plan edge) (place_of plan (lo_of plan edge) edge) ≡ edge }
-    ensures places { (plan : SeenPlan) (s i : ℕ) → IsPlan plan → i < length (edges_of plan s)
-        → AreEndsOfEdge plan s i (neighbour_at plan s i) (place_of plan (neighbour_at plan s i) (edge_at plan s i)) }
-{}
-
-/// In every world that events reach from the start the two ends of each link took prefixes of what the other put. Where the world
-/// is complete, they took all.
-pub fn reached_worlds_have_linked_ends()
-    ensures linked { ForEachLink (λ plan world s i. AreLinked (traffic_at (state_of world s) i) (traffic_across plan world s i)) }
-    ensures joined { ForEachLink (λ plan world s i. IsComplete plan world → AreWhollyTaken (traffic_at (state_of world s) i) (traffic_across plan world s i)) }
-{}
-
-/// Where Close was taken from a link all was taken: what was put is a lawful stream, what was taken is a prefix of it, and
-/// nothing stands behind Close.
-pub fn closed_links_are_wholly_taken()
-    ensures { (from_lower : Bool) (taken put : List Letter) → IsLawfulStream from_lower put → IsPrefix taken put → has_close taken ≡ true → taken ≡ put }
-{}
-
-/// A letter that comes next and is not allowed is a Close, and its breach is that it came early. So it is for two sites that keep
-/// their streams, at the two ends of an edge where each took a prefix of what the other put, also where sites break off.
-/// Whole lists are counted, and no order of events is asked for.
-pub fn refused_letters_are_closes()
-    ensures close { (plan : SeenPlan) (s i other j : ℕ) (here there : LocalState) (letter : Letter) → IsPlan plan → AreEndsOfEdge plan s i other j
-        → KeepsStreams plan s here → KeepsStreams plan other there → AreLinked (traffic_at here i) (traffic_at there j)
-        → next_between (traffic_at here i) (traffic_at there j) ≡ Some letter → is_allowed plan s here i letter ≡ false → letter ≡ Close }
-    ensures early { (plan : SeenPlan) (s i other j : ℕ) (here there : LocalState) (letter : Letter) (breach : Breach) → IsPlan plan → AreEndsOfEdge plan s i other j
-        → KeepsStreams plan s here → KeepsStreams plan other there → AreLinked (traffic_at here i) (traffic_at there j)
-        → next_between (traffic_at here i) (traffic_at there j) ≡ Some letter → first_breach plan s here i letter ≡ Some breach → breach ≡ ClosedEarly }
-{}
-
-/// A site that keeps its streams accounts for the fork and for the token of each of its places.
-pub fn kept_streams_account_for_fork_and_token()
-    ensures fork { (plan : SeenPlan) (s i : ℕ) (state : LocalState) → KeepsStreams plan s state → i < length (edges_of plan s)
-        → AccountsForFork plan s (edge_at plan s i) state.ate (traffic_at state i) }
-    ensures token { (plan : SeenPlan) (s i : ℕ) (state : LocalState) → IsPlan plan → KeepsStreams plan s state → i < length (edges_of plan s)
-        → AccountsForToken plan s (edge_at plan s i) (traffic_at state i) }
-{}
-
-/// Two ends of an edge that account for the fork and took a prefix of what the other put, hold at most one fork. Where they
-/// account for the token, they hold at most one token.
-pub fn linked_ends_have_at_most_one_fork_and_token()
-    ensures fork { (plan : SeenPlan) (edge low_ate high_ate : ℕ) (low high : Traffic) → IsPlan plan → edge < edge_count plan
-        → AccountsForFork plan (lo_of plan edge) edge low_ate low → AccountsForFork plan (hi_of plan edge) edge high_ate high → AreLinked low high
-        → forks_held plan (lo_of plan edge) edge low + forks_held plan (hi_of plan edge) edge high ≤ 1 }
-    ensures token { (plan : SeenPlan) (edge : ℕ) (low high : Traffic) → IsPlan plan → edge < edge_count plan
-        → AccountsForToken plan (lo_of plan edge) edge low → AccountsForToken plan (hi_of plan edge) edge high → AreLinked low high
-        → tokens_held plan (lo_of plan edge) edge low + tokens_held plan (hi_of plan edge) edge high ≤ 1 }
-{}
-
-/// Two ends of an edge that took all that the other put, hold exactly one fork, where they account for it: its log is lawful, and
-/// it has each meal that either end ate once. Where they account for the token, they hold exactly one token. So it is for
-/// the lists that are left when threads have joined. No order of events is asked for.
-pub fn joined_ends_have_one_whole_fork_and_one_token()
-    ensures fork { (plan : SeenPlan) (edge low_ate high_ate : ℕ) (low high : Traffic) → IsPlan plan → edge < edge_count plan
-        → AccountsForFork plan (lo_of plan edge) edge low_ate low → AccountsForFork plan (hi_of plan edge) edge high_ate high → AreWhollyTaken low high
-        → HaveOneWholeFork plan edge low_ate high_ate low high }
-    ensures token { (plan : SeenPlan) (edge : ℕ) (low high : Traffic) → IsPlan plan → edge < edge_count plan
-        → AccountsForToken plan (lo_of plan edge) edge low → AccountsForToken plan (hi_of plan edge) edge high → AreWhollyTaken low high
-        → tokens_held plan (lo_of plan edge) edge low + tokens_held plan (hi_of plan edge) edge high ≡ 1 }
 {}
