@@ -44,3 +44,4 @@ pub mod Listed
 pub mod Owned
 pub mod Near
 pub mod ForkLogs
+pub mod Complete
