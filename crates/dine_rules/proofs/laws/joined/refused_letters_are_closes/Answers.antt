@@ -1,5 +1,5 @@
 use Rattle.dine_rules.proofs.TwoEnds.{refused_at, breach_at}
-use Rattle.dine_rules.proofs.laws.refused_letters_are_closes.Goals as goal
+use Rattle.dine_rules.proofs.laws.joined.refused_letters_are_closes.Goals as goal
 
 pub returns : goal.returns
 returns c = record {

@@ -1,5 +1,5 @@
 use Rattle.dine_rules.proofs.JoinedEnds.{accounts_for_fork, accounts_for_token}
-use Rattle.dine_rules.proofs.laws.kept_streams_account_for_fork_and_token.Goals as goal
+use Rattle.dine_rules.proofs.laws.joined.kept_streams_account_for_fork_and_token.Goals as goal
 
 pub returns : goal.returns
 returns c = record {

@@ -1,5 +1,5 @@
 use Rattle.dine_rules.proofs.JoinedEnds.{joined_whole, joined_token}
-use Rattle.dine_rules.proofs.laws.joined_ends_have_one_whole_fork_and_one_token.Goals as goal
+use Rattle.dine_rules.proofs.laws.joined.joined_ends_have_one_whole_fork_and_one_token.Goals as goal
 
 pub returns : goal.returns
 returns c = record {
