@@ -217,7 +217,3 @@ module _ (plan : SeenPlan) (state : LocalState) (core : SeenCore) (stands : Stan
       ∙ kept-take_done plan core.site state.phase state.ate (edge_at plan core.site i) (traffic_at state i))
   stands-took sound Close h = stands_at plan state core stands i within _ _ (ap (λ (p : Place). record p { close_taken = true }) (place_is plan state core stands i within)
       ∙ kept-take_close plan core.site state.phase state.ate (edge_at plan core.site i) (traffic_at state i))
-
-pub none_from : (o : Option Breach) → ((x : Breach) → o ≡ Some x → ⊥) → o ≡ None
-none_from None h = refl
-none_from (Some x) h = absurd (h x refl)

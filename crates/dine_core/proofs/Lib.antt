@@ -5,6 +5,7 @@ pub mod CoreSteps
 pub mod Sound
 pub mod Breaches
 pub mod Lists
+pub mod Options
 pub mod Ranges
 pub mod Eating
 pub mod Ending

@@ -140,11 +140,6 @@ meal_is meal s k forks a b c = ap (λ (x : ℕ). record { site = x; k = meal.k; 
 pub within_of : (n m : ℕ) (b : Bool) → (nat_lt n m && b) ≡ true → n < m
 within_of n m b h = ltb-true n m (and_parts (nat_lt n m) b h).0
 
--- an option that is there
-pub some_of : {A : Type 0} (o : Option A) (P : A → Type 0) → MatchOption o ⊥ P → (x : A) × (o ≡ Some x) × P x
-some_of None P h = absurd h
-some_of (Some x) P h = (x, refl, h)
-
 -- no breach where the test says that the letter is in turn
 pub none_applies : (o : Option Breach) → not (is_some o) ≡ true → o ≡ None
 none_applies None h = refl

@@ -9,14 +9,10 @@ use Rattle.dine_core.specs.declared.world.sites.WorldSite.{WorldSite}
 use Rattle.dine_rules.specs.World.{WorldState, state_of, world_after}
 use Rattle.dine_core.specs.WorldSites.{SiteSteps, HasOwnMeal, HasRoomFor, TakesAllowed, can_do}
 use Rattle.dine_core.specs.Worlds.{WorldStep, IsWorldOf, SeenWorld, can_happen}
+use Rattle.dine_rules.proofs.WorldStreams.{some_of}
 use Rattle.dine_core.proofs.CanHappen.{can_happen_is}
 use Rattle.dine_core.proofs.MealFits.{has_own_meal}
 use Rattle.dine_core.proofs.WorldSteps.{eats_here, has_room, in_turn, is_plan, keeps_here, world_site_there, world_next}
-
--- an option that is there
-there : (o : Option WorldState) → is_some o ≡ true → (new : WorldState) × (o ≡ Some new)
-there None h = absurd (false≢true h)
-there (Some new) h = (new, refl)
 
 module _ (seen : SeenWorld) (e : Event) (can : can_happen seen e ≡ true) where
   -- the site is there
@@ -37,7 +33,7 @@ module _ (seen : SeenWorld) (e : Event) (can : can_happen seen e ≡ true) where
     can_there = subst (λ (x : WorldSite). can_do seen.links x.core e.kind ≡ true) is (site_can world_site is)
 
     happens : (new : WorldState) × (world_after plan world e ≡ Some new)
-    happens = there (world_after plan world e) (sym (can_happen_is plan world seen stands e) ∙ can)
+    happens = some_of (world_after plan world e) (sym (can_happen_is plan world seen stands e) ∙ can)
 
     -- its meal is that of its core
     pub site_fits : HasOwnMeal world_site

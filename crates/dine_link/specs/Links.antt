@@ -14,9 +14,12 @@ pub record SeenEnd (Identity : Type 0) : Type 0 where
   pub link : LinkName Identity
   pub letters : List Letter
 
--- the same end after one letter more
+-- the same end after more letters, and after one
+abbrev pub with_letters : {Identity : Type 0} → List Letter → SeenEnd Identity → SeenEnd Identity
+with_letters letters end = record { link = end.link; letters = end.letters ++ letters }
+
 abbrev pub with_letter : {Identity : Type 0} → Letter → SeenEnd Identity → SeenEnd Identity
-with_letter letter end = record { link = end.link; letters = end.letters ++ letter ∷ [] }
+with_letter letter end = with_letters (letter ∷ []) end
 
 -- A link whose two ends were brought together: its edge, the site that put, all that was put, and all that was taken.
 pub record SeenLink : Type 0 where

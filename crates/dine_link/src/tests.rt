@@ -1,1 +1,153 @@
 // Letters over links, in one thread and between two.
+ghost use Rattle.std.specs.Prelude.{◌≡◌, IfOk, vec_len};
+
+mod exchange;
+mod waits;
+
+use super::*;
+use dine_rules::{Kind4, Letter};
+use dine_token::{Fork, Held, Meal, Token};
+use exchange::exchange;
+use std::alloc::{AllocError, Global};
+use std::process::Abort;
+use std::sync::Wait;
+use std::test::Fail;
+
+// Done and Close go over a link in this order, and then its ends are brought together.
+fn done_and_close<L: Lane, R: Wait + Abort>(rt: &R, alloc: Global) -> Result<(), LinkFault> {
+    let (mut tx, mut rx) = L::pair(alloc, 5, 2)?;
+    assert!(rt; L::put(rt, &mut tx, Letter::Done).is_ok());
+    let Ok(closed) = L::close(rt, tx) else {
+        panic!(rt; "close was refused");
+    };
+    let Ok(first) = L::take(rt, &mut rx) else {
+        panic!(rt; "the first take was refused");
+    };
+    assert_eq!(rt; first.kind(), Kind4::Done);
+    if L::is_closed(&rx) {
+        panic!(rt; "closed by {:?}", first.kind());
+    }
+    let Ok(second) = L::take(rt, &mut rx) else {
+        panic!(rt; "the second take was refused");
+    };
+    assert_eq!(rt; second.kind(), Kind4::Close);
+    assert!(rt; L::is_closed(&rx));
+    let end = L::reconcile(TxEnd::Shut(closed), rx);
+    assert_eq!(rt; (end.edge(), end.from()), (5, 2));
+    assert_eq!(rt; (end.put(), end.taken(), end.shut()), (2, 2, true));
+    Ok(())
+}
+
+#[test]
+fn done_and_close_go_over_a_channel(rt: HostRuntime) -> Result<(), Fail> {
+    done_and_close::<ChannelLane, HostRuntime>(&rt, rt.alloc())?;
+    Ok(())
+}
+
+// Requests with the tokens of the edges 0 to count - 1.
+fn requests(alloc: Global, count: u32) -> Result<Vec<Letter>, AllocError>
+    ensures { IfOk result (λ letters. vec_len letters ≡ count) }
+{
+    let mut letters = Vec::with_capacity(alloc, count as usize)?;
+    for edge in 0..count {
+        letters.push_reserved(Letter::Request(Token::open(edge)));
+    }
+    Ok(letters)
+}
+
+#[test]
+fn two_threads_pass_requests_in_order(rt: HostRuntime) -> Result<(), Fail> {
+    let letters = requests(rt.alloc(), 2000)?;
+    let (end, taken) = exchange::<ChannelLane, HostRuntime>(rt, rt.alloc(), letters, 2000)?;
+    assert_eq!(rt; taken.len(), 2000);
+    for (edge, letter) in (0..2000).zip(taken) {
+        let Letter::Request(token) = letter else {
+            panic!(rt; "no request at {edge}");
+        };
+        assert_eq!(rt; token.edge(), edge);
+    }
+    assert_eq!(rt; (end.put(), end.taken(), end.shut()), (2000, 2000, false));
+    Ok(())
+}
+
+// The fork of an edge, sent to its higher end after one meal at the lower, or after none.
+fn sent_fork(alloc: Global, edge: u32, is_eaten: bool) -> Result<Letter, AllocError> {
+    let fork = Fork::open(alloc, edge, 0, 1, 1, 1)?;
+    if !is_eaten {
+        return Ok(Letter::Fork(Held::take(fork).give(1)));
+    }
+    let mut hands = Vec::with_capacity(alloc, 1)?;
+    hands.push_reserved(Held::take(fork));
+    let mut hands = Meal::begin(0, 1, hands).end();
+    let Some(held) = hands.pop() else {
+        unreachable!();
+    };
+    hands.destroy_empty();
+    Ok(Letter::Fork(held.give(1)))
+}
+
+// The forks of the edges 0 to count - 1, of which those of even edges were eaten with.
+fn sent_forks(alloc: Global, count: u32) -> Result<Vec<Letter>, AllocError>
+    ensures { IfOk result (λ letters. vec_len letters ≡ count) }
+{
+    let mut letters = Vec::with_capacity(alloc, count as usize)?;
+    for edge in 0..count {
+        letters.push_reserved(sent_fork(alloc, edge, edge % 2 == 0)?);
+    }
+    Ok(letters)
+}
+
+#[test]
+fn two_threads_pass_forks_with_their_logs(rt: HostRuntime) -> Result<(), Fail> {
+    let letters = sent_forks(rt.alloc(), 200)?;
+    let (end, taken) = exchange::<ChannelLane, HostRuntime>(rt, rt.alloc(), letters, 200)?;
+    assert_eq!(rt; taken.len(), 200);
+    for (edge, letter) in (0..200).zip(taken) {
+        let Letter::Fork(fork) = letter else {
+            panic!(rt; "no fork at {edge}");
+        };
+        assert_eq!(rt; (fork.edge(), fork.at(), fork.is_dirty()), (edge, 1, false));
+        assert_eq!(rt; fork.len(), 2 - edge % 2);
+    }
+    assert_eq!(rt; (end.put(), end.taken()), (200, 200));
+    Ok(())
+}
+
+// What is left in a link is dropped with its LinkEnd, and counts as put alone.
+#[test]
+fn letters_left_are_not_taken(rt: HostRuntime) -> Result<(), Fail> {
+    let letters = requests(rt.alloc(), 3)?;
+    let (end, taken) = exchange::<ChannelLane, HostRuntime>(rt, rt.alloc(), letters, 1)?;
+    assert_eq!(rt;
+        (taken.len(), end.put(), end.taken(), end.shut()),
+        (1, 3, 1, false)
+    );
+    Ok(())
+}
+
+// Where the other end is gone, a step is refused, and the caller's end is as it was.
+fn other_end_gone<L: Lane, R: Wait + Abort>(rt: &R, alloc: Global) -> Result<(), LinkFault> {
+    let (mut tx, rx) = L::pair(alloc, 0, 0)?;
+    drop(rx);
+    let Err((letter, Lost)) = L::put(rt, &mut tx, Letter::Request(Token::open(9))) else {
+        panic!(rt; "put with no other end");
+    };
+    let Letter::Request(token) = letter else {
+        panic!(rt; "another letter came back");
+    };
+    assert_eq!(rt; token.edge(), 9);
+    let Err((_tx, Lost)) = L::close(rt, tx) else {
+        panic!(rt; "closed with no other end");
+    };
+    let (tx, mut rx) = L::pair(alloc, 0, 0)?;
+    drop(tx);
+    assert!(rt; L::take(rt, &mut rx).is_err());
+    assert!(rt; !L::is_closed(&rx));
+    Ok(())
+}
+
+#[test]
+fn channel_refuses_steps_where_the_other_end_is_gone(rt: HostRuntime) -> Result<(), Fail> {
+    other_end_gone::<ChannelLane, HostRuntime>(&rt, rt.alloc())?;
+    Ok(())
+}

@@ -28,6 +28,8 @@ pub mod InOrder
 pub mod Sent
 pub mod Coming
 pub mod NextLetters
+pub mod JoinedEnds
+pub mod TwoEnds
 pub mod Orders
 pub mod Preference
 pub mod PreferenceSteps
@@ -44,5 +46,4 @@ pub mod Listed
 pub mod Owned
 pub mod Near
 pub mod ForkLogs
-pub mod JoinedEnds
-pub mod TwoEnds
+pub mod Complete

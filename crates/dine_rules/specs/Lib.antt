@@ -7,8 +7,8 @@ pub mod Streams
 pub mod StepLists
 pub mod World
 pub mod Links
+pub mod JoinedEnds
 pub mod Precedence
 pub mod Bound
 pub mod Schedules
 pub mod Examples
-pub mod JoinedEnds

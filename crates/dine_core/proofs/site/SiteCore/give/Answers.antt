@@ -41,11 +41,7 @@ invariant_of-self c =
     let here : IsSoundPlace old c.index_mut-place.result.now = subst (IsSoundPlace old) (sym is) (kept.sound.places c.args.i no_place (grind (arith, common_steps))) in
     record {
       sound = sound_with_place old c.args.i c.give.new.self kept.sound (subst (IsSoundPlace old) (sym c.give.ensures.away) (sound_away old _ awake here));
-      few = kept.few;
       no_hands = kept.no_hands;
       room_for_hands = kept.room_for_hands;
-      no_forks = kept.no_forks;
-      room_for_forks = kept.room_for_forks;
-      no_tokens = kept.no_tokens;
-      room_for_tokens = kept.room_for_tokens;
+      room = kept.room;
     }

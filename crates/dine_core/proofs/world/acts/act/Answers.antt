@@ -14,7 +14,8 @@ use Rattle.dine_core.specs.Places.{breach_at, can_close, can_say_done, place_at}
 use Rattle.dine_core.specs.WorldSites.{SiteStep, TakesAllowed, can_do, meets_no_breach, meal_of, next_in, step_in, with_letter}
 use Rattle.dine_core.specs.Standing.{all_places}
 use Rattle.dine_core.proofs.Breaches.{breach_is, may_take}
-use Rattle.dine_core.proofs.OpenedSites.{none_applies, meal-put, meal-taken, meal_is, some_of, within_of}
+use Rattle.dine_core.proofs.OpenedSites.{none_applies, meal-put, meal-taken, meal_is, within_of}
+use Rattle.dine_core.proofs.Options.{some_of}
 use Rattle.dine_core.proofs.world.acts.act.Goals as goal
 
 pub returns-in-Done-clause-does : goal.returns-in-Done-clause-does

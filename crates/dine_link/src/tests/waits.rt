@@ -1,0 +1,50 @@
+// A full link makes the one who puts wait.
+ghost use Rattle.std.specs.Prelude.{◌≡◌, []};
+ghost use Rattle.dine_link.specs.Channels as channels;
+
+use crate::{ChannelLane, ChannelTx, Lane};
+use dine_rules::Letter;
+use dine_token::Token;
+use std::sync::atomic::{AtomicU64, Ordering};
+use std::sync::{Arc, Wait};
+use std::test::Fail;
+use std::thread;
+
+// Puts five letters, and counts each that was put.
+fn put_five<L: Lane, R: Wait>(rt: &R, mut tx: L::Tx, count: &AtomicU64) -> L::Tx
+    requires { (L.seen_tx tx).letters ≡ [] }
+{
+    for edge in 0..5 {
+        if L::put(rt, &mut tx, Letter::Request(Token::open(edge))).is_ok() {
+            count.fetch_add(1, Ordering::SeqCst);
+        }
+    }
+    tx
+}
+
+#[test]
+fn fifth_letter_waits_until_one_is_taken(rt: HostRuntime) -> Result<(), Fail> {
+    let (tx, mut rx) = ChannelLane::pair(rt.alloc(), 0, 0)?;
+    let count = Arc::new(rt.alloc(), AtomicU64::new(0))?;
+    let theirs = Arc::try_clone(&count)?;
+    let child = thread::spawn(
+        &rt,
+        move || -> ChannelTx
+            requires { (channels.seen_tx tx).letters ≡ [] }
+        { put_five::<ChannelLane, HostRuntime>(&rt, tx, &theirs) },
+    )?;
+    for _ in rt.forever() {
+        if count.load(Ordering::SeqCst) == 4 {
+            break;
+        }
+        thread::yield_now();
+    }
+    for _ in 0..1000 {
+        thread::yield_now();
+    }
+    assert_eq!(rt; count.load(Ordering::SeqCst), 4);
+    assert!(rt; ChannelLane::take(&rt, &mut rx).is_ok());
+    child.join(&rt);
+    assert_eq!(rt; count.load(Ordering::SeqCst), 5);
+    Ok(())
+}
