@@ -4,3 +4,5 @@ pub mod Lanes
 pub mod Rule
 pub mod Channels
 pub mod Ends
+pub mod BellRule
+pub mod Bells
