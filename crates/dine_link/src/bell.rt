@@ -71,8 +71,7 @@ impl Bell {
     {
         let capacity = (RINGS_EACH * degree as usize).max(1);
         let Ok((sender, receiver, mut pass)) = bounded_with::<u32, Part, OfRingers, Global>(
-            alloc,
-            capacity,
+            alloc, capacity,
         ) else {
             return Err(LinkFault::Memory);
         };
