@@ -8,6 +8,7 @@ pub mod Site
 pub mod SiteSteps
 pub mod BreachLaw
 pub mod PutBounds
+pub mod TakenBounds
 pub mod Across
 pub mod Offers
 pub mod Askers

@@ -88,6 +88,21 @@ pub fn few_letters_are_put()
         → i < length state.traffic → length (traffic_at state i).put ≤ 2003 }
 {}
 
+/// A site that keeps its streams takes few letters at a place: at most as many Forks as it put Requests, one Request more than
+/// that, one Done and one Close.
+pub fn few_letters_are_taken()
+    ensures forks { (plan : SeenPlan) (s : ℕ) (state : LocalState) (i : ℕ) → KeepsStreams plan s state → i < length state.traffic
+        → forks_in (traffic_at state i).taken ≤ job_count plan s }
+    ensures requests { (plan : SeenPlan) (s : ℕ) (state : LocalState) (i : ℕ) → KeepsStreams plan s state → i < length state.traffic
+        → requests_in (traffic_at state i).taken ≤ job_count plan s + 1 }
+    ensures dones { (plan : SeenPlan) (s : ℕ) (state : LocalState) (i : ℕ) → KeepsStreams plan s state → i < length state.traffic
+        → dones_in (traffic_at state i).taken ≤ 1 }
+    ensures closes { (plan : SeenPlan) (s : ℕ) (state : LocalState) (i : ℕ) → KeepsStreams plan s state → i < length state.traffic
+        → closes_in (traffic_at state i).taken ≤ 1 }
+    ensures letters { (plan : SeenPlan) (s : ℕ) (state : LocalState) (i : ℕ) → IsPlan plan → s < site_count plan → KeepsStreams plan s state
+        → i < length state.traffic → length (traffic_at state i).taken ≤ 2003 }
+{}
+
 /// A letter is allowed exactly where no breach applies.
 pub fn allowed_letters_meet_no_breach()
     ensures { (plan : SeenPlan) (s : ℕ) (state : LocalState) (i : ℕ) (letter : Letter)
