@@ -6,7 +6,7 @@ use Rattle.dine_run.specs.declared.port.Port.{Port}
 use Rattle.dine_link.specs.declared.lane.TxEnd.{TxEnd}
 use Rattle.dine_link.specs.declared.lane.TxEnd.TheVariants.{Live, Shut}
 use Rattle.dine_link.specs.Lanes.{seen_end}
-use Rattle.dine_link.specs.Links.{SeenEnd}
+use Rattle.dine_link.specs.Links.{SeenEnd, with_letter}
 
 -- The end that the site puts in, whether more can be put in it, and the end that it takes from.
 pub record SeenPort (Identity : Type 0) : Type 0 where
@@ -25,6 +25,16 @@ module _ {Lane Tx Closed Rx Identity : Type 0} (live : Tx → SeenEnd Identity) 
 
   abbrev pub seen_ports : List (Port Lane Tx Closed Rx) → List (SeenPort Identity)
   seen_ports ports = map seen_port ports
+
+-- the port after one letter more was put, after Close was, and after one letter more was taken
+abbrev pub put_on : {Identity : Type 0} → Letter → SeenPort Identity → SeenPort Identity
+put_on letter port = record port { tx = with_letter letter port.tx }
+
+abbrev pub closed_on : {Identity : Type 0} → SeenPort Identity → SeenPort Identity
+closed_on port = record { tx = with_letter Close port.tx; is_live = false; rx = port.rx }
+
+abbrev pub taken_on : {Identity : Type 0} → Letter → SeenPort Identity → SeenPort Identity
+taken_on letter port = record port { rx = with_letter letter port.rx }
 
 -- nothing was put or taken yet
 pub record IsFreshPort {Identity : Type 0} (port : SeenPort Identity) : Type 0 where
