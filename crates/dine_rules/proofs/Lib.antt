@@ -7,6 +7,7 @@ pub mod Keeping
 pub mod Site
 pub mod SiteSteps
 pub mod BreachLaw
+pub mod FirstBreach
 pub mod PutBounds
 pub mod Across
 pub mod Offers

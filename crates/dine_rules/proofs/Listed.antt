@@ -9,7 +9,7 @@ use Rattle.dine_rules.specs.declared.events.Event.{Event}
 use Rattle.dine_rules.specs.declared.events.EventKind.{EventKind}
 use Rattle.dine_rules.specs.declared.events.EventKind.TheVariants as event
 use Rattle.dine_rules.specs.Local.{LocalState}
-use Rattle.dine_rules.specs.Steps.{Step, may}
+use Rattle.dine_rules.specs.Steps.{IsPlaceWithin, Step, may, shape_of}
 use Rattle.dine_rules.specs.Steps as step
 use Rattle.dine_rules.specs.World.{Reaches, WorldState, enabled_events, events_at, is_enabled, kinds_at, next_letter, state_of, step_of, world_after}
 use Rattle.dine_rules.proofs.KindNumbers.{choices, found_at, kind_ask, kind_close, kind_done, kind_give, kind_take, kinds_count, of_sites, passed, passed_next, past_gives, steps}
@@ -32,14 +32,7 @@ module _ (d : ℕ) where
 
   -- its place, where it has one, is one of these
   abbrev pub IsPlaceOf : EventKind → Type 0
-  IsPlaceOf (event.Take i) = i < d
-  IsPlaceOf (event.Give i) = i < d
-  IsPlaceOf event.End = Unit {0}
-  IsPlaceOf event.Begin = Unit {0}
-  IsPlaceOf event.Hungry = Unit {0}
-  IsPlaceOf (event.Ask i) = i < d
-  IsPlaceOf (event.Done i) = i < d
-  IsPlaceOf (event.Close i) = i < d
+  IsPlaceOf kind = IsPlaceWithin d (shape_of kind)
 
   -- the kind with this number
   abbrev kind_at : ℕ → Option EventKind

@@ -9,7 +9,9 @@ ghost use Rattle.dine_token.specs.Log.{meals_of};
 ghost use Rattle.dine_token.specs.declared.entry.Entry.TheVariants.{Meal, Move};
 ghost use Rattle.dine_rules.specs.Bound.{bound_of, effects_of};
 ghost use Rattle.dine_rules.specs.Examples.{alone, enabled_at_start, ends_complete, next_after, outcome_of, pair, path};
-ghost use Rattle.dine_rules.specs.Breach.{first_breach, is_allowed};
+ghost use Rattle.dine_rules.specs.Breach.{first_breach, is_allowed, number_of};
+ghost use Rattle.dine_rules.specs.BreachCauses.{Applies};
+ghost use Rattle.dine_rules.specs.declared.breach.Breach.{Breach};
 ghost use Rattle.dine_rules.specs.Holdings.{fork_at, hand_at, token_at};
 ghost use Rattle.dine_rules.specs.Letters.{closes_in, dones_in, forks_in, requests_in};
 ghost use Rattle.dine_rules.specs.Links.{ForEachEdge, ForEachLink, forks_of_edge, queue_to, tokens_of_edge};
@@ -92,6 +94,17 @@ pub fn few_letters_are_put()
 pub fn allowed_letters_meet_no_breach()
     ensures { (plan : SeenPlan) (s : ℕ) (state : LocalState) (i : ℕ) (letter : Letter)
         → (is_allowed plan s state i letter ≡ true) ↔ (first_breach plan s state i letter ≡ None) }
+{}
+
+/// The breach that is told of a letter is the first that applies, in the order of their numbers: it applies, and none with a
+/// lower number does. Where none is told, none applies.
+pub fn first_breach_is_first()
+    ensures applies { (plan : SeenPlan) (s : ℕ) (state : LocalState) (i : ℕ) (letter : Letter) (breach : Breach)
+        → first_breach plan s state i letter ≡ Some breach → Applies plan s state i breach letter }
+    ensures first { (plan : SeenPlan) (s : ℕ) (state : LocalState) (i : ℕ) (letter : Letter) (breach earlier : Breach)
+        → first_breach plan s state i letter ≡ Some breach → number_of earlier < number_of breach → Applies plan s state i earlier letter → ⊥ }
+    ensures none { (plan : SeenPlan) (s : ℕ) (state : LocalState) (i : ℕ) (letter : Letter) (breach : Breach)
+        → first_breach plan s state i letter ≡ None → Applies plan s state i breach letter → ⊥ }
 {}
 
 /// Precedence to the asker: in each state that steps lead to from the start, whatever letters came, a site that holds the
