@@ -1,5 +1,5 @@
 -- The letter that comes next to a site is one that it may take.
-use Rattle.std.proofs.Common.{◌≡◌, ℕ, ◌+◌, ◌<◌, ◌≤◌, Bool, true, false, cond, not, ◌||◌, ◌==◌, List, [], ◌∷◌, length, slice_get, refl, sym, ◌∙◌, ap, subst, inl, inr, arith}
+use Rattle.std.proofs.Common.{◌≡◌, ◌⊎◌, ℕ, ◌+◌, ◌<◌, ◌≤◌, Bool, true, false, cond, not, ◌||◌, ◌==◌, List, [], ◌∷◌, length, slice_get, refl, sym, ◌∙◌, ap, subst, inl, inr, arith}
 use Rattle.std.proofs.lemmas.Bool.{and_from, or_left, or_right, cases_Bool, not_from_false, eqb-true, eq-eqb, lt-ltb}
 use Rattle.dine_token.specs.declared.entry.Entry.{Entry}
 use Rattle.dine_token.specs.Fork.{SeenFork}
@@ -80,14 +80,14 @@ module _ (plan : SeenPlan) (s i j : ℕ) (near far : LocalState) (going : List L
 
   -- ---- a Request
 
-  module _ (edge : ℕ) (rest : List Letter) (ends : Joined plan s i (neighbour_at plan s i) j near far (Request edge ∷ rest) going) (order : KeepsOrder (edge_at plan (neighbour_at plan s i) j) (traffic_at far j)) where
+  module _ (edge : ℕ) (rest : List Letter) (ends : Joined plan s i (neighbour_at plan s i) j near far (Request edge ∷ rest) going) where
     -- the letters that come
     abbrev requests : List Letter
     requests = Request edge ∷ rest
 
     -- it names the edge
     request_names : edge ≡ edge_at plan s i
-    request_names = order.named (length (traffic_at near i).taken) edge
+    request_names = (keeps_there requests ends).put_requests (length (traffic_at near i).taken) edge
         (ap (λ (l : List Letter). slice_get l (length (traffic_at near i).taken)) ends.comes ∙ slice_get-behind (traffic_at near i).taken rest (Request edge)) ∙ ends.same_edge
 
     -- by its turn as many Forks came as the other end was ahead in turns
@@ -220,22 +220,32 @@ module _ (plan : SeenPlan) (s i j : ℕ) (near far : LocalState) (going : List L
         (not_done_before_done (traffic_at near i).taken rest (ap is_done_last (sym ends.comes) ∙ (keeps_there (Done ∷ rest) ends).put_lawful.done_last))) (done_has_all ends)
 
     -- Close may come, since it was put behind Done, and after Done was taken
-    close_may_come : (ends : Joined plan s i (neighbour_at plan s i) j near far (Close ∷ rest) going) → KeepsOrder (edge_at plan (neighbour_at plan s i) j) (traffic_at far j) → may_come plan s near i Close ≡ true
+    close_may_come : (ends : Joined plan s i (neighbour_at plan s i) j near far (Close ∷ rest) going) → KeepsOrder (traffic_at far j) → may_come plan s near i Close ≡ true
     close_may_come ends order =
         let put : has_close (traffic_at far j).put ≡ true = ap has_close ends.comes ∙ has_close-append (traffic_at near i).taken (Close ∷ rest) ∙ or_right (has_close (traffic_at near i).taken) true refl in
         and_from _ _ (done_before_close (traffic_at near i).taken rest (ap is_orderly (sym ends.comes) ∙ order.orderly)) (done_here (Close ∷ rest) ends (order.closed_after put))
 
   -- ---- any letter
 
-  -- each of the four may come
-  next_may_come : (l : Letter) (rest : List Letter) → Joined plan s i (neighbour_at plan s i) j near far (l ∷ rest) going → KeepsOrder (edge_at plan (neighbour_at plan s i) j) (traffic_at far j) → may_come plan s near i l ≡ true
-  next_may_come (Request edge) rest ends order = request_may_come edge rest ends order
-  next_may_come (Fork fork) rest ends order = fork_may_come fork rest ends
-  next_may_come Done rest ends order = done_may_come rest ends
-  next_may_come Close rest ends order = close_may_come rest ends order
+  -- nothing comes after Close
+  pub still_open : (l : Letter) (rest : List Letter) → Joined plan s i (neighbour_at plan s i) j near far (l ∷ rest) going → not (has_close (traffic_at near i).taken) ≡ true
+  still_open l rest ends = not_from_false (has_close (traffic_at near i).taken) (open_before (traffic_at near i).taken rest l (ap is_close_last (sym ends.comes) ∙ (keeps_there (l ∷ rest) ends).put_lawful.close_last))
 
-  -- and nothing comes after Close
-  pub next_is_allowed : (l : Letter) (rest : List Letter) → Joined plan s i (neighbour_at plan s i) j near far (l ∷ rest) going → KeepsOrder (edge_at plan (neighbour_at plan s i) j) (traffic_at far j) → is_allowed plan s near i l ≡ true
-  next_is_allowed l rest ends order =
-      let still_open : has_close (traffic_at near i).taken ≡ false = open_before (traffic_at near i).taken rest l (ap is_close_last (sym ends.comes) ∙ (keeps_there (l ∷ rest) ends).put_lawful.close_last) in
-      and_from (not (has_close (traffic_at near i).taken)) (may_come plan s near i l) (not_from_false (has_close (traffic_at near i).taken) still_open) (next_may_come l rest ends order)
+  -- a letter that may come is allowed
+  allowed_so : (l : Letter) (rest : List Letter) → Joined plan s i (neighbour_at plan s i) j near far (l ∷ rest) going → may_come plan s near i l ≡ true → is_allowed plan s near i l ≡ true
+  allowed_so l rest ends may = and_from (not (has_close (traffic_at near i).taken)) (may_come plan s near i l) (still_open l rest ends) may
+
+  -- each letter but Close is allowed, whether the sites break off or not
+  pub allowed_or_close : (l : Letter) (rest : List Letter) → Joined plan s i (neighbour_at plan s i) j near far (l ∷ rest) going → (is_allowed plan s near i l ≡ true) ⊎ (l ≡ Close)
+  allowed_or_close (Request edge) rest ends = inl (allowed_so (Request edge) rest ends (request_may_come edge rest ends))
+  allowed_or_close (Fork fork) rest ends = inl (allowed_so (Fork fork) rest ends (fork_may_come fork rest ends))
+  allowed_or_close Done rest ends = inl (allowed_so Done rest ends (done_may_come rest ends))
+  allowed_or_close Close rest ends = inr refl
+
+  -- and so is Close, where the sites end in order
+  pub next_is_allowed : (l : Letter) (rest : List Letter) → Joined plan s i (neighbour_at plan s i) j near far (l ∷ rest) going → KeepsOrder (traffic_at far j) → is_allowed plan s near i l ≡ true
+  next_is_allowed l rest ends order = elim (allowed_or_close l rest ends) [
+    | inl allowed ↦ allowed
+    | inr is ↦ allowed_so l rest ends (subst (λ (x : Letter). may_come plan s near i x ≡ true) (sym is)
+        (close_may_come rest (subst (λ (x : Letter). Joined plan s i (neighbour_at plan s i) j near far (x ∷ rest) going) is ends) order))
+  ]

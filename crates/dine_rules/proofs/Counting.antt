@@ -1,5 +1,6 @@
 -- Lists of letters, and what one more letter at the end changes.
 use Rattle.std.proofs.Common.{◌≡◌, ◌⊎◌, ℕ, zero, suc, ◌+◌, ◌≤◌, Bool, true, false, cond, not, ◌&&◌, ◌||◌, List, [], ◌∷◌, ◌++◌, length, slice_get, Some, refl, sym, ◌∙◌, ap, inl, inr, arith}
+use mathlib.Core.List.{IsPrefix}
 use Rattle.std.proofs.lemmas.Bool.{false≢true}
 use Rattle.dine_token.specs.declared.entry.Entry.{Entry}
 use Rattle.dine_token.specs.Fork.{SeenFork}
@@ -31,6 +32,14 @@ requests_in-append (Fork fork ∷ xs) ys = requests_in-append xs ys
 requests_in-append (Request edge ∷ xs) ys = omega (arith, requests_in-append xs ys)
 requests_in-append (Done ∷ xs) ys = requests_in-append xs ys
 requests_in-append (Close ∷ xs) ys = requests_in-append xs ys
+
+-- a prefix has no more Forks than the whole
+pub prefix_forks : (taken put : List Letter) → IsPrefix taken put → forks_in taken ≤ forks_in put
+prefix_forks taken put h = omega (arith, forks_in-append taken h.0, ap forks_in h.1)
+
+-- and no more Requests
+pub prefix_requests : (taken put : List Letter) → IsPrefix taken put → requests_in taken ≤ requests_in put
+prefix_requests taken put h = omega (arith, requests_in-append taken h.0, ap requests_in h.1)
 
 pub has_done-append : (xs ys : List Letter) → has_done (xs ++ ys) ≡ (has_done xs || has_done ys)
 has_done-append [] ys = refl

@@ -26,7 +26,7 @@ none_first [] h = refl
 none_first (x ∷ xs) h = absurd cc
 
 -- where nothing is there, there is none
-get_cases : {A : Type 0} (o : Option A) → ((x : A) → o ≡ Some x → ⊥) → o ≡ None
+pub get_cases : {A : Type 0} (o : Option A) → ((x : A) → o ≡ Some x → ⊥) → o ≡ None
 get_cases None h = refl
 get_cases (Some x) h = absurd (h x refl)
 

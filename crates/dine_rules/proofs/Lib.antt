@@ -7,6 +7,7 @@ pub mod Keeping
 pub mod Site
 pub mod SiteSteps
 pub mod BreachLaw
+pub mod FirstBreach
 pub mod PutBounds
 pub mod Across
 pub mod Offers
@@ -44,3 +45,6 @@ pub mod Listed
 pub mod Owned
 pub mod Near
 pub mod ForkLogs
+pub mod Complete
+pub mod JoinedEnds
+pub mod TwoEnds

@@ -14,7 +14,7 @@ use Rattle.dine_rules.proofs.WorldStreams.{WorldKeeps, neighbour_differs}
 use Rattle.dine_rules.proofs.Joined.{Joined, few_forks, few_requests, few_dones, few_closes, few_letters}
 
 -- a list is what a prefix of it is, and the rest
-prefix_and_rest : (taken put : List Letter) → IsPrefix taken put → put ≡ taken ++ drop (length taken) put
+pub prefix_and_rest : (taken put : List Letter) → IsPrefix taken put → put ≡ taken ++ drop (length taken) put
 prefix_and_rest taken put h =
     let rest : drop (length taken) put ≡ h.0 = ap (drop (length taken)) (sym h.1) ∙ drop-append_seam taken h.0 in
     sym h.1 ∙ ap (λ (l : List Letter). taken ++ l) (sym rest)

@@ -17,11 +17,11 @@ use Rattle.dine_rules.proofs.Links.{other, other_place, joined, link_holds}
 use Rattle.dine_rules.proofs.WorldStreams.{WorldKeeps, reached_kept, next_of}
 
 -- the letters of each site are in order
-pub in_order : (plan : SeenPlan) (events : List Event) (world : WorldState) → IsPlan plan → Reaches plan events world → (s : ℕ) → s < site_count plan → IsOrderly plan s (state_of world s)
-in_order plan events world is_plan reached = reached_holds plan is_plan (IsOrderly plan) (λ s is_site. start_in_order plan s)
+pub in_order : (plan : SeenPlan) (events : List Event) (world : WorldState) → IsPlan plan → Reaches plan events world → (s : ℕ) → s < site_count plan → IsOrderly (state_of world s)
+in_order plan events world is_plan reached = reached_holds plan is_plan (λ s. IsOrderly) (λ s is_site. start_in_order plan s)
     (λ s state step is_site keeps order steps_on needs. step_in_order plan s state order step steps_on needs) events world reached
 
-module _ (plan : SeenPlan) (is_plan : IsPlan plan) (world : WorldState) (kept : WorldKeeps plan world) (order : (s : ℕ) → s < site_count plan → IsOrderly plan s (state_of world s)) (s i : ℕ) (is_site : s < site_count plan) (within : i < length (edges_of plan s)) where
+module _ (plan : SeenPlan) (is_plan : IsPlan plan) (world : WorldState) (kept : WorldKeeps plan world) (order : (s : ℕ) → s < site_count plan → IsOrderly (state_of world s)) (s i : ℕ) (is_site : s < site_count plan) (within : i < length (edges_of plan s)) where
   -- the next letter is the first in the link
   next_is_first : (l : Letter) → next_letter plan world s i ≡ Some l → (rest : List Letter) × (queue_to plan world s i ≡ l ∷ rest)
   next_is_first l next = next_of (traffic_at (state_of world s) i).taken (queue_to plan world s i) l

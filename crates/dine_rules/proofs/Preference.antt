@@ -1,7 +1,6 @@
 -- Which end of an edge has precedence, read off what its two ends put and took.
 use Rattle.std.proofs.Common.{◌≡◌, ℕ, zero, suc, ◌+◌, ◌-◌, ◌<◌, ◌≤◌, Bool, true, false, cond, not, ◌==◌, nat_lt, List, [], ◌∷◌, ◌++◌, length, get_or, slice_get, Option, Some, None, unwrap_or, refl, sym, ◌∙◌, ap, subst, inl, inr, arith}
 use Rattle.std.specs.Option.{option_or}
-use mathlib.Core.List.{IsPrefix}
 use Rattle.std.proofs.lemmas.Bool.{false≢true, cases_Bool, cond-true, cond-false, eq-eqb, ne_eqb, eqb-true, eqb-false, ltb-true, ltb-false, lt-ltb, or_left, or_right}
 use Rattle.std.proofs.lemmas.Option.{slice_get-get_or}
 use Rattle.dine_token.specs.declared.entry.Entry.{Entry}
@@ -16,7 +15,7 @@ use Rattle.dine_rules.specs.Holdings.{fork_at, hand_at, meals_from}
 use Rattle.dine_rules.specs.Streams.{KeepsStreams, is_lower_at, logs_of}
 use Rattle.dine_rules.specs.World.{WorldState, state_of, place_of, put_to}
 use Rattle.dine_rules.specs.Precedence.{is_sent_to, preferred_in, preferred_end}
-use Rattle.dine_rules.proofs.Counting.{forks_in-append, length-logs_of, last_log_or-at}
+use Rattle.dine_rules.proofs.Counting.{prefix_forks, length-logs_of, last_log_or-at}
 use Rattle.dine_rules.proofs.Across.{edge_at-place_of}
 use Rattle.dine_rules.proofs.InHand.{hand-here}
 use Rattle.dine_rules.proofs.WorldStreams.{WorldKeeps}
@@ -154,9 +153,6 @@ pub record IsBalanced (plan : SeenPlan) (e : ℕ) (low high : LocalState) : Type
 abbrev pub lower_first_at : SeenPlan → ℕ → LocalState → LocalState → Bool
 lower_first_at plan e low high = lower_first (fork_at plan (lo_of plan e) low (low_place plan e) == 1) (nat_lt (forks_in (traffic_at low (low_place plan e)).taken) (forks_in (traffic_at high (high_place plan e)).put))
     (fork_at plan (hi_of plan e) high (high_place plan e) == 1) (is_dirty (hand_at (lo_of plan e) low (low_place plan e))) (is_dirty (hand_at (hi_of plan e) high (high_place plan e)))
-
-prefix_forks : (taken put : List Letter) → IsPrefix taken put → forks_in taken ≤ forks_in put
-prefix_forks taken put h = omega (arith, forks_in-append taken h.0, ap forks_in h.1)
 
 module _ (plan : SeenPlan) (is_plan : IsPlan plan) (world : WorldState) (kept : WorldKeeps plan world) (e : ℕ) (within : e < edge_count plan) where
   abbrev low : ℕ

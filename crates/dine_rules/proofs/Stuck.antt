@@ -109,7 +109,7 @@ module _ (plan : SeenPlan) (s : ℕ) (state : LocalState) (i : ℕ) (within : i 
 
 -- ---- a world in which no site may do a step
 
-module _ (plan : SeenPlan) (is_plan : IsPlan plan) (world : WorldState) (kept : WorldKeeps plan world) (order : (s : ℕ) → s < site_count plan → IsOrderly plan s (state_of world s)) (still : (s : ℕ) → s < site_count plan → IsStill plan world s) where
+module _ (plan : SeenPlan) (is_plan : IsPlan plan) (world : WorldState) (kept : WorldKeeps plan world) (order : (s : ℕ) → s < site_count plan → IsOrderly (state_of world s)) (still : (s : ℕ) → s < site_count plan → IsStill plan world s) where
   -- who thinks has eaten all
   thinker_all : (s : ℕ) → s < site_count plan → is_thinking (state_of world s).phase ≡ true → (state_of world s).ate ≡ job_count plan s
   thinker_all s is_site thinks =

@@ -6,7 +6,8 @@ use Rattle.dine_plan.specs.Plan.{SeenPlan, SeenSite, no_job, edge_count}
 use Rattle.dine_rules.specs.declared.events.Event.{Event}
 use Rattle.dine_rules.specs.declared.letters.Kind4.{Kind4}
 use Rattle.dine_rules.specs.Letters.{kind_of}
-use Rattle.dine_rules.specs.Local.{traffic_at}
+use Rattle.dine_rules.specs.Local.{LocalState, start_of, traffic_at}
+use Rattle.dine_rules.specs.Steps.{Break, after}
 use Rattle.dine_rules.specs.World.{enabled_events, put_to, start, state_of}
 use Rattle.dine_rules.specs.Precedence.{fork_log}
 use Rattle.dine_rules.specs.Schedules.{Counted, replay, whole_run}
@@ -54,3 +55,7 @@ abbrev pub ends_complete : SeenPlan → List ℕ
 ends_complete plan =
     let world = (whole_run plan []).world in
     if length (enabled_events plan world) == 0 then map (λ state. state.ate) world else []
+
+-- the higher site of a pair with a job each, which broke off at the start
+abbrev pub broken_off : LocalState
+broken_off = after (pair 1 1) 1 (start_of (pair 1 1) 1) (Break 0)

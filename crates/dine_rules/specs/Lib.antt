@@ -4,6 +4,7 @@ pub mod Holdings
 pub mod Breach
 pub mod Steps
 pub mod Streams
+pub mod BreachCauses
 pub mod StepLists
 pub mod World
 pub mod Links
@@ -11,3 +12,4 @@ pub mod Precedence
 pub mod Bound
 pub mod Schedules
 pub mod Examples
+pub mod JoinedEnds

@@ -3,26 +3,39 @@
 ghost use Rattle.std.specs.Prelude.{◌≡◌, ◌≢◌, ◌<◌, ◌≤◌, ◌+◌, ◌*◌, ◌↔◌, ℕ, List, [], ◌∷◌, ◌++◌, None, Some, false, length, slice_get, true};
 ghost use Rattle.std.specs.List.{list_any};
 ghost use Rattle.dine_plan.specs.Plan.{IsPlan, SeenPlan, edge_count, hi_of, job_count, lo_of, site_count};
+ghost use Rattle.dine_token.specs.Fork.{SeenFork};
 ghost use Rattle.dine_token.specs.Lawful.{IsLawful};
 ghost use Rattle.dine_token.specs.Log.{meals_of};
 ghost use Rattle.dine_token.specs.declared.entry.Entry.TheVariants.{Meal, Move};
 ghost use Rattle.dine_rules.specs.Bound.{bound_of, effects_of};
 ghost use Rattle.dine_rules.specs.Examples.{alone, enabled_at_start, ends_complete, next_after, outcome_of, pair, path};
-ghost use Rattle.dine_rules.specs.Breach.{first_breach, is_allowed};
-ghost use Rattle.dine_rules.specs.Holdings.{fork_at, token_at};
+ghost use Rattle.dine_rules.specs.Breach.{first_breach, is_allowed, number_of};
+ghost use Rattle.dine_rules.specs.BreachCauses.{Applies};
+ghost use Rattle.dine_rules.specs.declared.breach.Breach.{Breach};
+ghost use Rattle.dine_rules.specs.Holdings.{fork_at, hand_at, token_at};
 ghost use Rattle.dine_rules.specs.Letters.{closes_in, dones_in, forks_in, requests_in};
 ghost use Rattle.dine_rules.specs.Links.{ForEachEdge, ForEachLink, forks_of_edge, queue_to, tokens_of_edge};
-ghost use Rattle.dine_rules.specs.Local.{LocalState, is_eating, neighbour_at, start_of, traffic_at};
+ghost use Rattle.dine_rules.specs.Local.{LocalState, edge_at, is_eating, neighbour_at, start_of, traffic_at};
 ghost use Rattle.dine_rules.specs.Precedence.{IsAcyclic, fork_log};
-ghost use Rattle.dine_rules.specs.StepLists.{AreProper, LeadTo, begins_in, is_give_at};
+ghost use Rattle.dine_rules.specs.StepLists.{LeadTo, begins_in, is_give_at};
 ghost use Rattle.dine_rules.specs.Schedules.{after_choices, finish_within, from_here, replay, whole_run};
 ghost use Rattle.dine_rules.specs.Steps.{LocalStep, Step};
 ghost use Rattle.dine_rules.specs.Streams.{IsProper, KeepsStreams};
 ghost use Rattle.dine_rules.specs.World.{LinksAreOrdered, IsComplete, Reaches, WorldState, enabled_events, is_enabled, next_letter, put_to, start, state_of, world_after};
 ghost use Rattle.dine_rules.specs.declared.events.Event.{Event};
 ghost use Rattle.dine_rules.specs.declared.letters.Letter.{Letter};
+ghost use Rattle.dine_rules.specs.declared.letters.Letter.TheVariants.{Fork};
 ghost use Rattle.dine_rules.specs.declared.events.EventKind.TheVariants.{Hungry};
 ghost use Rattle.dine_rules.specs.declared.letters.Kind4.TheVariants as kind;
+
+mod joined;
+
+pub use joined::{
+    closed_links_are_wholly_taken, early_close_comes_as_worked, edges_have_a_place_at_each_end,
+    joined_ends_have_one_whole_fork_and_one_token, kept_streams_account_for_fork_and_token,
+    linked_ends_have_at_most_one_fork_and_token, reached_worlds_have_linked_ends,
+    refused_letters_are_closes,
+};
 
 /// What the definitions come to on small plans: the log of each edge and the number of events, computed from the list
 /// of choices alone. A choice with no event is passed over.
@@ -63,7 +76,7 @@ pub fn streams_are_kept()
 {}
 
 /// A site that keeps its streams puts few letters at a place: at most as many Requests as it has jobs, one Fork more than
-/// that, one Done and one Close.
+/// that, one Done and one Close. A site of a plan has at most 1,000 jobs, so that is at most 2,003 letters.
 pub fn few_letters_are_put()
     ensures requests { (plan : SeenPlan) (s : ℕ) (state : LocalState) (i : ℕ) → KeepsStreams plan s state → i < length state.traffic
         → requests_in (traffic_at state i).put ≤ job_count plan s }
@@ -73,6 +86,8 @@ pub fn few_letters_are_put()
         → dones_in (traffic_at state i).put ≤ 1 }
     ensures closes { (plan : SeenPlan) (s : ℕ) (state : LocalState) (i : ℕ) → KeepsStreams plan s state → i < length state.traffic
         → closes_in (traffic_at state i).put ≤ 1 }
+    ensures letters { (plan : SeenPlan) (s : ℕ) (state : LocalState) (i : ℕ) → IsPlan plan → s < site_count plan → KeepsStreams plan s state
+        → i < length state.traffic → length (traffic_at state i).put ≤ 2003 }
 {}
 
 /// A letter is allowed exactly where no breach applies.
@@ -81,11 +96,22 @@ pub fn allowed_letters_meet_no_breach()
         → (is_allowed plan s state i letter ≡ true) ↔ (first_breach plan s state i letter ≡ None) }
 {}
 
-/// Precedence to the asker: in each state that steps lead to from the start, where the forks offered on the way were real
-/// ones, a site that holds the fork and the token of a place begins at most one meal more before it gives the fork away.
+/// The breach that is told of a letter is the first that applies, in the order of their numbers: it applies, and none with a
+/// lower number does. Where none is told, none applies.
+pub fn first_breach_is_first()
+    ensures applies { (plan : SeenPlan) (s : ℕ) (state : LocalState) (i : ℕ) (letter : Letter) (breach : Breach)
+        → first_breach plan s state i letter ≡ Some breach → Applies plan s state i breach letter }
+    ensures first { (plan : SeenPlan) (s : ℕ) (state : LocalState) (i : ℕ) (letter : Letter) (breach earlier : Breach)
+        → first_breach plan s state i letter ≡ Some breach → number_of earlier < number_of breach → Applies plan s state i earlier letter → ⊥ }
+    ensures none { (plan : SeenPlan) (s : ℕ) (state : LocalState) (i : ℕ) (letter : Letter) (breach : Breach)
+        → first_breach plan s state i letter ≡ None → Applies plan s state i breach letter → ⊥ }
+{}
+
+/// Precedence to the asker: in each state that steps lead to from the start, whatever letters came, a site that holds the
+/// fork and the token of a place begins at most one meal more before it gives the fork away.
 pub fn asker_has_precedence()
-    ensures { (plan : SeenPlan) (s i : ℕ) → IsPlan plan → s < site_count plan → (state new : LocalState) (before steps : List Step)
-        → AreProper before → LeadTo plan s (start_of plan s) before state → i < length state.traffic
+    ensures { (plan : SeenPlan) (s i : ℕ) (state new : LocalState) (before steps : List Step)
+        → LeadTo plan s (start_of plan s) before state → i < length state.traffic
         → fork_at plan s state i ≡ 1 → token_at plan s state i ≡ 1
         → LeadTo plan s state steps new → list_any (is_give_at i) steps ≡ false → begins_in steps ≤ 1 }
 {}
@@ -175,6 +201,12 @@ pub fn stuck_worlds_are_complete()
         → enabled_events plan world ≡ [] → IsComplete plan world }
 {}
 
+/// And a complete world is stuck: where events reach it from the start, no event is enabled in it.
+pub fn complete_worlds_are_stuck()
+    ensures { (plan : SeenPlan) (events : List Event) (world : WorldState) → IsPlan plan → Reaches plan events world
+        → IsComplete plan world → enabled_events plan world ≡ [] }
+{}
+
 /// A run that does the first enabled event again and again, at most as many times as the bound of the plan, ends in a world
 /// where no event is enabled and which is complete: from each world that events reach from the start, and as the end of a
 /// whole run, after any choices.
@@ -200,6 +232,14 @@ pub fn whole_runs_are_bounded()
 pub fn whole_runs_go_on_after_the_choices()
     ensures world { (plan : SeenPlan) (choices : List ℕ) → (whole_run plan choices).world ≡ (after_choices plan choices).world }
     ensures events { (plan : SeenPlan) (choices : List ℕ) → (whole_run plan choices).events ≡ (replay plan (from_here (start plan)) choices).events + (after_choices plan choices).events }
+{}
+
+/// The log that is told of an edge's fork is that of its one fork, in every world that events reach from the start: where a site
+/// holds the fork, the log in its hand, and where the fork is in a link, the log that the letter has.
+pub fn fork_logs_are_of_the_one_fork()
+    ensures held { ForEachLink (λ plan world s i. fork_at plan s (state_of world s) i ≡ 1 → fork_log plan world (edge_at plan s i) ≡ hand_at s (state_of world s) i) }
+    ensures sent { ForEachLink (λ plan world s i. (fork : SeenFork) (k : ℕ) → slice_get (queue_to plan world s i) k ≡ Some (Fork fork)
+        → fork_log plan world (edge_at plan s i) ≡ fork.log) }
 {}
 
 /// The log of each edge's fork is lawful, in every world that events reach from the start and wherever the fork lies: in hand, in
