@@ -6,6 +6,7 @@ use Rattle.crossbeam_channel.specs.Fifo.{Pushes, Pops, Forks, Merges, Learns}
 use Rattle.atomic_table.proofs.Lists.{at_set, at_snoc}
 use Rattle.dine_rules.specs.declared.letters.Letter.{Letter}
 use Rattle.dine_link.specs.declared.rule.Known.{Known}
+use Rattle.dine_link.proofs.Passes.{Each, each_set}
 use Rattle.dine_link.specs.Rule.{Fits, IsInOrder, fresh, spent, putting, taking, both, after_put, after_take}
 
 -- the view just behind the end of a list is the one that was added
@@ -14,14 +15,6 @@ at_end [] a b zero n e = refl
 at_end [] a b (suc j) n e = absurd (some-ne-none b (sym e))
 at_end (x ∷ xs) a b zero n e = absurd (n e)
 at_end (x ∷ xs) a b (suc j) n e = ap suc (at_end xs a b j n e)
-
-abbrev Each : (ℕ → Known → Type 0) → List Known → Type 0
-Each F views = (pass : ℕ) (view : Known) → get_elem? views pass ≡ some view → F pass view
-
--- what holds of a changed view and of all others holds of each
-each_set : (F : ℕ → Known → Type 0) (views : List Known) (pass : ℕ) (w : Known) → F pass w → ((j : ℕ) (u : Known) → j ≢ pass → get_elem? views j ≡ some u → F j u) → Each F (set views pass w)
-each_set F views pass w mine others j u e = ⊎_elim (λ (x : (j ≡ pass) × (w ≡ u)). subst (λ (y : ℕ × Known). F y.0 y.1) (λ i. (sym x.0 i, x.1 i)) mine)
-    (λ (x : (j ≢ pass) × (get_elem? views j ≡ some u)). others j u x.0 x.1) (at_set views pass j w u e)
 
 -- a new channel
 pub begins : IsInOrder [] (fresh ∷ [])

@@ -4,3 +4,6 @@ pub mod Lanes
 pub mod Rule
 pub mod Channels
 pub mod Ends
+pub mod BellRule
+pub mod Bells
+pub mod BellFields

@@ -1,6 +1,8 @@
 //! Links: letters in order from one site to one other, whichever threads these run in.
 #![tactic(auto)]
 
+mod bell;
+mod bell_rule;
 mod channel;
 mod closing;
 mod faults;
@@ -11,6 +13,7 @@ mod rule;
 mod tests;
 mod waiting;
 
+pub use bell::{Bell, Ringer};
 pub use channel::{ChannelClosedTx, ChannelLane, ChannelRx, ChannelTx};
 pub use faults::{LinkFault, Lost};
 pub use lane::{Lane, TxEnd};
