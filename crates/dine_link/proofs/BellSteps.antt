@@ -9,7 +9,7 @@ use Rattle.crossbeam_channel.specs.Fifo.{Pushes, Pops, Forks}
 use Rattle.atomic_table.proofs.Lists.{at_snoc}
 use Rattle.dine_link.specs.declared.bell_rule.Part.{Part}
 use Rattle.dine_link.specs.declared.bell_rule.Part.TheVariants.{Waits, Rings}
-use Rattle.dine_link.specs.BellRule.{IsOfBell, IsOfRinger, Fits, AreOfRingers, no_ringers, one_more, next_ringer, IsKnown, after_sound, after_hearing, rings_of}
+use Rattle.dine_link.specs.BellRule.{IsOfRinger, Fits, AreOfRingers, no_ringers, one_more, next_ringer, IsKnown, after_sound, after_hearing, rings_of}
 use Rattle.dine_link.specs.Bells.{SeenRinger, new_ringer}
 use Rattle.dine_link.proofs.Passes.{Each, each_set}
 
@@ -19,7 +19,7 @@ begins_at zero view e = subst (λ (u : Part). Fits 0 0 0 u) (some-injective no_r
 begins_at (suc pass) view e = absurd (some-ne-none view (sym e))
 
 pub begins : AreOfRingers [] (no_ringers ∷ [])
-begins = (0, 0, All-nil (λ (number : ℕ). number < 0), begins_at)
+begins = record { ringers = 0; bell = 0; below = All-nil (λ (number : ℕ). number < 0); fits = begins_at }
 
 -- a pass fits as before, and what it knows is told by the number of the ringers
 fits_sound : (ringers bell pass : ℕ) (v : Part) → Fits ringers bell pass v → Fits ringers bell pass (after_sound v)
@@ -40,28 +40,28 @@ known_below ringers bell pass number (Rings own rings) fits below = tt
 
 -- a ring
 pub rings : (n pass : ℕ) (v : Part) (number : ℕ) → IsOfRinger number v → Pushes AreOfRingers n pass v number (λ w. IsOfRinger number v × (w ≡ after_sound v))
-rings n pass v number is queue views _ h at = let P : ℕ → Type 0 = λ y. y < h.0 in let mine = h.3 pass v at in let below : number < h.0 = ringer_below h.0 h.1 pass number v mine is in (
+rings n pass v number is queue views _ h at = let P : ℕ → Type 0 = λ y. y < h.ringers in let mine = h.fits pass v at in let below = ringer_below h.ringers h.bell pass number v mine is in (
   after_sound v,
-  (
-    h.0,
-    h.1,
-    All-append P queue (number ∷ []) h.2 (All-cons P number [] below (All-nil P)),
-    each_set (Fits h.0 h.1) views pass (after_sound v) (fits_sound h.0 h.1 pass v mine) (λ j u other e. h.3 j u e),
-  ),
+  record {
+    ringers = h.ringers;
+    bell = h.bell;
+    below = All-append P queue (number ∷ []) h.below (All-cons P number [] below (All-nil P));
+    fits = each_set (Fits h.ringers h.bell) views pass (after_sound v) (fits_sound h.ringers h.bell pass v mine) (λ j u other e. h.fits j u e);
+  },
   (is, refl),
 )
 
 -- a wait
 pub hears : (pass : ℕ) (v : Part) → Pops AreOfRingers pass v (λ number w. IsKnown number v × (w ≡ after_hearing v number))
-hears pass v number queue views h at = let P : ℕ → Type 0 = λ y. y < h.0 in let mine = h.3 pass v at in let below : number < h.0 = All-head P number queue h.2 in (
+hears pass v number queue views h at = let P : ℕ → Type 0 = λ y. y < h.ringers in let mine = h.fits pass v at in let below = All-head P number queue h.below in (
   after_hearing v number,
-  (
-    h.0,
-    h.1,
-    All-tail P number queue h.2,
-    each_set (Fits h.0 h.1) views pass (after_hearing v number) (fits_hearing h.0 h.1 pass number v mine) (λ j u other e. h.3 j u e),
-  ),
-  (known_below h.0 h.1 pass number v mine below, refl),
+  record {
+    ringers = h.ringers;
+    bell = h.bell;
+    below = All-tail P number queue h.below;
+    fits = each_set (Fits h.ringers h.bell) views pass (after_hearing v number) (fits_hearing h.ringers h.bell pass number v mine) (λ j u other e. h.fits j u e);
+  },
+  (known_below h.ringers h.bell pass number v mine below, refl),
 )
 
 -- a pass other than the bell's fits one ringer more
@@ -74,14 +74,18 @@ all_more ringers queue h = λ k d lt. let below = h k d lt in omega (arith, belo
 
 -- a ringer more
 waits_forks : (pass count : ℕ) → Forks AreOfRingers pass (Waits count []) (Waits (count + 1) []) (Rings count 0)
-waits_forks pass count queue views h at = let mine = h.3 pass (Waits count []) at in let more : Part = Waits (count + 1) [] in let vs : List Part = set views pass more in let New : ℕ → Part → Type 0 = Fits (h.0 + 1) h.1 in
-    let same : count ≡ h.0 = mine.1 in
-    let old : Each New vs = each_set New views pass more (mine.0, omega (arith, same)) (λ j u apart e. fits_more h.0 h.1 pass j u mine.0 apart (h.3 j u e)) in (
-      h.0 + 1,
-      h.1,
-      all_more h.0 queue h.2,
-      λ j u e. ⊎_elim (λ x. old j u x) (λ (is : Rings count 0 ≡ u). subst (λ (y : Part). New j y) is (omega (arith, same))) (at_snoc vs (Rings count 0) u j e),
-    )
+waits_forks pass count queue views h at =
+    let mine = h.fits pass (Waits count []) at in
+    let more : Part = Waits (count + 1) [] in
+    let vs : List Part = set views pass more in
+    let New : ℕ → Part → Type 0 = Fits (h.ringers + 1) h.bell in
+    let same : count ≡ h.ringers = mine.1 in
+    let old : Each New vs = each_set New views pass more (mine.0, omega (arith, same)) (λ j u apart e. fits_more h.ringers h.bell pass j u mine.0 apart (h.fits j u e)) in record {
+      ringers = h.ringers + 1;
+      bell = h.bell;
+      below = all_more h.ringers queue h.below;
+      fits = λ j u e. ⊎_elim (λ x. old j u x) (λ (is : Rings count 0 ≡ u). subst (λ (y : Part). New j y) is (omega (arith, same))) (at_snoc vs (Rings count 0) u j e);
+    }
 
 pub forks : (pass : ℕ) (v : Part) (count : ℕ) → v ≡ Waits count [] → Forks AreOfRingers pass v (one_more v) (next_ringer v)
 forks pass v count is = subst (λ (u : Part). Forks AreOfRingers pass u (one_more u) (next_ringer u)) (sym is) (waits_forks pass count)
@@ -91,8 +95,3 @@ pub ringer_more : (number : ℕ) (before after : List SeenRinger) (own : Part) �
     → after ≡ before ++ record { number = number; rings = rings_of own } ∷ [] → after ≡ map new_ringer (range_with_len 0 (number + 1))
 ringer_more number before after own so_far is added = let one : Part → SeenRinger = λ p. record { number = number; rings = rings_of p } in
     added ∙ ap (λ (l : List SeenRinger). l ++ one own ∷ []) so_far ∙ ap (λ (p : Part). map new_ringer (range_with_len 0 number) ++ one p ∷ []) is ∙ sym (map-range_with_len_more new_ringer 0 number number (omega arith))
-
--- what the bell knows to be the number of a ringer is below its degree
-pub told_below : (degree number : ℕ) (v : Part) → IsOfBell degree v → IsKnown number v → number < degree
-told_below degree number (Waits count told) is known = omega (arith, is, known)
-told_below degree number (Rings own rings) is known = absurd is

@@ -1,5 +1,4 @@
 -- What the fields of a Ringer and of a Bell stand for.
-use Rattle.std.specs.Prelude.{◌≡◌}
 use Rattle.crossbeam_channel.specs.Claims.{view, IsSeatAt}
 use Rattle.crossbeam_channel.specs.Ends.{sends_on, receives_on}
 use Rattle.dine_link.specs.declared.bell.Bell.TheInside.{Inside as InBell}

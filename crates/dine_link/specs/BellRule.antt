@@ -34,8 +34,11 @@ Fits ringers bell pass (Waits count told) = (pass ≡ bell) × (count ≡ ringer
 Fits ringers bell pass (Rings own rings) = own < ringers
 
 -- At each moment each number that the channel holds is below that of the ringers, and each pass fits that number.
-abbrev pub AreOfRingers : List ℕ → List Part → Type 0
-AreOfRingers queue views = (ringers : ℕ) × (bell : ℕ) × All (λ number. number < ringers) queue × ((pass : ℕ) (view : Part) → get_elem? views pass ≡ some view → Fits ringers bell pass view)
+pub record AreOfRingers (queue : List ℕ) (views : List Part) : Type 0 where
+  pub ringers : ℕ
+  pub bell : ℕ
+  pub below : All (λ number. number < ringers) queue
+  pub fits : (pass : ℕ) (view : Part) → get_elem? views pass ≡ some view → Fits ringers bell pass view
 
 -- the bell before any ringer was made
 abbrev pub no_ringers : Part

@@ -92,7 +92,6 @@ impl Bell {
     /// ring is left to tell.
     ///
     /// Fails where the channel beneath refuses, and then no ring was taken from the bell.
-    #[tactic(auto, using(crate::proofs::BellSteps::told_below))]
     pub fn wait<R: Wait>(&mut self, rt: &R) -> Result<u32, Lost>
         ensures below { IfOk result (λ number. number < self.new.degree) }
         ensures told { MatchResult result (λ number. self.new ≡ after_telling number self.old) (λ _. self.new ≡ self.old) }
