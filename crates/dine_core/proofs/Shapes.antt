@@ -1,5 +1,5 @@
 -- What the step of an event does, by the shape of the event.
-use Rattle.std.proofs.Common.{◌≡◌, ℕ, Option, Some, None, refl, sym, ◌∙◌, ap, subst}
+use Rattle.std.proofs.Common.{◌≡◌, ℕ, Option, Some, None, refl, sym, ◌∙◌, ap, subst, option_map}
 use Rattle.std.proofs.lemmas.Bool.{and_parts, false≢true, ltb-true, not-true}
 use Rattle.std.proofs.lemmas.Option.{same_Some}
 use Rattle.std.specs.Prelude.{Bool, true, false}
@@ -28,16 +28,20 @@ puts_letter (Takes i) = false
 puts_letter (Puts i) = true
 puts_letter Alone = false
 
--- an event that puts needs no letter to be told its step
-pub step_alike : (kind : EventKind) (i : ℕ) (next other : ℕ → Option Letter) → shape_of kind ≡ Puts i → step_by next kind ≡ step_by other kind
-step_alike (event.Take j) i next other shape = absurd (false≢true (ap puts_letter shape))
-step_alike (event.Give j) i next other shape = refl
-step_alike event.End i next other shape = refl
-step_alike event.Begin i next other shape = refl
-step_alike event.Hungry i next other shape = refl
-step_alike (event.Ask j) i next other shape = refl
-step_alike (event.Done j) i next other shape = refl
-step_alike (event.Close j) i next other shape = refl
+-- the step of an event is the same by other next letters, but for the one that it takes
+pub step_alike : (kind : EventKind) (next other : ℕ → Option Letter) → ((i : ℕ) → shape_of kind ≡ Takes i → next i ≡ other i) → step_by next kind ≡ step_by other kind
+step_alike (event.Take i) next other same = ap (option_map (Take i)) (same i refl)
+step_alike (event.Give i) next other same = refl
+step_alike event.End next other same = refl
+step_alike event.Begin next other same = refl
+step_alike event.Hungry next other same = refl
+step_alike (event.Ask i) next other same = refl
+step_alike (event.Done i) next other same = refl
+step_alike (event.Close i) next other same = refl
+
+-- no shape takes and puts
+pub puts_not_takes : (shape : Shape) (i j : ℕ) → shape ≡ Puts i → shape ≡ Takes j → ⊥
+puts_not_takes shape i j puts takes = false≢true (ap puts_letter (sym takes ∙ puts))
 
 -- the step of an event is the one that was done
 pub puts_as : (kind given : EventKind) (i : ℕ) (first : Step) (old new : SeenCore) (l : Letter) → kind ≡ given → shape_of given ≡ Puts i → step_by (λ place. None) given ≡ Some first → CorePuts i first old new l

@@ -31,7 +31,7 @@ use Rattle.dine_rules.proofs.WorldStreams.{IsStepOf, WorldKeeps, event_is_step, 
 use Rattle.dine_rules.proofs.EatersApart.{eats_with_all}
 use Rattle.dine_rules.proofs.Links.{link_letters}
 use Rattle.dine_core.proofs.LinkNumbers.{from_is_to, number_from, to_in_range}
-use Rattle.dine_core.proofs.Shapes.{Does, does}
+use Rattle.dine_core.proofs.Shapes.{Does, does, step_alike}
 use Rattle.dine_core.proofs.LinkSteps.{links-put, links-same, links-taken}
 
 -- a world_site that can do something is there
@@ -97,14 +97,8 @@ module _ (plan : SeenPlan) (world : WorldState) (seen : SeenWorld) (stands : IsW
 
     -- the step of the event, by the links as by the whole lists
     pub step_is : (kind : EventKind) → can_do seen.links core kind ≡ true → step_in seen.links core kind ≡ step_of plan world s kind
-    step_is (event.Take i) h = ap (option_map (step.Take i)) (next_is i (ltb-true i (length core.places) (and_parts _ _ h).0))
-    step_is (event.Give i) h = refl
-    step_is event.End h = refl
-    step_is event.Begin h = refl
-    step_is event.Hungry h = refl
-    step_is (event.Ask i) h = refl
-    step_is (event.Done i) h = refl
-    step_is (event.Close i) h = refl
+    step_is kind can = step_alike kind (next_in seen.links core) (next_letter plan world s)
+        (λ i takes. next_is i (ltb-true i (length core.places) (subst (λ (shape : Shape). has_place core shape ≡ true) takes (and_parts _ _ can).0)))
 
     abbrev state : LocalState
     state = state_of world s
