@@ -45,8 +45,8 @@ puts n pass v x may items views _ h at = let mine = h.fits pass v at in let put 
     taken = h.taken;
     in_order = ap (λ l. l ++ x ∷ []) h.in_order ∙ append_assoc h.taken items (x ∷ []);
     fits =
-      each_set (Fits h.putter h.taker put h.taken) views pass (after_put v x) (record { puts = λ _. ((mine.puts may).0, ap (λ l. l ++ x ∷ []) (mine.puts may).1); takes = mine.takes })
-          (λ j u other e. record { puts = λ p. absurd (other (((h.fits j u e).puts p).0 ∙ sym (mine.puts may).0)); takes = (h.fits j u e).takes });
+        each_set (Fits h.putter h.taker put h.taken) views pass (after_put v x) (record { puts = λ _. ((mine.puts may).0, ap (λ l. l ++ x ∷ []) (mine.puts may).1); takes = mine.takes })
+        (λ j u other e. record { puts = λ p. absurd (other (((h.fits j u e).puts p).0 ∙ sym (mine.puts may).0)); takes = (h.fits j u e).takes });
   },
   refl,
 )
@@ -62,8 +62,8 @@ takes pass v may x items views h at = let mine = h.fits pass v at in let taken =
     taken = taken;
     in_order = h.in_order ∙ sym (append_assoc h.taken (x ∷ []) items);
     fits =
-      each_set (Fits h.putter h.taker h.put taken) views pass (after_take v x) (record { puts = mine.puts; takes = λ _. ((mine.takes may).0, ap (λ l. l ++ x ∷ []) (mine.takes may).1) })
-          (λ j u other e. record { puts = (h.fits j u e).puts; takes = λ p. absurd (other (((h.fits j u e).takes p).0 ∙ sym (mine.takes may).0)) });
+        each_set (Fits h.putter h.taker h.put taken) views pass (after_take v x) (record { puts = mine.puts; takes = λ _. ((mine.takes may).0, ap (λ l. l ++ x ∷ []) (mine.takes may).1) })
+        (λ j u other e. record { puts = (h.fits j u e).puts; takes = λ p. absurd (other (((h.fits j u e).takes p).0 ∙ sym (mine.takes may).0)) });
   },
   refl,
 )
@@ -83,8 +83,8 @@ forks pass v a b items views h at =
       taken = h.taken;
       in_order = h.in_order;
       fits =
-        λ j u e. ⊎_elim (λ x. record { puts = (old j u x).0; takes = λ p. absurd ((old j u x).1 p) })
-            (λ (is : r ≡ u). record { puts = λ p. absurd (true≢false (sym (ap (λ (y : Known). y.puts) is ∙ p))); takes = λ p. (at_end vs r u j (λ x. (old j u x).1 p) e, ap (λ (y : Known). y.taken) (sym is) ∙ (mine.takes b).1) }) (at_snoc vs r u j e);
+          λ j u e. ⊎_elim (λ x. record { puts = (old j u x).0; takes = λ p. absurd ((old j u x).1 p) })
+          (λ (is : r ≡ u). record { puts = λ p. absurd (true≢false (sym (ap (λ (y : Known). y.puts) is ∙ p))); takes = λ p. (at_end vs r u j (λ x. (old j u x).1 p) e, ap (λ (y : Known). y.taken) (sym is) ∙ (mine.takes b).1) }) (at_snoc vs r u j e);
     }
 
 -- two passes made one
