@@ -11,7 +11,8 @@ use Rattle.dine_rules.specs.Local.{LocalState, start_of}
 use Rattle.dine_rules.specs.Steps.{Step, Give, Ask, Hungry, Begin, End, Done, Close, Break, Take, after, may}
 use Rattle.dine_rules.specs.Streams.{KeepsStreams}
 use Rattle.dine_rules.specs.World.{WorldState, no_state, state_of, start, next_letter, step_of, world_after, after_events, Reaches}
-use Rattle.dine_rules.proofs.WorldStreams.{WorldKeeps, event_is_step, event_keeps, start_kept, start_state, and_then_parts, option_map_parts}
+use Rattle.dine_rules.proofs.Options.{and_then_parts, option_map_parts}
+use Rattle.dine_rules.proofs.WorldStreams.{WorldKeeps, event_is_step, event_keeps, start_kept, start_state}
 
 -- each step but a Break is one of a site that ends in order
 abbrev pub IsInOrder : Step → Type 0

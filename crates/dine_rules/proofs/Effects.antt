@@ -14,7 +14,8 @@ use Rattle.dine_rules.specs.Steps.{Step, Give, Ask, Hungry, Begin, End, Done, Cl
 use Rattle.dine_rules.specs.World.{WorldState, no_state, state_of, start, world_after, after_events, Reaches}
 use Rattle.dine_rules.specs.Bound.{letters_at, site_effects, effects_of}
 use Rattle.dine_rules.proofs.Sums.{sum-one_more, sum-none}
-use Rattle.dine_rules.proofs.WorldStreams.{event_is_step, and_then_parts, start_state, start_kept}
+use Rattle.dine_rules.proofs.Options.{and_then_parts}
+use Rattle.dine_rules.proofs.WorldStreams.{event_is_step, start_state, start_kept}
 
 -- ---- one site
 

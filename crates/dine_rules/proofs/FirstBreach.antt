@@ -1,6 +1,6 @@
 -- The breach that is told is the first of those that apply.
-use Rattle.std.proofs.Common.{◌≡◌, ◌≢◌, ◌⊎◌, ℕ, ◌+◌, ◌<◌, ◌≤◌, Bool, true, false, cond, not, ◌&&◌, ◌||◌, ◌==◌, nat_le, List, [], ◌∷◌, ◌++◌, Option, Some, None, refl, sym, ◌∙◌, ap, ap₂, inl, inr, arith}
-use Rattle.std.proofs.lemmas.Bool.{true≢false, false≢true, and_parts, and_from, cases_Bool, cond-true, cond-false, eqb-true, eqb-false, eq-eqb, false_from_ne_true, le-leb, leb-true, ne_eqb, not-true, not_from_false, or_cases, or_left, or_right}
+use Rattle.std.proofs.Common.{◌≡◌, ◌≢◌, ◌⊎◌, ℕ, ◌<◌, ◌≤◌, Bool, true, false, cond, not, ◌&&◌, ◌||◌, ◌==◌, nat_le, List, [], ◌∷◌, ◌++◌, Option, Some, None, refl, sym, ◌∙◌, ap, ap₂, inl, inr, arith}
+use Rattle.std.proofs.lemmas.Bool.{false≢true, and_parts, and_from, cases_Bool, cond-true, cond-false, eqb-true, eqb-false, eq-eqb, false_from_ne_true, le-leb, leb-true, ne_eqb, not-true, not_from_false, or_cases, or_left, or_right}
 use Rattle.std.proofs.lemmas.Option.{same_Some}
 use Rattle.dine_token.specs.declared.entry.Entry.{Entry}
 use Rattle.dine_token.specs.declared.entry.Entry.TheVariants.{Move}
@@ -17,7 +17,6 @@ use Rattle.dine_rules.specs.Local.{LocalState, traffic_at, edge_at, neighbour_at
 use Rattle.dine_rules.specs.Holdings.{fork_at, token_at, hand_at}
 use Rattle.dine_rules.specs.Breach.{number_of, was_sent_to, is_fork_of, has_all_of_neighbour, first_breach}
 use Rattle.dine_rules.specs.BreachCauses.{Applies, IsRequestOutOfTurn, TokenIsHere, ForkIsAway, AskedAfterDone, AskedForOther, SenderAteAll, IsForkOutOfTurn, HasFork, HasToken, IsStrangeFork, OfOtherEdge, OfOtherEnds, OfOtherDue, NotSentHere, OtherMealsOfOurs, LacksMealsAfterDone, IsDoneOutOfTurn, DoneTwice, DoneBeforeAll, IsCloseEarly, DoneNotTaken, DoneNotPut}
-use Rattle.dine_rules.specs.Streams.{ends_at_place, due_at_place}
 use Rattle.dine_rules.proofs.PutBounds.{ends_in_move_here}
 
 -- ---- the first of six tests

@@ -13,6 +13,8 @@ pub mod Across
 pub mod Offers
 pub mod Askers
 pub mod InHand
+pub mod Options
+pub mod Shapes
 pub mod WorldStreams
 pub mod Joined
 pub mod Links

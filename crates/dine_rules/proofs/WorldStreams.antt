@@ -1,5 +1,5 @@
 -- In a world that events reach from the start, each site keeps its streams and each link is in order.
-use Rattle.std.proofs.Common.{◌≡◌, ◌≢◌, ◌⊎◌, ℕ, zero, suc, ◌+◌, ◌<◌, ◌≤◌, nat_lt, Bool, true, false, cond, List, [], ◌∷◌, ◌++◌, length, map, get_or, slice_get, slice_set, Option, Some, None, is_some, refl, sym, ◌∙◌, ap, subst, inl, inr, arith, append_assoc, append-nil, length-append, add-zero, zero-add}
+use Rattle.std.proofs.Common.{◌≡◌, ◌≢◌, ◌⊎◌, ℕ, zero, suc, ◌+◌, ◌<◌, ◌≤◌, nat_lt, true, List, [], ◌∷◌, ◌++◌, length, map, get_or, slice_get, slice_set, Option, Some, refl, sym, ◌∙◌, ap, subst, inl, inr, arith, append_assoc, append-nil, length-append, add-zero, zero-add}
 use Rattle.std.specs.List.{range_with_len}
 use Rattle.std.specs.Option.{option_map, option_and_then}
 use mathlib.Core.List.{IsPrefix}
@@ -13,33 +13,19 @@ use Rattle.dine_rules.specs.declared.events.Event.{Event}
 use Rattle.dine_rules.specs.declared.events.EventKind.{EventKind}
 use Rattle.dine_rules.specs.declared.events.EventKind.TheVariants as event
 use Rattle.dine_rules.specs.Local.{LocalState, Traffic, no_traffic, traffic_at, start_of, edge_at, neighbour_at}
-use Rattle.dine_rules.specs.Steps.{Step, Give, Ask, Hungry, Begin, End, Done, Close, Break, Take, after, may, with_put}
+use Rattle.dine_rules.specs.Steps.{Step, Give, Ask, Hungry, Begin, End, Done, Close, Take, IsPlaceWithin, after, may, with_put}
 use Rattle.dine_rules.specs.Streams.{KeepsStreams, IsProper}
 use Rattle.dine_rules.specs.World.{WorldState, no_state, state_of, start, place_of, put_to, next_letter, step_of, local_after, site_after, world_after, after_events, Reaches, LinksAreOrdered}
 use Rattle.dine_rules.proofs.Placed.{IsPlaced, placed}
 use Rattle.dine_rules.proofs.Across.{across}
 use Rattle.dine_rules.proofs.Offers.{is_proper-of}
+use Rattle.dine_rules.proofs.Options.{cond_some_parts}
+pub use Rattle.dine_rules.proofs.Options.{and_then_parts, option_map_parts, some_of}
+use Rattle.dine_rules.proofs.Shapes.{by_moves, may_within, moved, step_shape}
 use Rattle.dine_rules.proofs.Site.{start_keeps, no_traffic_yet}
 use Rattle.dine_rules.proofs.SiteSteps.{step_keeps}
 
 -- ---- what an event does
-
-cond_some_parts : {A : Type 0} (b : Bool) (o : Option A) (y : A) → cond b o None ≡ Some y → (b ≡ true) × (o ≡ Some y)
-cond_some_parts true o y h = (refl, h)
-cond_some_parts false o y h = absurd cc
-
-pub option_map_parts : {A B : Type 0} (f : A → B) (o : Option A) (y : B) → option_map f o ≡ Some y → (x : A) × (o ≡ Some x) × (f x ≡ y)
-option_map_parts f None y h = absurd cc
-option_map_parts f (Some x) y h = (x, refl, cc)
-
-pub and_then_parts : {A B : Type 0} (f : A → Option B) (o : Option A) (y : B) → option_and_then f o ≡ Some y → (x : A) × (o ≡ Some x) × (f x ≡ Some y)
-and_then_parts f None y h = absurd cc
-and_then_parts f (Some x) y h = (x, refl, h)
-
--- where there is something, it is what is there
-pub some_of : {A : Type 0} (o : Option A) → is_some o ≡ true → (x : A) × (o ≡ Some x)
-some_of None h = absurd cc
-some_of (Some x) h = (x, refl)
 
 -- what events lead to, and one event more
 pub events_then : (plan : SeenPlan) (old world new : WorldState) (events : List Event) (e : Event) → after_events plan old events ≡ Some world → world_after plan world e ≡ Some new → after_events plan old (events ++ e ∷ []) ≡ Some new
@@ -105,16 +91,12 @@ module _ (plan : SeenPlan) (s : ℕ) (state : LocalState) (offered : ℕ → Lis
   put_grows k j l within = grows_at offered state.traffic k j _ within (record { more = l ∷ []; puts = refl; takes = inl refl })
 
   step_grows : (step : Step) → TakesNext step → may plan s state step ≡ true → (j : ℕ) → Grows (offered j) (traffic_at state j) (traffic_at (after plan s state step) j)
-  step_grows (Give k) next h j = put_grows k j _ (ltb-true _ _ (and_parts _ _ h).0)
-  step_grows (Ask k) next h j = put_grows k j _ (ltb-true _ _ (and_parts _ _ h).0)
-  step_grows Hungry next h j = Grows-same (offered j) (traffic_at state j)
-  step_grows Begin next h j = Grows-same (offered j) (traffic_at state j)
-  step_grows End next h j = Grows-same (offered j) (traffic_at state j)
-  step_grows (Done k) next h j = put_grows k j _ (ltb-true _ _ (and_parts _ _ h).0)
-  step_grows (Close k) next h j = put_grows k j _ (ltb-true _ _ (and_parts _ _ h).0)
-  step_grows (Break k) next h j = put_grows k j _ (ltb-true _ _ (and_parts _ _ h).0)
   step_grows (Take k l) next h j = grows_at offered state.traffic k j _ (ltb-true _ _ (and_parts _ _ h).0)
       (record { more = []; puts = sym (append-nil (traffic_at state k).put); takes = inr (l, next, refl) })
+  step_grows step next h j = by_moves plan s state (λ new. Grows (offered j) (traffic_at state j) (traffic_at new j)) (step_shape step) (after plan s state step) (moved plan s state step)
+      (λ k l is. put_grows k j l (subst (IsPlaceWithin (length state.traffic)) is (may_within plan s state step h)))
+      (λ k l is. absurd cc)
+      (λ same is. subst (λ (t : List Traffic). Grows (offered j) (traffic_at state j) (get_or t j no_traffic)) (sym same) (Grows-same (offered j) (traffic_at state j)))
 
 -- ---- prefixes
 

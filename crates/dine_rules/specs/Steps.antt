@@ -108,6 +108,12 @@ IsPlaceWithin n (Takes i) = i < n
 IsPlaceWithin n (Puts i) = i < n
 IsPlaceWithin n Alone = Unit {0}
 
+-- what an event of this shape does to the letters of its site: one more is taken at its place, one more is put there, or none moves
+abbrev pub MovesBy : Shape → LocalState → LocalState → Type 0
+MovesBy (Takes i) old new = (l : Letter) × (new ≡ with_taken i l old)
+MovesBy (Puts i) old new = (l : Letter) × (new ≡ with_put i l old)
+MovesBy Alone old new = new.traffic ≡ old.traffic
+
 -- the step that an event is, by the next letter at each place: a Take takes that letter, where there is one
 abbrev pub step_by : (ℕ → Option Letter) → EventKind → Option Step
 step_by next (event.Take i) = option_map (Take i) (next i)

@@ -1,6 +1,6 @@
 //! Laws over the definitions alone. Each function does nothing: its contract is the law.
 
-ghost use Rattle.std.specs.Prelude.{◌≡◌, ◌≢◌, ◌<◌, ◌≤◌, ◌+◌, ◌*◌, ◌↔◌, ℕ, List, [], ◌∷◌, ◌++◌, None, Some, false, length, map, slice_get, true};
+ghost use Rattle.std.specs.Prelude.{◌≡◌, ◌≢◌, ◌<◌, ◌≤◌, ◌+◌, ◌*◌, ◌↔◌, ℕ, List, [], ◌∷◌, ◌++◌, None, Option, Some, false, length, map, slice_get, true};
 ghost use Rattle.std.specs.List.{list_any};
 ghost use Rattle.dine_plan.specs.Plan.{IsPlan, SeenPlan, edge_count, hi_of, job_count, lo_of, site_count};
 ghost use Rattle.dine_token.specs.Fork.{SeenFork};
@@ -21,10 +21,11 @@ ghost use Rattle.dine_rules.specs.Precedence.{IsAcyclic, StandsBefore, fork_log}
 ghost use Rattle.dine_rules.specs.StepLists.{LeadTo, begins_in, is_give_at};
 ghost use Rattle.dine_rules.specs.Schedules.{after_choices, finish_within, from_here, replay, whole_run};
 ghost use Rattle.dine_rules.specs.Steps as step;
-ghost use Rattle.dine_rules.specs.Steps.{LocalStep, Step};
+ghost use Rattle.dine_rules.specs.Steps.{IsPlaceWithin, LocalStep, MovesBy, Step, after, may, shape_of, step_by};
 ghost use Rattle.dine_rules.specs.Streams.{IsProper, KeepsStreams};
 ghost use Rattle.dine_rules.specs.World.{LinksAreOrdered, IsComplete, Reaches, WorldState, enabled_events, is_enabled, kinds_at, next_letter, put_to, start, state_of, world_after};
 ghost use Rattle.dine_rules.specs.declared.events.Event.{Event};
+ghost use Rattle.dine_rules.specs.declared.events.EventKind.{EventKind};
 ghost use Rattle.dine_rules.specs.declared.letters.Letter.{Letter};
 ghost use Rattle.dine_rules.specs.declared.letters.Letter.TheVariants.{Fork};
 ghost use Rattle.dine_rules.specs.declared.events.EventKind.TheVariants.{Ask, Begin, Close, Done, End, Give, Hungry, Take};
@@ -138,6 +139,15 @@ pub fn first_breach_is_first()
         → first_breach plan s state i letter ≡ Some breach → number_of earlier < number_of breach → Applies plan s state i earlier letter → ⊥ }
     ensures none { (plan : SeenPlan) (s : ℕ) (state : LocalState) (i : ℕ) (letter : Letter) (breach : Breach)
         → first_breach plan s state i letter ≡ None → Applies plan s state i breach letter → ⊥ }
+{}
+
+/// An event moves letters by its shape: it takes one at its place, puts one there, or moves none. The place of an event that a
+/// site may do is one of the site's.
+pub fn events_move_letters_by_their_shape()
+    ensures moves { (plan : SeenPlan) (s : ℕ) (state : LocalState) (next : ℕ → Option Letter) (kind : EventKind) (step : Step)
+        → step_by next kind ≡ Some step → MovesBy (shape_of kind) state (after plan s state step) }
+    ensures place { (plan : SeenPlan) (s : ℕ) (state : LocalState) (next : ℕ → Option Letter) (kind : EventKind) (step : Step)
+        → step_by next kind ≡ Some step → may plan s state step ≡ true → IsPlaceWithin (length state.traffic) (shape_of kind) }
 {}
 
 /// The numbers of the breaches.

@@ -1,5 +1,5 @@
 -- each is computed, but that nobody stands before another from behind
-use Rattle.std.proofs.Common.{ℕ, List, [], ◌∷◌, refl}
+use Rattle.std.proofs.Common.{[], ◌∷◌, refl}
 use Rattle.dine_rules.specs.Precedence.{StandsBefore}
 use Rattle.dine_rules.proofs.laws.precedence_goes_as_worked.Goals as goal
 
