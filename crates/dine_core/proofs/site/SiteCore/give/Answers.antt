@@ -1,11 +1,11 @@
-use Rattle.std.proofs.Common.{◌≡◌, ℕ, false, refl, sym, subst, arith, ◌<◌, length}
+use Rattle.std.proofs.Common.{◌≡◌, ℕ, false, refl, subst, arith, ◌<◌, length}
 use Rattle.std.proofs.lemmas.Grind.{common_steps}
 use Rattle.dine_token.specs.Fork.{moved}
 use Rattle.dine_rules.specs.declared.letters.Letter.TheVariants.{Fork}
 use Rattle.dine_core.specs.declared.site.places.Place.{Place}
 use Rattle.dine_rules.specs.Local.{is_eating}
 use Rattle.dine_core.specs.SiteFields.{seen}
-use Rattle.dine_core.specs.Places.{place_at, no_place, neighbour_of, OnHere, IsSoundPlace}
+use Rattle.dine_core.specs.Places.{place_at, neighbour_of, OnHere}
 use Rattle.dine_core.proofs.Sound.{sound_gave}
 use Rattle.dine_rules.specs.Steps.{Give}
 use Rattle.dine_core.proofs.CoreSteps.{puts, stepped}

@@ -1,8 +1,8 @@
-use Rattle.std.proofs.Common.{◌≡◌, false, sym, subst, arith, ◌<◌, length}
+use Rattle.std.proofs.Common.{◌≡◌, false, arith, ◌<◌, length}
 use Rattle.std.proofs.lemmas.Grind.{common_steps}
 use Rattle.dine_rules.specs.Local.{is_eating}
 use Rattle.dine_core.specs.SiteFields.{seen}
-use Rattle.dine_core.specs.Places.{place_at, no_place, IsSoundPlace}
+use Rattle.dine_core.specs.Places.{place_at}
 use Rattle.dine_core.proofs.Sound.{sound_gave}
 use Rattle.dine_core.proofs.site.SiteCore.take_fork.Goals as goal
 
