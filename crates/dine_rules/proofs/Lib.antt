@@ -31,6 +31,8 @@ pub mod InOrder
 pub mod Sent
 pub mod Coming
 pub mod NextLetters
+pub mod JoinedEnds
+pub mod TwoEnds
 pub mod Orders
 pub mod Preference
 pub mod PreferenceSteps
@@ -48,5 +50,3 @@ pub mod Owned
 pub mod Near
 pub mod ForkLogs
 pub mod Complete
-pub mod JoinedEnds
-pub mod TwoEnds

@@ -112,16 +112,16 @@ module _ (plan : SeenPlan) (is_plan : IsPlan plan) (s i j : ℕ) (near far : Loc
       early false breach h = absurd cc
 
 -- the same with the name of the other end
-pub refused_at : (plan : SeenPlan) → IsPlan plan → (s i other j : ℕ) (near far : LocalState) (l : Letter) → AreEndsOfEdge plan s i other j → KeepsStreams plan s near → KeepsStreams plan other far
+pub refused_at : (plan : SeenPlan) → IsPlan plan → (s i o j : ℕ) (near far : LocalState) (l : Letter) → AreEndsOfEdge plan s i o j → KeepsStreams plan s near → KeepsStreams plan o far
     → AreLinked (traffic_at near i) (traffic_at far j) → next_between (traffic_at near i) (traffic_at far j) ≡ Some l → is_allowed plan s near i l ≡ false → l ≡ Close
-refused_at plan is_plan s i other j near far l ends =
+refused_at plan is_plan s i o j near far l ends =
     subst (λ (o : ℕ). AreEndsOfEdge plan s i o j → KeepsStreams plan s near → KeepsStreams plan o far → AreLinked (traffic_at near i) (traffic_at far j)
     → next_between (traffic_at near i) (traffic_at far j) ≡ Some l → is_allowed plan s near i l ≡ false → l ≡ Close) ends.across
     (λ ends here there linked next. refused_is_close plan is_plan s i j near far ends here there linked l next) ends
 
-pub breach_at : (plan : SeenPlan) → IsPlan plan → (s i other j : ℕ) (near far : LocalState) (l : Letter) (breach : Breach) → AreEndsOfEdge plan s i other j → KeepsStreams plan s near → KeepsStreams plan other far
+pub breach_at : (plan : SeenPlan) → IsPlan plan → (s i o j : ℕ) (near far : LocalState) (l : Letter) (breach : Breach) → AreEndsOfEdge plan s i o j → KeepsStreams plan s near → KeepsStreams plan o far
     → AreLinked (traffic_at near i) (traffic_at far j) → next_between (traffic_at near i) (traffic_at far j) ≡ Some l → first_breach plan s near i l ≡ Some breach → breach ≡ ClosedEarly
-breach_at plan is_plan s i other j near far l breach ends =
+breach_at plan is_plan s i o j near far l breach ends =
     subst (λ (o : ℕ). AreEndsOfEdge plan s i o j → KeepsStreams plan s near → KeepsStreams plan o far → AreLinked (traffic_at near i) (traffic_at far j)
     → next_between (traffic_at near i) (traffic_at far j) ≡ Some l → first_breach plan s near i l ≡ Some breach → breach ≡ ClosedEarly) ends.across
     (λ ends here there linked next. breach_is_early plan is_plan s i j near far ends here there linked l next breach) ends

@@ -8,8 +8,8 @@ pub mod BreachCauses
 pub mod StepLists
 pub mod World
 pub mod Links
+pub mod JoinedEnds
 pub mod Precedence
 pub mod Bound
 pub mod Schedules
 pub mod Examples
-pub mod JoinedEnds
