@@ -83,6 +83,8 @@ module _ (core : SeenCore) (meal : SeenMeal) (sound : IsSound core) (eating : is
   pub stands_ended : (plan : SeenPlan) (state : LocalState) → StandsFor plan state core → meal.forks ≡ forks_in_hand plan core.site state (all_places state)
       → StandsFor plan (after plan core.site state End) (ended meal.forks core)
   stands_ended plan state stands forks = record {
+    is_plan = stands.is_plan;
+    is_site = stands.is_site;
     due = stands.due;
     phase = refl;
     ate = stands.ate;

@@ -1,19 +1,20 @@
 -- A core that stands for a state stands for the next one when one place follows.
 use Rattle.std.proofs.Common.{◌≡◌, ℕ, ◌<◌, ◌==◌, Bool, true, false, length, get_or, set, Option, Some, None, refl, sym, ◌∙◌, ap, subst, inl, inr, arith, if◌then◌else◌}
-use Rattle.std.proofs.lemmas.Bool.{cases_eq, eqb-true}
+use Rattle.std.proofs.lemmas.Bool.{cases_eq, eqb-true, false≢true}
 use Rattle.std.proofs.lemmas.List.{get_or-set_same, get_or-set_other, length-set}
 use Rattle.dine_token.specs.Fork.{SeenFork}
 use Rattle.dine_token.specs.Log.{meals_of}
 use Rattle.dine_plan.specs.Plan.{SeenPlan}
-use Rattle.dine_rules.specs.declared.letters.Letter.{Letter}
 use Rattle.dine_rules.specs.declared.letters.Letter.TheVariants.{Fork, Request, Done, Close}
+use Rattle.dine_rules.specs.declared.phase.Phase.{Phase}
+use Rattle.dine_rules.specs.declared.phase.Phase.TheVariants.{Thinking, Hungry, Eating}
 use Rattle.dine_core.specs.declared.site.places.Place.{Place}
 use Rattle.dine_core.specs.declared.site.places.ForkSlot.TheVariants.{Away, Here, InMeal}
-use Rattle.dine_rules.specs.Local.{LocalState, Traffic, no_traffic, traffic_at, edge_at, neighbour_at, is_eating}
+use Rattle.dine_rules.specs.Local.{LocalState, Traffic, no_traffic, traffic_at, edge_at, neighbour_at, is_eating, is_thinking}
 use Rattle.dine_rules.specs.Holdings.{fork_at, token_at, hand_at}
 use Rattle.dine_rules.specs.Steps.{fork_with, with_put}
 use Rattle.dine_core.specs.Core.{SeenCore, StandsFor, kept_of, kept_at}
-use Rattle.dine_core.specs.Places.{place_at, with_place, no_place, OnHere, asked, gave, said_done, closed}
+use Rattle.dine_core.specs.Places.{place_at, with_place, no_place, OnHere, asked, gave, hungered, said_done, closed}
 use Rattle.dine_core.proofs.PlacesAfter.{kept-put_request, kept-put_fork, kept-put_done, kept-put_close}
 
 -- other traffic at place i
@@ -38,6 +39,8 @@ module _ (plan : SeenPlan) (state : LocalState) (core : SeenCore) (stands : Stan
   pub stands_at : (t : Traffic) (place : Place) → place ≡ kept_of plan core.site state.phase state.ate (edge_at plan core.site i) t
       → StandsFor plan (with_traffic i t state) (with_place i place core)
   stands_at t place is = record {
+    is_plan = stands.is_plan;
+    is_site = stands.is_site;
     due = stands.due;
     phase = stands.phase;
     ate = stands.ate;
@@ -86,10 +89,19 @@ module _ (plan : SeenPlan) (state : LocalState) (core : SeenCore) (stands : Stan
       (fork_with plan (edge_at plan core.site i) (hand_at core.site state i)) (subst Q place_is h) in
       (eqb-true (fork_at plan core.site state i) 1 w.0, w.1, w.2)
 
--- a put of a letter, from what the letter and the new core are
-pub puts : (plan : SeenPlan) (state : LocalState) (i : ℕ) (l letter : Letter) (new core : SeenCore) → new ≡ core → l ≡ letter → StandsFor plan (with_put i letter state) core
-    → (with_put i letter state ≡ with_put i l state) × StandsFor plan (with_put i l state) new
-puts plan state i l letter new core core_is letter_is stands = (
-  ap (λ (l : Letter). with_put i l state) (sym letter_is),
-  subst (λ (l : Letter). StandsFor plan (with_put i l state) new) (sym letter_is) (subst (λ (core : SeenCore). StandsFor plan (with_put i letter state) core) (sym core_is) stands),
-)
+thinking_is : (phase : Phase) → is_thinking phase ≡ true → phase ≡ Thinking
+thinking_is Thinking h = refl
+thinking_is Hungry h = absurd (false≢true h)
+thinking_is Eating h = absurd (false≢true h)
+
+-- who thought and is hungry keeps the same at each place
+pub stands-hungered : (plan : SeenPlan) (state : LocalState) (core : SeenCore) → StandsFor plan state core → is_thinking core.phase ≡ true → StandsFor plan (record state { phase = Hungry }) (hungered core)
+stands-hungered plan state core stands thinking = record {
+  is_plan = stands.is_plan;
+  is_site = stands.is_site;
+  due = stands.due;
+  phase = refl;
+  ate = stands.ate;
+  degree = stands.degree;
+  places = λ i past h. stands.places i past h ∙ ap (λ (phase : Phase). kept_of plan core.site phase state.ate (edge_at plan core.site i) (traffic_at state i)) (sym stands.phase ∙ thinking_is core.phase thinking);
+}

@@ -88,7 +88,7 @@ each_more P xs x n long each last i past within = elim (cases_eq i n) [
 ]
 
 -- a site before its first step
-pub record IsFresh (plan : SeenPlan) (s : ℕ) (world_site : WorldSite) : Type 0 where
+pub record IsNewSite (plan : SeenPlan) (s : ℕ) (world_site : WorldSite) : Type 0 where
   pub site : world_site.core.site ≡ s
   pub stands : IsSiteOf plan (start_of plan s) world_site
   pub awake : IsAwake world_site
@@ -96,13 +96,13 @@ pub record IsFresh (plan : SeenPlan) (s : ℕ) (world_site : WorldSite) : Type 0
 -- the first sites of the plan, before their first step
 pub record AreFresh (plan : SeenPlan) (n : ℕ) (sites : List WorldSite) : Type 0 where
   pub count : length sites ≡ n
-  pub each : (s : ℕ) (past : WorldSite) → s < n → IsFresh plan s (get_or sites s past)
+  pub each : (s : ℕ) (past : WorldSite) → s < n → IsNewSite plan s (get_or sites s past)
 
 -- and one more site
-pub fresh_more : (plan : SeenPlan) (n : ℕ) (sites new : List WorldSite) (world_site : WorldSite) → AreFresh plan n sites → IsFresh plan n world_site → new ≡ sites ++ world_site ∷ [] → AreFresh plan (n + 1) new
+pub fresh_more : (plan : SeenPlan) (n : ℕ) (sites new : List WorldSite) (world_site : WorldSite) → AreFresh plan n sites → IsNewSite plan n world_site → new ≡ sites ++ world_site ∷ [] → AreFresh plan (n + 1) new
 fresh_more plan n sites new world_site so_far last is = subst (AreFresh plan (n + 1)) (sym is) (record {
   count = omega (arith, length-append sites (world_site ∷ []), so_far.count);
-  each = each_more (IsFresh plan) sites world_site n so_far.count so_far.each last;
+  each = each_more (IsNewSite plan) sites world_site n so_far.count so_far.each last;
 })
 
 -- and all of them stand for the start

@@ -2,7 +2,7 @@
 use Rattle.std.specs.Prelude.{◌≡◌, ℕ, ◌<◌, ◌==◌, List, [], ◌∷◌, length, slice_index_or, Option, Some, None, if◌then◌else◌}
 use Rattle.dine_token.specs.Log.{meals_of}
 use Rattle.dine_token.specs.Fork.{SeenFork}
-use Rattle.dine_plan.specs.Plan.{SeenPlan, job_count, lo_of, hi_of, other_of}
+use Rattle.dine_plan.specs.Plan.{SeenPlan, IsPlan, job_count, lo_of, hi_of, other_of, site_count}
 use Rattle.dine_rules.specs.declared.phase.Phase.{Phase}
 use Rattle.dine_core.specs.declared.site.places.Place.{Place}
 use Rattle.dine_core.specs.declared.site.places.ForkSlot.{ForkSlot}
@@ -51,8 +51,11 @@ module _ (plan : SeenPlan) (s : ℕ) (phase : Phase) (ate edge : ℕ) (traffic :
 abbrev pub kept_at : SeenPlan → ℕ → LocalState → ℕ → Place
 kept_at plan s state i = kept_of plan s state.phase state.ate (edge_at plan s i) (traffic_at state i)
 
--- The core stands for the state: the phase and the meals are the state's, and at each place is kept what the state gives.
+-- The core stands for the state: it is a site of the plan, the phase and the meals are the state's, and at each place is kept
+-- what the state gives.
 pub record StandsFor (plan : SeenPlan) (state : LocalState) (core : SeenCore) : Type 0 where
+  pub is_plan : IsPlan plan
+  pub is_site : core.site < site_count plan
   pub due : core.due ≡ job_count plan core.site
   pub phase : core.phase ≡ state.phase
   pub ate : core.ate ≡ state.ate

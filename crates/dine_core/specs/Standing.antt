@@ -6,11 +6,15 @@ use Rattle.dine_plan.specs.Plan.{SeenPlan, job_count}
 use Rattle.dine_rules.specs.declared.letters.Letter.{Letter}
 use Rattle.dine_rules.specs.declared.breach.Breach.{Breach}
 use Rattle.dine_rules.specs.Letters.{has_done, has_close}
-use Rattle.dine_rules.specs.Local.{LocalState, traffic_at, is_thinking}
+use Rattle.dine_rules.specs.Local.{LocalState, start_of, traffic_at, is_thinking}
 use Rattle.dine_rules.specs.Breach.{first_breach}
-use Rattle.dine_rules.specs.Steps.{Step, may, after, with_put}
+use Rattle.dine_rules.specs.Steps.{Step, LocalStep, may, after, with_put}
 use Rattle.dine_rules.specs.Streams.{KeepsStreams}
 use Rattle.dine_core.specs.Core.{SeenCore, StandsFor, forks_in_hand, tokens_in_hand}
+
+-- the core is that of a site before its first step
+abbrev pub IsFresh : SeenCore → Type 0
+IsFresh core = (plan : SeenPlan) × StandsFor plan (start_of plan core.site) core
 
 -- so it is for each state that keeps the streams and for which the core stands
 abbrev pub ForEachState : SeenCore → (SeenPlan → LocalState → Type 0) → Type 0
@@ -20,13 +24,20 @@ ForEachState core P = (plan : SeenPlan) (state : LocalState) → KeepsStreams pl
 abbrev pub TellsMay : SeenCore → Step → Bool → Type 0
 TellsMay core step test = ForEachState core (λ plan state. test ≡ may plan core.site state step)
 
--- the new core stands for the state after the step
-abbrev pub CoreSteps : Step → SeenCore → SeenCore → Type 0
-CoreSteps step old new = ForEachState old (λ plan state. StandsFor plan (after plan old.site state step) new)
+-- The core did the step, which the state allows: it is the same site, it stands for the state after the step, and that state
+-- keeps the streams.
+pub record CoreStep (plan : SeenPlan) (state : LocalState) (step : Step) (old new : SeenCore) : Type 0 where
+  pub allowed : LocalStep plan old.site state step (after plan old.site state step)
+  pub site : new.site ≡ old.site
+  pub stands : StandsFor plan (after plan old.site state step) new
+  pub keeps : KeepsStreams plan new.site (after plan old.site state step)
 
--- so it does, and the step puts the letter at place i
+abbrev pub CoreSteps : Step → SeenCore → SeenCore → Type 0
+CoreSteps step old new = ForEachState old (λ plan state. CoreStep plan state step old new)
+
+-- so it did, and the step puts the letter at place i
 abbrev pub CorePuts : ℕ → Step → SeenCore → SeenCore → Letter → Type 0
-CorePuts i step old new l = ForEachState old (λ plan state. (after plan old.site state step ≡ with_put i l state) × StandsFor plan (with_put i l state) new)
+CorePuts i step old new l = ForEachState old (λ plan state. (after plan old.site state step ≡ with_put i l state) × CoreStep plan state step old new)
 
 -- the answer is the first breach of the letter
 abbrev pub TellsBreach : SeenCore → ℕ → Letter → Option Breach → Type 0

@@ -2,18 +2,19 @@
 
 ghost use Rattle.std.specs.Prelude.{◌≡◌, ◌≢◌, ℕ, ◌<◌, ◌==◌, Some, None, is_some, true, false, length, map, IfOk, MatchOption, MatchResult};
 ghost use Rattle.std.specs.List.{list_all};
-ghost use Rattle.dine_token.specs.Fork.{eaten};
+ghost use Rattle.dine_token.specs.Fork.{eaten, moved};
 ghost use Rattle.dine_plan.specs.Plan.{SeenPlan, site_count, edges_of};
+ghost use Rattle.dine_rules.specs.Breach.{first_breach};
 ghost use Rattle.dine_rules.specs.Letters.{has_close};
+ghost use Rattle.dine_rules.specs.Streams.{IsProper};
 ghost use Rattle.dine_rules.specs.Local.{LocalState, start_of, traffic_at, is_eating};
 ghost use Rattle.dine_rules.specs.Holdings.{fork_at, token_at};
 ghost use Rattle.dine_rules.specs.Steps as step;
 ghost use Rattle.dine_rules.specs.Steps.{after};
 ghost use Rattle.dine_core.specs.Core.{SeenCore, StandsFor, forks_in_hand, fresh_forks, fresh_tokens};
-ghost use Rattle.dine_core.specs.Places.{place_at, is_held, can_give, can_ask, can_hunger, can_begin, can_say_done, can_close, is_ready_at, is_over_at, is_closed_at, has_all_said, has_all_closed, breach_at, hungered, asked, gave, begun, ended, said_done, closed, took, forks_of, tokens_of, IsMealOf};
-ghost use Rattle.dine_core.specs.Forks.{hand_of};
+ghost use Rattle.dine_core.specs.Places.{place_at, hand_of, is_held, can_give, can_ask, can_hunger, can_begin, can_say_done, can_close, is_ready_at, is_over_at, is_closed_at, neighbour_of, OnHere, has_all_said, has_all_closed, breach_at, hungered, asked, gave, begun, ended, said_done, closed, took, forks_of, tokens_of, IsMealOf};
 ghost use Rattle.dine_core.specs.LinkNumbers.{link_to, link_from};
-ghost use Rattle.dine_core.specs.Standing.{ForEachState, TellsMay, CoreSteps, CorePuts, TellsBreach, AreForksInHand, AreTokensInHand, all_places, has_finished, has_closed};
+ghost use Rattle.dine_core.specs.Standing.{ForEachState, IsFresh, TellsMay, CoreStep, CoreSteps, CorePuts, TellsBreach, AreForksInHand, AreTokensInHand, all_places, has_finished, has_closed};
 
 mod meals;
 mod opening;
@@ -85,6 +86,7 @@ impl SiteCore {
         requires tokens { tokens.items ≡ fresh_tokens plan.now site (edges_of plan.now site) }
         ensures site { IfOk result (λ core. core.site ≡ site) }
         ensures start { IfOk result (λ core. StandsFor plan.now (start_of plan.now site) core) }
+        ensures fresh { IfOk result IsFresh }
     {
         let places = opening::places_of(alloc, plan, site, forks, tokens)?;
         let forks = Vec::with_capacity(alloc, places.len())?;
@@ -310,6 +312,7 @@ impl SiteCore {
         requires place { i < length self.old.places }
         requires may { can_ask self.old i ≡ true }
         ensures core { self.new ≡ asked i self.old }
+        ensures letter { result ≡ Letter.Request (place_at self.old i).edge }
         ensures step { CorePuts i (step.Ask i) self.old self.new result }
     {
         let place = &mut self.places[i as usize];
@@ -321,6 +324,7 @@ impl SiteCore {
         requires place { i < length self.old.places }
         requires may { can_give self.old i ≡ true }
         ensures core { self.new ≡ gave i self.old }
+        ensures letter { OnHere (λ fork. result ≡ Letter.Fork (moved (neighbour_of self.old.site (place_at self.old i)) fork)) (place_at self.old i).fork }
         ensures step { CorePuts i (step.Give i) self.old self.new result }
     {
         let site = self.site;
@@ -349,7 +353,7 @@ impl SiteCore {
         requires eating { is_eating self.old.phase ≡ true }
         requires meal { IsMealOf self.old meal }
         ensures core { self.new ≡ ended meal.forks self.old }
-        ensures step { ForEachState self.old (λ plan state. meal.forks ≡ forks_in_hand plan self.old.site state (all_places state) → StandsFor plan (after plan self.old.site state step.End) self.new) }
+        ensures step { ForEachState self.old (λ plan state. meal.forks ≡ forks_in_hand plan self.old.site state (all_places state) → CoreStep plan state step.End self.old self.new) }
     {
         let mut hands = meal.end();
         meals::lay_down(self.places.as_mut_slice(), &mut hands);
@@ -362,6 +366,7 @@ impl SiteCore {
         requires place { i < length self.old.places }
         requires may { can_say_done self.old i ≡ true }
         ensures core { self.new ≡ said_done i self.old }
+        ensures letter { result ≡ Letter.Done }
         ensures step { CorePuts i (step.Done i) self.old self.new result }
     {
         let place = &mut self.places[i as usize];
@@ -374,6 +379,7 @@ impl SiteCore {
         requires place { i < length self.old.places }
         requires may { can_close self.old i ≡ true }
         ensures core { self.new ≡ closed i self.old }
+        ensures letter { result ≡ Letter.Close }
         ensures step { CorePuts i (step.Close i) self.old self.new result }
     {
         let place = &mut self.places[i as usize];
@@ -385,6 +391,7 @@ impl SiteCore {
     pub fn break_off(&mut self, i: u32) -> Option<Letter>
         requires place { i < length self.old.places }
         requires not_eating { is_eating self.old.phase ≡ false }
+        ensures may { TellsMay self.old (step.Break i) (is_some result) }
         ensures none { MatchOption result ((place_at self.old i).close_put ≡ true) (λ _. (place_at self.old i).close_put ≡ false) }
         ensures core { self.new ≡ closed i self.old }
         ensures letter { MatchOption result (self.new ≡ self.old) (λ l. l ≡ Letter.Close) }
@@ -403,6 +410,8 @@ impl SiteCore {
     pub fn take(&mut self, i: u32, letter: Letter) -> Result<(), (Letter, Breach)>
         requires { i < length self.old.places }
         ensures breach { MatchResult result (λ _. breach_at self.old.site self.old.ate (place_at self.old i) letter ≡ None) (λ e. breach_at self.old.site self.old.ate (place_at self.old i) letter ≡ Some e.1) }
+        ensures agrees { ForEachState self.old (λ plan state. breach_at self.old.site self.old.ate (place_at self.old i) letter ≡ first_breach plan self.old.site state i letter) }
+        ensures proper { MatchResult result (λ _. IsProper (step.Take i letter)) (λ _. Unit {0}) }
         ensures core { MatchResult result (λ _. self.new ≡ took i letter self.old) (λ e. (self.new ≡ self.old) × (e.0 ≡ letter)) }
         ensures taken { MatchResult result (λ _. ForEachState self.old (λ plan state. step.may plan self.old.site state (step.Take i letter) ≡ true)) (λ e. TellsBreach self.old i letter (Some e.1)) }
         ensures step { MatchResult result (λ _. CoreSteps (step.Take i letter) self.old self.new) (λ _. Unit {0}) }

@@ -1,5 +1,7 @@
-ghost use Rattle.std.specs.Prelude.{◌≡◌, ◌⊎◌, ◌+◌, ◌<◌, ◌++◌, ◌==◌, not, true, Some, is_some, option_to_list, vec_len, vec_capacity};
-ghost use Rattle.dine_token.specs.Fork.{SeenFork, IsEnd, MayMove, moved};
+ghost use Rattle.std.specs.Prelude.{◌≡◌, ◌⊎◌, ℕ, ◌+◌, ◌<◌, ◌++◌, ◌==◌, not, true, Some, None, is_some, option_to_list, vec_len, vec_capacity};
+ghost use Rattle.dine_token.specs.Fork.{SeenFork, IsEnd, IsFork, MayMove, moved};
+ghost use Rattle.dine_rules.specs.Steps.{Take};
+ghost use Rattle.dine_rules.specs.Streams.{IsProper};
 
 use super::Parts;
 use dine_rules::{Breach, Letter};
@@ -69,8 +71,7 @@ impl ForkSlot {
 }
 
 impl Place {
-    ghost use Rattle.dine_core.specs.Forks.{hand_of};
-    ghost use Rattle.dine_core.specs.Places.{neighbour_of, due_of_neighbour, is_held, is_dirty_in_hand, meals_in, has_all, is_ready_at, can_give_at, is_own_fork, breach_of_request, breach_of_fork, breach_of_done, breach_of_close, breach_at, noted, lifted, opened, is_over_at, fork_in_hand, EndsOf, OnHere, with_fork};
+    ghost use Rattle.dine_core.specs.Places.{neighbour_of, due_of_neighbour, is_held, is_dirty_in_hand, meals_in, has_all, is_ready_at, can_give_at, is_own_fork, breach_of_request, breach_of_fork, breach_of_done, breach_of_close, breach_at, noted, lifted, opened, is_over_at, hand_of, fork_in_hand, EndsOf, OnHere, with_fork};
 
     /// The site at the other end.
     pub(crate) fn neighbour(&self, site: u32) -> u32
@@ -119,7 +120,8 @@ impl Place {
     pub(crate) fn breach_of(&self, site: u32, ate: u32, letter: &Letter) -> Option<Breach>
         requires ends { EndsOf self.now.fork (neighbour_of site self.now) }
         requires site { (site ≡ self.now.ends.0) ⊎ (site ≡ self.now.ends.1) }
-        ensures { result ≡ breach_at site ate self.now letter.now }
+        ensures breach { result ≡ breach_at site ate self.now letter.now }
+        ensures proper { result ≡ None → (i : ℕ) → IsProper (Take i letter.now) }
     {
         if self.close_taken {
             return Some(Breach::AfterClose);
@@ -148,7 +150,8 @@ impl Place {
 
     fn breach_of_fork(&self, site: u32, ate: u32, fork: &Fork) -> Option<Breach>
         requires site { (site ≡ self.now.ends.0) ⊎ (site ≡ self.now.ends.1) }
-        ensures { result ≡ breach_of_fork site ate self.now fork.now }
+        ensures breach { result ≡ breach_of_fork site ate self.now fork.now }
+        ensures proper { result ≡ None → IsFork fork.now }
     {
         if self.fork.is_held() || self.token.is_some() {
             return Some(Breach::ForkOutOfTurn);
@@ -167,7 +170,8 @@ impl Place {
 
     // Whether the fork is that of the edge, with its ends and their due meals.
     fn is_own_fork(&self, fork: &Fork) -> bool
-        ensures { result ≡ is_own_fork self.now fork.now }
+        ensures own { result ≡ is_own_fork self.now fork.now }
+        ensures proper { IsFork fork.now }
     {
         let (lower, higher) = self.ends;
         let (lower_due, higher_due) = self.due;

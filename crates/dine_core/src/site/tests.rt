@@ -494,3 +494,43 @@ fn second_break_off_gives_nothing(rt: HostRuntime) {
     let parts = spend(&rt, a);
     assert_eq!(rt; (parts.forks.len(), parts.tokens.len()), (1, 0));
 }
+
+#[test]
+fn fresh_forks_are_those_of_the_lower_end(rt: HostRuntime) -> Result<(), Fail> {
+    let alloc = rt.alloc();
+    let plan = read_plan(alloc, ROW).expect(&rt, "a plan");
+    assert!(&rt; 1 < plan.sites());
+    let forks = fresh_forks(alloc, &plan, 1)?;
+    assert_eq!(&rt; forks.len(), 1);
+    let fork = &forks[0];
+    assert_eq!(&rt; fork.edge(), 1);
+    assert_eq!(&rt; fork.ends(), (1, 2));
+    assert_eq!(&rt; fork.due_of(1), 0);
+    assert_eq!(&rt; fork.due_of(2), 1);
+    assert_eq!(&rt; fork.len(), 0);
+    assert!(&rt; 2 < plan.sites());
+    assert_eq!(&rt; fresh_forks(alloc, &plan, 2)?.len(), 0);
+    Ok(())
+}
+
+#[test]
+fn fresh_tokens_are_those_of_the_higher_end(rt: HostRuntime) -> Result<(), Fail> {
+    let alloc = rt.alloc();
+    let plan = read_plan(alloc, ROW).expect(&rt, "a plan");
+    assert!(&rt; 1 < plan.sites());
+    let tokens = fresh_tokens(alloc, &plan, 1)?;
+    assert_eq!(&rt; tokens.len(), 1);
+    assert_eq!(&rt; tokens[0].edge(), 0);
+    assert_eq!(&rt; fresh_tokens(alloc, &plan, 0)?.len(), 0);
+    Ok(())
+}
+
+#[test]
+fn breaches_have_the_numbers_one_to_six(rt: HostRuntime) {
+    assert_eq!(&rt; Breach::AfterClose.number(), 1);
+    assert_eq!(&rt; Breach::RequestOutOfTurn.number(), 2);
+    assert_eq!(&rt; Breach::ForkOutOfTurn.number(), 3);
+    assert_eq!(&rt; Breach::StrangeFork.number(), 4);
+    assert_eq!(&rt; Breach::DoneOutOfTurn.number(), 5);
+    assert_eq!(&rt; Breach::ClosedEarly.number(), 6);
+}

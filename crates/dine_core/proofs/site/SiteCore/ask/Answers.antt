@@ -1,16 +1,29 @@
-use Rattle.std.proofs.Common.{◌≡◌, ℕ, Some, ap, arith}
+use Rattle.std.proofs.Common.{◌≡◌, ℕ, Some, refl, ap, subst, arith}
 use Rattle.std.proofs.lemmas.Grind.{common_steps}
 use Rattle.dine_rules.specs.declared.letters.Letter.TheVariants.{Request}
-use Rattle.dine_core.specs.Places.{place_at}
-use Rattle.dine_core.proofs.Stands.{puts, stands-asked, token_held}
+use Rattle.dine_core.specs.Places.{place_at, no_place, IsSound}
+use Rattle.dine_rules.specs.Local.{edge_at}
+use Rattle.dine_rules.specs.Steps.{Ask}
+use Rattle.dine_core.proofs.CoreSteps.{puts, stepped}
+use Rattle.dine_core.proofs.SiteTests.{may_ask}
+use Rattle.dine_core.proofs.Stands.{stands-asked, token_held}
 use Rattle.dine_core.proofs.site.SiteCore.ask.Goals as goal
 
 pub returns-clause-core : goal.returns-clause-core
 returns-clause-core c = grind (arith, common_steps)
 
+pub returns-clause-letter : goal.returns-clause-letter
+returns-clause-letter c =
+    let core = c.args.self.now in
+    let sound : IsSound core = subst IsSound c.self.view_is c.self.invariant.sound in
+    let token : (place_at core c.args.i).token ≡ Some c.unwrap.result = grind (arith, common_steps) in
+    ap (λ (edge : ℕ). Request edge) ((sound.places c.args.i no_place c.requires.place).token c.unwrap.result token)
+
 pub returns-clause-step : goal.returns-clause-step
 returns-clause-step c plan state keeps stands =
     let core = c.args.self.now in
-    let token : (place_at core c.args.i).token ≡ Some c.unwrap.result = grind (arith, common_steps) in
-    let held = token_held plan state core stands c.args.i c.requires.place c.unwrap.result token in
-    puts plan state c.args.i (Request c.unwrap.result) _ _ _ (returns-clause-core c) (ap (λ (edge : ℕ). Request edge) held.1) (stands-asked plan state core stands c.args.i c.requires.place held.0)
+    let i = c.args.i in
+    let token : (place_at core i).token ≡ Some c.unwrap.result = grind (arith, common_steps) in
+    let held = token_held plan state core stands i c.requires.place c.unwrap.result token in
+    puts plan state core stands keeps i (Ask i) (Request c.unwrap.result) (Request (edge_at plan core.site i)) _ (ap (λ (edge : ℕ). Request edge) held.1) refl
+    (stepped plan state core stands keeps (Ask i) _ _ (returns-clause-core c) refl tt (may_ask plan state core stands keeps i c.requires.place c.requires.may) (stands-asked plan state core stands i c.requires.place held.0))

@@ -1,12 +1,21 @@
 use Rattle.std.proofs.Common.{refl, arith}
 use Rattle.std.proofs.lemmas.Grind.{common_steps}
-use Rattle.dine_rules.specs.declared.letters.Letter.TheVariants.{Close}
-use Rattle.dine_core.proofs.Stands.{puts, stands-closed}
+use Rattle.dine_rules.specs.declared.letters.Letter.TheVariants as letter
+use Rattle.dine_rules.specs.Steps.{Break}
+use Rattle.dine_core.proofs.CoreSteps.{puts, stepped}
+use Rattle.dine_core.proofs.SiteTests.{may_break}
+use Rattle.dine_core.proofs.Stands.{stands-closed}
 use Rattle.dine_core.proofs.site.SiteCore.break_off.Goals as goal
 
 pub returns-clause-core : goal.returns-clause-core
 returns-clause-core c = grind (arith, common_steps)
 
+pub returns-clause-none : goal.returns-clause-none
+returns-clause-none c = grind (arith, common_steps)
+
 pub returns-clause-step : goal.returns-clause-step
 returns-clause-step c plan state keeps stands =
-    puts plan state c.args.i Close Close _ _ (returns-clause-core c) refl (stands-closed plan state c.args.self.now stands c.args.i c.requires.place)
+    let core = c.args.self.now in
+    let i = c.args.i in
+    puts plan state core stands keeps i (Break i) letter.Close letter.Close _ refl refl
+    (stepped plan state core stands keeps (Break i) _ _ (returns-clause-core c) refl tt (may_break plan state core stands keeps i c.requires.place c.requires.not_eating (returns-clause-none c)) (stands-closed plan state core stands i c.requires.place))

@@ -1,7 +1,10 @@
 use Rattle.std.proofs.Common.{refl, arith}
 use Rattle.std.proofs.lemmas.Grind.{common_steps}
-use Rattle.dine_rules.specs.declared.letters.Letter.TheVariants.{Done}
-use Rattle.dine_core.proofs.Stands.{puts, stands-said_done}
+use Rattle.dine_rules.specs.declared.letters.Letter.TheVariants as letter
+use Rattle.dine_rules.specs.Steps as step
+use Rattle.dine_core.proofs.CoreSteps.{puts, stepped}
+use Rattle.dine_core.proofs.SiteTests.{may_done}
+use Rattle.dine_core.proofs.Stands.{stands-said_done}
 use Rattle.dine_core.proofs.site.SiteCore.done.Goals as goal
 
 pub returns-clause-core : goal.returns-clause-core
@@ -9,4 +12,7 @@ returns-clause-core c = grind (arith, common_steps)
 
 pub returns-clause-step : goal.returns-clause-step
 returns-clause-step c plan state keeps stands =
-    puts plan state c.args.i Done Done _ _ (returns-clause-core c) refl (stands-said_done plan state c.args.self.now stands c.args.i c.requires.place)
+    let core = c.args.self.now in
+    let i = c.args.i in
+    puts plan state core stands keeps i (step.Done i) letter.Done letter.Done _ refl refl
+    (stepped plan state core stands keeps (step.Done i) _ _ (returns-clause-core c) refl tt (may_done plan state core stands keeps i c.requires.place c.requires.may) (stands-said_done plan state core stands i c.requires.place))

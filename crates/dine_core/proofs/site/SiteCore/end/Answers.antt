@@ -1,11 +1,13 @@
-use Rattle.std.proofs.Common.{◌≡◌, ◌++◌, take, drop, true, List, length, vec_capacity, sym, ap, subst, arith}
+use Rattle.std.proofs.Common.{◌≡◌, ◌++◌, take, drop, true, List, length, vec_capacity, refl, sym, ap, subst, arith}
 use Rattle.std.proofs.lemmas.Grind.{common_steps}
 use Rattle.dine_core.specs.declared.site.places.Place.{Place}
 use Rattle.dine_rules.specs.Local.{is_eating}
 use Rattle.dine_core.specs.SiteFields.{seen}
-use Rattle.dine_core.specs.Core.{SeenCore, StandsFor}
-use Rattle.dine_rules.specs.Steps.{after, End}
+use Rattle.dine_core.specs.Core.{SeenCore}
+use Rattle.dine_rules.specs.Steps.{End}
 use Rattle.dine_core.specs.Places.{laid_down, ended, IsMealOf, IsSound}
+use Rattle.dine_core.proofs.CoreSteps.{stepped}
+use Rattle.dine_core.proofs.SiteTests.{may_end}
 use Rattle.dine_core.proofs.Ending.{sound_ended, stands_ended}
 use Rattle.dine_core.proofs.site.SiteCore.end.Goals as goal
 
@@ -16,7 +18,8 @@ pub returns-clause-step : goal.returns-clause-step
 returns-clause-step c plan state keeps stands forks =
     let core = c.args.self.now in
     let sound : IsSound core = subst IsSound c.self.view_is c.self.invariant.sound in
-    subst (λ (new : SeenCore). StandsFor plan (after plan core.site state End) new) (sym (returns-clause-core c)) (stands_ended core c.args.meal sound c.requires.eating c.requires.meal plan state stands forks)
+    stepped plan state core stands keeps End _ _ (returns-clause-core c) refl tt (may_end plan state core stands keeps c.requires.eating)
+    (stands_ended core c.args.meal sound c.requires.eating c.requires.meal plan state stands forks)
 
 pub invariant_of-self : goal.invariant_of-self
 invariant_of-self c =
@@ -27,12 +30,8 @@ invariant_of-self c =
     let laid : take c.self.inside.places.len (c.lay_down.new.places ++ drop (length c.lay_down.new.places) c.self.inside.places.items) ≡ laid_down old.places c.args.meal.forks = grind (arith, common_steps) in
     record {
       sound = subst (λ (l : List Place). IsSound (record (ended c.args.meal.forks old) { places = l })) (sym laid) (sound_ended old c.args.meal kept.sound eating is);
-      few = kept.few;
       no_hands = grind (arith, common_steps);
       room_for_hands = λ awake.
           omega (arith, c.lay_down.ensures.room, ap vec_capacity c.replace.ensures.after, ap length c.end-hands.ensures, is.count, c.end-hands.result.ok.0, c.end-hands.result.ok.1, c.self.inside.places.ok.0);
-      no_forks = kept.no_forks;
-      room_for_forks = kept.room_for_forks;
-      no_tokens = kept.no_tokens;
-      room_for_tokens = kept.room_for_tokens;
+      room = kept.room;
     }

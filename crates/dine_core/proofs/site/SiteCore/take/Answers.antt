@@ -1,11 +1,13 @@
-use Rattle.std.proofs.Common.{◌≡◌, Some, sym, ◌∙◌, subst, arith}
+use Rattle.std.proofs.Common.{◌≡◌, Some, refl, sym, ◌∙◌, subst, arith}
 use Rattle.std.proofs.lemmas.Grind.{common_steps}
-use Rattle.dine_core.specs.Core.{SeenCore, StandsFor}
-use Rattle.dine_rules.specs.Steps.{with_taken}
+use Rattle.dine_core.specs.Core.{SeenCore}
+use Rattle.dine_rules.specs.Steps.{Take}
 use Rattle.dine_core.specs.SiteFields.{seen}
 use Rattle.dine_core.specs.Places.{place_at, no_place, breach_at, IsSoundPlace}
 use Rattle.dine_core.proofs.Sound.{sound_with_place, sound_noted}
-use Rattle.dine_core.proofs.Breaches.{breach_is, may_take, stands-took, none_from}
+use Rattle.dine_core.proofs.CoreSteps.{stepped}
+use Rattle.dine_core.proofs.Breaches.{breach_is, may_take, stands-took}
+use Rattle.dine_core.proofs.Options.{none_from}
 use Rattle.dine_core.proofs.site.SiteCore.take.Goals as goal
 
 pub returns-in-Some-clause-taken : goal.returns-in-Some-clause-taken
@@ -14,22 +16,21 @@ returns-in-Some-clause-taken c plan state keeps stands =
     let found : breach_at core.site core.ate (place_at core c.args.i) c.args.letter ≡ Some c.in-Some.breach = grind (arith, common_steps) in
     sym found ∙ breach_is plan state core stands keeps c.args.i c.requires c.args.letter
 
+pub returns-in-Some-clause-agrees : goal.returns-in-Some-clause-agrees
+returns-in-Some-clause-agrees c plan state keeps stands = breach_is plan state c.args.self.now stands keeps c.args.i c.requires c.args.letter
+
 pub invariant_of-self-2 : goal.invariant_of-self-2
 invariant_of-self-2 c =
     let kept = c.self.invariant in
     let old = seen c.self.inside in
     let is : c.index_mut-place.result.now ≡ place_at old c.args.i = grind (arith, common_steps) in
     let here : IsSoundPlace old c.index_mut-place.result.now = subst (IsSoundPlace old) (sym is) (kept.sound.places c.args.i no_place (grind (arith, common_steps))) in
-    let turn = sym c.breach_of.ensures ∙ none_from c.breach_of.result c.in_default.not-Some in
+    let turn = sym c.breach_of.ensures.breach ∙ none_from c.breach_of.result c.in_default.not-Some in
     record {
       sound = sound_with_place old c.args.i c.note.new.self kept.sound (subst (IsSoundPlace old) (sym c.note.ensures) (sound_noted old c.index_mut-place.result.now c.args.letter turn here));
-      few = kept.few;
       no_hands = kept.no_hands;
       room_for_hands = kept.room_for_hands;
-      no_forks = kept.no_forks;
-      room_for_forks = kept.room_for_forks;
-      no_tokens = kept.no_tokens;
-      room_for_tokens = kept.room_for_tokens;
+      room = kept.room;
     }
 
 pub returns-clause-core : goal.returns-clause-core
@@ -43,9 +44,15 @@ returns-clause-taken c plan state keeps stands =
     let core = c.args.self.now in
     may_take plan state core stands keeps c.args.i c.requires c.args.letter (sym (breach_is plan state core stands keeps c.args.i c.requires c.args.letter) ∙ returns-clause-breach c)
 
+pub returns-clause-agrees : goal.returns-clause-agrees
+returns-clause-agrees c plan state keeps stands = breach_is plan state c.args.self.now stands keeps c.args.i c.requires c.args.letter
+
+pub returns-clause-proper : goal.returns-clause-proper
+returns-clause-proper c = c.breach_of.ensures.proper (none_from c.breach_of.result c.in_default.not-Some) c.args.i
+
 pub returns-clause-step : goal.returns-clause-step
 returns-clause-step c plan state keeps stands =
     let core = c.args.self.now in
     let sound : IsSoundPlace core (place_at core c.args.i) = subst (λ (core : SeenCore). IsSoundPlace core (place_at core c.args.i)) c.self.view_is (c.self.invariant.sound.places c.args.i no_place (grind (arith, common_steps))) in
-    subst (λ (new : SeenCore). StandsFor plan (with_taken c.args.i c.args.letter state) new) (sym (returns-clause-core c))
+    stepped plan state core stands keeps (Take c.args.i c.args.letter) _ _ (returns-clause-core c) refl (returns-clause-proper c) (returns-clause-taken c plan state keeps stands)
     (stands-took plan state core stands keeps c.args.i c.requires sound c.args.letter (sym (breach_is plan state core stands keeps c.args.i c.requires c.args.letter) ∙ returns-clause-breach c))
