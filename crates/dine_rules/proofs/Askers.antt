@@ -70,15 +70,8 @@ module _ (plan : SeenPlan) (s : ℕ) where
 
 -- a step begins a meal or does not
 pub begin_or_not : (step : Step) → (step ≡ Begin) ⊎ ((step ≡ Begin → ⊥) × ((steps : List Step) → begins_in (step ∷ steps) ≡ begins_in steps))
-begin_or_not (Give j) = inr (λ h. cc, λ steps. refl)
-begin_or_not (Ask j) = inr (λ h. cc, λ steps. refl)
-begin_or_not Hungry = inr (λ h. cc, λ steps. refl)
 begin_or_not Begin = inl refl
-begin_or_not End = inr (λ h. cc, λ steps. refl)
-begin_or_not (Done j) = inr (λ h. cc, λ steps. refl)
-begin_or_not (Close j) = inr (λ h. cc, λ steps. refl)
-begin_or_not (Break j) = inr (λ h. cc, λ steps. refl)
-begin_or_not (Take j l) = inr (λ h. cc, λ steps. refl)
+begin_or_not step = inr (λ h. cc, λ steps. refl)
 
 module _ (plan : SeenPlan) (s i : ℕ) where
   -- the fork is held and asked for, and the last log taken has no meal that was not eaten

@@ -83,13 +83,7 @@ module _ (plan : SeenPlan) (world : WorldState) (s : ℕ) (step : Step) where
     step_stays (event.Take i) one h =
         let w = option_map_parts (Take i) (next_letter plan world t i) one h in
         ap (option_map (Take i)) (next_stays i w.0 w.1) ∙ ap (λ (x : Step). Some x) w.2
-    step_stays (event.Give i) one h = h
-    step_stays event.End one h = h
-    step_stays event.Begin one h = h
-    step_stays event.Hungry one h = h
-    step_stays (event.Ask i) one h = h
-    step_stays (event.Done i) one h = h
-    step_stays (event.Close i) one h = h
+    step_stays kind one h = h
 
 -- the world after an event is that after its step
 after_step : (plan : SeenPlan) (world : WorldState) (e : Event) (step : Step) → e.site < site_count plan
