@@ -11,6 +11,7 @@ pub mod Eating
 pub mod Ending
 pub mod Opened
 pub mod OpenedSites
+pub mod Shapes
 pub mod LinkNumbers
 pub mod LinkSteps
 pub mod MealFits

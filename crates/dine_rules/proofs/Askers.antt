@@ -12,11 +12,12 @@ use Rattle.dine_rules.specs.declared.letters.Letter.TheVariants as letter
 use Rattle.dine_rules.specs.Letters.{forks_in, requests_in, last_log_or}
 use Rattle.dine_rules.specs.Local.{LocalState, Traffic, no_traffic, traffic_at, start_of, edge_at}
 use Rattle.dine_rules.specs.Holdings.{forks_held, tokens_held, fork_at, token_at, hand_at, with_meals_to}
-use Rattle.dine_rules.specs.Steps.{Step, Give, Ask, Hungry, Begin, End, Done, Close, Break, Take, after, may, is_ready}
+use Rattle.dine_rules.specs.Steps.{Step, Give, Ask, Hungry, Begin, End, Done, Close, Break, Take, IsPlaceWithin, after, may, is_ready}
 use Rattle.dine_rules.specs.StepLists.{LeadTo, begins_in, is_give_at}
-use Rattle.dine_rules.proofs.Counting.{forks_in-append, requests_in-append, last_log_or-append}
+use Rattle.dine_rules.proofs.Counting.{none_is_not_one, forks_in-append, requests_in-append, last_log_or-append}
 use Rattle.dine_rules.proofs.Hands.{hand-more}
 use Rattle.dine_rules.proofs.Site.{no_traffic_yet}
+use Rattle.dine_rules.proofs.Shapes.{by_moves, may_within, moved, step_shape}
 use Rattle.dine_rules.proofs.SiteSteps.{list_all-range}
 
 -- ---- the meals in what was taken
@@ -39,14 +40,6 @@ module _ (plan : SeenPlan) (s : ℕ) where
   within_taken state j l no_log few = subst (λ (log : List Entry). meals_of s log ≤ state.ate) (sym (last_log_or-append [] (traffic_at state j).taken (l ∷ []) ∙ no_log (last_log_or [] (traffic_at state j).taken))) (few j)
 
   step_within : (state : LocalState) (step : Step) → IsWithin state → may plan s state step ≡ true → IsWithin (after plan s state step)
-  step_within state (Give j) few h = within_set state j _ few (ltb-true _ _ (and_parts _ _ h).0) (few j)
-  step_within state (Ask j) few h = within_set state j _ few (ltb-true _ _ (and_parts _ _ h).0) (few j)
-  step_within state Hungry few h = few
-  step_within state Begin few h = λ i. omega (arith, few i)
-  step_within state End few h = few
-  step_within state (Done j) few h = within_set state j _ few (ltb-true _ _ (and_parts _ _ h).0) (few j)
-  step_within state (Close j) few h = within_set state j _ few (ltb-true _ _ (and_parts _ _ h).0) (few j)
-  step_within state (Break j) few h = within_set state j _ few (ltb-true _ _ (and_parts _ _ h).0) (few j)
   step_within state (Take j (letter.Fork fork)) few h =
       let parts = and_parts _ _ h in
       let allowed = and_parts _ _ (and_parts _ _ parts.1).1 in
@@ -56,6 +49,12 @@ module _ (plan : SeenPlan) (s : ℕ) where
   step_within state (Take j (letter.Request edge)) few h = within_set state j _ few (ltb-true _ _ (and_parts _ _ h).0) (within_taken state j (letter.Request edge) (λ log. refl) few)
   step_within state (Take j letter.Done) few h = within_set state j _ few (ltb-true _ _ (and_parts _ _ h).0) (within_taken state j letter.Done (λ log. refl) few)
   step_within state (Take j letter.Close) few h = within_set state j _ few (ltb-true _ _ (and_parts _ _ h).0) (within_taken state j letter.Close (λ log. refl) few)
+  step_within state Hungry few h = few
+  step_within state Begin few h = λ i. omega (arith, few i)
+  step_within state End few h = few
+  step_within state step few h = by_moves plan s state IsWithin (step_shape step) (after plan s state step) (moved plan s state step)
+      (λ j l is. within_set state j _ few (subst (IsPlaceWithin (length state.traffic)) is (may_within plan s state step h)) (few j))
+      (λ j l is. absurd cc) (λ same is. absurd cc)
 
   -- steps in a row
   steps_within : (state new : LocalState) (steps : List Step) → IsWithin state → LeadTo plan s state steps new → IsWithin new
@@ -70,16 +69,9 @@ module _ (plan : SeenPlan) (s : ℕ) where
 -- ---- the asker
 
 -- a step begins a meal or does not
-begin_or_not : (step : Step) → (step ≡ Begin) ⊎ ((step ≡ Begin → ⊥) × ((steps : List Step) → begins_in (step ∷ steps) ≡ begins_in steps))
-begin_or_not (Give j) = inr (λ h. cc, λ steps. refl)
-begin_or_not (Ask j) = inr (λ h. cc, λ steps. refl)
-begin_or_not Hungry = inr (λ h. cc, λ steps. refl)
+pub begin_or_not : (step : Step) → (step ≡ Begin) ⊎ ((step ≡ Begin → ⊥) × ((steps : List Step) → begins_in (step ∷ steps) ≡ begins_in steps))
 begin_or_not Begin = inl refl
-begin_or_not End = inr (λ h. cc, λ steps. refl)
-begin_or_not (Done j) = inr (λ h. cc, λ steps. refl)
-begin_or_not (Close j) = inr (λ h. cc, λ steps. refl)
-begin_or_not (Break j) = inr (λ h. cc, λ steps. refl)
-begin_or_not (Take j l) = inr (λ h. cc, λ steps. refl)
+begin_or_not step = inr (λ h. cc, λ steps. refl)
 
 module _ (plan : SeenPlan) (s i : ℕ) where
   -- the fork is held and asked for, and the last log taken has no meal that was not eaten
@@ -192,11 +184,8 @@ module _ (plan : SeenPlan) (s i : ℕ) where
       let ready : is_ready plan s state i ≡ true = ap (is_ready plan s state) (sym (zero-add i)) ∙ list_all-range (is_ready plan s state) 0 (length state.traffic) i (and_parts _ _ h).1 asked.within in
       elim (or_cases (not (is_dirty (hand_at s state i))) (token_at plan s state i == 0) (and_parts (fork_at plan s state i == 1) (not (is_dirty (hand_at s state i)) || token_at plan s state i == 0) ready).1) [
         | inl clean ↦ true≢false (sym dirty ∙ not-true (is_dirty (hand_at s state i)) clean)
-        | inr none ↦ no_token (token_at plan s state i) asked.one_token (eqb-true (token_at plan s state i) 0 none)
+        | inr none ↦ none_is_not_one (token_at plan s state i) (eqb-true (token_at plan s state i) 0 none) asked.one_token
       ]
-    where
-      no_token : (n : ℕ) → n ≡ 1 → n ≡ 0 → ⊥
-      no_token n one none = omega arith
 
   begin_waits : (state : LocalState) → IsAsked state → IsAsked (after plan s state Begin)
   begin_waits state asked = record { within = asked.within; one_fork = asked.one_fork; one_token = asked.one_token; last_within = omega (arith, asked.last_within) }

@@ -1,5 +1,5 @@
 -- In a complete world no event is enabled.
-use Rattle.std.proofs.Common.{◌≡◌, ℕ, ◌+◌, ◌<◌, nat_lt, Bool, true, false, not, ◌&&◌, ◌==◌, List, [], ◌∷◌, ◌++◌, length, slice_get, Option, Some, None, refl, sym, ◌∙◌, ap, subst, arith}
+use Rattle.std.proofs.Common.{◌≡◌, ℕ, ◌<◌, nat_lt, true, not, ◌&&◌, ◌==◌, List, [], ◌∷◌, length, slice_get, Some, None, refl, sym, ◌∙◌, ap, arith}
 use Rattle.std.specs.List.{flat_map, range_with_len}
 use Rattle.std.proofs.lemmas.Bool.{and_parts, not-true, true≢false, ltb-true, or_right}
 use Rattle.std.proofs.lemmas.Option.{slice_get_past}
@@ -15,7 +15,6 @@ use Rattle.dine_rules.specs.Local.{LocalState, is_eating, is_thinking, traffic_a
 use Rattle.dine_rules.specs.Holdings.{fork_at, hand_at, token_at}
 use Rattle.dine_rules.specs.Steps.{Step, may}
 use Rattle.dine_rules.specs.Steps as step
-use Rattle.dine_rules.specs.Streams.{KeepsStreamsAt}
 use Rattle.dine_rules.specs.World.{IsComplete, Reaches, WorldState, enabled_events, events_at, is_enabled, next_letter, put_to, state_of, step_of, world_after}
 use Rattle.dine_rules.proofs.Counting.{has_close-append}
 use Rattle.dine_rules.proofs.Enabled.{passes_at}
@@ -23,7 +22,8 @@ use Rattle.dine_rules.proofs.Finishing.{get_cases, none_first}
 use Rattle.dine_rules.proofs.Keeping.{hungry_not_thinking}
 use Rattle.dine_rules.proofs.Listed.{IsPlaceOf, by_step, place_of_step}
 use Rattle.dine_rules.proofs.SiteSteps.{not_thinking_while_eating}
-use Rattle.dine_rules.proofs.WorldStreams.{event_is_step, option_map_parts, reached_kept, some_of}
+use Rattle.dine_rules.proofs.Options.{option_map_parts, some_of}
+use Rattle.dine_rules.proofs.WorldStreams.{event_is_step, reached_kept}
 
 module _ (plan : SeenPlan) (world : WorldState) (complete : IsComplete plan world) (s : ℕ) (is_site : s < site_count plan) where
   abbrev state : LocalState

@@ -11,7 +11,8 @@ use Rattle.dine_rules.proofs.EffectBounds.{events_bounded}
 use Rattle.dine_rules.proofs.Enabled.{passes_at, still}
 use Rattle.dine_rules.proofs.NextLetters.{in_order}
 use Rattle.dine_rules.proofs.Stuck.{still_is_complete}
-use Rattle.dine_rules.proofs.WorldStreams.{events_then, reached_kept, some_of}
+use Rattle.dine_rules.proofs.Options.{some_of}
+use Rattle.dine_rules.proofs.WorldStreams.{events_then, reached_kept}
 
 -- a world that events reach and in which no event is enabled is complete
 pub stuck_is_complete : (plan : SeenPlan) (events : List Event) (world : WorldState) → IsPlan plan → Reaches plan events world → enabled_events plan world ≡ [] → IsComplete plan world

@@ -101,7 +101,7 @@ found_log P false false false true a b c d in_low to_low in_high to_high somewhe
 found_log P false false false false a b c d in_low to_low in_high to_high somewhere = absurd (false≢true (somewhere refl refl refl))
 
 -- one fork that is neither held nor in the one link is in the other
-in_other_link : (a b c d t p u q : ℕ) → a + b + (c + d) ≡ 1 → (a ≡ 1 → ⊥) → (c ≡ 1 → ⊥) → p ≤ t → p ≡ t + b → q ≡ u + d → u < q
+pub in_other_link : (a b c d t p u q : ℕ) → a + b + (c + d) ≡ 1 → (a ≡ 1 → ⊥) → (c ≡ 1 → ⊥) → p ≤ t → p ≡ t + b → q ≡ u + d → u < q
 in_other_link a b c d t p u q one not_low not_high few count other = omega arith
 
 module _ (plan : SeenPlan) (is_plan : IsPlan plan) (world : WorldState) (kept : WorldKeeps plan world) (e : ℕ) (within : e < edge_count plan) where

@@ -7,12 +7,15 @@ pub mod Keeping
 pub mod Site
 pub mod SiteSteps
 pub mod BreachLaw
+pub mod FirstBreach
 pub mod PutBounds
 pub mod TakenBounds
 pub mod Across
 pub mod Offers
 pub mod Askers
 pub mod InHand
+pub mod Options
+pub mod Shapes
 pub mod WorldStreams
 pub mod Joined
 pub mod Links

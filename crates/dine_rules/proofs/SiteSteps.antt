@@ -36,11 +36,6 @@ not_thinking_while_eating phase.Thinking e h = false≢true e
 not_thinking_while_eating phase.Hungry e h = false≢true h
 not_thinking_while_eating phase.Eating e h = false≢true h
 
-not_hungry_while_thinking : (p : Phase) → is_thinking p ≡ true → is_hungry p ≡ true → ⊥
-not_hungry_while_thinking phase.Thinking e h = false≢true h
-not_hungry_while_thinking phase.Hungry e h = false≢true e
-not_hungry_while_thinking phase.Eating e h = false≢true h
-
 module _ (plan : SeenPlan) (s : ℕ) (state : LocalState) where
   -- each place has an edge of the site
   pub placed_at : IsPlan plan → KeepsStreams plan s state → (i : ℕ) → i < length state.traffic → IsPlaced plan s i

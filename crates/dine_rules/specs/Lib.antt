@@ -4,6 +4,7 @@ pub mod Holdings
 pub mod Breach
 pub mod Steps
 pub mod Streams
+pub mod BreachCauses
 pub mod StepLists
 pub mod World
 pub mod Links

@@ -1,6 +1,6 @@
 //! Laws over the definitions alone. Each function does nothing: its contract is the law.
 
-ghost use Rattle.std.specs.Prelude.{◌≡◌, ◌≢◌, ◌<◌, ◌≤◌, ◌+◌, ◌*◌, ◌↔◌, ℕ, List, [], ◌∷◌, ◌++◌, None, Some, false, length, slice_get, true};
+ghost use Rattle.std.specs.Prelude.{◌≡◌, ◌≢◌, ◌<◌, ◌≤◌, ◌+◌, ◌*◌, ◌↔◌, ℕ, List, [], ◌∷◌, ◌++◌, None, Option, Some, false, length, map, slice_get, true};
 ghost use Rattle.std.specs.List.{list_any};
 ghost use Rattle.dine_plan.specs.Plan.{IsPlan, SeenPlan, edge_count, hi_of, job_count, lo_of, site_count};
 ghost use Rattle.dine_token.specs.Fork.{SeenFork};
@@ -8,22 +8,27 @@ ghost use Rattle.dine_token.specs.Lawful.{IsLawful};
 ghost use Rattle.dine_token.specs.Log.{meals_of};
 ghost use Rattle.dine_token.specs.declared.entry.Entry.TheVariants.{Meal, Move};
 ghost use Rattle.dine_rules.specs.Bound.{bound_of, effects_of};
-ghost use Rattle.dine_rules.specs.Examples.{alone, enabled_at_start, ends_complete, next_after, outcome_of, pair, path};
-ghost use Rattle.dine_rules.specs.Breach.{first_breach, is_allowed};
+ghost use Rattle.dine_rules.specs.Examples.{alone, enabled_after, ends_complete, next_after, outcome_of, pair, path, preferred_after, preferred_at_end, row};
+ghost use Rattle.dine_rules.specs.Breach.{first_breach, is_allowed, number_of};
+ghost use Rattle.dine_rules.specs.BreachCauses.{Applies};
+ghost use Rattle.dine_rules.specs.declared.breach.Breach.{Breach};
+ghost use Rattle.dine_rules.specs.declared.breach.Breach.TheVariants.{AfterClose, ClosedEarly, DoneOutOfTurn, ForkOutOfTurn, RequestOutOfTurn, StrangeFork};
 ghost use Rattle.dine_rules.specs.Holdings.{fork_at, hand_at, token_at};
 ghost use Rattle.dine_rules.specs.Letters.{closes_in, dones_in, forks_in, requests_in};
 ghost use Rattle.dine_rules.specs.Links.{ForEachEdge, ForEachLink, forks_of_edge, queue_to, tokens_of_edge};
 ghost use Rattle.dine_rules.specs.Local.{LocalState, edge_at, is_eating, neighbour_at, start_of, traffic_at};
-ghost use Rattle.dine_rules.specs.Precedence.{IsAcyclic, fork_log};
+ghost use Rattle.dine_rules.specs.Precedence.{IsAcyclic, StandsBefore, fork_log};
 ghost use Rattle.dine_rules.specs.StepLists.{LeadTo, begins_in, is_give_at};
 ghost use Rattle.dine_rules.specs.Schedules.{after_choices, finish_within, from_here, replay, whole_run};
-ghost use Rattle.dine_rules.specs.Steps.{LocalStep, Step};
+ghost use Rattle.dine_rules.specs.Steps as step;
+ghost use Rattle.dine_rules.specs.Steps.{IsPlaceWithin, LocalStep, MovesBy, Step, after, may, shape_of, step_by};
 ghost use Rattle.dine_rules.specs.Streams.{IsProper, KeepsStreams};
-ghost use Rattle.dine_rules.specs.World.{LinksAreOrdered, IsComplete, Reaches, WorldState, enabled_events, is_enabled, next_letter, put_to, start, state_of, world_after};
+ghost use Rattle.dine_rules.specs.World.{LinksAreOrdered, IsComplete, Reaches, WorldState, enabled_events, is_enabled, kinds_at, next_letter, put_to, start, state_of, world_after};
 ghost use Rattle.dine_rules.specs.declared.events.Event.{Event};
+ghost use Rattle.dine_rules.specs.declared.events.EventKind.{EventKind};
 ghost use Rattle.dine_rules.specs.declared.letters.Letter.{Letter};
 ghost use Rattle.dine_rules.specs.declared.letters.Letter.TheVariants.{Fork};
-ghost use Rattle.dine_rules.specs.declared.events.EventKind.TheVariants.{Hungry};
+ghost use Rattle.dine_rules.specs.declared.events.EventKind.TheVariants.{Ask, Begin, Close, Done, End, Give, Hungry, Take};
 ghost use Rattle.dine_rules.specs.declared.letters.Kind4.TheVariants as kind;
 
 mod joined;
@@ -61,9 +66,40 @@ pub fn small_plans_have_these_bounds()
 /// schedule above the link to the higher site has a Fork and then a Request. At the end nothing is enabled, and each
 /// site ate all its meals.
 pub fn pair_goes_as_worked()
-    ensures start { enabled_at_start (pair 1 1) ≡ record { site = 0; kind = Hungry } ∷ record { site = 1; kind = Hungry } ∷ [] }
+    ensures start { enabled_after (pair 1 1) [] ≡ record { site = 0; kind = Hungry } ∷ record { site = 1; kind = Hungry } ∷ [] }
     ensures sixth { next_after (pair 1 1) (1 ∷ 1 ∷ 0 ∷ 0 ∷ 0 ∷ 0 ∷ []) 1 0 ≡ kind.Fork ∷ kind.Request ∷ [] }
     ensures end { ends_complete (pair 1 1) ≡ 1 ∷ 1 ∷ [] }
+{}
+
+/// The fixed order of events. First that of all events of a site with two places. Then the middle of three sites with one job each
+/// may take the fork that it asked for, and give the one that it was asked for; and with no jobs it may say Done at one place
+/// and Close at the other.
+pub fn events_are_ordered_as_worked()
+    ensures kinds { kinds_at (0 ∷ 1 ∷ []) ≡ Take 0 ∷ Take 1 ∷ Give 0 ∷ Give 1 ∷ End ∷ Begin ∷ Hungry ∷ Ask 0 ∷ Ask 1 ∷ Done 0 ∷ Done 1 ∷ Close 0 ∷ Close 1 ∷ [] }
+    ensures take_before_give { enabled_after path (2 ∷ 2 ∷ 1 ∷ 2 ∷ 2 ∷ 0 ∷ 0 ∷ [])
+        ≡ record { site = 0; kind = Hungry } ∷ record { site = 1; kind = Take 0 } ∷ record { site = 1; kind = Give 1 } ∷ [] }
+    ensures done_before_close { enabled_after (row 0 0 0) (0 ∷ 0 ∷ 0 ∷ [])
+        ≡ record { site = 0; kind = Take 0 } ∷ record { site = 1; kind = Done 1 } ∷ record { site = 1; kind = Close 0 } ∷ record { site = 2; kind = Done 0 } ∷ [] }
+{}
+
+/// The preferred end of a pair's edge: at the start the higher, which has no fork; so it is while the fork is clean on its way there,
+/// until the higher ate. At the end of a run it is the end that ate first, since the other has the fork dirty. And who stands
+/// before whom in a list.
+pub fn precedence_goes_as_worked()
+    ensures start { preferred_after (pair 1 1) [] ≡ 1 }
+    ensures on_its_way { preferred_after (pair 1 1) (1 ∷ 1 ∷ 0 ∷ 0 ∷ 0 ∷ 0 ∷ []) ≡ 1 }
+    ensures lower_ate_first { preferred_at_end (pair 1 1) [] ≡ 0 }
+    ensures higher_ate_first { preferred_at_end (pair 1 1) (1 ∷ 1 ∷ 0 ∷ 0 ∷ []) ≡ 1 }
+    ensures before { StandsBefore 2 0 (2 ∷ 1 ∷ 0 ∷ []) }
+    ensures not_behind { StandsBefore 0 2 (2 ∷ 1 ∷ 0 ∷ []) → ⊥ }
+{}
+
+/// The meals that begin in a list of steps, and which step is a Give at a place.
+pub fn steps_are_told_as_worked()
+    ensures begins { begins_in (step.Hungry ∷ step.Begin ∷ step.End ∷ step.Hungry ∷ step.Begin ∷ []) ≡ 2 }
+    ensures gives { is_give_at 1 (step.Give 1) ≡ true }
+    ensures gives_elsewhere { is_give_at 1 (step.Give 0) ≡ false }
+    ensures asks { is_give_at 1 (step.Ask 1) ≡ false }
 {}
 
 /// A site keeps its streams: at the start, and after each step that its state allows, whatever forks it is offered.
@@ -107,6 +143,31 @@ pub fn few_letters_are_taken()
 pub fn allowed_letters_meet_no_breach()
     ensures { (plan : SeenPlan) (s : ℕ) (state : LocalState) (i : ℕ) (letter : Letter)
         → (is_allowed plan s state i letter ≡ true) ↔ (first_breach plan s state i letter ≡ None) }
+{}
+
+/// The breach that is told of a letter is the first that applies, in the order of their numbers: it applies, and none with a
+/// lower number does. Where none is told, none applies.
+pub fn first_breach_is_first()
+    ensures applies { (plan : SeenPlan) (s : ℕ) (state : LocalState) (i : ℕ) (letter : Letter) (breach : Breach)
+        → first_breach plan s state i letter ≡ Some breach → Applies plan s state i breach letter }
+    ensures first { (plan : SeenPlan) (s : ℕ) (state : LocalState) (i : ℕ) (letter : Letter) (breach earlier : Breach)
+        → first_breach plan s state i letter ≡ Some breach → number_of earlier < number_of breach → Applies plan s state i earlier letter → ⊥ }
+    ensures none { (plan : SeenPlan) (s : ℕ) (state : LocalState) (i : ℕ) (letter : Letter) (breach : Breach)
+        → first_breach plan s state i letter ≡ None → Applies plan s state i breach letter → ⊥ }
+{}
+
+/// An event moves letters by its shape: it takes one at its place, puts one there, or moves none. The place of an event that a
+/// site may do is one of the site's.
+pub fn events_move_letters_by_their_shape()
+    ensures moves { (plan : SeenPlan) (s : ℕ) (state : LocalState) (next : ℕ → Option Letter) (kind : EventKind) (step : Step)
+        → step_by next kind ≡ Some step → MovesBy (shape_of kind) state (after plan s state step) }
+    ensures place { (plan : SeenPlan) (s : ℕ) (state : LocalState) (next : ℕ → Option Letter) (kind : EventKind) (step : Step)
+        → step_by next kind ≡ Some step → may plan s state step ≡ true → IsPlaceWithin (length state.traffic) (shape_of kind) }
+{}
+
+/// The numbers of the breaches.
+pub fn breaches_are_numbered()
+    ensures { map number_of (AfterClose ∷ RequestOutOfTurn ∷ ForkOutOfTurn ∷ StrangeFork ∷ DoneOutOfTurn ∷ ClosedEarly ∷ []) ≡ 1 ∷ 2 ∷ 3 ∷ 4 ∷ 5 ∷ 6 ∷ [] }
 {}
 
 /// Precedence to the asker: in each state that steps lead to from the start, whatever letters came, a site that holds the

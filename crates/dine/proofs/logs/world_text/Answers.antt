@@ -9,4 +9,4 @@ returns c state stands =
     let value = ap (λ v. v.items) c.into_bytes.ensures.value in
     value ∙ c.in_ok-push_events_line.ensures
     ∙ ap (λ (l : List ℕ). l ++ events_line c.args.events c.bound.result) (c.in_ok-push_lines.ensures state stands ∙ ap (λ (l : List ℕ). l ++ lines) c.new-text.ensures.bytes)
-    ∙ ap (λ (n : ℕ). lines ++ events_line c.args.events n) (c.bound.ensures plan state stands)
+    ∙ ap (λ (n : ℕ). lines ++ events_line c.args.events n) (c.bound.ensures.bound plan state stands)

@@ -6,8 +6,8 @@ use Rattle.std.proofs.lemmas.Grind.{common_steps}
 use Rattle.dine_token.specs.Fork.{MayEat, eaten}
 use Rattle.dine_core.specs.declared.site.places.Place.{Place}
 use Rattle.dine_core.specs.SiteFields.{seen}
-use Rattle.dine_core.specs.Core.{SeenCore, StandsFor}
-use Rattle.dine_rules.specs.Steps.{after, Begin}
+use Rattle.dine_core.specs.Core.{SeenCore}
+use Rattle.dine_rules.specs.Steps.{Begin}
 use Rattle.dine_core.specs.Places.{can_begin, forks_of, lifted, begun, IsMealOf, IsSound}
 use Rattle.dine_core.proofs.CoreSteps.{stepped}
 use Rattle.dine_core.proofs.SiteTests.{may_begin}

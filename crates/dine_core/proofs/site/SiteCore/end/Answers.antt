@@ -3,8 +3,8 @@ use Rattle.std.proofs.lemmas.Grind.{common_steps}
 use Rattle.dine_core.specs.declared.site.places.Place.{Place}
 use Rattle.dine_rules.specs.Local.{is_eating}
 use Rattle.dine_core.specs.SiteFields.{seen}
-use Rattle.dine_core.specs.Core.{SeenCore, StandsFor}
-use Rattle.dine_rules.specs.Steps.{after, End}
+use Rattle.dine_core.specs.Core.{SeenCore}
+use Rattle.dine_rules.specs.Steps.{End}
 use Rattle.dine_core.specs.Places.{laid_down, ended, IsMealOf, IsSound}
 use Rattle.dine_core.proofs.CoreSteps.{stepped}
 use Rattle.dine_core.proofs.SiteTests.{may_end}

@@ -1,6 +1,6 @@
 use Rattle.std.proofs.Common.{◌≡◌, Some, refl, sym, ◌∙◌, subst, arith}
 use Rattle.std.proofs.lemmas.Grind.{common_steps}
-use Rattle.dine_core.specs.Core.{SeenCore, StandsFor}
+use Rattle.dine_core.specs.Core.{SeenCore}
 use Rattle.dine_rules.specs.Steps.{Take}
 use Rattle.dine_core.specs.SiteFields.{seen}
 use Rattle.dine_core.specs.Places.{place_at, no_place, breach_at, IsSoundPlace}
