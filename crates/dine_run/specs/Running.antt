@@ -119,7 +119,7 @@ module _ {Lane Tx Closed Rx Identity Diner : Type 0} (live : Tx → SeenEnd Iden
 module _ {Lane Tx Closed Rx Diner : Type 0} where
   -- The bell is that of the places, there is room for the calls of all meals to come, and no more meals failed than were begun.
   pub record IsReady (room_left : Diner → ℕ) (run : Running Lane Diner Tx Closed Rx) : Type 0 where
-    pub bell : run.bell ≡ vec_len run.ports
+    pub bell : run.bell.degree ≡ vec_len run.ports
     pub room : run.core.due ≤ run.core.ate + room_left run.diner
     pub failed : run.failed ≤ run.core.ate
 
@@ -134,5 +134,5 @@ module _ {Lane Tx Closed Rx Diner : Type 0} where
     pub ate : new.core.ate ≡ old.core.ate
     pub diner : new.diner ≡ old.diner
     pub failed : new.failed ≡ old.failed
-    pub bell : new.bell ≡ old.bell
+    pub bell : new.bell.degree ≡ old.bell.degree
     pub count : vec_len new.ports ≡ vec_len old.ports

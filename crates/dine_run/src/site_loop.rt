@@ -34,7 +34,7 @@ pub fn run_site<R: Wait, L: Lane, D: Diner>(
     requires fresh { IsFresh core }
     requires ports { vec_len ports ≡ length core.places }
     requires unused { All IsFreshPort (seen_ports L.seen_tx L.seen_closed L.seen_rx ports.items) }
-    requires bell { bell ≡ length core.places }
+    requires bell { bell.degree ≡ length core.places }
     requires room { core.due ≤ D.room_left diner }
     ensures end { (plan : SeenPlan) → IsFreshFor plan core → IsSiteEnd plan core.site (seen_ports L.seen_tx L.seen_closed L.seen_rx ports.items) (record {
       site = result.site;

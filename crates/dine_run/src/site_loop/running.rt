@@ -197,7 +197,7 @@ impl<L: Lane, D: Diner> Running<L, D> {
     // Waits for the bell, and takes a letter at the place that rang.
     fn hear<R: Wait>(&mut self, rt: &R) -> Result<(), Stop>
         requires running { ForSome IsRunning (seen_run L.seen_tx L.seen_closed L.seen_rx self.old) }
-        requires bell { self.old.bell ≡ vec_len self.old.ports }
+        requires bell { self.old.bell.degree ≡ vec_len self.old.ports }
         ensures way { Leads IsRunning (GoesOn result) (seen_run L.seen_tx L.seen_closed L.seen_rx self.old) (seen_run L.seen_tx L.seen_closed L.seen_rx self.new) }
         ensures same { SameMeals self.old self.new }
     {
