@@ -1,7 +1,7 @@
 -- Texts of entries, one after another.
 use Rattle.std.proofs.Common.{◌≡◌, ℕ, zero, suc, ◌+◌, List, [], ◌∷◌, ◌++◌, drop, codes, Some, slice_get, sym, ◌∙◌, ap, append_assoc, add-one}
 use Rattle.dine_token.specs.declared.entry.Entry.{Entry}
-use Rattle.dine.specs.Text.{entry_text, entries_text}
+use Rattle.dine.specs.Logs.{entry_text, entries_text}
 
 -- the entry at a place comes before the rest
 pub drop-at : {X : Type 0} (xs : List X) (i : ℕ) (x : X) → slice_get xs i ≡ Some x → drop i xs ≡ x ∷ drop (i + 1) xs

@@ -1,6 +1,6 @@
 pub mod ChoicesLemmas
+pub mod EdgeLines
 pub mod EntryTexts
 pub mod InputLemmas
 pub mod OutputLemmas
 pub mod WordsLemmas
-pub mod WorldTexts

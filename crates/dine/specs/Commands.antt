@@ -3,12 +3,13 @@ use Rattle.std.specs.Prelude.{◌≡◌, ◌≢◌, ◌<◌, List, ℕ, Option, 
 use Rattle.std.specs.Io.KnownBytes.{Appends, Keeps}
 use Rattle.dine_plan.specs.Plan.{SeenPlan}
 use Rattle.dine_plan.specs.declared.faults.PlanFault.{PlanFault}
-use Rattle.dine.specs.declared.status.Fault.{Fault}
-use Rattle.dine.specs.declared.status.Fault.TheVariants as fault
+use Rattle.dine.specs.declared.faults.Fault.{Fault}
+use Rattle.dine.specs.declared.faults.Fault.TheVariants as fault
 use Rattle.dine.specs.declared.status.Status.{Status}
 use Rattle.dine.specs.Input.{input_limit}
 use Rattle.dine.specs.Faults.{TellsLine, line_of, status_of}
-use Rattle.dine.specs.Check.{IsPlanBytes, check_text, fault_of_bytes}
+use Rattle.dine.specs.Check.{check_text}
+use Rattle.dine.specs.PlanBytes.{IsPlanBytes, fault_of_bytes}
 use Rattle.dine.specs.Replay.{replay_text}
 use Rattle.dine.specs.Words.{Asked, Replays, Checks}
 
@@ -47,12 +48,18 @@ IsRefused bytes = (cause : PlanFault) × (fault_of_bytes bytes ≡ Some cause)
 abbrev pub IsPlanLeft : Option (List ℕ) → Type 0
 IsPlanLeft left = (bytes : List ℕ) × (left ≡ Some bytes) × (fault_of_bytes bytes ≡ None)
 
--- How a fault ended the program: its cause has the status, its line was written as far as it could be, and the output
--- holds what it held, but where writing failed. Input was too long only where it has more bytes than the limit.
+-- where the input is told to be no plan, the cause is the one for which its bytes are refused
+abbrev pub TellsCause : Fault → Option (List ℕ) → Type 0
+TellsCause told left = (cause : PlanFault) → told ≡ fault.NoPlan cause → IfSome left (λ bytes. fault_of_bytes bytes ≡ Some cause)
+
+-- How a fault ended the program: its cause has the status, and what was written of its line is a beginning of it. The output
+-- holds what it held, but where writing failed. A refused plan is told with its own cause, and input was too long only where
+-- it has more bytes than the limit.
 pub record EndsByFault (command : Option Asked) (ended : Status) (left before after told_before told_after : Option (List ℕ)) : Type 0 where
   pub cause : Fault
   pub ends_so : status_of cause ≡ ended
   pub told : TellsLine (line_of cause) told_before told_after
   pub unwritten : cause ≢ fault.WritingFailed → Keeps before after
   pub part_written : cause ≡ fault.WritingFailed → IsPartDone command left before after
+  pub cause_told : TellsCause cause left
   pub too_long : cause ≡ fault.InputTooLong → IfSome left (λ bytes. input_limit < length bytes)

@@ -1,10 +1,12 @@
 -- What ends a command before its end.
 use Rattle.std.specs.Prelude.{ℕ, List, [], ◌∷◌, ◌++◌, Option, Some, None, IfSome, codes}
+use Rattle.std.specs.declared.io.ErrorKind.{ErrorKind}
+use Rattle.std.specs.declared.io.ErrorKind.TheVariants as kind
 use Rattle.dine_plan.specs.declared.faults.PlanFault.{PlanFault}
 use Rattle.dine_plan.specs.declared.faults.PlanFault.TheVariants as text
 use Rattle.dine.specs.Output.{WritesPrefix}
-use Rattle.dine.specs.declared.status.Fault.{Fault}
-use Rattle.dine.specs.declared.status.Fault.TheVariants as fault
+use Rattle.dine.specs.declared.faults.Fault.{Fault}
+use Rattle.dine.specs.declared.faults.Fault.TheVariants as fault
 use Rattle.dine.specs.declared.status.Status.{Status}
 use Rattle.dine.specs.declared.status.Status.TheVariants as status
 use Rattle.dine.specs.declared.words.WordsFault.{WordsFault}
@@ -31,6 +33,11 @@ fault_of_input input.Failed = fault.ReadingFailed
 fault_of_input input.TooLong = fault.InputTooLong
 fault_of_input input.Memory = fault.OutOfMemory
 
+-- the fault that an error is with which `env::args` answers no words; want of memory is told apart from every other kind
+abbrev pub fault_of_arguments : ErrorKind → Fault
+fault_of_arguments kind.OutOfMemory = fault.OutOfMemory
+fault_of_arguments _ = fault.Usage
+
 -- want of memory is told apart from every other cause to refuse a text
 abbrev pub fault_of_text : PlanFault → Fault
 fault_of_text text.Memory = fault.OutOfMemory
@@ -45,6 +52,10 @@ line_of fault.ReadingFailed = Some (codes "dine: reading failed")
 line_of fault.InputTooLong = Some (codes "dine: input too long")
 line_of fault.WritingFailed = Some (codes "dine: writing failed")
 
--- the line was written, as far as it could be
+-- a line with its line feed
+abbrev pub whole_line : List ℕ → List ℕ
+whole_line line = line ++ 10 ∷ []
+
+-- what was written is a beginning of the line, and it may be none of it: how much a writer takes is not known
 abbrev pub TellsLine : Option (List ℕ) → Option (List ℕ) → Option (List ℕ) → Type 0
-TellsLine line before after = IfSome line (λ text. WritesPrefix before after (text ++ 10 ∷ []))
+TellsLine line before after = IfSome line (λ text. WritesPrefix before after (whole_line text))

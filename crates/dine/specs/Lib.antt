@@ -3,8 +3,9 @@ pub mod Choices
 pub mod Commands
 pub mod Faults
 pub mod Input
+pub mod Logs
 pub mod Output
+pub mod PlanBytes
 pub mod Replay
 pub mod Status
-pub mod Text
 pub mod Words

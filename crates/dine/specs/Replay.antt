@@ -2,7 +2,7 @@
 use Rattle.std.specs.Prelude.{ℕ, List}
 use Rattle.dine_plan.specs.Plan.{SeenPlan}
 use Rattle.dine_core.specs.Schedules.{whole_run}
-use Rattle.dine.specs.Text.{world_text}
+use Rattle.dine.specs.Logs.{world_text}
 
 -- the text of the world in which the choices were done one after the other, and then the first enabled event again and
 -- again, until none was enabled

@@ -1,23 +1,9 @@
-//! The command `check`.
-ghost use Rattle.std.specs.Prelude.{◌≡◌, ◌≢◌, ◌++◌, IfErr, IfOk, None, OnErr, OnOk, Some, string_bytes};
-ghost use Rattle.dine.specs.Check.{IsPlanBytes, check_text, fault_of_bytes, job_total, sizes_line};
+//! The text of the command `check`.
+ghost use Rattle.std.specs.Prelude.{◌≡◌, ◌++◌, IfOk, OnOk, string_bytes};
+ghost use Rattle.dine.specs.Check.{check_text, job_total, sizes_line};
 
-use dine_plan::{Plan, PlanFault, read_plan};
+use dine_plan::Plan;
 use std::alloc::{AllocError, Global};
-
-/// The plan that the bytes are the text of. Bytes that are no text are refused as no TOML.
-pub fn plan_of_bytes(alloc: Global, bytes: &[u8]) -> Result<Plan, PlanFault>
-    ensures plan { IfOk result (IsPlanBytes bytes.now) }
-    ensures refused { IfErr result (λ fault. fault ≢ PlanFault.Memory → fault_of_bytes bytes.now ≡ Some fault) }
-{
-    match std::str::from_utf8(bytes) {
-        Ok(text) => match read_plan(alloc, text) {
-            Ok(plan) => Ok(plan),
-            Err(fault) => Err(fault),
-        },
-        Err(_) => Err(PlanFault::NotToml),
-    }
-}
 
 /// How large the plan is, in words.
 pub fn check_text(alloc: Global, plan: &Plan) -> Result<String, AllocError>

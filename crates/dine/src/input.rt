@@ -5,7 +5,6 @@ ghost use Rattle.dine.specs.Input.{TakesAtMost, input_limit};
 
 use std::alloc::Global;
 use std::io::{ErrorKind, Read};
-use thiserror::Error;
 
 #[cfg(test)]
 mod tests;
@@ -17,16 +16,13 @@ pub const INPUT_LIMIT: usize = 8_388_608;
 const CHUNK: usize = 4096;
 
 /// Why an input was not read to its end.
-#[derive(Clone, Copy, Debug, PartialEq, Eq, Error)]
+#[derive(Clone, Copy, Debug, PartialEq, Eq)]
 pub enum InputFault {
     /// A read failed, or was interrupted again and again.
-    #[error("reading failed")]
     Failed,
     /// More than `INPUT_LIMIT` bytes came.
-    #[error("input too long")]
     TooLong,
     /// The buffer could not grow.
-    #[error("out of memory")]
     Memory,
 }
 

@@ -1,10 +1,9 @@
-//! The output, written whole, and the lines that tell of faults.
+//! A text or a line, written whole.
 ghost use Rattle.std.specs.Prelude.{◌∷◌, ◌++◌, [], OnOk};
 ghost use Rattle.std.specs.Io.KnownBytes.{Appends};
 ghost use Rattle.dine.specs.Output.{WritesPrefix};
 
 use std::io::{ErrorKind, Write};
-use thiserror::Error;
 
 #[cfg(test)]
 mod tests;
@@ -12,8 +11,7 @@ mod tests;
 const LINE_FEED: u8 = b'\n';
 
 /// A text could not be written whole: a write or the flush failed, or a write took no byte.
-#[derive(Clone, Copy, Debug, PartialEq, Eq, Error)]
-#[error("writing failed")]
+#[derive(Clone, Copy, Debug, PartialEq, Eq)]
 pub struct WriteFault;
 
 /// Writes the whole `text` and flushes.
@@ -27,13 +25,15 @@ pub fn write_out<W: Write>(output: &mut W, text: &[u8]) -> Result<(), WriteFault
     output.flush().map_err(|_| WriteFault)
 }
 
-/// Tries to write `line` and a line feed to `faults`. That this fails is told to nobody.
-pub fn print_fault<F: Write>(faults: &mut F, line: &str)
-    ensures { WritesPrefix (F.contents faults.old) (F.contents faults.new) (line.now ++ LINE_FEED ∷ []) }
+/// Writes the whole `line` and a line feed, and flushes.
+///
+/// Whatever happens, what goes out is a prefix of these.
+pub fn write_line<W: Write>(output: &mut W, line: &str) -> Result<(), WriteFault>
+    ensures whole { OnOk result (Appends (W.contents output.old) (W.contents output.new) (line.now ++ LINE_FEED ∷ [])) }
+    ensures prefix { WritesPrefix (W.contents output.old) (W.contents output.new) (line.now ++ LINE_FEED ∷ []) }
 {
-    if write_whole(faults, line.as_bytes()).is_ok() {
-        let _ = write_out(faults, &[LINE_FEED]);
-    }
+    write_whole(output, line.as_bytes())?;
+    write_out(output, &[LINE_FEED])
 }
 
 // Writes the whole `text`, piece by piece.

@@ -2,7 +2,7 @@
 ghost use Rattle.std.specs.Prelude.{◌≡◌, IfOk};
 ghost use Rattle.dine.specs.Replay.{replay_text};
 
-use crate::text::world_text;
+use crate::logs::world_text;
 use dine_core::{World, laws};
 use dine_plan::Plan;
 use std::alloc::{AllocError, Global};

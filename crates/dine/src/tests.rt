@@ -2,12 +2,11 @@
 //!
 //! A run that ends well has taken memory in each call that may: for the words, the input, the plan, the world and the
 //! text. So the runs of the first two tests are also these calls with memory left.
-use crate::run_cmd::run_cmd;
-use crate::status::Status;
+use crate::{Status, exit_of, run_cmd};
 use std::alloc::{AllocError, Global};
 use std::io;
 use std::io::{Read, Write};
-use std::process::Abort;
+use std::process::{Abort, ExitCode};
 use std::sync::Wait;
 use std::test::Fail;
 use std::thread::Threads;
@@ -30,6 +29,9 @@ const PAIR_TEXT: &str = "edge 0 a b: a#1, to b, b#1\nevents 18 of 22\n";
 
 // 32 letters.
 const LONG: &str = "abcdefghijklmnopqrstuvwxyzABCDEF";
+
+// 32 times the same letter.
+const SAME: &str = "xxxxxxxxxxxxxxxxxxxxxxxxxxxxxxxx";
 
 // Gives its bytes, and fails at the read `bad_read`.
 #[derive(Drop)]
@@ -246,6 +248,7 @@ fn refused_words_leave_the_input_unread(rt: HostRuntime) -> Result<(), Fail> {
         "dine --help",
         "dine eat",
         "dine run",
+        "dine run --table cups",
         "dine replay replay",
         "dine replay --choices",
         "dine replay --choices 1,x",
@@ -434,13 +437,14 @@ fn each_status_has_its_number(rt: HostRuntime) {
     ];
     for (status, number) in numbers {
         assert_eq!(rt; status.number(), number);
+        assert!(rt; exit_of(status) == ExitCode::from(number));
     }
 }
 
 #[test]
 fn check_tells_the_size_or_the_cause(rt: HostRuntime) -> Result<(), Fail> {
-    let long = format!(in rt.alloc(); "version = 1\nsite = [{{ name = \"{LONG}\" }}]")?;
-    let longer = format!(in rt.alloc(); "version = 1\nsite = [{{ name = \"{LONG}x\" }}]")?;
+    let long = format!(in rt.alloc(); "version = 1\nsite = [{{ name = \"{SAME}\" }}]")?;
+    let longer = format!(in rt.alloc(); "version = 1\nsite = [{{ name = \"{SAME}x\" }}]")?;
     let cases = [
         (PAIR, 0, "ok: 2 sites, 1 edges, 2 jobs\n", ""),
         (long.as_str(), 0, "ok: 1 sites, 0 edges, 0 jobs\n", ""),
@@ -454,10 +458,22 @@ fn check_tells_the_size_or_the_cause(rt: HostRuntime) -> Result<(), Fail> {
         ("version = 1", 3, "", "dine: plan refused: 8 NoSite\n"),
         ("version =", 3, "", "dine: plan refused: 1 NotToml\n"),
         (
+            "version = 1\nsite = [{ name = \"a\" }, { name = \"a\" }]",
+            3,
+            "",
+            "dine: plan refused: 7 SiteTwice at site 1\n",
+        ),
+        (
             "version = 1\nsite = [{ name = \"a\" }]\nedge = [{ ends = [\"a\", \"a\"] }]",
             3,
             "",
             "dine: plan refused: 13 Loop at edge 0\n",
+        ),
+        (
+            "version = 1\nsite = [{ name = \"a\" }, { name = \"b\" }]\nedge = [{ ends = [\"a\", \"b\"] }, { ends = [\"b\", \"a\"] }]",
+            3,
+            "",
+            "dine: plan refused: 14 EdgeTwice at edge 1\n",
         ),
     ];
     for (text, number, output, faults) in cases {
@@ -473,4 +489,38 @@ fn check_tells_the_size_or_the_cause(rt: HostRuntime) -> Result<(), Fail> {
         "",
         "dine: plan refused: 1 NotToml\n",
     )
+}
+
+// The text of a plan of so many sites without jobs, s0, s1 and so on, and so many edges: the first of all pairs of sites.
+fn pairs_text(alloc: Global, sites: u32, edges: u32) -> Result<String, AllocError> {
+    let mut text = String::from_str(alloc, "version = 1\n")?;
+    for site in 0..sites {
+        write!(&mut text, "[[site]]\nname = \"s{site}\"\n")?;
+    }
+    let mut left = edges;
+    for one in 0..sites {
+        for other in one + 1..sites {
+            if left > 0 {
+                write!(&mut text, "[[edge]]\nends = [\"s{one}\", \"s{other}\"]\n")?;
+                left -= 1;
+            }
+        }
+    }
+    Ok(text)
+}
+
+#[test]
+fn a_plan_is_taken_up_to_the_limits_and_refused_past_them(rt: HostRuntime) -> Result<(), Fail> {
+    let cases = [
+        (64, 0, 0, "ok: 64 sites, 0 edges, 0 jobs\n", ""),
+        (65, 0, 3, "", "dine: plan refused: 9 TooManySites\n"),
+        (33, 512, 0, "ok: 33 sites, 512 edges, 0 jobs\n", ""),
+        (33, 528, 3, "", "dine: plan refused: 15 TooManyEdges\n"),
+    ];
+    for (sites, edges, number, output, faults) in cases {
+        let text = pairs_text(rt.alloc(), sites, edges)?;
+        let mut input = text.as_bytes();
+        leaves(&rt, "dine check", &mut input, number, output, faults)?;
+    }
+    Ok(())
 }

@@ -6,7 +6,6 @@ ghost use Rattle.dine.specs.declared.words.WordsFault.TheVariants.{Memory};
 
 use crate::choices::choices_of;
 use std::alloc::{AllocError, Global};
-use thiserror::Error;
 
 #[cfg(test)]
 mod tests;
@@ -27,13 +26,11 @@ pub enum Command {
 }
 
 /// Why the words name no command.
-#[derive(Clone, Copy, Debug, PartialEq, Eq, Error)]
+#[derive(Clone, Copy, Debug, PartialEq, Eq)]
 pub enum WordsFault {
     /// `clap` refuses the words, or LIST is no list of choices. A question for help or the version is refused too.
-    #[error("usage: dine [run [--table edges|sites] | replay [--choices LIST] | check]")]
     Usage,
     /// There was no memory to read them.
-    #[error("out of memory")]
     Memory,
 }
 

@@ -1,6 +1,6 @@
 -- The breach that is read off a place is the first by the whole lists, and a letter without one is allowed.
-use Rattle.std.proofs.Common.{◌≡◌, ℕ, zero, suc, ◌+◌, ◌<◌, ◌≤◌, ◌==◌, nat_le, nat_lt, Bool, true, false, not, ◌&&◌, ◌||◌, List, length, Option, Some, None, ◌⊎◌, ap₂, refl, sym, ◌∙◌, ap, subst, inl, inr, arith, if◌then◌else◌}
-use Rattle.std.proofs.lemmas.Bool.{eqb-true, and_from, and_parts}
+use Rattle.std.proofs.Common.{◌≡◌, ℕ, zero, suc, ◌+◌, ◌<◌, ◌≤◌, ◌==◌, nat_le, nat_lt, Bool, true, false, not, ◌&&◌, ◌||◌, List, length, Option, Some, None, ◌⊎◌, refl, sym, ◌∙◌, ap, subst, inl, inr, arith, if◌then◌else◌}
+use Rattle.std.proofs.lemmas.Bool.{eqb-true, and_from}
 use Rattle.std.proofs.lemmas.Bool.Decides.{nat_tests}
 use Rattle.dine_token.specs.declared.entry.Entry.{Entry}
 use Rattle.dine_token.specs.Fork.{SeenFork}
@@ -19,7 +19,7 @@ use Rattle.dine_rules.specs.Letters.{requests_in, has_done, has_close}
 use Rattle.dine_rules.specs.Local.{LocalState, traffic_at, edge_at, neighbour_at, is_eating}
 use Rattle.dine_rules.specs.Holdings.{fork_at, token_at, hand_at}
 use Rattle.dine_rules.specs.Breach.{is_fork_of, was_sent_to, first_breach, is_allowed}
-use Rattle.dine_rules.specs.Steps.{fork_with, with_taken, may, Take}
+use Rattle.dine_rules.specs.Steps.{with_taken, may, Take}
 use Rattle.dine_rules.specs.Streams.{KeepsStreams}
 use Rattle.dine_core.specs.Core.{SeenCore, StandsFor}
 use Rattle.dine_core.specs.Places.{place_at, breach_at, took, is_held, IsSoundPlace}
@@ -217,7 +217,3 @@ module _ (plan : SeenPlan) (state : LocalState) (core : SeenCore) (stands : Stan
       ∙ kept-take_done plan core.site state.phase state.ate (edge_at plan core.site i) (traffic_at state i))
   stands-took sound Close h = stands_at plan state core stands i within _ _ (ap (λ (p : Place). record p { close_taken = true }) (place_is plan state core stands i within)
       ∙ kept-take_close plan core.site state.phase state.ate (edge_at plan core.site i) (traffic_at state i))
-
-pub none_from : (o : Option Breach) → ((x : Breach) → o ≡ Some x → ⊥) → o ≡ None
-none_from None h = refl
-none_from (Some x) h = absurd (h x refl)

@@ -1,36 +1,25 @@
 -- An event can happen exactly where it is enabled. That a Take needs no test of its letter is the law of next letters.
-use Rattle.std.proofs.Common.{◌≡◌, ℕ, zero, suc, ◌<◌, ◌≤◌, ◌==◌, nat_lt, Bool, true, false, not, ◌&&◌, List, [], ◌∷◌, length, drop, get_or, slice_get, slice_set, option_map, option_and_then, Option, Some, None, is_some, refl, sym, ◌∙◌, ap, ap₂, subst, inl, inr, arith, if◌then◌else◌}
+use Rattle.std.proofs.Common.{◌≡◌, ℕ, zero, suc, ◌<◌, ◌≤◌, nat_lt, Bool, true, false, List, [], ◌∷◌, length, drop, get_or, slice_get, slice_set, option_map, option_and_then, Option, Some, None, is_some, refl, sym, ◌∙◌, ap, subst, inl, inr, arith, if◌then◌else◌}
 use Rattle.std.proofs.lemmas.Bool.{cases_lt, cond-false, cond-true, le-ltb, lt-ltb, ltb-true}
 use Rattle.std.proofs.lemmas.Option.{slice_get_cases, slice_get_past}
-use Rattle.dine_token.specs.Fork.{SeenFork}
-use Rattle.dine_token.specs.Log.{is_dirty, meals_of}
-use Rattle.dine_plan.specs.Plan.{SeenPlan, edges_of, job_count, site_count}
-use Rattle.dine_rules.specs.declared.breach.Breach.{Breach}
+use Rattle.dine_plan.specs.Plan.{SeenPlan, edges_of, site_count}
 use Rattle.dine_rules.specs.declared.events.Event.{Event}
 use Rattle.dine_rules.specs.declared.events.EventKind.{EventKind}
 use Rattle.dine_rules.specs.declared.events.EventKind.TheVariants as event
 use Rattle.dine_rules.specs.declared.letters.Letter.{Letter}
-use Rattle.dine_rules.specs.declared.phase.Phase.{Phase}
-use Rattle.dine_rules.specs.declared.phase.Phase.TheVariants.{Thinking, Hungry, Eating}
-use Rattle.dine_core.specs.declared.site.places.ForkSlot.TheVariants.{Away, Here, InMeal}
 use Rattle.dine_core.specs.declared.site.places.Place.{Place}
 use Rattle.dine_core.specs.declared.world.sites.WorldSite.{WorldSite}
-use Rattle.dine_rules.specs.Letters.{has_close, has_done}
-use Rattle.dine_rules.specs.Local.{LocalState, edge_at, is_eating, is_hungry, is_thinking, neighbour_at, traffic_at}
-use Rattle.dine_rules.specs.Holdings.{fork_at, hand_at, token_at}
-use Rattle.dine_rules.specs.Breach.{first_breach, is_allowed}
-use Rattle.dine_rules.specs.Steps.{Step, Take, after, fork_with, is_open, may}
+use Rattle.dine_rules.specs.Local.{LocalState, is_eating, traffic_at}
+use Rattle.dine_rules.specs.Breach.{is_allowed}
+use Rattle.dine_rules.specs.Steps.{Step, after, may}
 use Rattle.dine_rules.specs.Streams.{KeepsStreams}
 use Rattle.dine_core.specs.Core.{SeenCore, StandsFor}
 use Rattle.dine_core.specs.LinkNumbers.{link_to}
-use Rattle.dine_core.specs.Places.{breach_at, can_ask, can_close, can_say_done, can_give, can_give_at, can_hunger, is_dirty_in_hand, is_held, place_at}
 use Rattle.dine_core.specs.WorldSites.{IsSiteOf, can_do, letters_in, next_in}
 use Rattle.dine_rules.specs.World.{WorldState, is_enabled, local_after, next_letter, put_to, site_after, state_of, step_of}
 use Rattle.dine_core.specs.Worlds.{IsWorldOf, SeenWorld, can_at, can_happen, number_to}
-use Rattle.dine_rules.proofs.BreachLaw.{allowed, no_breach}
-use Rattle.dine_core.proofs.Breaches.{breach_is}
 use Rattle.dine_rules.proofs.NextLetters.{reached_allowed}
-use Rattle.dine_core.proofs.Ranges.{and_along, begin_by, not_one}
+use Rattle.dine_core.proofs.Ranges.{and_along, begin_by}
 use Rattle.dine_core.proofs.SiteTests.{ask_is, close_is, done_is, give_is, guarded, hunger_is, may_be, next_is}
 use Rattle.dine_core.proofs.Stands.{place_is}
 use Rattle.dine_rules.proofs.WorldStreams.{WorldKeeps, reached_kept}

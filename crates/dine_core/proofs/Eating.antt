@@ -22,6 +22,8 @@ use Rattle.dine_core.specs.Core.{SeenCore, StandsFor, kept_of, forks_in_hand}
 use Rattle.dine_core.specs.Places.{no_place, place_at, neighbour_of, is_held, is_ready_at, meals_in, lifted, begun, can_begin, fork_in_hand, forks_of, OnHere, IsLiftable, FitsPlace, FitsSlot, IsSoundPlace, IsSound, FitsMeal, IsMealOf}
 use Rattle.dine_core.specs.Standing.{all_places}
 use Rattle.dine_rules.proofs.Hands.{hand-more}
+use Rattle.std.proofs.lemmas.List.{length-map}
+use Rattle.dine_core.proofs.Lists.{get_or-map_at}
 use Rattle.dine_core.proofs.Ranges.{forks_by_lists}
 
 -- the fork that a slot has in hand
@@ -43,15 +45,6 @@ list_all_at : (p : Place → Bool) (xs : List Place) (i : ℕ) (d : Place) → l
 list_all_at p [] i d all h = absurd (omega arith)
 list_all_at p (x ∷ xs) zero d all h = (and_parts _ _ all).0
 list_all_at p (x ∷ xs) (suc i) d all h = list_all_at p xs i d (and_parts _ _ all).1 (omega arith)
-
-pub get_or_map_at : {Y : Type 0} (f : Place → Y) (xs : List Place) (i : ℕ) (d : Y) (e : Place) → i < length xs → get_or (map f xs) i d ≡ f (get_or xs i e)
-get_or_map_at f [] i d e h = absurd (omega arith)
-get_or_map_at f (x ∷ xs) zero d e h = refl
-get_or_map_at f (x ∷ xs) (suc i) d e h = get_or_map_at f xs i d e (omega arith)
-
-pub length_map_place : {Y : Type 0} (f : Place → Y) (xs : List Place) → length (map f xs) ≡ length xs
-length_map_place f [] = refl
-length_map_place f (x ∷ xs) = ap (λ (n : ℕ). suc n) (length_map_place f xs)
 
 forks_are : (places : List Place) → ((i : ℕ) → i < length places → (get_or places i no_place).fork ≡ Here (fork_at_place (get_or places i no_place)))
     → forks_of places ≡ map fork_at_place places
@@ -131,8 +124,8 @@ module _ (core : SeenCore) (sound : IsSound core) (can : can_begin core ≡ true
 
   pub all_may_eat : All (MayEat core.site (core.ate + 1)) (forks_of core.places)
   all_may_eat i d h =
-      let within : i < length core.places = omega (arith, ap length forks_are_all, length_map_place fork_at_place core.places) in
-      let is : get_or (forks_of core.places) i d ≡ fork_at_place (get_or core.places i no_place) = ap (λ (l : List SeenFork). get_or l i d) forks_are_all ∙ get_or_map_at fork_at_place core.places i d no_place within in
+      let within : i < length core.places = omega (arith, ap length forks_are_all, length-map core.places fork_at_place) in
+      let is : get_or (forks_of core.places) i d ≡ fork_at_place (get_or core.places i no_place) = ap (λ (l : List SeenFork). get_or l i d) forks_are_all ∙ get_or-map_at fork_at_place core.places i d no_place within in
       subst (MayEat core.site (core.ate + 1)) (sym is) (may_eat (get_or core.places i no_place) (fork_at_place (get_or core.places i no_place)) (sound.places i no_place within) (in_hand_at i no_place within).1)
 
   pub differs : (place : Place) → IsSoundPlace core place → core.site ≡ neighbour_of core.site place → ⊥
@@ -169,12 +162,12 @@ module _ (core : SeenCore) (sound : IsSound core) (can : can_begin core ≡ true
       record {
         site = site;
         k = k;
-        count = ap length all ∙ length_map_place f core.places ∙ sym (length_map_place (lifted core.site) core.places);
+        count = ap length all ∙ length-map core.places f ∙ sym (length-map core.places (lifted core.site));
         forks = λ i past h.
-            let within : i < length core.places = omega (arith, h, length_map_place (lifted core.site) core.places) in
+            let within : i < length core.places = omega (arith, h, length-map core.places (lifted core.site)) in
             let p = get_or core.places i no_place in
-            let place_is : place_at (begun core) i ≡ lifted core.site p = get_or_map_at (lifted core.site) core.places i no_place no_place within in
-            let fork_is : get_or meal.forks i past ≡ f p = ap (λ (l : List SeenFork). get_or l i past) all ∙ get_or_map_at f core.places i past no_place within in
+            let place_is : place_at (begun core) i ≡ lifted core.site p = get_or-map_at (lifted core.site) core.places i no_place no_place within in
+            let fork_is : get_or meal.forks i past ≡ f p = ap (λ (l : List SeenFork). get_or l i past) all ∙ get_or-map_at f core.places i past no_place within in
             let w = in_hand_at i no_place within in
             let fits = fits_meal p (sound.places i no_place within) w.1 w.0 in
             fits_at i (get_or meal.forks i past) p place_is fork_is fits.0 fits.1;
@@ -200,8 +193,8 @@ module _ (core : SeenCore) (sound : IsSound core) (can : can_begin core ≡ true
   pub sound_begun : IsSound (begun core)
   sound_begun = record {
     places = λ i d h.
-        let within : i < length core.places = omega (arith, h, length_map_place (lifted core.site) core.places) in
-        subst (IsSoundPlace (begun core)) (sym (get_or_map_at (lifted core.site) core.places i d no_place within)) (lifted_sound (get_or core.places i no_place) (sound.places i no_place within) (in_hand_at i no_place within).0);
+        let within : i < length core.places = omega (arith, h, length-map core.places (lifted core.site)) in
+        subst (IsSoundPlace (begun core)) (sym (get_or-map_at (lifted core.site) core.places i d no_place within)) (lifted_sound (get_or core.places i no_place) (sound.places i no_place within) (in_hand_at i no_place within).0);
     within = omega (arith, left);
     hungry = λ h. absurd (false≢true h);
   }
@@ -217,10 +210,10 @@ module _ (core : SeenCore) (sound : IsSound core) (can : can_begin core ≡ true
     due = stands.due;
     phase = refl;
     ate = ap (λ (n : ℕ). n + 1) stands.ate;
-    degree = length_map_place (lifted core.site) core.places ∙ stands.degree;
+    degree = length-map core.places (lifted core.site) ∙ stands.degree;
     places = λ i past h.
-        let within : i < length core.places = omega (arith, h, length_map_place (lifted core.site) core.places) in
-        get_or_map_at (lifted core.site) core.places i past no_place within ∙ lifted_is i within;
+        let within : i < length core.places = omega (arith, h, length-map core.places (lifted core.site)) in
+        get_or-map_at (lifted core.site) core.places i past no_place within ∙ lifted_is i within;
   }
     where
       lifted_is : (i : ℕ) → i < length core.places → lifted core.site (get_or core.places i no_place) ≡ kept_of plan core.site Eating (state.ate + 1) (edge_at plan core.site i) (traffic_at state i)

@@ -1,18 +1,11 @@
 -- The enabled events of a site and of the world, by how many are passed over.
-use Rattle.std.proofs.Common.{◌≡◌, ℕ, zero, suc, ◌+◌, ◌-◌, ◌*◌, ◌<◌, ◌≤◌, Bool, true, false, cond, List, [], ◌∷◌, ◌++◌, length, take, map, get_or, slice_get, option_map, Some, sym, ◌∙◌, ap, ap₂, arith, add-zero, append-nil, append_assoc, length-append, zero-add}
-use Rattle.std.specs.List.{filter, flat_map, range_with_len}
-use Rattle.std.proofs.lemmas.Grind.{flat_map-append}
-use Rattle.std.proofs.lemmas.List.{length-map, take_all}
-use Rattle.std.proofs.lemmas.List.Filters.{length-filter_more}
-use Rattle.std.proofs.lemmas.Option.{get_or_from_slice_get, same_Some, slice_get-map, slice_get_within}
-use Rattle.std.proofs.lemmas.List.Elements.{filter-append, filter_agree}
-use Rattle.std.proofs.lemmas.List.FromFn.{length-map-range_with_len, length-range_with_len}
+use Rattle.std.proofs.Common.{◌≡◌, ℕ, ◌<◌, ◌≤◌, length, get_or, ◌∙◌, ap, arith}
+use Rattle.std.specs.List.{filter, range_with_len}
+use Rattle.std.proofs.lemmas.List.Elements.{filter_agree}
+use Rattle.std.proofs.lemmas.List.FromFn.{length-range_with_len}
 use Rattle.dine_plan.specs.Plan.{SeenPlan, edge_count, edges_of, is_end, site_count}
-use Rattle.dine_rules.specs.declared.events.Event.{Event}
-use Rattle.dine_rules.specs.declared.events.EventKind.{EventKind}
-use Rattle.dine_rules.specs.declared.events.EventKind.TheVariants as event
 use Rattle.dine_core.specs.declared.world.sites.WorldSite.{WorldSite}
-use Rattle.dine_rules.specs.World.{WorldState, events_at, is_enabled, kinds_at}
+use Rattle.dine_rules.specs.World.{WorldState, events_at, is_enabled}
 use Rattle.dine_core.specs.Worlds.{IsWorldOf, SeenWorld, can_happen}
 use Rattle.dine_rules.proofs.KindNumbers.{choices}
 use Rattle.dine_core.proofs.CanHappen.{can_happen_is}

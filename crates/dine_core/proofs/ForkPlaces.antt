@@ -35,7 +35,7 @@ use Rattle.dine_core.specs.declared.world.World.TheInside.{Inside}
 use Rattle.dine_core.specs.WorldFields.{IsKeptWorld, seen_world}
 use Rattle.dine_core.specs.Worlds.{SeenWorld, IsWorldOf, number_to, ends_seen, fork_seen, forks_seen}
 use Rattle.dine_rules.proofs.Across.{across}
-use Rattle.dine_rules.proofs.Counting.{forks_in-append, last_log_or-append, last_log_or-none, none_or_some}
+use Rattle.dine_rules.proofs.Counting.{last_log_or-append, last_log_or-none, none_or_some}
 use Rattle.dine_rules.proofs.Owned.{own_is}
 use Rattle.dine_rules.proofs.Near.{near_log, put_count}
 use Rattle.dine_rules.proofs.EatersApart.{eats_with_all}

@@ -5,11 +5,13 @@ pub mod CoreSteps
 pub mod Sound
 pub mod Breaches
 pub mod Lists
+pub mod Options
 pub mod Ranges
 pub mod Eating
 pub mod Ending
 pub mod Opened
 pub mod OpenedSites
+pub mod Shapes
 pub mod LinkNumbers
 pub mod LinkSteps
 pub mod MealFits

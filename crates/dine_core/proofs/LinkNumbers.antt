@@ -1,17 +1,18 @@
 -- The numbers of the links: each link leads from one place of a site to one place of another.
-use Rattle.std.proofs.Common.{◌≡◌, ℕ, ◌+◌, ◌*◌, ◌<◌, ◌==◌, Bool, true, false, cond, not, length, refl, sym, ◌∙◌, ap, inl, inr, arith, if◌then◌else◌}
+use Rattle.std.proofs.Common.{◌≡◌, ℕ, ◌+◌, ◌*◌, ◌<◌, Bool, true, false, cond, not, length, refl, sym, ◌∙◌, ap, inl, inr, arith}
 use Rattle.std.proofs.lemmas.Bool.{cases_Bool, eqb-true, eq-eqb, false≢true}
 use Rattle.dine_plan.specs.Plan.{SeenPlan, IsPlan, edge_count, edges_of, lo_of, hi_of}
 use Rattle.dine_rules.specs.Local.{edge_at, neighbour_at}
 use Rattle.dine_rules.specs.World.{place_of}
 use Rattle.dine_rules.specs.Streams.{is_lower_at}
+use Rattle.dine_core.specs.LinkNumbers.{link_number_from}
 use Rattle.dine_core.specs.Worlds.{number_to}
 use Rattle.dine_rules.proofs.Placed.{placed}
 use Rattle.dine_rules.proofs.Across.{IsAcross, place_of-edge_at}
 
 -- the number of the link that leads away from a site at place i
 abbrev pub number_from : SeenPlan → ℕ → ℕ → ℕ
-number_from plan s i = 2 * edge_at plan s i + (if lo_of plan (edge_at plan s i) == s then 0 else 1)
+number_from plan s i = link_number_from s (edge_at plan s i) (lo_of plan (edge_at plan s i))
 
 -- twice a number, and a bit
 abbrev twice_and : ℕ → Bool → ℕ

@@ -115,3 +115,9 @@ laid_step places P hands rest F r d split first laid few same =
           ∙ laid_more m P F d r in_P within,
       omega arith,
     )
+
+-- an element of a list that each is mapped in
+pub get_or-map_at : {X Y : Type 0} (f : X → Y) (xs : List X) (i : ℕ) (d : Y) (e : X) → i < length xs → get_or (map f xs) i d ≡ f (get_or xs i e)
+get_or-map_at f [] i d e h = absurd (omega arith)
+get_or-map_at f (x ∷ xs) zero d e h = refl
+get_or-map_at f (x ∷ xs) (suc i) d e h = get_or-map_at f xs i d e (omega arith)

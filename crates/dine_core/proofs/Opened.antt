@@ -1,9 +1,10 @@
 -- The places of a site before its first step are sound.
-use Rattle.std.proofs.Common.{◌≡◌, ℕ, zero, suc, ◌+◌, ◌-◌, ◌<◌, ◌≤◌, ◌==◌, Bool, true, false, List, [], ◌∷◌, length, map, filter, cond, get_or, Option, Some, None, is_some, refl, sym, ◌∙◌, ap, subst, inl, inr, arith, if◌then◌else◌}
+use Rattle.std.proofs.Common.{◌≡◌, ℕ, suc, ◌+◌, ◌-◌, ◌<◌, ◌≤◌, ◌==◌, Bool, true, false, List, [], ◌∷◌, length, map, filter, cond, get_or, Option, Some, None, is_some, refl, sym, ◌∙◌, ap, subst, inl, inr, arith, if◌then◌else◌}
 use Rattle.std.specs.List.{range_with_len}
 use Rattle.std.proofs.lemmas.List.FromFn.{length-range_with_len}
 use Rattle.std.proofs.lemmas.Bool.{eqb-true, eq-eqb, ne_eqb, false≢true}
 use Rattle.dine_token.specs.Fork.{SeenFork}
+use Rattle.std.proofs.lemmas.List.{length-map}
 use Rattle.dine_plan.specs.Plan.{SeenPlan, IsPlan, edge_count, is_end, edges_of, job_count, lo_of, hi_of}
 use Rattle.dine_rules.specs.declared.phase.Phase.TheVariants.{Thinking}
 use Rattle.dine_core.specs.declared.site.places.Place.{Place}
@@ -11,6 +12,7 @@ use Rattle.dine_core.specs.declared.site.places.ForkSlot.TheVariants.{Away, Here
 use Rattle.dine_rules.specs.Local.{no_traffic, edge_at}
 use Rattle.dine_rules.specs.Steps.{fork_with}
 use Rattle.dine_core.specs.Core.{SeenCore, kept_of}
+use Rattle.dine_core.proofs.Lists.{get_or-map_at}
 use Rattle.dine_core.specs.Places.{is_held, FitsPlace, FitsSlot, IsSoundPlace, IsSound}
 use Rattle.dine_rules.proofs.Placed.{IsPlaced, placed}
 
@@ -56,21 +58,12 @@ sound_fresh plan s i places w =
       token = λ other h. token_own (hi == s) edge other h;
     }
 
-get_or_map_edge : (f : ℕ → Place) (xs : List ℕ) (i : ℕ) (d : Place) → i < length xs → get_or (map f xs) i d ≡ f (get_or xs i 0)
-get_or_map_edge f [] i d h = absurd (omega arith)
-get_or_map_edge f (x ∷ xs) zero d h = refl
-get_or_map_edge f (x ∷ xs) (suc i) d h = get_or_map_edge f xs i d (omega arith)
-
-pub length_map_edge : (f : ℕ → Place) (xs : List ℕ) → length (map f xs) ≡ length xs
-length_map_edge f [] = refl
-length_map_edge f (x ∷ xs) = ap (λ (n : ℕ). suc n) (length_map_edge f xs)
-
 pub sound_start : (plan : SeenPlan) (s due : ℕ) (places : List Place) → IsPlan plan → due ≡ job_count plan s → places ≡ map (λ edge. kept_of plan s Thinking 0 edge no_traffic) (edges_of plan s) → IsSound (start_core s due places)
 sound_start plan s due places is_plan due_is is = record {
   places = λ i d h.
       let f : ℕ → Place = λ edge. kept_of plan s Thinking 0 edge no_traffic in
-      let within : i < length (edges_of plan s) = omega (arith, h, ap length is, length_map_edge f (edges_of plan s)) in
-      let place_is : get_or places i d ≡ f (edge_at plan s i) = ap (λ (l : List Place). get_or l i d) is ∙ get_or_map_edge f (edges_of plan s) i d within in
+      let within : i < length (edges_of plan s) = omega (arith, h, ap length is, length-map (edges_of plan s) f) in
+      let place_is : get_or places i d ≡ f (edge_at plan s i) = ap (λ (l : List Place). get_or l i d) is ∙ get_or-map_at f (edges_of plan s) i d 0 within in
       subst (λ (n : ℕ). IsSoundPlace (start_core s n places) (get_or places i d)) (sym due_is)
       (subst (IsSoundPlace (start_core s (job_count plan s) places)) (sym place_is) (sound_fresh plan s i places (placed plan s i is_plan within)));
   within = omega arith;
@@ -86,4 +79,4 @@ filter_few p (x ∷ xs) =
 -- a site has at most as many places as the plan has edges
 pub places_few : (plan : SeenPlan) (s : ℕ) (places : List Place) → IsPlan plan → places ≡ map (λ edge. kept_of plan s Thinking 0 edge no_traffic) (edges_of plan s) → length places ≤ 512
 places_few plan s places is_plan is =
-    omega (arith, ap length is, length_map_edge (λ edge. kept_of plan s Thinking 0 edge no_traffic) (edges_of plan s), filter_few (is_end plan s) (range_with_len 0 (edge_count plan)), length-range_with_len 0 (edge_count plan), is_plan.few_edges)
+    omega (arith, ap length is, length-map (edges_of plan s) (λ edge. kept_of plan s Thinking 0 edge no_traffic), filter_few (is_end plan s) (range_with_len 0 (edge_count plan)), length-range_with_len 0 (edge_count plan), is_plan.few_edges)

@@ -1,5 +1,5 @@
 -- The meal of a site of the world stays with each letter that is put or taken while it eats.
-use Rattle.std.proofs.Common.{◌≡◌, ℕ, ◌+◌, ◌-◌, ◌<◌, Bool, true, false, ◌==◌, List, [], ◌∷◌, ◌++◌, length, get_or, slice_set, Option, Some, None, refl, sym, ◌∙◌, ap, subst, inl, inr, arith, if◌then◌else◌, ◌&&◌, not, nat_lt, is_some, MatchOption}
+use Rattle.std.proofs.Common.{◌≡◌, ℕ, ◌+◌, ◌-◌, ◌<◌, Bool, true, false, ◌==◌, List, [], ◌∷◌, ◌++◌, length, get_or, slice_set, Option, Some, None, refl, sym, ◌∙◌, ap, subst, inl, inr, arith, if◌then◌else◌, ◌&&◌, not, nat_lt, is_some}
 use Rattle.std.specs.List.{range_with_len}
 use Rattle.std.proofs.lemmas.Bool.{and_parts, cases_Bool, cases_eq, cond-false, eqb-true, false≢true, ltb-true}
 use Rattle.std.proofs.lemmas.List.{get_or-set_same, get_or-set_other, length-set}
@@ -103,7 +103,7 @@ module _ (plan : SeenPlan) (s : ℕ) (state : LocalState) (i : ℕ) (within : i 
       ∙ ap (λ (n : ℕ). forks_in_hand plan s state (range_with_len 0 n)) (length-set state.traffic i _))
 
   -- a site that does not eat has no meal
-  meal-awake : is_eating state.phase ≡ false → (forks other : List SeenFork) → meal_with forks ≡ meal_with other
+  pub meal-awake : is_eating state.phase ≡ false → (forks other : List SeenFork) → meal_with forks ≡ meal_with other
   meal-awake awake forks other = cond-false (is_eating state.phase) (Some (record { site = s; k = state.ate; forks = forks })) None awake
       ∙ sym (cond-false (is_eating state.phase) (Some (record { site = s; k = state.ate; forks = other })) None awake)
 
@@ -139,11 +139,6 @@ meal_is meal s k forks a b c = ap (λ (x : ℕ). record { site = x; k = meal.k; 
 -- a number that a test has within
 pub within_of : (n m : ℕ) (b : Bool) → (nat_lt n m && b) ≡ true → n < m
 within_of n m b h = ltb-true n m (and_parts (nat_lt n m) b h).0
-
--- an option that is there
-pub some_of : {A : Type 0} (o : Option A) (P : A → Type 0) → MatchOption o ⊥ P → (x : A) × (o ≡ Some x) × P x
-some_of None P h = absurd h
-some_of (Some x) P h = (x, refl, h)
 
 -- no breach where the test says that the letter is in turn
 pub none_applies : (o : Option Breach) → not (is_some o) ≡ true → o ≡ None

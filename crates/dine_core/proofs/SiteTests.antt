@@ -1,10 +1,9 @@
 -- What a core may do, by what it keeps, is what the state for which it stands may do.
-use Rattle.std.proofs.Common.{◌≡◌, ℕ, zero, suc, ◌<◌, ◌≤◌, ◌==◌, nat_lt, Bool, true, false, not, ◌&&◌, List, [], ◌∷◌, length, drop, get_or, slice_get, slice_set, option_map, option_and_then, Option, Some, None, is_some, refl, sym, ◌∙◌, ap, ap₂, subst, inl, inr, arith, if◌then◌else◌}
+use Rattle.std.proofs.Common.{◌≡◌, ℕ, ◌<◌, ◌==◌, nat_lt, Bool, true, false, not, ◌&&◌, length, option_map, Option, Some, None, is_some, refl, sym, ◌∙◌, ap, ap₂, arith, if◌then◌else◌}
 use Rattle.std.proofs.lemmas.Bool.{lt-ltb, ltb-true, and_from}
-use Rattle.std.proofs.lemmas.Option.{slice_get_cases, slice_get_past}
 use Rattle.dine_token.specs.Fork.{SeenFork}
 use Rattle.dine_token.specs.Log.{is_dirty, meals_of}
-use Rattle.dine_plan.specs.Plan.{SeenPlan, edges_of, job_count, site_count}
+use Rattle.dine_plan.specs.Plan.{SeenPlan, job_count}
 use Rattle.dine_rules.specs.declared.breach.Breach.{Breach}
 use Rattle.dine_rules.specs.declared.letters.Letter.{Letter}
 use Rattle.dine_rules.specs.declared.phase.Phase.{Phase}
@@ -15,7 +14,7 @@ use Rattle.dine_rules.specs.Letters.{has_close, has_done}
 use Rattle.dine_rules.specs.Local.{LocalState, edge_at, is_eating, is_hungry, is_thinking, neighbour_at, traffic_at}
 use Rattle.dine_rules.specs.Holdings.{fork_at, hand_at, token_at}
 use Rattle.dine_rules.specs.Breach.{first_breach, is_allowed}
-use Rattle.dine_rules.specs.Steps.{Step, Give, Ask, Hungry, Begin, End, Done, Close, Break, Take, after, fork_with, is_open, may}
+use Rattle.dine_rules.specs.Steps.{Step, Give, Ask, Hungry, Begin, End, Done, Close, Break, Take, fork_with, is_open, may}
 use Rattle.dine_rules.specs.Streams.{KeepsStreams}
 use Rattle.dine_core.specs.Core.{SeenCore, StandsFor}
 use Rattle.dine_core.specs.Places.{breach_at, can_ask, can_begin, can_close, can_say_done, can_give, can_give_at, can_hunger, is_dirty_in_hand, is_held, place_at}

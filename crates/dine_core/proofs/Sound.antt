@@ -1,5 +1,5 @@
 -- What is kept at a place stays sound when a fork goes, or a letter that is in turn is noted.
-use Rattle.std.proofs.Common.{◌≡◌, ℕ, ◌<◌, ◌==◌, nat_le, Bool, true, false, not, ◌||◌, List, get_or, set, Option, Some, None, refl, sym, ◌∙◌, ap, ap₂, arith, if◌then◌else◌}
+use Rattle.std.proofs.Common.{◌≡◌, ℕ, ◌<◌, ◌==◌, nat_le, Bool, true, false, not, ◌||◌, List, get_or, set, Option, Some, None, refl, sym, ◌∙◌, ap, ap₂, arith, if◌then◌else◌, length, subst}
 use Rattle.std.proofs.lemmas.Bool.{eqb-true, and_parts, false≢true}
 use Rattle.std.proofs.lemmas.Bool.Decides.{nat_tests}
 use Rattle.std.proofs.lemmas.List.Elements.{All-set}
@@ -14,7 +14,7 @@ use Rattle.dine_core.specs.declared.site.places.ForkSlot.TheVariants.{Away, Here
 use Rattle.dine_rules.specs.Local.{is_eating}
 use Rattle.dine_rules.specs.Breach.{was_sent_to}
 use Rattle.dine_core.specs.Core.{SeenCore}
-use Rattle.dine_core.specs.Places.{with_place, with_fork, noted, is_held, is_own_fork, breach_at, FitsPlace, FitsSlot, IsSoundPlace, IsSound}
+use Rattle.dine_core.specs.Places.{with_place, with_fork, noted, is_held, is_own_fork, breach_at, FitsPlace, FitsSlot, IsSoundPlace, IsSound, no_place, place_at}
 
 -- soundness reads the site, its meals, its due and its phase
 pub sound_place_along : (core : SeenCore) (places : List Place) (place : Place) → IsSoundPlace core place → IsSoundPlace (record core { places = places }) place
@@ -36,6 +36,11 @@ sound_away core place awake w = record {
   asked = λ h. absurd (false≢true h);
   token = w.token;
 }
+
+-- a core that does not eat stays sound without the fork of a place
+pub sound_gave : (core : SeenCore) (i : ℕ) (old new : Place) → IsSound core → is_eating core.phase ≡ false → i < length core.places → old ≡ place_at core i → new ≡ with_fork Away old → IsSound (with_place i new core)
+sound_gave core i old new sound awake within is gone =
+    sound_with_place core i new sound (subst (IsSoundPlace core) (sym (gone ∙ ap (with_fork Away) is)) (sound_away core (place_at core i) awake (sound.places i no_place within)))
 
 -- a slot fits as well at a place of the same edge
 pub fits_along : (s ate : ℕ) (eating : Bool) (old new : Place) (slot : ForkSlot) → old.edge ≡ new.edge → old.ends ≡ new.ends → old.due ≡ new.due

@@ -109,11 +109,6 @@ replaying_on plan world choices rest n events seen way none = record {
 pub replayed : (plan : SeenPlan) (world : WorldState) (choices : List ℕ) (events : ℕ) (seen : SeenWorld) → IsReplaying plan world choices [] events seen → RunsTo plan (replay plan (from_here world) choices) events seen
 replayed plan world choices events seen way = subst (λ (run : Counted). RunsTo plan run events seen) (sym way.run) (record { counted = way.counted; stands = way.stands })
 
--- nothing is there
-pub none_of : (o : Option Event) → ((e : Event) → o ≡ Some e → ⊥) → None ≡ o
-none_of None h = refl
-none_of (Some e) h = absurd (h e refl)
-
 -- the choice at a place comes before the rest
 pub drop_choice : (xs : List ℕ) (i : ℕ) → i < length xs → drop i xs ≡ get_or xs i 0 ∷ drop (i + 1) xs
 drop_choice [] i h = absurd (omega arith)

@@ -1,22 +1,18 @@
 -- An event that can happen, at the site where it happens.
-use Rattle.std.proofs.Common.{◌≡◌, ◌<◌, true, List, length, get_or, slice_get, slice_set, Option, Some, None, is_some, refl, sym, ◌∙◌, subst, arith}
-use Rattle.std.proofs.lemmas.Bool.{false≢true}
+use Rattle.std.proofs.Common.{◌≡◌, ◌<◌, true, List, length, get_or, slice_get, slice_set, Some, sym, ◌∙◌, subst, arith}
 use Rattle.std.proofs.lemmas.Option.{get_or_from_slice_get, slice_get_within}
 use Rattle.dine_plan.specs.Plan.{SeenPlan, site_count}
 use Rattle.dine_rules.specs.declared.letters.Letter.{Letter}
 use Rattle.dine_rules.specs.declared.events.Event.{Event}
 use Rattle.dine_core.specs.declared.world.sites.WorldSite.{WorldSite}
 use Rattle.dine_rules.specs.World.{WorldState, state_of, world_after}
+use Rattle.dine_rules.specs.Steps.{shape_of}
 use Rattle.dine_core.specs.WorldSites.{SiteSteps, HasOwnMeal, HasRoomFor, TakesAllowed, can_do}
 use Rattle.dine_core.specs.Worlds.{WorldStep, IsWorldOf, SeenWorld, can_happen}
+use Rattle.dine_rules.proofs.WorldStreams.{some_of}
 use Rattle.dine_core.proofs.CanHappen.{can_happen_is}
 use Rattle.dine_core.proofs.MealFits.{has_own_meal}
-use Rattle.dine_core.proofs.WorldSteps.{eats_here, has_room, in_turn, is_plan, keeps_here, world_site_there, world_next}
-
--- an option that is there
-there : (o : Option WorldState) → is_some o ≡ true → (new : WorldState) × (o ≡ Some new)
-there None h = absurd (false≢true h)
-there (Some new) h = (new, refl)
+use Rattle.dine_core.proofs.WorldSteps.{eats_here, has_room, is_plan, takes_allowed, keeps_here, world_site_there, world_next}
 
 module _ (seen : SeenWorld) (e : Event) (can : can_happen seen e ≡ true) where
   -- the site is there
@@ -37,7 +33,7 @@ module _ (seen : SeenWorld) (e : Event) (can : can_happen seen e ≡ true) where
     can_there = subst (λ (x : WorldSite). can_do seen.links x.core e.kind ≡ true) is (site_can world_site is)
 
     happens : (new : WorldState) × (world_after plan world e ≡ Some new)
-    happens = there (world_after plan world e) (sym (can_happen_is plan world seen stands e) ∙ can)
+    happens = some_of (world_after plan world e) (sym (can_happen_is plan world seen stands e) ∙ can)
 
     -- its meal is that of its core
     pub site_fits : HasOwnMeal world_site
@@ -45,12 +41,12 @@ module _ (seen : SeenWorld) (e : Event) (can : can_happen seen e ≡ true) where
         (keeps_here plan world seen stands e.site is_site world_site) (eats_here plan world seen stands e.site is_site world_site) (stands.sites.stands e.site world_site is_site))
 
     -- what it takes is in turn
-    pub site_allowed : TakesAllowed seen.links world_site.core e.kind
-    site_allowed = subst (λ (x : WorldSite). TakesAllowed seen.links x.core e.kind) (sym is) (in_turn plan world seen stands e.site is_site world_site e.kind can_there)
+    pub site_allowed : TakesAllowed seen.links world_site.core (shape_of e.kind)
+    site_allowed = subst (λ (x : WorldSite). TakesAllowed seen.links x.core (shape_of e.kind)) (sym is) (takes_allowed plan world seen stands e.site is_site world_site e.kind happens.0 happens.1 can_there)
 
     -- there is room for what it puts
-    pub site_room : HasRoomFor seen.links world_site.core e.kind
-    site_room = subst (λ (x : WorldSite). HasRoomFor seen.links x.core e.kind) (sym is) (has_room plan world seen stands e.site is_site world_site e.kind happens.0 happens.1 can_there)
+    pub site_room : HasRoomFor seen.links world_site.core (shape_of e.kind)
+    site_room = subst (λ (x : WorldSite). HasRoomFor seen.links x.core (shape_of e.kind)) (sym is) (has_room plan world seen stands e.site is_site world_site e.kind happens.0 happens.1 can_there)
 
     -- and the world stands for the state after it
     pub site_done : (changed : WorldSite) (links : List (List Letter)) → SiteSteps e.kind world_site changed seen.links links

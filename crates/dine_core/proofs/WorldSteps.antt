@@ -1,19 +1,17 @@
 -- A world that stands for a state, and an event that is enabled there: what the site may do, and that the world stands for the
 -- state after it.
-use Rattle.std.proofs.Common.{◌≡◌, ◌≢◌, ℕ, ◌<◌, true, List, [], ◌∷◌, ◌++◌, length, get_or, slice_set, Option, Some, None, option_map, refl, sym, ◌∙◌, ap, subst, inl, inr, arith}
+use Rattle.std.proofs.Common.{◌≡◌, ◌≢◌, ℕ, ◌<◌, true, List, [], ◌∷◌, ◌++◌, length, get_or, slice_set, Option, Some, None, refl, sym, ◌∙◌, ap, subst, inl, inr, arith}
 use Rattle.std.proofs.lemmas.Bool.{cases_eq, and_parts, false≢true, ltb-true}
 use Rattle.std.proofs.lemmas.List.{get_or-set_same, get_or-set_other, length-set, length_push}
-use Rattle.std.proofs.lemmas.Option.{same_Some}
 use Rattle.dine_plan.specs.Plan.{SeenPlan, IsPlan, site_count, edges_of}
 use Rattle.dine_rules.specs.declared.letters.Letter.{Letter}
 use Rattle.dine_rules.specs.declared.events.Event.{Event}
 use Rattle.dine_rules.specs.declared.events.EventKind.{EventKind}
-use Rattle.dine_rules.specs.declared.events.EventKind.TheVariants as event
 use Rattle.dine_core.specs.declared.world.sites.WorldSite.{WorldSite}
 use Rattle.dine_rules.specs.Breach.{is_allowed}
 use Rattle.dine_rules.specs.Local.{LocalState, traffic_at, edge_at, neighbour_at}
 use Rattle.dine_rules.specs.Holdings.{EatsWithAll}
-use Rattle.dine_rules.specs.Steps.{Step, after, with_put}
+use Rattle.dine_rules.specs.Steps.{Step, Shape, Takes, Puts, Alone, after, shape_of, with_put}
 use Rattle.dine_rules.specs.Steps as step
 use Rattle.dine_rules.specs.Streams.{KeepsStreams}
 use Rattle.dine_core.specs.Core.{SeenCore, StandsFor}
@@ -21,17 +19,18 @@ use Rattle.dine_core.specs.LinkNumbers.{link_to, link_from}
 use Rattle.dine_core.specs.Places.{place_at}
 use Rattle.dine_rules.specs.World.{WorldState, no_state, place_of, state_of, next_letter, step_of, world_after, start}
 use Rattle.dine_rules.specs.Links.{queue_to}
-use Rattle.dine_core.specs.WorldSites.{SiteSteps, PutsAt, HasRoomAt, HasRoomFor, IsSiteOf, MovesLetters, TakesAllowed, can_do, meets_no_breach, letters_in, next_in, step_in, with_letter, without_next}
+use Rattle.dine_core.specs.WorldSites.{SiteSteps, PutsAt, HasRoomAt, HasRoomFor, IsSiteOf, MovesLetters, TakesAllowed, can_do, has_place, meets_no_breach, letters_in, next_in, step_in, with_letter, without_next}
 use Rattle.dine_core.specs.Worlds.{IsReached, IsWorldOf, LinksStand, SitesStand, SeenWorld, can_at, number_to}
 use Rattle.dine_rules.proofs.Across.{across}
 use Rattle.dine_core.proofs.CanHappen.{next_here}
 use Rattle.dine_core.proofs.SiteTests.{take_is}
 use Rattle.dine_rules.proofs.NextLetters.{reached_allowed}
 use Rattle.dine_core.proofs.Stands.{place_is}
-use Rattle.dine_rules.proofs.WorldStreams.{IsStepOf, option_map_parts, WorldKeeps, event_is_step, event_keeps, events_then, reached_kept, some_of}
+use Rattle.dine_rules.proofs.WorldStreams.{IsStepOf, WorldKeeps, event_is_step, event_keeps, events_then, reached_kept}
 use Rattle.dine_rules.proofs.EatersApart.{eats_with_all}
 use Rattle.dine_rules.proofs.Links.{link_letters}
 use Rattle.dine_core.proofs.LinkNumbers.{from_is_to, number_from, to_in_range}
+use Rattle.dine_core.proofs.Shapes.{Does, does, step_alike}
 use Rattle.dine_core.proofs.LinkSteps.{links-put, links-same, links-taken}
 
 -- a world_site that can do something is there
@@ -81,33 +80,24 @@ module _ (plan : SeenPlan) (world : WorldState) (seen : SeenWorld) (stands : IsW
     next_is i h = next_here plan world seen stands core (subst (λ (x : ℕ). StandsFor plan (state_of world x) core) (sym site_is) core_stands.core) (omega (arith, is_site, site_is)) i h
         ∙ ap (λ (x : ℕ). next_letter plan world x i) site_is
 
-    -- a Take takes a letter that is in turn
-    pub in_turn : (kind : EventKind) → can_do seen.links core kind ≡ true → TakesAllowed seen.links core kind
-    in_turn (event.Take i) can =
-        let parts = and_parts _ _ can in
-        let within : i < length core.places = ltb-true i (length core.places) parts.0 in
-        let w = some_of (next_in seen.links core i) parts.1 in
-        let allowed = reached_allowed plan stands.reached.events world s i is_plan stands.reached.reaches is_site (omega (arith, within, as_many_places)) w.0 (sym (next_is i within) ∙ w.1) in
-        ap (meets_no_breach core i) w.1 ∙ take_is plan (state_of world s) core core_stands.core keeps_here i within w.0
-        ∙ ap (λ (x : ℕ). is_allowed plan x (state_of world s) i w.0) site_is ∙ allowed
-    in_turn (event.Give i) can = tt
-    in_turn event.End can = tt
-    in_turn event.Begin can = tt
-    in_turn event.Hungry can = tt
-    in_turn (event.Ask i) can = tt
-    in_turn (event.Done i) can = tt
-    in_turn (event.Close i) can = tt
+    -- what the step does, by the letters that lie next
+    abbrev pub DoesHere : Shape → Step → Type 0
+    DoesHere = Does plan s (state_of world s) (next_letter plan world s)
+
+    -- a letter that is taken is in turn
+    in_turn : (shape : Shape) (one : Step) → has_place core shape ≡ true → DoesHere shape one → TakesAllowed seen.links core shape
+    in_turn (Takes i) one there (l, next, is) =
+        let within : i < length core.places = ltb-true i (length core.places) there in
+        let allowed = reached_allowed plan stands.reached.events world s i is_plan stands.reached.reaches is_site (omega (arith, within, as_many_places)) l next in
+        ap (meets_no_breach core i) (next_is i within ∙ next) ∙ take_is plan (state_of world s) core core_stands.core keeps_here i within l
+        ∙ ap (λ (x : ℕ). is_allowed plan x (state_of world s) i l) site_is ∙ allowed
+    in_turn (Puts i) one there did = tt
+    in_turn Alone one there did = tt
 
     -- the step of the event, by the links as by the whole lists
     pub step_is : (kind : EventKind) → can_do seen.links core kind ≡ true → step_in seen.links core kind ≡ step_of plan world s kind
-    step_is (event.Take i) h = ap (option_map (step.Take i)) (next_is i (ltb-true i (length core.places) (and_parts _ _ h).0))
-    step_is (event.Give i) h = refl
-    step_is event.End h = refl
-    step_is event.Begin h = refl
-    step_is event.Hungry h = refl
-    step_is (event.Ask i) h = refl
-    step_is (event.Done i) h = refl
-    step_is (event.Close i) h = refl
+    step_is kind can = step_alike kind (next_in seen.links core) (next_letter plan world s)
+        (λ i takes. next_is i (ltb-true i (length core.places) (subst (λ (shape : Shape). has_place core shape ≡ true) takes (and_parts _ _ can).0)))
 
     abbrev state : LocalState
     state = state_of world s
@@ -149,36 +139,18 @@ module _ (plan : SeenPlan) (world : WorldState) (seen : SeenWorld) (stands : IsW
     quiet_done : (one : Step) (links : List (List Letter)) → (after plan s state one).traffic ≡ state.traffic → links ≡ seen.links → LinksStand plan (slice_set world s (after plan s state one)) links
     quiet_done one links same moves = subst (LinksStand plan (slice_set world s (after plan s state one))) (sym moves) (links-same plan is_plan world kept s is_site (after plan s state one) same seen.links stands.links)
 
-    plain : (first one : Step) (links : List (List Letter)) → ◌≡◌ {A = Option Step} (Some first) (Some one) → LinksStand plan (slice_set world s (after plan s state first)) links → LinksStand plan (slice_set world s (after plan s state one)) links
-    plain first one links h = subst (λ (x : Step). LinksStand plan (slice_set world s (after plan s state x)) links) (same_Some first one h)
-
     -- what the step does to the links is what the whole lists say
-    pub links_done : (kind : EventKind) (one : Step) (links : List (List Letter)) → can_do seen.links core kind ≡ true → step_of plan world s kind ≡ Some one → MovesLetters plan state core kind one seen.links links
+    links_done : (shape : Shape) (one : Step) (links : List (List Letter)) → has_place core shape ≡ true → DoesHere shape one → MovesLetters plan state core shape one seen.links links
         → LinksStand plan (slice_set world s (after plan s state one)) links
-    links_done (event.Take i) one links can is moves =
-        let w = option_map_parts (step.Take i) (next_letter plan world s i) one is in
-        subst (λ (x : Step). LinksStand plan (slice_set world s (after plan s state x)) links) w.2 (taken_done i w.0 links (ltb-true i (length core.places) (and_parts _ _ can).0) moves)
-    links_done (event.Give i) one links can is moves = put_done i one links (ltb-true i (length core.places) (and_parts _ _ can).0) moves
-    links_done event.End one links can is moves = plain step.End one links is (quiet_done step.End links refl moves)
-    links_done event.Begin one links can is moves = plain step.Begin one links is (quiet_done step.Begin links refl moves)
-    links_done event.Hungry one links can is moves = plain step.Hungry one links is (quiet_done step.Hungry links refl moves)
-    links_done (event.Ask i) one links can is moves = put_done i one links (ltb-true i (length core.places) (and_parts _ _ can).0) moves
-    links_done (event.Done i) one links can is moves = put_done i one links (ltb-true i (length core.places) (and_parts _ _ can).0) moves
-    links_done (event.Close i) one links can is moves = put_done i one links (ltb-true i (length core.places) (and_parts _ _ can).0) moves
+    links_done (Takes i) one links there (l, next, is) moves = subst (λ (x : Step). LinksStand plan (slice_set world s (after plan s state x)) links) is (taken_done i l links (ltb-true i (length core.places) there) moves)
+    links_done (Puts i) one links there did moves = put_done i one links (ltb-true i (length core.places) there) moves
+    links_done Alone one links there did moves = quiet_done one links did moves
 
     -- there is room for what the event puts
-    room_by : (i : ℕ) (first one : Step) (l : Letter) → i < length core.places → ◌≡◌ {A = Option Step} (Some first) (Some one) → after plan s state first ≡ with_put i l state → WorldKeeps plan (slice_set world s (after plan s state one)) → HasRoomAt seen.links core i
-    room_by i first one l h is puts keeps = room_at i l (after plan s state one) h (ap (after plan s state) (sym (same_Some first one is)) ∙ puts) keeps
-
-    pub room_for : (kind : EventKind) (one : Step) → can_do seen.links core kind ≡ true → step_of plan world s kind ≡ Some one → WorldKeeps plan (slice_set world s (after plan s state one)) → HasRoomFor seen.links core kind
-    room_for (event.Take i) one can is keeps = tt
-    room_for (event.Give i) one can is keeps = room_by i (step.Give i) one _ (ltb-true i (length core.places) (and_parts _ _ can).0) is refl keeps
-    room_for event.End one can is keeps = tt
-    room_for event.Begin one can is keeps = tt
-    room_for event.Hungry one can is keeps = tt
-    room_for (event.Ask i) one can is keeps = room_by i (step.Ask i) one _ (ltb-true i (length core.places) (and_parts _ _ can).0) is refl keeps
-    room_for (event.Done i) one can is keeps = room_by i (step.Done i) one _ (ltb-true i (length core.places) (and_parts _ _ can).0) is refl keeps
-    room_for (event.Close i) one can is keeps = room_by i (step.Close i) one _ (ltb-true i (length core.places) (and_parts _ _ can).0) is refl keeps
+    room_for : (shape : Shape) (one : Step) → has_place core shape ≡ true → DoesHere shape one → WorldKeeps plan (slice_set world s (after plan s state one)) → HasRoomFor seen.links core shape
+    room_for (Takes i) one there did keeps = tt
+    room_for (Puts i) one there (l, is) keeps = room_at i l (after plan s state one) (ltb-true i (length core.places) there) is keeps
+    room_for Alone one there did keeps = tt
 
     module _ (kind : EventKind) (new : WorldState) (happens : world_after plan world (record { site = s; kind = kind }) ≡ Some new) where
       abbrev e : Event
@@ -187,6 +159,9 @@ module _ (plan : SeenPlan) (world : WorldState) (seen : SeenWorld) (stands : IsW
       -- the event is one step of the site
       done : IsStepOf plan world e new
       done = event_is_step plan world e new happens
+
+      did : DoesHere (shape_of kind) done.step
+      did = does plan s (state_of world s) (next_letter plan world s) kind done.step done.step_is
 
       abbrev next_state : LocalState
       next_state = after plan s (state_of world s) done.step
@@ -227,18 +202,22 @@ module _ (plan : SeenPlan) (world : WorldState) (seen : SeenWorld) (stands : IsW
         elsewhere t other = ap (λ (w : WorldState). state_of w t) done.changes ∙ get_or-set_other world s t next_state no_state other
 
       -- there is room for what it puts
-      pub has_room : can_do seen.links core kind ≡ true → HasRoomFor seen.links core kind
-      has_room can = room_for kind done.step can done.step_is (subst (WorldKeeps plan) done.changes new_kept)
+      pub has_room : can_do seen.links core kind ≡ true → HasRoomFor seen.links core (shape_of kind)
+      has_room can = room_for (shape_of kind) done.step (and_parts _ _ can).0 did (subst (WorldKeeps plan) done.changes new_kept)
+
+      -- what it takes is in turn
+      pub takes_allowed : can_do seen.links core kind ≡ true → TakesAllowed seen.links core (shape_of kind)
+      takes_allowed can = in_turn (shape_of kind) done.step (and_parts _ _ can).0 did
 
       -- the world stands for the new state, with the site and the links that the step leaves
       pub world_next : (changed : WorldSite) (links : List (List Letter)) → can_do seen.links core kind ≡ true → SiteSteps kind world_site changed seen.links links
           → IsWorldOf plan new (record { sites = slice_set seen.sites s changed; links = links; edges = seen.edges; bound = seen.bound })
-      world_next changed links can does =
-          let did = does plan state done.step keeps_here eats_here core_stands (step_is kind can ∙ done.step_is) in
+      world_next changed links can site_does =
+          let done_here = site_does plan state done.step keeps_here eats_here core_stands (step_is kind can ∙ done.step_is) in
           record {
             reached = reached_next;
-            sites = sites_next changed (did.site ∙ site_is) (subst (λ (x : ℕ). IsSiteOf plan (after plan x state done.step) changed) site_is did.stands);
-            links = subst (λ (w : WorldState). LinksStand plan w links) (sym done.changes) (links_done kind done.step links can done.step_is did.letters);
+            sites = sites_next changed (done_here.site ∙ site_is) (subst (λ (x : ℕ). IsSiteOf plan (after plan x state done.step) changed) site_is done_here.stands);
+            links = subst (λ (w : WorldState). LinksStand plan w links) (sym done.changes) (links_done (shape_of kind) done.step links (and_parts _ _ can).0 did done_here.letters);
             edges = stands.edges;
             bound = stands.bound;
           }

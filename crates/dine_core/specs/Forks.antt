@@ -27,12 +27,6 @@ no_ends = record { lower = 0; lower_place = 0; higher = 0; higher_place = 0 }
 abbrev pub edge_ends : List EdgeEnds → ℕ → EdgeEnds
 edge_ends edges e = slice_index_or edges e no_ends
 
--- the fork in hand, where there is one
-abbrev pub hand_of : ForkSlot → Option SeenFork
-hand_of Away = None
-hand_of (Here fork) = Some fork
-hand_of (InMeal meals) = None
-
 -- the fork of place i, in hand or in the meal
 abbrev pub fork_in_slot : Option SeenMeal → ℕ → ForkSlot → Option SeenFork
 fork_in_slot meal i Away = None

@@ -115,11 +115,16 @@ noted (letter.Request edge) place = record place { token = Some edge }
 noted letter.Done place = record place { done_taken = true }
 noted letter.Close place = record place { close_taken = true }
 
--- the forks in hand and the tokens of the places, in order
+-- the fork in hand, where there is one; as a list
+abbrev pub hand_of : ForkSlot → Option SeenFork
+hand_of Away = None
+hand_of (Here fork) = Some fork
+hand_of (InMeal meals) = None
+
 abbrev pub fork_in_hand : ForkSlot → List SeenFork
-fork_in_hand Away = []
-fork_in_hand (Here fork) = fork ∷ []
-fork_in_hand (InMeal meals) = []
+fork_in_hand slot = option_to_list (hand_of slot)
+
+-- the forks in hand and the tokens of the places, in order
 
 abbrev pub forks_of : List Place → List SeenFork
 forks_of [] = []

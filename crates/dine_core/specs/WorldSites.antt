@@ -8,7 +8,7 @@ use Rattle.dine_rules.specs.declared.events.EventKind.TheVariants as event
 use Rattle.dine_core.specs.declared.world.sites.WorldSite.{WorldSite}
 use Rattle.dine_rules.specs.Local.{LocalState, is_eating}
 use Rattle.dine_rules.specs.Holdings.{EatsWithAll}
-use Rattle.dine_rules.specs.Steps.{Step, after, step_by, with_put}
+use Rattle.dine_rules.specs.Steps.{Step, Shape, Takes, Puts, Alone, after, shape_of, step_by, with_put}
 use Rattle.dine_rules.specs.Streams.{KeepsStreams}
 use Rattle.dine_core.specs.Core.{SeenCore, StandsFor, forks_in_hand}
 use Rattle.dine_core.specs.Places.{IsMealOf, place_at, can_give, can_ask, can_hunger, can_begin, can_say_done, can_close, breach_at}
@@ -27,27 +27,31 @@ abbrev pub meets_no_breach : SeenCore → ℕ → Option Letter → Bool
 meets_no_breach core i None = false
 meets_no_breach core i (Some l) = not (is_some (breach_at core.site core.ate (place_at core i) l))
 
--- what each event needs
-abbrev pub can_do : List (List Letter) → SeenCore → EventKind → Bool
-can_do links core (event.Take i) = nat_lt i (length core.places) && is_some (next_in links core i)
-can_do links core (event.Give i) = nat_lt i (length core.places) && can_give core i
-can_do links core event.End = is_eating core.phase
-can_do links core event.Begin = can_begin core
-can_do links core event.Hungry = can_hunger core
-can_do links core (event.Ask i) = nat_lt i (length core.places) && can_ask core i
-can_do links core (event.Done i) = nat_lt i (length core.places) && can_say_done core i
-can_do links core (event.Close i) = nat_lt i (length core.places) && can_close core i
+-- the place of an event of this shape is one of the site's
+abbrev pub has_place : SeenCore → Shape → Bool
+has_place core (Takes i) = nat_lt i (length core.places)
+has_place core (Puts i) = nat_lt i (length core.places)
+has_place core Alone = true
 
--- what a Take takes is in turn
-abbrev pub TakesAllowed : List (List Letter) → SeenCore → EventKind → Type 0
-TakesAllowed links core (event.Take i) = meets_no_breach core i (next_in links core i) ≡ true
-TakesAllowed links core (event.Give i) = Unit {0}
-TakesAllowed links core event.End = Unit {0}
-TakesAllowed links core event.Begin = Unit {0}
-TakesAllowed links core event.Hungry = Unit {0}
-TakesAllowed links core (event.Ask i) = Unit {0}
-TakesAllowed links core (event.Done i) = Unit {0}
-TakesAllowed links core (event.Close i) = Unit {0}
+-- what each event needs there: a Take a letter, each other what its site asks
+abbrev pub can_there : List (List Letter) → SeenCore → EventKind → Bool
+can_there links core (event.Take i) = is_some (next_in links core i)
+can_there links core (event.Give i) = can_give core i
+can_there links core event.End = is_eating core.phase
+can_there links core event.Begin = can_begin core
+can_there links core event.Hungry = can_hunger core
+can_there links core (event.Ask i) = can_ask core i
+can_there links core (event.Done i) = can_say_done core i
+can_there links core (event.Close i) = can_close core i
+
+abbrev pub can_do : List (List Letter) → SeenCore → EventKind → Bool
+can_do links core kind = has_place core (shape_of kind) && can_there links core kind
+
+-- what is taken is in turn
+abbrev pub TakesAllowed : List (List Letter) → SeenCore → Shape → Type 0
+TakesAllowed links core (Takes i) = meets_no_breach core i (next_in links core i) ≡ true
+TakesAllowed links core (Puts i) = Unit {0}
+TakesAllowed links core Alone = Unit {0}
 
 -- the meal of a site that eats, by the whole lists
 abbrev pub meal_of : SeenPlan → ℕ → LocalState → Option SeenMeal
@@ -75,22 +79,17 @@ without_next links n = slice_set links n (drop 1 (letters_in links n))
 abbrev pub PutsAt : SeenPlan → LocalState → SeenCore → ℕ → Step → List (List Letter) → List (List Letter) → Type 0
 PutsAt plan state core i one old new = (l : Letter) × (after plan core.site state one ≡ with_put i l state) × (new ≡ with_letter old (link_from core.site (place_at core i)) l)
 
--- what the step does to the links
-abbrev pub MovesLetters : SeenPlan → LocalState → SeenCore → EventKind → Step → List (List Letter) → List (List Letter) → Type 0
-MovesLetters plan state core (event.Take i) one old new = new ≡ without_next old (link_to core.site (place_at core i))
-MovesLetters plan state core (event.Give i) one old new = PutsAt plan state core i one old new
-MovesLetters plan state core event.End one old new = new ≡ old
-MovesLetters plan state core event.Begin one old new = new ≡ old
-MovesLetters plan state core event.Hungry one old new = new ≡ old
-MovesLetters plan state core (event.Ask i) one old new = PutsAt plan state core i one old new
-MovesLetters plan state core (event.Done i) one old new = PutsAt plan state core i one old new
-MovesLetters plan state core (event.Close i) one old new = PutsAt plan state core i one old new
+-- what a step of this shape does to the links
+abbrev pub MovesLetters : SeenPlan → LocalState → SeenCore → Shape → Step → List (List Letter) → List (List Letter) → Type 0
+MovesLetters plan state core (Takes i) one old new = new ≡ without_next old (link_to core.site (place_at core i))
+MovesLetters plan state core (Puts i) one old new = PutsAt plan state core i one old new
+MovesLetters plan state core Alone one old new = new ≡ old
 
 -- The site did the step: it stands for the state after it, and the letter went over the link.
 pub record SiteStep (plan : SeenPlan) (state : LocalState) (kind : EventKind) (one : Step) (old new : WorldSite) (links new_links : List (List Letter)) : Type 0 where
   pub site : new.core.site ≡ old.core.site
   pub stands : IsSiteOf plan (after plan old.core.site state one) new
-  pub letters : MovesLetters plan state old.core kind one links new_links
+  pub letters : MovesLetters plan state old.core (shape_of kind) one links new_links
 
 -- so it is for each state that keeps the streams and for which the site stands
 abbrev pub SiteSteps : EventKind → WorldSite → WorldSite → List (List Letter) → List (List Letter) → Type 0
@@ -101,19 +100,14 @@ SiteSteps kind old new links new_links = (plan : SeenPlan) (state : LocalState) 
 abbrev pub HasOwnMeal : WorldSite → Type 0
 HasOwnMeal world_site = MatchOption world_site.meal (is_eating world_site.core.phase ≡ false) (λ meal. (is_eating world_site.core.phase ≡ true) × IsMealOf world_site.core meal)
 
--- there is room in the link that leads away at place i, and at the place where the event puts a letter
+-- there is room in the link that leads away at place i, and where a letter is put
 abbrev pub HasRoomAt : List (List Letter) → SeenCore → ℕ → Type 0
 HasRoomAt links core i = (link_from core.site (place_at core i) < length links) × (length (letters_in links (link_from core.site (place_at core i))) < 4)
 
-abbrev pub HasRoomFor : List (List Letter) → SeenCore → EventKind → Type 0
-HasRoomFor links core (event.Take i) = Unit {0}
-HasRoomFor links core (event.Give i) = HasRoomAt links core i
-HasRoomFor links core event.End = Unit {0}
-HasRoomFor links core event.Begin = Unit {0}
-HasRoomFor links core event.Hungry = Unit {0}
-HasRoomFor links core (event.Ask i) = HasRoomAt links core i
-HasRoomFor links core (event.Done i) = HasRoomAt links core i
-HasRoomFor links core (event.Close i) = HasRoomAt links core i
+abbrev pub HasRoomFor : List (List Letter) → SeenCore → Shape → Type 0
+HasRoomFor links core (Takes i) = Unit {0}
+HasRoomFor links core (Puts i) = HasRoomAt links core i
+HasRoomFor links core Alone = Unit {0}
 
 -- the site does not eat, and there is no meal
 pub record IsAwake (world_site : WorldSite) : Type 0 where

@@ -1,5 +1,5 @@
 -- The world as contracts see it, and the states of whole lists that it stands for.
-use Rattle.std.specs.Prelude.{◌≡◌, ℕ, ◌+◌, ◌*◌, ◌<◌, ◌==◌, Bool, false, List, length, map, slice_get, slice_index_or, Option, Some, None, if◌then◌else◌}
+use Rattle.std.specs.Prelude.{◌≡◌, ℕ, ◌*◌, ◌<◌, Bool, false, List, length, map, slice_get, slice_index_or, Option, Some, None}
 use Rattle.std.specs.List.{range_with_len}
 use Rattle.dine_token.specs.Fork.{SeenFork}
 use Rattle.dine_plan.specs.Plan.{SeenPlan, IsPlan, site_count, edge_count, edges_of, lo_of, hi_of}
@@ -12,6 +12,7 @@ use Rattle.dine_rules.specs.Local.{edge_at}
 use Rattle.dine_rules.specs.Steps.{fork_with}
 use Rattle.dine_rules.specs.World.{WorldState, Reaches, state_of, place_of, world_after}
 use Rattle.dine_rules.specs.Links.{queue_to}
+use Rattle.dine_core.specs.LinkNumbers.{link_number_to}
 use Rattle.dine_core.specs.WorldSites.{IsSiteOf, can_do, letters_in}
 use Rattle.dine_rules.specs.Precedence.{fork_log}
 use Rattle.dine_rules.specs.Bound.{bound_of}
@@ -26,7 +27,7 @@ pub record SeenWorld : Type 0 where
 
 -- the number of the link to a site at place i
 abbrev pub number_to : SeenPlan → ℕ → ℕ → ℕ
-number_to plan s i = 2 * edge_at plan s i + (if lo_of plan (edge_at plan s i) == s then 1 else 0)
+number_to plan s i = link_number_to s (edge_at plan s i) (lo_of plan (edge_at plan s i))
 
 -- each site stands for its state
 pub record SitesStand (plan : SeenPlan) (world : WorldState) (sites : List WorldSite) : Type 0 where

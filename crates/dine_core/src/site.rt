@@ -12,8 +12,7 @@ ghost use Rattle.dine_rules.specs.Holdings.{fork_at, token_at};
 ghost use Rattle.dine_rules.specs.Steps as step;
 ghost use Rattle.dine_rules.specs.Steps.{after};
 ghost use Rattle.dine_core.specs.Core.{SeenCore, StandsFor, forks_in_hand, fresh_forks, fresh_tokens};
-ghost use Rattle.dine_core.specs.Places.{place_at, is_held, can_give, can_ask, can_hunger, can_begin, can_say_done, can_close, is_ready_at, is_over_at, is_closed_at, neighbour_of, OnHere, has_all_said, has_all_closed, breach_at, hungered, asked, gave, begun, ended, said_done, closed, took, forks_of, tokens_of, IsMealOf};
-ghost use Rattle.dine_core.specs.Forks.{hand_of};
+ghost use Rattle.dine_core.specs.Places.{place_at, hand_of, is_held, can_give, can_ask, can_hunger, can_begin, can_say_done, can_close, is_ready_at, is_over_at, is_closed_at, neighbour_of, OnHere, has_all_said, has_all_closed, breach_at, hungered, asked, gave, begun, ended, said_done, closed, took, forks_of, tokens_of, IsMealOf};
 ghost use Rattle.dine_core.specs.LinkNumbers.{link_to, link_from};
 ghost use Rattle.dine_core.specs.Standing.{ForEachState, IsFreshFor, TellsMay, CoreStep, CoreSteps, CorePuts, TellsBreach, AreForksInHand, AreTokensInHand, all_places, has_finished, has_closed};
 

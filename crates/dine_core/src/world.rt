@@ -1,6 +1,6 @@
 //! All sites of a plan in one thread.
 
-ghost use Rattle.std.specs.Prelude.{◌≡◌, IfOk, MatchResult, is_ok, option_map, slice_get, true};
+ghost use Rattle.std.specs.Prelude.{◌≡◌, IfOk, MatchOption, MatchResult, None, Some, is_ok, option_map, slice_get, true};
 
 mod acts;
 mod enabled;
@@ -12,6 +12,7 @@ mod sites;
 #[cfg(test)]
 mod tests;
 
+use crate::site::SiteCore;
 use dine_plan::Plan;
 use dine_rules::Phase;
 pub use dine_rules::{Event, EventKind};
@@ -60,7 +61,8 @@ impl Model for World {
 
 impl World {
     ghost use Rattle.dine_rules.specs.Bound.{bound_of};
-    ghost use Rattle.dine_rules.specs.World.{is_enabled, start};
+    ghost use Rattle.dine_rules.specs.World.{is_enabled, start, state_of};
+    ghost use Rattle.dine_core.specs.Core.{StandsFor};
     ghost use Rattle.dine_core.specs.Worlds.{ForEachWorld, WorldSteps, IsOpened, IsWorldOf, can_happen};
 
     /// The world of the plan before its first event. It takes memory for all that comes, once, and fails where that is refused.
@@ -93,16 +95,16 @@ impl World {
     pub fn phase(&self, site: u32) -> Option<Phase>
         ensures { ForEachWorld self.now (λ plan world. result ≡ option_map (λ state. state.phase) (slice_get world site)) }
     {
-        let world_site = self.sites.get(site as usize)?;
-        Some(world_site.core.phase())
+        let core = self.core(site)?;
+        Some(core.phase())
     }
 
     /// How many meals the site began. None where there is no such site.
     pub fn ate(&self, site: u32) -> Option<u32>
         ensures { ForEachWorld self.now (λ plan world. result ≡ option_map (λ state. state.ate) (slice_get world site)) }
     {
-        let world_site = self.sites.get(site as usize)?;
-        Some(world_site.core.ate())
+        let core = self.core(site)?;
+        Some(core.ate())
     }
 
     /// Does the event. Where it is not enabled it is refused, and the world is unchanged.
@@ -115,6 +117,14 @@ impl World {
         }
         self.happen(event);
         Ok(())
+    }
+
+    // The core of the site. None where there is no such site.
+    fn core(&self, site: u32) -> Option<&SiteCore>
+        ensures { ForEachWorld self.now (λ plan world. MatchOption result (slice_get world site ≡ None) (λ core. (slice_get world site ≡ Some (state_of world site)) × StandsFor plan (state_of world site) core.now)) }
+    {
+        let world_site = self.sites.get(site as usize)?;
+        Some(&world_site.core)
     }
 
     // Does an event that is enabled.

@@ -1,4 +1,4 @@
+pub mod Passes
 pub mod Relays
 pub mod Endings
-pub mod Passes
 pub mod BellSteps

@@ -1,17 +1,26 @@
--- Bells and their ringers, as contracts see them: a ringer is its number, and a bell is its degree, the number of its ringers.
-use Rattle.std.specs.Prelude.{◌≡◌, ℕ}
-use Rattle.crossbeam_channel.specs.Claims.{view, IsSeatAt}
-use Rattle.crossbeam_channel.specs.Ends.{sends_on, receives_on}
-use Rattle.dine_link.specs.declared.bell_rule.Part.TheVariants.{Waits, Rings}
-use Rattle.dine_link.specs.declared.bell.Bell.TheInside.{Inside as InBell}
-use Rattle.dine_link.specs.declared.bell.Ringer.TheInside.{Inside as InRinger}
+-- Bells and their ringers, as contracts see them.
+use Rattle.std.specs.Prelude.{ℕ, ◌+◌, List, [], ◌∷◌, ◌++◌}
 
--- The ringer's pass is one of its channel, and knows the ringer's number.
-pub record IsRinger (ringer : InRinger) : Type 0 where
-  pub seated : IsSeatAt (sends_on ringer.sender) ringer.pass
-  pub knows : view ringer.pass ≡ Rings ringer.number
+-- A ringer: its number, and how often it rang so far.
+pub record SeenRinger : Type 0 where
+  pub number : ℕ
+  pub rings : ℕ
 
--- The bell's pass is one of its channel, and knows how many ringers were made.
-pub record IsBell (bell : InBell) : Type 0 where
-  pub seated : IsSeatAt (receives_on bell.receiver) bell.pass
-  pub knows : view bell.pass ≡ Waits bell.degree
+-- A bell: its degree, which is how many ringers it was opened with, and the numbers that it told so far, in order.
+pub record SeenBell : Type 0 where
+  pub degree : ℕ
+  pub told : List ℕ
+
+-- the ringer of that number before it ever rang, and a ringer after one ring more
+abbrev pub new_ringer : ℕ → SeenRinger
+new_ringer number = record { number = number; rings = 0 }
+
+abbrev pub after_ring : SeenRinger → SeenRinger
+after_ring ringer = record { number = ringer.number; rings = ringer.rings + 1 }
+
+-- the bell of that degree before it told anything, and a bell after it told one number more
+abbrev pub new_bell : ℕ → SeenBell
+new_bell degree = record { degree = degree; told = [] }
+
+abbrev pub after_telling : ℕ → SeenBell → SeenBell
+after_telling number bell = record { degree = bell.degree; told = bell.told ++ number ∷ [] }

@@ -4,6 +4,6 @@ use Rattle.dine_link.specs.declared.lane.TxEnd.TheVariants.{Live, Shut}
 use Rattle.dine_link.specs.Links.{SeenEnd}
 
 -- such an end, by what is seen of one that is live and of one that is shut
-abbrev pub seen_end : {Tx Closed Identity : Type 0} → (Tx → SeenEnd Identity) → (Closed → SeenEnd Identity) → TxEnd Tx Closed → SeenEnd Identity
+abbrev pub seen_end : {L Tx Closed Rx Identity : Type 0} → (Tx → SeenEnd Identity) → (Closed → SeenEnd Identity) → TxEnd L Tx Closed Rx → SeenEnd Identity
 seen_end live shut (Live tx) = live tx
 seen_end live shut (Shut tx) = shut tx

@@ -6,3 +6,4 @@ pub mod Channels
 pub mod Ends
 pub mod BellRule
 pub mod Bells
+pub mod BellFields

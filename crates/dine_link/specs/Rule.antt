@@ -9,14 +9,19 @@ use Rattle.dine_link.specs.declared.rule.Known.{Known}
 abbrev pub known : Bool → Bool → List Letter → List Letter → Known
 known puts takes put taken = record { puts = puts; takes = takes; put = put; taken = taken }
 
--- the pass that may put is one alone, and has the list of all that was put; the same of the pass that may take
-abbrev pub Fits : ℕ → ℕ → List Letter → List Letter → ℕ → Known → Type 0
-Fits writer reader put taken pass view = (view.puts ≡ true → (pass ≡ writer) × (view.put ≡ put)) × (view.takes ≡ true → (pass ≡ reader) × (view.taken ≡ taken))
+-- One pass alone may put, and it has the list of all that was put. The same of the pass that may take.
+pub record Fits (putter taker : ℕ) (put taken : List Letter) (pass : ℕ) (view : Known) : Type 0 where
+  pub puts : view.puts ≡ true → (pass ≡ putter) × (view.put ≡ put)
+  pub takes : view.takes ≡ true → (pass ≡ taker) × (view.taken ≡ taken)
 
 -- At each moment what was put is what was taken and then what the channel holds, oldest first, and each pass fits these lists.
-abbrev pub IsInOrder : List Letter → List Known → Type 0
-IsInOrder queue views = (writer : ℕ) × (reader : ℕ) × (put : List Letter) × (taken : List Letter) × (put ≡ taken ++ queue)
-    × ((pass : ℕ) (view : Known) → get_elem? views pass ≡ some view → Fits writer reader put taken pass view)
+pub record IsInOrder (queue : List Letter) (views : List Known) : Type 0 where
+  pub putter : ℕ
+  pub taker : ℕ
+  pub put : List Letter
+  pub taken : List Letter
+  pub in_order : put ≡ taken ++ queue
+  pub fits : (pass : ℕ) (view : Known) → get_elem? views pass ≡ some view → Fits putter taker put taken pass view
 
 -- the pass that may do both, before any letter; and one that may do nothing
 abbrev pub fresh : Known

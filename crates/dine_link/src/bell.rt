@@ -1,9 +1,10 @@
 // A bell: one waits, and some ring, each with a number of its own.
-ghost use Rattle.std.specs.Prelude.{◌≡◌, ◌<◌, IfOk};
+ghost use Rattle.std.specs.Prelude.{◌≡◌, ◌<◌, [], IfOk, MatchResult, map};
 ghost use Rattle.std.specs.List.{range_with_len};
 ghost use Rattle.crossbeam_channel.specs.Claims.{view, IsSeatAt};
 ghost use Rattle.crossbeam_channel.specs.Ends.{sends_on};
 ghost use Rattle.dine_link.specs.BellRule.{no_ringers};
+ghost use Rattle.dine_link.specs.Bells.{new_ringer, after_ring, new_bell, after_telling};
 ghost use Rattle.dine_link.specs.declared.bell_rule.Part.TheVariants.{Waits};
 
 #[cfg(test)]
@@ -17,10 +18,10 @@ use std::alloc::{AllocError, Global};
 use std::marker::Model;
 use std::sync::Wait;
 
-// How many rings of each ringer a bell holds that were not yet heard, if all ring as often.
+// How many rings that were not yet told a bell has room for, for each ringer.
 const RINGS_EACH: usize = 4;
 
-/// Rings one bell, with a number of its own. Contracts see the number.
+/// Rings one bell, with a number of its own. Contracts see the number, and how often it rang.
 #[derive(Drop)]
 pub struct Ringer {
     number: u32,
@@ -29,18 +30,19 @@ pub struct Ringer {
 }
 
 impl Model for Ringer {
-    ghost use Rattle.std.specs.Prelude.{ℕ};
+    ghost use Rattle.dine_link.specs.Bells.{SeenRinger};
 
-    ghost Value = { ℕ };
+    ghost Value = { SeenRinger };
 
-    ghost use Rattle.dine_link.specs.Bells.{IsRinger};
+    ghost use Rattle.dine_link.specs.BellFields.{seen_ringer, IsRinger};
 
-    ghost view = { λ ringer. ringer.number };
+    ghost view = { seen_ringer };
 
     ghost invariant = { IsRinger };
 }
 
-/// Tells the numbers of the ringers that rang. Contracts see its degree, which is how many ringers it was opened with.
+/// Tells the numbers of the ringers that rang. Contracts see its degree, which is how many ringers it was opened with, and
+/// the numbers that it told.
 #[derive(Drop)]
 pub struct Bell {
     degree: u32,
@@ -49,30 +51,29 @@ pub struct Bell {
 }
 
 impl Model for Bell {
-    ghost use Rattle.std.specs.Prelude.{ℕ};
+    ghost use Rattle.dine_link.specs.Bells.{SeenBell};
 
-    ghost Value = { ℕ };
+    ghost Value = { SeenBell };
 
-    ghost use Rattle.dine_link.specs.Bells.{IsBell};
+    ghost use Rattle.dine_link.specs.BellFields.{seen_bell, IsBell};
 
-    ghost view = { λ bell. bell.degree };
+    ghost view = { seen_bell };
 
     ghost invariant = { IsBell };
 }
 
 impl Bell {
-    /// A bell of `degree` ringers and these, in the order of their numbers from 0. Nobody has rung. The bell holds four
-    /// times as many rings as there are ringers, and at least one. With no ringers nobody can ring it.
+    /// A bell of `degree` ringers and these, in the order of their numbers from 0. Nobody has rung. The bell has room for
+    /// four times as many rings as there are ringers, and for at least one. Without ringers nobody can ring it.
     ///
     /// Fails where memory is refused.
     pub fn open(alloc: Global, degree: u32) -> Result<(Vec<Ringer>, Bell), LinkFault>
-        ensures ringers { IfOk result (λ opened. opened.0.items ≡ range_with_len 0 degree) }
-        ensures bell { IfOk result (λ opened. opened.1 ≡ degree) }
+        ensures ringers { IfOk result (λ opened. opened.0.items ≡ map new_ringer (range_with_len 0 degree)) }
+        ensures bell { IfOk result (λ opened. opened.1 ≡ new_bell degree) }
     {
         let capacity = (RINGS_EACH * degree as usize).max(1);
         let Ok((sender, receiver, mut pass)) = bounded_with::<u32, Part, OfRingers, Global>(
-            alloc,
-            capacity,
+            alloc, capacity,
         ) else {
             return Err(LinkFault::Memory);
         };
@@ -87,13 +88,13 @@ impl Bell {
         Ok((ringers, bell))
     }
 
-    /// The number of a ringer that rang, which is below the degree; each ring is told once. It may wait, where no ring is
-    /// left to tell.
+    /// Tells the number of a ringer that rang, which is below the degree. Each ring is told once. It may wait, where no
+    /// ring is left to tell.
     ///
     /// Fails where the channel beneath refuses, and then no ring was taken from the bell.
     pub fn wait<R: Wait>(&mut self, rt: &R) -> Result<u32, Lost>
-        ensures below { IfOk result (λ number. number < self.new) }
-        ensures same { self.new ≡ self.old }
+        ensures below { IfOk result (λ number. number < self.new.degree) }
+        ensures told { MatchResult result (λ number. self.new ≡ after_telling number self.old) (λ _. self.new ≡ self.old) }
     {
         let heard = waiting::receive::<u32, Part, OfRingers, Hears, R>(
             rt,
@@ -114,8 +115,8 @@ fn make_ringers(
     requires seated { IsSeatAt (sends_on sender.now) pass.old }
     requires first { view pass.old ≡ no_ringers }
     ensures seated { IsSeatAt (sends_on sender.now) pass.new }
-    ensures knows { IfOk result (λ _. view pass.new ≡ Waits degree) }
-    ensures numbers { IfOk result (λ ringers. ringers.items ≡ range_with_len 0 degree) }
+    ensures knows { IfOk result (λ _. view pass.new ≡ Waits degree []) }
+    ensures ringers { IfOk result (λ ringers. ringers.items ≡ map new_ringer (range_with_len 0 degree)) }
 {
     let mut ringers = Vec::with_capacity(alloc, degree as usize)?;
     for number in 0..degree {
@@ -135,7 +136,7 @@ impl Ringer {
     ///
     /// Fails where the channel beneath refuses, and then the bell was not rung.
     pub fn ring<R: Wait>(&mut self, rt: &R) -> Result<(), Lost>
-        ensures same { self.new ≡ self.old }
+        ensures { MatchResult result (λ _. self.new ≡ after_ring self.old) (λ _. self.new ≡ self.old) }
     {
         let rung = waiting::send::<u32, Part, OfRingers, Sounds, R>(
             rt,

@@ -1,13 +1,14 @@
 // The rule of a bell's channel, and the steps that its passes may do. A pass is a token without bytes, and what it knows
 // exists in proofs alone.
 use crossbeam_channel::protocol::{Lesson, Outcome, Protocol, Split};
+use std::collections::LinkedList;
 
 // What a pass knows. No value of it is made.
 pub enum Part {
-    // That of the bell: how many ringers there are.
-    Waits(u32),
-    // That of a ringer: its number.
-    Rings(u32),
+    // That of the bell: how many ringers there are, and the numbers that it told so far.
+    Waits(u32, LinkedList<u32>),
+    // That of a ringer: its number, and how often it rang so far.
+    Rings(u32, u64),
 }
 
 // Each number in the channel is that of a ringer.
@@ -37,9 +38,9 @@ pub struct Sounds;
 
 impl Outcome<u32, Part> for Sounds {
     ghost use Rattle.std.specs.Prelude.{◌≡◌};
-    ghost use Rattle.dine_link.specs.declared.bell_rule.Part.TheVariants.{Rings};
+    ghost use Rattle.dine_link.specs.BellRule.{IsOfRinger, after_sound};
 
-    ghost then = { λ before number after. (before ≡ Rings number) × (after ≡ before) };
+    ghost then = { λ before number after. IsOfRinger number before × (after ≡ after_sound before) };
 }
 
 impl Lesson<u32, Part> for Sounds {
@@ -48,14 +49,14 @@ impl Lesson<u32, Part> for Sounds {
     ghost fact = { λ view queue. ⊤ };
 }
 
-// The bell receives a number below that of the ringers.
+// The bell receives the number of a ringer.
 pub struct Hears;
 
 impl Outcome<u32, Part> for Hears {
-    ghost use Rattle.std.specs.Prelude.{◌≡◌, ◌<◌, ℕ};
-    ghost use Rattle.dine_link.specs.declared.bell_rule.Part.TheVariants.{Waits};
+    ghost use Rattle.std.specs.Prelude.{◌≡◌};
+    ghost use Rattle.dine_link.specs.BellRule.{IsKnown, after_hearing};
 
-    ghost then = { λ before number after. ((ringers : ℕ) → before ≡ Waits ringers → number < ringers) × (after ≡ before) };
+    ghost then = { λ before number after. IsKnown number before × (after ≡ after_hearing before number) };
 }
 
 impl Lesson<u32, Part> for Hears {

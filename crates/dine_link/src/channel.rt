@@ -206,7 +206,7 @@ impl Lane for ChannelLane {
         rx.closed
     }
 
-    fn reconcile(tx: TxEnd<ChannelTx, ChannelClosedTx>, rx: ChannelRx) -> LinkEnd
+    fn reconcile(tx: TxEnd<ChannelLane>, rx: ChannelRx) -> LinkEnd
         requires pair { (channels.seen_rx rx).link ≡ (seen_end channels.seen_tx channels.seen_closed tx).link }
         ensures lists { result ≡ link_of (seen_end channels.seen_tx channels.seen_closed tx) (channels.seen_rx rx) }
         ensures prefix { IsLink result }

@@ -1,7 +1,7 @@
-// Why a step of a link was refused.
+// Why a step of a link or of a bell was refused.
 use thiserror::Error;
 
-/// Why a link could not be made.
+/// Why a link or a bell could not be made.
 #[derive(Clone, Copy, Debug, PartialEq, Eq, Error)]
 pub enum LinkFault {
     /// Memory ran out.
@@ -9,7 +9,7 @@ pub enum LinkFault {
     Memory,
 }
 
-/// The link refused the step: the other end is gone. The caller's own end is as it was.
+/// The link or the bell refused the step: the other end is gone. The caller's own end is as it was.
 #[derive(Clone, Copy, Debug, PartialEq, Eq, Error)]
 #[error("the other end of the link is gone")]
 pub struct Lost;

@@ -15,11 +15,11 @@ use std::sync::Wait;
 
 /// The end of a link that letters are put in, closed or not.
 #[derive(Drop)]
-pub enum TxEnd<Tx, ClosedTx> {
+pub enum TxEnd<L: Lane> {
     /// More letters may be put in it.
-    Live(Tx),
+    Live(L::Tx),
     /// Close was put in it.
-    Shut(ClosedTx),
+    Shut(L::ClosedTx),
 }
 
 /// A kind of links. A link has two ends, which may be in two threads: what is put in the one is taken from the other, in
@@ -81,7 +81,7 @@ pub trait Lane: Send {
 
     /// Brings the two ends of one link together: what was taken is a prefix of what was put, and all of it where Close
     /// was taken. Nothing was put behind Close.
-    fn reconcile(tx: TxEnd<Self::Tx, Self::ClosedTx>, rx: Self::Rx) -> LinkEnd
+    fn reconcile(tx: TxEnd<Self>, rx: Self::Rx) -> LinkEnd
         requires pair { (seen_rx rx).link ≡ (seen_end seen_tx seen_closed tx).link }
         ensures lists { result ≡ link_of (seen_end seen_tx seen_closed tx) (seen_rx rx) }
         ensures prefix { IsLink result }

@@ -1,4 +1,4 @@
-//! Links: letters in order from one site to one other, whichever threads these run in.
+//! Links: letters in order from one site to one other, whichever threads these run in. Bells: who put one.
 #![tactic(auto)]
 
 mod bell;

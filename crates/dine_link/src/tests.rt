@@ -58,7 +58,7 @@ fn requests(alloc: Global, count: u32) -> Result<Vec<Letter>, AllocError>
 #[test]
 fn two_threads_pass_requests_in_order(rt: HostRuntime) -> Result<(), Fail> {
     let letters = requests(rt.alloc(), 2000)?;
-    let (end, taken) = exchange::<ChannelLane, HostRuntime>(rt, rt.alloc(), letters, 2000)?;
+    let (end, taken) = exchange::<ChannelLane, HostRuntime>(rt, rt.alloc(), letters, false, 2000)?;
     assert_eq!(rt; taken.len(), 2000);
     for (edge, letter) in (0..2000).zip(taken) {
         let Letter::Request(token) = letter else {
@@ -100,7 +100,7 @@ fn sent_forks(alloc: Global, count: u32) -> Result<Vec<Letter>, AllocError>
 #[test]
 fn two_threads_pass_forks_with_their_logs(rt: HostRuntime) -> Result<(), Fail> {
     let letters = sent_forks(rt.alloc(), 200)?;
-    let (end, taken) = exchange::<ChannelLane, HostRuntime>(rt, rt.alloc(), letters, 200)?;
+    let (end, taken) = exchange::<ChannelLane, HostRuntime>(rt, rt.alloc(), letters, false, 200)?;
     assert_eq!(rt; taken.len(), 200);
     for (edge, letter) in (0..200).zip(taken) {
         let Letter::Fork(fork) = letter else {
@@ -113,11 +113,21 @@ fn two_threads_pass_forks_with_their_logs(rt: HostRuntime) -> Result<(), Fail> {
     Ok(())
 }
 
+#[test]
+fn two_threads_close_a_link(rt: HostRuntime) -> Result<(), Fail> {
+    let letters = requests(rt.alloc(), 20)?;
+    let (end, taken) = exchange::<ChannelLane, HostRuntime>(rt, rt.alloc(), letters, true, 21)?;
+    let last = taken.last().map(|letter| letter.kind());
+    assert_eq!(rt; last, Some(Kind4::Close));
+    assert_eq!(rt; (end.put(), end.taken(), end.shut()), (21, 21, true));
+    Ok(())
+}
+
 // What is left in a link is dropped with its LinkEnd, and counts as put alone.
 #[test]
 fn letters_left_are_not_taken(rt: HostRuntime) -> Result<(), Fail> {
     let letters = requests(rt.alloc(), 3)?;
-    let (end, taken) = exchange::<ChannelLane, HostRuntime>(rt, rt.alloc(), letters, 1)?;
+    let (end, taken) = exchange::<ChannelLane, HostRuntime>(rt, rt.alloc(), letters, false, 1)?;
     assert_eq!(rt;
         (taken.len(), end.put(), end.taken(), end.shut()),
         (1, 3, 1, false)

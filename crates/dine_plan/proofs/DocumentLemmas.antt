@@ -2,7 +2,7 @@
 use Rattle.std.proofs.Common.{◌≡◌, ℕ, ◌<◌, Bool, List, [], ◌∷◌, map, length, get_or, take, arith, Option, Some, String, Global, string_bytes, refl, sym, ap, ◌∙◌}
 use Rattle.std.specs.List.{list_any, list_all, position}
 use Rattle.std.specs.Str.{bytes_eq}
-use Rattle.std.proofs.lemmas.List.{get_or-map, take-map}
+use Rattle.std.proofs.lemmas.List.{get_or-map, take-map, length-map}
 use Rattle.std.proofs.lemmas.List.Folds.{list_all-map}
 use Rattle.std.specs.Map.{keys_of as map_keys}
 use Rattle.toml.specs.Data.{Data, as_array}
@@ -10,7 +10,7 @@ use Rattle.toml.specs.View.{view, items_of, items_view, members_view}
 use Rattle.toml.specs.declared.value.Value.{Value}
 use Rattle.dine_plan.specs.Document.{list_of, keys_of, items_in, name_in}
 use Rattle.dine_plan.specs.Refusals.{stands_before}
-use Rattle.dine_plan.proofs.ListLemmas.{list_any-map, length-map, position-map}
+use Rattle.dine_plan.proofs.ListLemmas.{list_any-map, position-map}
 
 pub list_of-items_of : (ds : List Data) → list_of (items_of ds) ≡ ds
 list_of-items_of [] = refl
@@ -38,11 +38,11 @@ abbrev pub names_seen : List Value → List (List ℕ)
 names_seen vs = map name_in (map view vs)
 
 pub length-names_seen : (vs : List Value) → length (names_seen vs) ≡ length vs
-length-names_seen vs = length-map name_in (map view vs) ∙ length-map view vs
+length-names_seen vs = length-map (map view vs) name_in ∙ length-map vs view
 
 pub names_seen-at : (vs : List Value) (i : ℕ) (v : Value) → i < length vs → v ≡ get_or vs i v → get_or (names_seen vs) i [] ≡ name_in (view v)
 names_seen-at vs i v within is =
-    let long : length (map view vs) ≡ length vs = length-map view vs in
+    let long : length (map view vs) ≡ length vs = length-map vs view in
     get_or-map name_in (map view vs) i (view v) [] (omega arith) ∙ ap name_in (get_or-map view vs i v (view v) within ∙ ap view (sym is))
 
 pub names_seen-take : (vs : List Value) (i : ℕ) → take i (names_seen vs) ≡ names_seen (take i vs)

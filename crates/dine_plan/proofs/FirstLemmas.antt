@@ -7,12 +7,12 @@ use Rattle.std.proofs.lemmas.Option.{same_Some}
 use Rattle.std.proofs.lemmas.List.Quantifiers.{position-Some}
 use Rattle.std.proofs.lemmas.List.Sums.{fails_before_first}
 use Rattle.std.proofs.lemmas.List.FromFn.{length-range_with_len, get_or-range_with_len}
+use Rattle.std.proofs.lemmas.List.{length-map}
 use Rattle.toml.specs.Data.{Data}
 use Rattle.dine_plan.specs.Document.{sites_in, edges_in}
 use Rattle.dine_plan.specs.Fault.{number_of_fault, position_of_fault}
 use Rattle.dine_plan.specs.Refuses.{no_table, PassesAt, Refuses, IsFirst, site_names, joined_pairs}
 use Rattle.dine_plan.specs.Refusals.{first_some, first_refusal, first_twice, stands_before, form_refusals, graph_refusals, site_refusals, end_refusals, pair_refusals, on, refuses_version, refuses_unknown_key, refuses_missing_key, refuses_wrong_kind, has_bad_name, has_many_jobs, has_many_turns, has_unknown_end, joined_by, is_loop, same_ends}
-use Rattle.dine_plan.proofs.ListLemmas.{length-map}
 use Rattle.dine_plan.specs.declared.faults.PlanFault.{PlanFault}
 use Rattle.dine_plan.specs.declared.faults.PlanFault.TheVariants.{NotToml, Version, UnknownKey, MissingKey, WrongKind, BadName, SiteTwice, NoSite, TooManySites, TooManyJobs, TurnsTooLarge, UnknownEnd, Loop, EdgeTwice, TooManyEdges, Memory}
 
@@ -79,12 +79,12 @@ from_map doc fault f n (Some i) numbered holds h = subst (Describes doc n) (same
 -- there are as many pairs as edges
 many_edges : (doc : Data) → 512 < length (joined_pairs doc) → 512 < length (edges_in doc)
 many_edges doc h =
-    let same = length-map (joined_by (site_names doc)) (edges_in doc) in
+    let same = length-map (edges_in doc) (joined_by (site_names doc)) in
     omega arith
 
 many_joined : (doc : Data) → 512 < length (edges_in doc) → 512 < length (joined_pairs doc)
 many_joined doc h =
-    let same = length-map (joined_by (site_names doc)) (edges_in doc) in
+    let same = length-map (edges_in doc) (joined_by (site_names doc)) in
     omega arith
 
 entry_holds : (doc : Data) (k : ℕ) (f : PlanFault) → slice_get (entries doc) k ≡ Some (Some f) → Describes doc (k + 2) f

@@ -1,10 +1,10 @@
 -- What is not refused is a plan.
-use Rattle.std.proofs.Common.{◌≡◌, ◌≢◌, ℕ, ◌-◌, ◌<◌, ◌≤◌, ◌==◌, nat_lt, Bool, true, false, not, ◌||◌, min, max, List, [], ◌++◌, map, length, get_or, Option, Some, None, option_map, refl, sym, ap, subst, ◌∙◌, arith}
+use Rattle.std.proofs.Common.{◌≡◌, ◌≢◌, ℕ, ◌-◌, ◌<◌, ◌≤◌, ◌==◌, nat_lt, Bool, true, false, min, max, List, [], ◌++◌, map, length, get_or, Option, Some, None, option_map, refl, sym, ap, subst, ◌∙◌, arith}
 use Rattle.std.specs.List.{position}
 use Rattle.std.specs.Option.{option_or}
 use Rattle.std.specs.Str.{bytes_eq}
-use Rattle.std.proofs.lemmas.Bool.{false≢true, ltb-false, eqb-false, eq-eqb}
-use Rattle.std.proofs.lemmas.List.{get_or-map, ext_get_or}
+use Rattle.std.proofs.lemmas.Bool.{false≢true, ltb-false, eqb-false, eq-eqb, or_parts, not-false}
+use Rattle.std.proofs.lemmas.List.{get_or-map, ext_get_or, length-map}
 use Rattle.std.proofs.lemmas.Slice.Eq.{bytes_eq-Decides}
 use Rattle.toml.specs.Data.{Data, Members, boolean, table}
 use Rattle.toml.specs.Parse.{parse_document}
@@ -13,7 +13,7 @@ use Rattle.dine_plan.specs.Document.{sites_in, edges_in, jobs_in, name_in, turns
 use Rattle.dine_plan.specs.PlanOf.{job_in, site_in, ends_in, number_of, plan_in}
 use Rattle.dine_plan.specs.Refusals.{first_some, first_refusal, fault_of, first_fault, graph_refusals, form_refusals, on, site_refusals, end_refusals, pair_refusals, first_twice, same_ends, has_bad_name, has_many_jobs, has_many_turns, is_unnamed, is_unknown, has_unknown_end, joined_by, is_loop}
 use Rattle.dine_plan.specs.declared.faults.PlanFault.{PlanFault}
-use Rattle.dine_plan.proofs.ListLemmas.{length-map, position_none_at, list_any_false_at, position_within, first_twice_none_apart, first_some-append}
+use Rattle.dine_plan.proofs.ListLemmas.{position_none_at, list_any_false_at, position_within, first_twice_none_apart, first_some-append}
 
 option_or_none : {A : Type 0} (a b : Option A) → option_or a b ≡ None → (a ≡ None) × (b ≡ None)
 option_or_none None b h = (refl, h)
@@ -26,14 +26,6 @@ option_map_none f (Some x) h = absurd (let no : Some (f x) ≡ None = h in cc)
 on_none : (b : Bool) (fault : PlanFault) → on b fault ≡ None → b ≡ false
 on_none true fault h = absurd (let no : Some fault ≡ None = h in cc)
 on_none false fault h = refl
-
-or_false : (a b : Bool) → (a || b) ≡ false → (a ≡ false) × (b ≡ false)
-or_false true b h = absurd (false≢true (sym h))
-or_false false b h = (refl, h)
-
-not_false : (b : Bool) → not b ≡ false → b ≡ true
-not_false true h = refl
-not_false false h = absurd (false≢true (sym h))
 
 -- what holds of sites that are not refused
 pub record AreSites (sites : List Data) : Type 0 where
@@ -115,30 +107,30 @@ name-job_in job = refl
 
 site_few_jobs : (site : Data) → has_many_jobs site ≡ false → length (site_in site).jobs ≤ 1000
 unfolding has_many_jobs
-site_few_jobs site h = rw (jobs-site_in site, length-map job_in (jobs_in site)) (ltb-false 1000 (length (jobs_in site)) h)
+site_few_jobs site h = rw (jobs-site_in site, length-map (jobs_in site) job_in) (ltb-false 1000 (length (jobs_in site)) h)
 
 site_few_turns : (site : Data) (k : ℕ) → has_many_turns site ≡ false → 1 ≤ k → k ≤ length (site_in site).jobs → (get_or (site_in site).jobs (k - 1) no_job).turns ≤ 1000000
 unfolding has_many_turns
 site_few_turns site k h low high =
     let jobs = jobs_in site in
     let large : Data → Bool = λ job. nat_lt 1000000 (turns_in job) in
-    let count : length (site_in site).jobs ≡ length jobs = rw (jobs-site_in site) (length-map job_in jobs) in
+    let count : length (site_in site).jobs ≡ length jobs = rw (jobs-site_in site) (length-map jobs job_in) in
     let within : k - 1 < length jobs = omega arith in
     rw (jobs-site_in site, job_at jobs (k - 1) within, turns-job_in (get_or jobs (k - 1) no_data))
     (ltb-false 1000000 _ (list_any_false_at large jobs (k - 1) no_data h within))
 
 site_named : (site : Data) → has_bad_name site ≡ false → is_name (site_in site).name ≡ true
 unfolding has_bad_name
-site_named site h = rw (name-site_in site) (not_false (is_name (name_in site)) (or_false _ _ h).0)
+site_named site h = rw (name-site_in site) (not-false (is_name (name_in site)) (or_parts _ _ h).0)
 
 site_jobs_named : (site : Data) (k : ℕ) → has_bad_name site ≡ false → 1 ≤ k → k ≤ length (site_in site).jobs → is_name (get_or (site_in site).jobs (k - 1) no_job).name ≡ true
 unfolding has_bad_name
 site_jobs_named site k h low high =
     let jobs = jobs_in site in
-    let count : length (site_in site).jobs ≡ length jobs = rw (jobs-site_in site) (length-map job_in jobs) in
+    let count : length (site_in site).jobs ≡ length jobs = rw (jobs-site_in site) (length-map jobs job_in) in
     let within : k - 1 < length jobs = omega arith in
     rw (jobs-site_in site, job_at jobs (k - 1) within, name-job_in (get_or jobs (k - 1) no_data))
-    (not_false _ (list_any_false_at is_unnamed jobs (k - 1) no_data (or_false _ _ h).1 within))
+    (not-false _ (list_any_false_at is_unnamed jobs (k - 1) no_data (or_parts _ _ h).1 within))
 
 name_at : (sites : List Data) (s : ℕ) → s < length sites → (get_or (map site_in sites) s no_site).name ≡ get_or (map name_in sites) s []
 name_at sites s within =
@@ -150,7 +142,7 @@ same_bytes a b same = (bytes_eq-Decides b a).1 (sym same)
 names_apart : (sites : List Data) (s t : ℕ) → first_twice bytes_eq [] (map name_in sites) ≡ None → s < t → t < length sites → (get_or (map site_in sites) s no_site).name ≢ (get_or (map site_in sites) t no_site).name
 names_apart sites s t apart before within same =
     let names = map name_in sites in
-    let long : length names ≡ length sites = length-map name_in sites in
+    let long : length names ≡ length sites = length-map sites name_in in
     let equal : get_or names s [] ≡ get_or names t [] = sym (name_at sites s (omega arith)) ∙ same ∙ name_at sites t within in
     false≢true (sym (first_twice_none_apart bytes_eq [] names s t apart before (omega arith)) ∙ same_bytes _ _ equal)
 
@@ -170,12 +162,12 @@ ends_ordered names edge known h =
     omega arith
 
 known_within : (names : List (List ℕ)) (name : List ℕ) → is_unknown names name ≡ false → number_of names name < length names
-known_within names name h = position_within (bytes_eq name) names (not_false _ h)
+known_within names name h = position_within (bytes_eq name) names (not-false _ h)
 
 ends_within : (names : List (List ℕ)) (edge : Data) → has_unknown_end names edge ≡ false → (ends_in names edge).1 < length names
 unfolding ends_in has_unknown_end
 ends_within names edge h =
-    let parts = or_false _ _ h in
+    let parts = or_parts _ _ h in
     let a = known_within names (end_in 0 edge) parts.0 in
     let b = known_within names (end_in 1 edge) parts.1 in
     omega arith
@@ -187,9 +179,9 @@ same_pair a b same = rw (eq-eqb b.0 a.0 (ap (λ p. p.0) (sym same)), eq-eqb b.1 
 pub join_known : (names : List (List ℕ)) (edges : List Data) → position (has_unknown_end names) edges ≡ None → map (joined_by names) edges ≡ map Some (map (ends_in names) edges)
 join_known names edges known =
     let ends = map (ends_in names) edges in
-    let long : length ends ≡ length edges = length-map (ends_in names) edges in
-    let joined : length (map (joined_by names) edges) ≡ length edges = length-map (joined_by names) edges in
-    let pairs : length (map Some ends) ≡ length ends = length-map Some ends in
+    let long : length ends ≡ length edges = length-map edges (ends_in names) in
+    let joined : length (map (joined_by names) edges) ≡ length edges = length-map edges (joined_by names) in
+    let pairs : length (map Some ends) ≡ length ends = length-map ends Some in
     ext_get_or None _ _ (omega arith)
     (λ i h.
     let within : i < length edges = omega arith in
@@ -202,21 +194,21 @@ join_known names edges known =
 
 pairs_apart : (pairs : List (ℕ × ℕ)) (e f : ℕ) → first_twice same_ends None (map Some pairs) ≡ None → e < f → f < length pairs → get_or pairs e (0, 0) ≢ get_or pairs f (0, 0)
 pairs_apart pairs e f apart before within same =
-    let long : length (map Some pairs) ≡ length pairs = length-map Some pairs in
+    let long : length (map Some pairs) ≡ length pairs = length-map pairs Some in
     false≢true (sym (rw (get_or-map Some pairs e (0, 0) None (omega arith), get_or-map Some pairs f (0, 0) None within) at (first_twice_none_apart same_ends None (map Some pairs) e f apart before (omega arith))) ∙ same_pair _ _ same)
 
 -- sites, ends and pairs that are not refused make a plan
 pub is_plan : (sites edges : List Data) → AreSites sites → AreEnds (map name_in sites) edges → ArePairs (map (joined_by (map name_in sites)) edges) → IsPlan (plan_in sites edges)
 is_plan sites edges are ends pairs =
     let names = map name_in sites in
-    let count : length (map site_in sites) ≡ length sites = length-map site_in sites in
-    let named : length names ≡ length sites = length-map name_in sites in
-    let edge_count : length (map (ends_in names) edges) ≡ length edges = length-map (ends_in names) edges in
+    let count : length (map site_in sites) ≡ length sites = length-map sites site_in in
+    let named : length names ≡ length sites = length-map sites name_in in
+    let edge_count : length (map (ends_in names) edges) ≡ length edges = length-map edges (ends_in names) in
     let at : (e : ℕ) → e < length edges → get_or (map (ends_in names) edges) e (0, 0) ≡ ends_in names (get_or edges e no_data) = λ e h. get_or-map (ends_in names) edges e no_data (0, 0) h in
     let some = eqb-false _ _ are.some in
     let few = ltb-false 64 _ are.few in
     let few_edges = ltb-false 512 _ pairs.few in
-    let joined : length (map (joined_by names) edges) ≡ length edges = length-map (joined_by names) edges in
+    let joined : length (map (joined_by names) edges) ≡ length edges = length-map edges (joined_by names) in
     let in_sites : (s : ℕ) → s < length (map site_in sites) → s < length sites = λ s h. omega arith in
     record {
       has_site = omega arith;

@@ -3,7 +3,7 @@ use Rattle.std.proofs.Common.{◌≡◌, ℕ, zero, suc, ◌+◌, ◌<◌, ◌�
 use Rattle.std.specs.List.{list_any, position, position_or_len, range_with_len}
 use Rattle.std.specs.Option.{option_or}
 use Rattle.std.proofs.lemmas.Bool.{cases_Bool, cases_lt, false≢true, lt-ltb, le-ltb, ltb-false, ne_eqb}
-use Rattle.std.proofs.lemmas.List.{length-take-le, get_or-take, take_more, map_push}
+use Rattle.std.proofs.lemmas.List.{length-take-le, get_or-take, take_more, map_push, length-map}
 use Rattle.std.proofs.lemmas.List.Filters.{length-filter_both}
 use Rattle.std.proofs.lemmas.List.Folds.{list_any_at, list_any_none}
 use Rattle.std.proofs.lemmas.List.Sums.{position_or_len_is, fails_before_first}
@@ -14,16 +14,12 @@ pub list_any-map : {X Y : Type 0} (p : X → Bool) (h : Y → X) (ys : List Y) �
 list_any-map p h [] = refl
 list_any-map p h (y ∷ ys) = ap (λ b. p (h y) || b) (list_any-map p h ys)
 
-pub length-map : {X Y : Type 0} (h : Y → X) (ys : List Y) → length (map h ys) ≡ length ys
-length-map h [] = refl
-length-map h (y ∷ ys) = ap suc (length-map h ys)
-
 pub position_or_len-map : {X Y : Type 0} (p : X → Bool) (h : Y → X) (ys : List Y) → position_or_len p (map h ys) ≡ position_or_len (λ y. p (h y)) ys
 position_or_len-map p h [] = refl
 position_or_len-map p h (y ∷ ys) = ap (λ n. cond (not (p (h y))) (1 + n) 0) (position_or_len-map p h ys)
 
 pub position-map : {X Y : Type 0} (p : X → Bool) (h : Y → X) (ys : List Y) → position p (map h ys) ≡ position (λ y. p (h y)) ys
-position-map p h ys = rw (position_or_len-map p h ys, length-map h ys)
+position-map p h ys = rw (position_or_len-map p h ys, length-map ys h)
 
 -- the position of an element that passes after ones that don't, and of none
 pub position_here : {X : Type 0} (p : X → Bool) (xs : List X) (i : ℕ) (d : X) → i < length xs → ((k : ℕ) → k < i → p (get_or xs k d) ≡ false) → p (get_or xs i d) ≡ true → position p xs ≡ Some i

@@ -1,6 +1,6 @@
 -- Precedence is acyclic in each world that events reach: a list of all sites keeps the preferred end of each edge first, and
 -- a site that begins a meal goes to the end of it.
-use Rattle.std.proofs.Common.{◌≡◌, ◌≢◌, ◌⊎◌, ℕ, ◌+◌, ◌<◌, Bool, true, false, cond, List, [], ◌∷◌, length, slice_set, Some, IsPermutation, refl, sym, ◌∙◌, ap, subst, inl, inr, arith}
+use Rattle.std.proofs.Common.{◌≡◌, ◌≢◌, ℕ, ◌+◌, ◌<◌, Bool, true, false, cond, List, [], ◌∷◌, length, slice_set, Some, IsPermutation, sym, ◌∙◌, ap, subst, inl, inr, arith}
 use Rattle.std.specs.List.{range_with_len}
 use Rattle.std.proofs.lemmas.Bool.{cases_eq}
 use Rattle.std.proofs.lemmas.List.{get_or-set_same, get_or-set_other}
@@ -11,12 +11,14 @@ use Rattle.dine_rules.specs.declared.events.Event.{Event}
 use Rattle.dine_rules.specs.Local.{LocalState, Traffic, traffic_at, start_of}
 use Rattle.dine_rules.specs.Letters.{forks_in}
 use Rattle.dine_rules.specs.Holdings.{hand, hand_at}
-use Rattle.dine_rules.specs.Steps.{Step, Give, Ask, Hungry, Begin, End, Done, Close, Break, Take, after, may}
+use Rattle.dine_rules.specs.Steps.{Step, Begin, after, may}
 use Rattle.dine_rules.specs.World.{WorldState, no_state, state_of, start, world_after, after_events, Reaches}
 use Rattle.dine_rules.specs.Precedence.{IsAcyclic, StandsBefore}
 use Rattle.dine_token.specs.Log.{is_dirty}
+use Rattle.dine_rules.proofs.Askers.{begin_or_not}
 use Rattle.dine_rules.proofs.Site.{no_traffic_yet}
-use Rattle.dine_rules.proofs.WorldStreams.{WorldKeeps, event_is_step, event_keeps, start_kept, start_state, and_then_parts}
+use Rattle.dine_rules.proofs.Options.{and_then_parts}
+use Rattle.dine_rules.proofs.WorldStreams.{WorldKeeps, event_is_step, event_keeps, start_kept, start_state}
 use Rattle.dine_rules.proofs.Orders.{Before, before_to, in_order, moved_last, IsMovedLast, falling, falling_all, falling_before}
 use Rattle.dine_rules.proofs.Preference.{IsEdge, is_edge, IsBalanced, balanced, lower_first_at, low_place, high_place, preferred_is}
 use Rattle.dine_rules.proofs.PreferenceSteps.{Change, IsEaten, step_changes, begin_eats, low_changes, high_changes, low_eats, high_eats}
@@ -47,18 +49,6 @@ acyclic_by plan world order is_plan kept ordered = record {
 }
 
 -- ---- a step
-
--- a step begins a meal or does not
-begin_or_not : (step : Step) → (step ≡ Begin) ⊎ (step ≢ Begin)
-begin_or_not (Give i) = inr (λ h. cc)
-begin_or_not (Ask i) = inr (λ h. cc)
-begin_or_not Hungry = inr (λ h. cc)
-begin_or_not Begin = inl refl
-begin_or_not End = inr (λ h. cc)
-begin_or_not (Done i) = inr (λ h. cc)
-begin_or_not (Close i) = inr (λ h. cc)
-begin_or_not (Break i) = inr (λ h. cc)
-begin_or_not (Take i l) = inr (λ h. cc)
 
 module _ (plan : SeenPlan) (is_plan : IsPlan plan) (world new : WorldState) (kept : WorldKeeps plan world) (new_kept : WorldKeeps plan new)
     (s : ℕ) (is_site : s < site_count plan) (step : Step) (needs : may plan s (state_of world s) step ≡ true)
@@ -168,7 +158,7 @@ module _ (plan : SeenPlan) (is_plan : IsPlan plan) (world new : WorldState) (kep
     | inl begins ↦
         let moved = moved_last s order (in_order (site_count plan) s order ordered.all is_site) in
         (moved.0, order_moved begins order moved.0 ordered moved.1)
-    | inr no_begin ↦ (order, order_stays no_begin order ordered)
+    | inr no_begin ↦ (order, order_stays no_begin.0 order ordered)
   ]
 
 -- ---- the start, and all events

@@ -1,4 +1,4 @@
--- Steps of a site in a row: they keep the streams, and an asker waits for one meal at most.
+-- Steps of a site in a row: an asker waits for one meal at most.
 use Rattle.std.proofs.Common.{◌≡◌, ◌⊎◌, ℕ, suc, ◌+◌, ◌-◌, ◌<◌, ◌≤◌, true, false, cond, not, ◌||◌, ◌==◌, List, [], ◌∷◌, ◌++◌, length, get_or, slice_set, refl, sym, ◌∙◌, ap, subst, inl, inr, arith, zero-add}
 use Rattle.std.specs.List.{list_any}
 use Rattle.std.proofs.lemmas.Bool.{true≢false, and_parts, or_parts, or_cases, not-true, cases_eq, eqb-true, eqb-false, ltb-true}
@@ -6,46 +6,72 @@ use Rattle.std.proofs.lemmas.List.{get_or-set_same, get_or-set_other, length-set
 use Rattle.dine_token.specs.declared.entry.Entry.{Entry}
 use Rattle.dine_token.specs.Log.{is_dirty, meals_of}
 use Rattle.dine_token.proofs.Logs.{is_dirty-push_meal}
-use Rattle.dine_plan.specs.Plan.{SeenPlan, IsPlan, site_count, lo_of, hi_of}
+use Rattle.dine_plan.specs.Plan.{SeenPlan, edges_of, lo_of, hi_of}
 use Rattle.dine_rules.specs.declared.letters.Letter.{Letter}
 use Rattle.dine_rules.specs.declared.letters.Letter.TheVariants as letter
 use Rattle.dine_rules.specs.Letters.{forks_in, requests_in, last_log_or}
 use Rattle.dine_rules.specs.Local.{LocalState, Traffic, no_traffic, traffic_at, start_of, edge_at}
 use Rattle.dine_rules.specs.Holdings.{forks_held, tokens_held, fork_at, token_at, hand_at, with_meals_to}
-use Rattle.dine_rules.specs.Steps.{Step, Give, Ask, Hungry, Begin, End, Done, Close, Break, Take, after, may, is_ready}
-use Rattle.dine_rules.specs.Streams.{KeepsStreams}
-use Rattle.dine_rules.specs.StepLists.{LeadTo, AreProper, begins_in, is_give_at}
-use Rattle.dine_rules.proofs.Counting.{forks_in-append, requests_in-append, last_log_or-append}
+use Rattle.dine_rules.specs.Steps.{Step, Give, Ask, Hungry, Begin, End, Done, Close, Break, Take, IsPlaceWithin, after, may, is_ready}
+use Rattle.dine_rules.specs.StepLists.{LeadTo, begins_in, is_give_at}
+use Rattle.dine_rules.proofs.Counting.{none_is_not_one, forks_in-append, requests_in-append, last_log_or-append}
 use Rattle.dine_rules.proofs.Hands.{hand-more}
-use Rattle.dine_rules.proofs.Site.{start_keeps}
-use Rattle.dine_rules.proofs.SiteSteps.{step_keeps, list_all-range}
+use Rattle.dine_rules.proofs.Site.{no_traffic_yet}
+use Rattle.dine_rules.proofs.Shapes.{by_moves, may_within, moved, step_shape}
+use Rattle.dine_rules.proofs.SiteSteps.{list_all-range}
 
--- steps in a row keep the streams
-pub steps_keep : (plan : SeenPlan) (s : ℕ) → IsPlan plan → s < site_count plan → (state new : LocalState) (steps : List Step)
-    → KeepsStreams plan s state → AreProper steps → LeadTo plan s state steps new → KeepsStreams plan s new
-steps_keep plan s is_plan within state new [] keeps proper run = subst (KeepsStreams plan s) run keeps
-steps_keep plan s is_plan within state new (step ∷ steps) keeps proper run =
-    steps_keep plan s is_plan within (after plan s state step) new steps
-    (step_keeps plan s is_plan within state (after plan s state step) step keeps proper.0 (record { needs = run.0; changes = refl })) proper.1 run.1
+-- ---- the meals in what was taken
 
--- from the start on
-pub reached_keep : (plan : SeenPlan) (s : ℕ) → IsPlan plan → s < site_count plan → (new : LocalState) (steps : List Step)
-    → AreProper steps → LeadTo plan s (start_of plan s) steps new → KeepsStreams plan s new
-reached_keep plan s is_plan within new steps proper run = steps_keep plan s is_plan within (start_of plan s) new steps (start_keeps plan s is_plan within) proper run
+module _ (plan : SeenPlan) (s : ℕ) where
+  -- the last Fork taken at each place has no meal of the site that it did not eat
+  abbrev IsWithin : LocalState → Type 0
+  IsWithin state = (i : ℕ) → meals_of s (last_log_or [] (traffic_at state i).taken) ≤ state.ate
+
+  -- one place changes
+  within_set : (state : LocalState) (j : ℕ) (traffic : Traffic) → IsWithin state → j < length state.traffic → meals_of s (last_log_or [] traffic.taken) ≤ state.ate
+      → IsWithin (record state { traffic = slice_set state.traffic j traffic })
+  within_set state j traffic few within here i = elim (cases_eq i j) [
+    | inl same ↦ subst (λ (t : Traffic). meals_of s (last_log_or [] t.taken) ≤ state.ate) (sym (ap (λ (k : ℕ). get_or (slice_set state.traffic j traffic) k no_traffic) same ∙ get_or-set_same state.traffic j traffic no_traffic within)) here
+    | inr other ↦ subst (λ (t : Traffic). meals_of s (last_log_or [] t.taken) ≤ state.ate) (sym (get_or-set_other state.traffic j i traffic no_traffic other)) (few i)
+  ]
+
+  -- a letter without a log is taken
+  within_taken : (state : LocalState) (j : ℕ) (l : Letter) → ((log : List Entry) → last_log_or log (l ∷ []) ≡ log) → IsWithin state → meals_of s (last_log_or [] ((traffic_at state j).taken ++ l ∷ [])) ≤ state.ate
+  within_taken state j l no_log few = subst (λ (log : List Entry). meals_of s log ≤ state.ate) (sym (last_log_or-append [] (traffic_at state j).taken (l ∷ []) ∙ no_log (last_log_or [] (traffic_at state j).taken))) (few j)
+
+  step_within : (state : LocalState) (step : Step) → IsWithin state → may plan s state step ≡ true → IsWithin (after plan s state step)
+  step_within state (Take j (letter.Fork fork)) few h =
+      let parts = and_parts _ _ h in
+      let allowed = and_parts _ _ (and_parts _ _ parts.1).1 in
+      let all : meals_of s fork.log ≡ state.ate = eqb-true _ _ (and_parts _ _ (and_parts _ _ allowed.0).1).1 in
+      let last : last_log_or [] ((traffic_at state j).taken ++ letter.Fork fork ∷ []) ≡ fork.log = last_log_or-append [] (traffic_at state j).taken (letter.Fork fork ∷ []) in
+      within_set state j _ few (ltb-true _ _ parts.0) (subst (λ (log : List Entry). meals_of s log ≤ state.ate) (sym last) (omega arith))
+  step_within state (Take j (letter.Request edge)) few h = within_set state j _ few (ltb-true _ _ (and_parts _ _ h).0) (within_taken state j (letter.Request edge) (λ log. refl) few)
+  step_within state (Take j letter.Done) few h = within_set state j _ few (ltb-true _ _ (and_parts _ _ h).0) (within_taken state j letter.Done (λ log. refl) few)
+  step_within state (Take j letter.Close) few h = within_set state j _ few (ltb-true _ _ (and_parts _ _ h).0) (within_taken state j letter.Close (λ log. refl) few)
+  step_within state Hungry few h = few
+  step_within state Begin few h = λ i. omega (arith, few i)
+  step_within state End few h = few
+  step_within state step few h = by_moves plan s state IsWithin (step_shape step) (after plan s state step) (moved plan s state step)
+      (λ j l is. within_set state j _ few (subst (IsPlaceWithin (length state.traffic)) is (may_within plan s state step h)) (few j))
+      (λ j l is. absurd cc) (λ same is. absurd cc)
+
+  -- steps in a row
+  steps_within : (state new : LocalState) (steps : List Step) → IsWithin state → LeadTo plan s state steps new → IsWithin new
+  steps_within state new [] few run = subst IsWithin run few
+  steps_within state new (step ∷ steps) few run = steps_within (after plan s state step) new steps (step_within state step few run.0) run.1
+
+  -- from the start on
+  reached_within : (new : LocalState) (steps : List Step) → LeadTo plan s (start_of plan s) steps new → IsWithin new
+  reached_within new steps run = steps_within (start_of plan s) new steps
+      (λ i. subst (λ (t : Traffic). meals_of s (last_log_or [] t.taken) ≤ 0) (sym (no_traffic_yet (edges_of plan s) i)) (omega arith)) run
 
 -- ---- the asker
 
 -- a step begins a meal or does not
-begin_or_not : (step : Step) → (step ≡ Begin) ⊎ ((step ≡ Begin → ⊥) × ((steps : List Step) → begins_in (step ∷ steps) ≡ begins_in steps))
-begin_or_not (Give j) = inr (λ h. cc, λ steps. refl)
-begin_or_not (Ask j) = inr (λ h. cc, λ steps. refl)
-begin_or_not Hungry = inr (λ h. cc, λ steps. refl)
+pub begin_or_not : (step : Step) → (step ≡ Begin) ⊎ ((step ≡ Begin → ⊥) × ((steps : List Step) → begins_in (step ∷ steps) ≡ begins_in steps))
 begin_or_not Begin = inl refl
-begin_or_not End = inr (λ h. cc, λ steps. refl)
-begin_or_not (Done j) = inr (λ h. cc, λ steps. refl)
-begin_or_not (Close j) = inr (λ h. cc, λ steps. refl)
-begin_or_not (Break j) = inr (λ h. cc, λ steps. refl)
-begin_or_not (Take j l) = inr (λ h. cc, λ steps. refl)
+begin_or_not step = inr (λ h. cc, λ steps. refl)
 
 module _ (plan : SeenPlan) (s i : ℕ) where
   -- the fork is held and asked for, and the last log taken has no meal that was not eaten
@@ -158,11 +184,8 @@ module _ (plan : SeenPlan) (s i : ℕ) where
       let ready : is_ready plan s state i ≡ true = ap (is_ready plan s state) (sym (zero-add i)) ∙ list_all-range (is_ready plan s state) 0 (length state.traffic) i (and_parts _ _ h).1 asked.within in
       elim (or_cases (not (is_dirty (hand_at s state i))) (token_at plan s state i == 0) (and_parts (fork_at plan s state i == 1) (not (is_dirty (hand_at s state i)) || token_at plan s state i == 0) ready).1) [
         | inl clean ↦ true≢false (sym dirty ∙ not-true (is_dirty (hand_at s state i)) clean)
-        | inr none ↦ no_token (token_at plan s state i) asked.one_token (eqb-true (token_at plan s state i) 0 none)
+        | inr none ↦ none_is_not_one (token_at plan s state i) (eqb-true (token_at plan s state i) 0 none) asked.one_token
       ]
-    where
-      no_token : (n : ℕ) → n ≡ 1 → n ≡ 0 → ⊥
-      no_token n one none = omega arith
 
   begin_waits : (state : LocalState) → IsAsked state → IsAsked (after plan s state Begin)
   begin_waits state asked = record { within = asked.within; one_fork = asked.one_fork; one_token = asked.one_token; last_within = omega (arith, asked.last_within) }
@@ -201,9 +224,8 @@ module _ (plan : SeenPlan) (s i : ℕ) where
 
 -- The precedence of the asker: from a state that steps reach from the start, where the fork and the token are both held at a
 -- place, steps without a Give there have at most one Begin.
-pub asker_first : (plan : SeenPlan) (s i : ℕ) → IsPlan plan → s < site_count plan → (state new : LocalState) (before steps : List Step)
-    → AreProper before → LeadTo plan s (start_of plan s) before state → i < length state.traffic → fork_at plan s state i ≡ 1 → token_at plan s state i ≡ 1
+pub asker_first : (plan : SeenPlan) (s i : ℕ) (state new : LocalState) (before steps : List Step)
+    → LeadTo plan s (start_of plan s) before state → i < length state.traffic → fork_at plan s state i ≡ 1 → token_at plan s state i ≡ 1
     → LeadTo plan s state steps new → list_any (is_give_at i) steps ≡ false → begins_in steps ≤ 1
-asker_first plan s i is_plan is_site state new before steps proper reached within one_fork one_token run no_give =
-    let keeps = reached_keep plan s is_plan is_site state before proper reached in
-    one_meal_at_most plan s i state new steps (record { within = within; one_fork = one_fork; one_token = one_token; last_within = (keeps.places i within).last_within }) run no_give
+asker_first plan s i state new before steps reached within one_fork one_token run no_give =
+    one_meal_at_most plan s i state new steps (record { within = within; one_fork = one_fork; one_token = one_token; last_within = reached_within plan s state before reached i }) run no_give

@@ -8,6 +8,7 @@ use Rattle.dine_rules.specs.Local.{LocalState, traffic_at}
 use Rattle.dine_rules.specs.Holdings.{fork_at, hand_at}
 use Rattle.dine_rules.specs.World.{WorldState, state_of, place_of}
 use Rattle.dine_rules.specs.Precedence.{preferred_end}
+use Rattle.dine_rules.proofs.Counting.{none_is_not_one}
 use Rattle.dine_rules.proofs.WorldStreams.{WorldKeeps}
 use Rattle.dine_rules.proofs.Preference.{lower_first, lower_first_at, balanced, preferred_is, low_place, high_place}
 
@@ -32,10 +33,6 @@ pub record HasClean (plan : SeenPlan) (world : WorldState) (e t : ℕ) : Type 0 
 -- the fork that the higher end holds is neither at the lower end nor on its way there
 held_high_only : (n F f G g : ℕ) → n + F ≡ 1 + f → 1 + G ≡ g → f ≤ G → g ≤ F → (n ≡ 0) × (f ≡ G)
 held_high_only n F f G g low high a b = (omega arith, omega arith)
-
--- none is not one
-none_is_not_one : (n : ℕ) → n ≡ 0 → n ≡ 1 → ⊥
-none_is_not_one n none one = omega arith
 
 module _ (plan : SeenPlan) (is_plan : IsPlan plan) (world : WorldState) (kept : WorldKeeps plan world) (e : ℕ) (within : e < edge_count plan) where
   -- the lower end comes first by the states of the two ends

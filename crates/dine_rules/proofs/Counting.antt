@@ -13,6 +13,10 @@ pub or_false : (b : Bool) → (b || false) ≡ b
 or_false true = refl
 or_false false = refl
 
+-- none is not one
+pub none_is_not_one : (n : ℕ) → n ≡ 0 → n ≡ 1 → ⊥
+none_is_not_one n none one = omega arith
+
 pub or_true : (b : Bool) → (b || true) ≡ true
 or_true true = refl
 or_true false = refl

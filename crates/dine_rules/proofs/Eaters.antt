@@ -9,7 +9,7 @@ use Rattle.dine_rules.specs.Letters.{forks_in}
 use Rattle.dine_rules.specs.Local.{LocalState, Traffic, no_traffic, traffic_at, start_of, edge_at, is_eating}
 use Rattle.dine_rules.specs.Holdings.{EatsWithAll, forks_held, fork_at}
 use Rattle.dine_rules.specs.Steps.{Step, Give, Ask, Hungry, Begin, End, Done, Close, Break, Take, after, may, is_ready}
-use Rattle.dine_rules.proofs.Counting.{forks_in-append}
+use Rattle.dine_rules.proofs.Counting.{none_is_not_one, forks_in-append}
 use Rattle.dine_rules.proofs.SiteSteps.{list_all-range, not_hungry_while_eating, not_thinking_while_eating}
 use Rattle.dine_rules.proofs.Joined.{Joined, one_fork}
 
@@ -45,10 +45,7 @@ module _ (plan : SeenPlan) (s : ℕ) where
   fork_comes_awake : (state : LocalState) (k : ℕ) (new : LocalState) → k < length state.traffic → fork_at plan s state k ≡ 0 → new.phase ≡ state.phase → EatsWithAll plan s state → EatsWithAll plan s new
   fork_comes_awake state k new within none same eats eating =
       let one : fork_at plan s state k ≡ 1 = eats (ap is_eating (sym same) ∙ eating) k within in
-      absurd (zero_not_one (fork_at plan s state k) none one)
-    where
-      zero_not_one : (n : ℕ) → n ≡ 0 → n ≡ 1 → ⊥
-      zero_not_one n e f = omega arith
+      absurd (none_is_not_one (fork_at plan s state k) none one)
 
   -- each step, also a Break, leaves one who eats all forks
   pub step_eats_with_all : (state : LocalState) (step : Step) → EatsWithAll plan s state → may plan s state step ≡ true → EatsWithAll plan s (after plan s state step)

@@ -1,7 +1,7 @@
 -- Each event adds one to the effects of the world.
 use Rattle.std.proofs.Common.{◌≡◌, ℕ, ◌+◌, ◌<◌, ◌≤◌, true, cond, List, [], ◌∷◌, ◌++◌, length, slice_set, Some, refl, sym, ◌∙◌, ap, subst, inl, inr, arith, length-append}
 use Rattle.std.specs.List.{range_with_len}
-use Rattle.std.proofs.lemmas.Bool.{false≢true, and_parts, cases_eq, ltb-true}
+use Rattle.std.proofs.lemmas.Bool.{false≢true, and_parts, cases_eq}
 use Rattle.std.proofs.lemmas.List.{get_or-set_same, get_or-set_other, length-set}
 use Rattle.std.proofs.lemmas.Option.{same_Some}
 use Rattle.dine_plan.specs.Plan.{SeenPlan, IsPlan, site_count, edges_of}
@@ -10,11 +10,13 @@ use Rattle.dine_rules.specs.declared.events.Event.{Event}
 use Rattle.dine_rules.specs.declared.phase.Phase.{Phase}
 use Rattle.dine_rules.specs.declared.phase.Phase.TheVariants as phase
 use Rattle.dine_rules.specs.Local.{LocalState, no_traffic, traffic_at, start_of, is_thinking, is_hungry, is_eating}
-use Rattle.dine_rules.specs.Steps.{Step, Give, Ask, Hungry, Begin, End, Done, Close, Break, Take, after, may, with_put, with_taken}
+use Rattle.dine_rules.specs.Steps.{Step, Hungry, Begin, End, IsPlaceWithin, after, may, with_put, with_taken}
 use Rattle.dine_rules.specs.World.{WorldState, no_state, state_of, start, world_after, after_events, Reaches}
 use Rattle.dine_rules.specs.Bound.{letters_at, site_effects, effects_of}
 use Rattle.dine_rules.proofs.Sums.{sum-one_more, sum-none}
-use Rattle.dine_rules.proofs.WorldStreams.{event_is_step, and_then_parts, start_state, start_kept}
+use Rattle.dine_rules.proofs.Options.{and_then_parts}
+use Rattle.dine_rules.proofs.Shapes.{by_moves, may_within, moved, step_shape}
+use Rattle.dine_rules.proofs.WorldStreams.{event_is_step, start_state, start_kept}
 
 -- ---- one site
 
@@ -56,15 +58,13 @@ module _ (plan : SeenPlan) (s : ℕ) (state : LocalState) (fed : IsFed state) wh
 
   -- each step of a site adds one effect
   pub step_adds : (step : Step) → may plan s state step ≡ true → AddsOne (after plan s state step)
-  step_adds (Give i) h = put_adds i _ (ltb-true _ _ (and_parts _ _ h).0)
-  step_adds (Ask i) h = put_adds i _ (ltb-true _ _ (and_parts _ _ h).0)
   step_adds Hungry h = (omega (arith, thinking_counts state.phase (and_parts _ _ h).0), omega arith)
   step_adds Begin h = (omega (arith, hungry_counts state.phase (and_parts _ _ h).0), omega arith)
   step_adds End h = (omega (arith, eating_counts state.phase h), omega arith)
-  step_adds (Done i) h = put_adds i _ (ltb-true _ _ (and_parts _ _ h).0)
-  step_adds (Close i) h = put_adds i _ (ltb-true _ _ (and_parts _ _ h).0)
-  step_adds (Break i) h = put_adds i _ (ltb-true _ _ (and_parts _ _ h).0)
-  step_adds (Take i l) h = taken_adds i l (ltb-true _ _ (and_parts _ _ h).0)
+  step_adds step h = by_moves plan s state AddsOne (step_shape step) (after plan s state step) (moved plan s state step)
+      (λ i l is. put_adds i l (subst (IsPlaceWithin (length state.traffic)) is (may_within plan s state step h)))
+      (λ i l is. taken_adds i l (subst (IsPlaceWithin (length state.traffic)) is (may_within plan s state step h)))
+      (λ same is. absurd cc)
 
 -- ---- the world
 

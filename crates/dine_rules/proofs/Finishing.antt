@@ -11,7 +11,8 @@ use Rattle.dine_rules.proofs.EffectBounds.{events_bounded}
 use Rattle.dine_rules.proofs.Enabled.{passes_at, still}
 use Rattle.dine_rules.proofs.NextLetters.{in_order}
 use Rattle.dine_rules.proofs.Stuck.{still_is_complete}
-use Rattle.dine_rules.proofs.WorldStreams.{events_then, reached_kept, some_of}
+use Rattle.dine_rules.proofs.Options.{some_of}
+use Rattle.dine_rules.proofs.WorldStreams.{events_then, reached_kept}
 
 -- a world that events reach and in which no event is enabled is complete
 pub stuck_is_complete : (plan : SeenPlan) (events : List Event) (world : WorldState) → IsPlan plan → Reaches plan events world → enabled_events plan world ≡ [] → IsComplete plan world
@@ -26,7 +27,7 @@ none_first [] h = refl
 none_first (x ∷ xs) h = absurd cc
 
 -- where nothing is there, there is none
-get_cases : {A : Type 0} (o : Option A) → ((x : A) → o ≡ Some x → ⊥) → o ≡ None
+pub get_cases : {A : Type 0} (o : Option A) → ((x : A) → o ≡ Some x → ⊥) → o ≡ None
 get_cases None h = refl
 get_cases (Some x) h = absurd (h x refl)
 

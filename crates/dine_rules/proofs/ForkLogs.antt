@@ -1,5 +1,5 @@
 -- The log of each edge's fork, wherever it lies: lawful, and in a complete world with all meals of both ends.
-use Rattle.std.proofs.Common.{◌≡◌, ℕ, ◌+◌, ◌<◌, ◌≤◌, ◌==◌, Bool, true, false, List, [], length, unwrap_or, refl, sym, ◌∙◌, ap, subst, arith}
+use Rattle.std.proofs.Common.{◌≡◌, ◌⊎◌, ℕ, zero, suc, ◌+◌, ◌<◌, ◌≤◌, ◌==◌, Bool, true, false, List, [], ◌∷◌, length, slice_get, Some, unwrap_or, refl, sym, ◌∙◌, ap, subst, inl, inr, arith}
 use Rattle.std.specs.Option.{option_or}
 use Rattle.std.proofs.lemmas.Bool.{eqb-true, eqb-false, ltb-true, ltb-false, lt-ltb, false≢true}
 use Rattle.dine_token.specs.declared.entry.Entry.{Entry}
@@ -8,6 +8,7 @@ use Rattle.dine_token.specs.Lawful.{IsLawful}
 use Rattle.dine_token.specs.Log.{meals_of}
 use Rattle.dine_plan.specs.Plan.{SeenPlan, IsPlan, site_count, job_count, edge_count, edges_of, lo_of, hi_of, other_of}
 use Rattle.dine_rules.specs.declared.letters.Letter.{Letter}
+use Rattle.dine_rules.specs.declared.letters.Letter.TheVariants.{Fork, Request, Done, Close}
 use Rattle.dine_rules.specs.Letters.{forks_in, last_log_or}
 use Rattle.dine_rules.specs.Local.{traffic_at, edge_at, neighbour_at}
 use Rattle.dine_rules.specs.Holdings.{fork_at, hand_at}
@@ -16,12 +17,13 @@ use Rattle.dine_rules.specs.Precedence.{is_sent_to, fork_log}
 use Rattle.dine_rules.specs.Steps.{fork_with}
 use Rattle.dine_rules.specs.Streams.{KeepsStreamsAt, ends_at_place, due_at_place}
 use Rattle.dine_rules.specs.World.{WorldState, IsComplete, state_of, place_of, put_to}
-use Rattle.dine_rules.proofs.Across.{IsAcross, across}
+use Rattle.dine_rules.proofs.Across.{IsAcross, across, place_of-edge_at}
 use Rattle.dine_rules.proofs.Owned.{own_is}
-use Rattle.dine_rules.proofs.Counting.{last_log_or-some}
+use Rattle.dine_rules.proofs.Counting.{last_log_or-append, last_log_or-none, last_log_or-some}
 use Rattle.dine_rules.proofs.EdgeSums.{fork_of_place, one_fork_of_edge}
 use Rattle.dine_rules.proofs.Near.{near_log, put_count}
 use Rattle.dine_rules.proofs.InHand.{hand-meals}
+use Rattle.dine_rules.proofs.Links.{link_forks, link_holds}
 use Rattle.dine_rules.proofs.Placed.{placed}
 use Rattle.dine_rules.proofs.Preference.{IsEdge, is_edge, low_place, high_place}
 use Rattle.dine_rules.proofs.Sent.{meals_of-with_meals_other}
@@ -99,7 +101,7 @@ found_log P false false false true a b c d in_low to_low in_high to_high somewhe
 found_log P false false false false a b c d in_low to_low in_high to_high somewhere = absurd (false≢true (somewhere refl refl refl))
 
 -- one fork that is neither held nor in the one link is in the other
-in_other_link : (a b c d t p u q : ℕ) → a + b + (c + d) ≡ 1 → (a ≡ 1 → ⊥) → (c ≡ 1 → ⊥) → p ≤ t → p ≡ t + b → q ≡ u + d → u < q
+pub in_other_link : (a b c d t p u q : ℕ) → a + b + (c + d) ≡ 1 → (a ≡ 1 → ⊥) → (c ≡ 1 → ⊥) → p ≤ t → p ≡ t + b → q ≡ u + d → u < q
 in_other_link a b c d t p u q one not_low not_high few count other = omega arith
 
 module _ (plan : SeenPlan) (is_plan : IsPlan plan) (world : WorldState) (kept : WorldKeeps plan world) (e : ℕ) (within : e < edge_count plan) where
@@ -164,3 +166,112 @@ module _ (plan : SeenPlan) (is_plan : IsPlan plan) (world : WorldState) (kept : 
       (λ h. absurd (none_sent plan is_plan world kept low low_at edge_is.low_site edge_is.low_within complete h))
       (λ h. let w = subst (λ (o : ℕ). HasAllMeals plan high o (hand_at high (state_of world high) high_at)) high_neighbour (held_whole plan is_plan world kept high high_at edge_is.high_site edge_is.high_within complete h) in (w.1, w.0))
       (λ h. absurd (none_sent plan is_plan world kept high high_at edge_is.high_site edge_is.high_within complete h))
+
+  -- ---- the one fork
+
+  -- the counts of the fork at both ends and in both links
+  abbrev held_low : ℕ
+  held_low = fork_at plan low (state_of world low) low_at
+
+  abbrev sent_low : ℕ
+  sent_low = forks_in (queue_to plan world low low_at)
+
+  abbrev held_high : ℕ
+  held_high = fork_at plan high (state_of world high) high_at
+
+  abbrev sent_high : ℕ
+  sent_high = forks_in (queue_to plan world high high_at)
+
+  -- they come to one
+  one_fork : held_low + sent_low + (held_high + sent_high) ≡ 1
+  one_fork = one_fork_of_edge plan is_plan world kept e within
+
+  -- a fork that was sent to an end is in the link
+  low_sent : is_sent_to plan world low low_at ≡ true → 1 ≤ sent_low
+  low_sent sent = omega (arith, ltb-true _ _ sent, put_count plan is_plan world kept low low_at edge_is.low_site edge_is.low_within)
+
+  high_sent : is_sent_to plan world high high_at ≡ true → 1 ≤ sent_high
+  high_sent sent = omega (arith, ltb-true _ _ sent, put_count plan is_plan world kept high high_at edge_is.high_site edge_is.high_within)
+
+  -- so the log that is told is that of where it is: in the lower hand
+  in_low_hand : held_low ≡ 1 → fork_log plan world e ≡ hand_at low (state_of world low) low_at
+  in_low_hand here = holds_of_log (λ log. log ≡ hand_at low (state_of world low) low_at)
+      (λ _. refl) (λ sent. absurd (omega (arith, one_fork, low_sent sent))) (λ held. absurd (omega (arith, one_fork))) (λ sent. absurd (omega (arith, one_fork, high_sent sent)))
+
+  -- on the way to the lower end
+  to_low_end : 1 ≤ sent_low → fork_log plan world e ≡ last_log_or [] (put_to plan world low low_at)
+  to_low_end here = holds_of_log (λ log. log ≡ last_log_or [] (put_to plan world low low_at))
+      (λ held. absurd (omega (arith, one_fork))) (λ _. refl) (λ held. absurd (omega (arith, one_fork))) (λ sent. absurd (omega (arith, one_fork, high_sent sent)))
+
+  -- in the higher hand
+  in_high_hand : held_high ≡ 1 → fork_log plan world e ≡ hand_at high (state_of world high) high_at
+  in_high_hand here = holds_of_log (λ log. log ≡ hand_at high (state_of world high) high_at)
+      (λ held. absurd (omega (arith, one_fork))) (λ sent. absurd (omega (arith, one_fork, low_sent sent))) (λ _. refl) (λ sent. absurd (omega (arith, one_fork, high_sent sent)))
+
+  -- on the way to the higher end
+  to_high_end : 1 ≤ sent_high → fork_log plan world e ≡ last_log_or [] (put_to plan world high high_at)
+  to_high_end here = holds_of_log (λ log. log ≡ last_log_or [] (put_to plan world high high_at))
+      (λ held. absurd (omega (arith, one_fork))) (λ sent. absurd (omega (arith, one_fork, low_sent sent))) (λ held. absurd (omega (arith, one_fork))) (λ _. refl)
+
+  -- the same at either end
+  in_hand_of : (t : ℕ) → (lo_of plan e ≡ t) ⊎ (hi_of plan e ≡ t) → fork_at plan t (state_of world t) (place_of plan t e) ≡ 1 → fork_log plan world e ≡ hand_at t (state_of world t) (place_of plan t e)
+  in_hand_of t (inl same) = subst (λ (x : ℕ). fork_at plan x (state_of world x) (place_of plan x e) ≡ 1 → fork_log plan world e ≡ hand_at x (state_of world x) (place_of plan x e)) same in_low_hand
+  in_hand_of t (inr same) = subst (λ (x : ℕ). fork_at plan x (state_of world x) (place_of plan x e) ≡ 1 → fork_log plan world e ≡ hand_at x (state_of world x) (place_of plan x e)) same in_high_hand
+
+  to_end_of : (t : ℕ) → (lo_of plan e ≡ t) ⊎ (hi_of plan e ≡ t) → 1 ≤ forks_in (queue_to plan world t (place_of plan t e)) → fork_log plan world e ≡ last_log_or [] (put_to plan world t (place_of plan t e))
+  to_end_of t (inl same) = subst (λ (x : ℕ). 1 ≤ forks_in (queue_to plan world x (place_of plan x e)) → fork_log plan world e ≡ last_log_or [] (put_to plan world x (place_of plan x e))) same to_low_end
+  to_end_of t (inr same) = subst (λ (x : ℕ). 1 ≤ forks_in (queue_to plan world x (place_of plan x e)) → fork_log plan world e ≡ last_log_or [] (put_to plan world x (place_of plan x e))) same to_high_end
+
+-- ---- the one fork at a place
+
+-- a list with a Fork has one
+has_fork : (xs : List Letter) (k : ℕ) (fork : SeenFork) → slice_get xs k ≡ Some (Fork fork) → 1 ≤ forks_in xs
+has_fork [] k fork h = absurd cc
+has_fork (Fork other ∷ xs) k fork h = omega arith
+has_fork (Request edge ∷ xs) zero fork h = absurd cc
+has_fork (Request edge ∷ xs) (suc k) fork h = has_fork xs k fork h
+has_fork (Done ∷ xs) zero fork h = absurd cc
+has_fork (Done ∷ xs) (suc k) fork h = has_fork xs k fork h
+has_fork (Close ∷ xs) zero fork h = absurd cc
+has_fork (Close ∷ xs) (suc k) fork h = has_fork xs k fork h
+
+-- where there is one Fork, the last log is its log
+only_log : (log : List Entry) (xs : List Letter) (k : ℕ) (fork : SeenFork) → slice_get xs k ≡ Some (Fork fork) → forks_in xs ≤ 1 → last_log_or log xs ≡ fork.log
+only_log log [] k fork h one = absurd cc
+only_log log (Fork other ∷ xs) zero fork h one = last_log_or-none other.log xs (omega arith) ∙ (let same : other ≡ fork = cc in ap (λ (f : SeenFork). f.log) same)
+only_log log (Fork other ∷ xs) (suc k) fork h one = absurd (omega (arith, has_fork xs k fork h))
+only_log log (Request edge ∷ xs) zero fork h one = absurd cc
+only_log log (Request edge ∷ xs) (suc k) fork h one = only_log log xs k fork h one
+only_log log (Done ∷ xs) zero fork h one = absurd cc
+only_log log (Done ∷ xs) (suc k) fork h one = only_log log xs k fork h one
+only_log log (Close ∷ xs) zero fork h one = absurd cc
+only_log log (Close ∷ xs) (suc k) fork h one = only_log log xs k fork h one
+
+module _ (plan : SeenPlan) (is_plan : IsPlan plan) (world : WorldState) (kept : WorldKeeps plan world) (s i : ℕ) (is_site : s < site_count plan) (within : i < length (edges_of plan s)) where
+  -- the edge of the place, and the place of the edge
+  abbrev edge : ℕ
+  edge = edge_at plan s i
+
+  place_is : place_of plan s edge ≡ i
+  place_is = place_of-edge_at plan s i within
+
+  edge_within : edge < edge_count plan
+  edge_within = (placed plan s i is_plan within).edge_within
+
+  -- the site is one of its ends
+  is_one : (lo_of plan edge ≡ s) ⊎ (hi_of plan edge ≡ s)
+  is_one = elim (placed plan s i is_plan within).sides [ inl w ↦ inl w.0 | inr w ↦ inr w.0 ]
+
+  -- a fork in hand has the log that is told
+  pub log_in_hand : fork_at plan s (state_of world s) i ≡ 1 → fork_log plan world edge ≡ hand_at s (state_of world s) i
+  log_in_hand = subst (λ (k : ℕ). fork_at plan s (state_of world s) k ≡ 1 → fork_log plan world edge ≡ hand_at s (state_of world s) k) place_is (in_hand_of plan is_plan world kept edge edge_within s is_one)
+
+  -- and so has a fork in the link
+  pub log_in_link : (fork : SeenFork) (k : ℕ) → slice_get (queue_to plan world s i) k ≡ Some (Fork fork) → fork_log plan world edge ≡ fork.log
+  log_in_link fork k here =
+      let told : fork_log plan world edge ≡ last_log_or [] (put_to plan world s i) =
+      subst (λ (j : ℕ). 1 ≤ forks_in (queue_to plan world s j) → fork_log plan world edge ≡ last_log_or [] (put_to plan world s j)) place_is (to_end_of plan is_plan world kept edge edge_within s is_one)
+      (has_fork (queue_to plan world s i) k fork here) in
+      let taken : List Letter = (traffic_at (state_of world s) i).taken in
+      told ∙ ap (last_log_or []) (link_holds plan is_plan world kept s i is_site within) ∙ last_log_or-append [] taken (queue_to plan world s i)
+      ∙ only_log (last_log_or [] taken) (queue_to plan world s i) k fork here (link_forks plan is_plan world kept s i is_site within)

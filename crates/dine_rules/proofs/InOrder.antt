@@ -1,5 +1,5 @@
 -- What a site that never breaks off keeps of the order of its letters.
-use Rattle.std.proofs.Common.{◌≡◌, ℕ, ◌<◌, Bool, true, false, ◌||◌, [], ◌∷◌, ◌++◌, length, get_or, slice_set, slice_get, Some, refl, sym, ◌∙◌, ap, subst, inl, inr}
+use Rattle.std.proofs.Common.{◌≡◌, ℕ, ◌<◌, Bool, true, false, ◌||◌, [], ◌∷◌, ◌++◌, length, get_or, slice_set, refl, sym, ◌∙◌, ap, subst, inl, inr}
 use Rattle.std.proofs.lemmas.Bool.{false≢true, and_parts, or_left, cases_eq, ltb-true}
 use Rattle.std.proofs.lemmas.List.{get_or-set_same, get_or-set_other}
 use Rattle.dine_plan.specs.Plan.{SeenPlan, edges_of}
@@ -9,7 +9,7 @@ use Rattle.dine_rules.specs.Letters.{has_done, has_close}
 use Rattle.dine_rules.specs.Local.{LocalState, Traffic, no_traffic, traffic_at, start_of, edge_at}
 use Rattle.dine_rules.specs.Steps.{Step, Give, Ask, Hungry, Begin, End, Done, Close, Break, Take, after, may}
 use Rattle.dine_rules.specs.Streams.{is_orderly}
-use Rattle.dine_rules.proofs.Counting.{has_done-append, has_close-append, slice_get-push, or_false}
+use Rattle.dine_rules.proofs.Counting.{has_done-append, has_close-append, or_false}
 use Rattle.dine_rules.proofs.Site.{no_traffic_yet}
 use Rattle.dine_rules.proofs.EachSite.{IsInOrder}
 use Rattle.dine_rules.proofs.Turns.{is_orderly-push_other, is_orderly-push_close}

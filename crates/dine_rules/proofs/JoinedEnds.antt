@@ -1,11 +1,11 @@
 -- Two ends of an edge of which only lists are left: one of them holds the fork, and its log is whole.
-use Rattle.std.proofs.Common.{◌≡◌, ◌≢◌, ◌⊎◌, ℕ, zero, suc, ◌+◌, ◌-◌, ◌<◌, ◌≤◌, Bool, true, false, cond, ◌==◌, List, [], length, get_or, slice_get, Some, refl, sym, ◌∙◌, ap, subst, inl, inr, arith}
+use Rattle.std.proofs.Common.{◌≡◌, ◌≢◌, ℕ, zero, suc, ◌+◌, ◌-◌, ◌<◌, ◌≤◌, true, false, cond, ◌==◌, List, [], length, get_or, slice_get, Some, refl, sym, ◌∙◌, ap, subst, inl, inr, arith}
 use Rattle.std.proofs.lemmas.Bool.{cases_Bool, cond-true, cond-false, eq-eqb, ne_eqb}
 use Rattle.std.proofs.lemmas.Option.{slice_get_within, slice_get-get_or}
 use Rattle.dine_token.specs.declared.entry.Entry.{Entry}
 use Rattle.dine_token.specs.Fork.{SeenFork}
 use Rattle.dine_token.specs.Lawful.{IsLawful, due_at, count_from}
-use Rattle.dine_token.specs.Log.{location_of, meals_of, numbers_of}
+use Rattle.dine_token.specs.Log.{location_of, meals_of}
 use Rattle.dine_token.proofs.Lawfulness.{IsLawful-none, IsLawful-push_meal, due_at-lower, due_at-higher}
 use Rattle.dine_token.proofs.Logs.{location_of-push_move}
 use Rattle.dine_plan.specs.Plan.{SeenPlan, IsPlan, edges_of, job_count, lo_of, hi_of, other_of}
@@ -14,13 +14,12 @@ use Rattle.dine_rules.specs.Letters.{forks_in, requests_in, last_log_or}
 use Rattle.dine_rules.specs.Local.{LocalState, Traffic, traffic_at, edge_at}
 use Rattle.dine_rules.specs.Holdings.{forks_held, tokens_held, hand, with_meals_to}
 use Rattle.dine_rules.specs.JoinedEnds.{AccountsForFork, AccountsForToken, AreLinked, AreWhollyTaken, IsWholeLog, HaveOneWholeFork}
-use Rattle.dine_rules.specs.Steps.{fork_with}
 use Rattle.dine_rules.specs.Streams.{AreLawfulForks, CarriesOnTaken, IsChained, KeepsStreams, KeepsStreamsAt, logs_of}
 use Rattle.dine_rules.proofs.Counting.{prefix_forks, prefix_requests, length-logs_of, last_log_or-none, last_log_or-some, none_or_some}
 use Rattle.dine_rules.proofs.Hands.{with_meals, with_meals-none, with_meals-more, meals_of-with_meals, location_of-with_meals, meals_of-hand}
 use Rattle.dine_rules.proofs.Owned.{own_is}
 use Rattle.dine_rules.proofs.Placed.{placed}
-use Rattle.dine_rules.proofs.Sent.{IsSent, last_sent, meals_of-with_meals_other}
+use Rattle.dine_rules.proofs.Sent.{last_sent, meals_of-with_meals_other}
 use Rattle.dine_rules.proofs.Site.{spot_at, spot_is, token_end}
 
 -- ---- a log in hand

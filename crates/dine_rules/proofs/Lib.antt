@@ -7,11 +7,15 @@ pub mod Keeping
 pub mod Site
 pub mod SiteSteps
 pub mod BreachLaw
+pub mod FirstBreach
 pub mod PutBounds
+pub mod TakenBounds
 pub mod Across
 pub mod Offers
 pub mod Askers
 pub mod InHand
+pub mod Options
+pub mod Shapes
 pub mod WorldStreams
 pub mod Joined
 pub mod Links
@@ -28,6 +32,8 @@ pub mod InOrder
 pub mod Sent
 pub mod Coming
 pub mod NextLetters
+pub mod JoinedEnds
+pub mod TwoEnds
 pub mod Orders
 pub mod Preference
 pub mod PreferenceSteps
@@ -44,5 +50,4 @@ pub mod Listed
 pub mod Owned
 pub mod Near
 pub mod ForkLogs
-pub mod JoinedEnds
-pub mod TwoEnds
+pub mod Complete

@@ -1,7 +1,7 @@
 -- The list of enabled events has each enabled event, and has it once.
-use Rattle.std.proofs.Common.{◌≡◌, ℕ, zero, suc, ◌+◌, ◌-◌, ◌<◌, ◌≤◌, true, List, length, slice_get, Option, Some, None, is_some, refl, sym, ◌∙◌, ap, subst, inl, inr, arith}
+use Rattle.std.proofs.Common.{◌≡◌, ℕ, zero, suc, ◌+◌, ◌-◌, ◌<◌, ◌≤◌, true, List, length, slice_get, Option, Some, refl, sym, ◌∙◌, ap, subst, inl, inr, arith}
 use Rattle.std.specs.List.{flat_map, range_with_len}
-use Rattle.std.proofs.lemmas.Bool.{and_parts, cases_lt, false≢true, ltb-true}
+use Rattle.std.proofs.lemmas.Bool.{cases_lt}
 use Rattle.std.proofs.lemmas.List.Concat.{flat_map-cons}
 use Rattle.std.proofs.lemmas.Option.{same_Some, slice_get-map, slice_get_within}
 use Rattle.dine_plan.specs.Plan.{SeenPlan, IsPlan, edges_of, site_count}
@@ -9,12 +9,13 @@ use Rattle.dine_rules.specs.declared.events.Event.{Event}
 use Rattle.dine_rules.specs.declared.events.EventKind.{EventKind}
 use Rattle.dine_rules.specs.declared.events.EventKind.TheVariants as event
 use Rattle.dine_rules.specs.Local.{LocalState}
-use Rattle.dine_rules.specs.Steps.{Step, may}
-use Rattle.dine_rules.specs.Steps as step
+use Rattle.dine_rules.specs.Steps.{IsPlaceWithin, Step, may, shape_of}
 use Rattle.dine_rules.specs.World.{Reaches, WorldState, enabled_events, events_at, is_enabled, kinds_at, next_letter, state_of, step_of, world_after}
 use Rattle.dine_rules.proofs.KindNumbers.{choices, found_at, kind_ask, kind_close, kind_done, kind_give, kind_take, kinds_count, of_sites, passed, passed_next, past_gives, steps}
 use Rattle.dine_rules.proofs.EachOnce.{EachOnce, StandsIn, of_either, once_append, once_filter}
-use Rattle.dine_rules.proofs.WorldStreams.{IsStepOf, event_is_step, option_map_parts, reached_kept}
+use Rattle.dine_rules.proofs.Shapes.{event_within}
+use Rattle.dine_rules.proofs.Options.{option_map_parts, some_of}
+use Rattle.dine_rules.proofs.WorldStreams.{IsStepOf, event_is_step, reached_kept}
 
 -- ---- the kinds of a site with d places
 
@@ -31,15 +32,8 @@ module _ (d : ℕ) where
   number_of (event.Close i) = d + d + 3 + d + d + i
 
   -- its place, where it has one, is one of these
-  abbrev IsPlaceOf : EventKind → Type 0
-  IsPlaceOf (event.Take i) = i < d
-  IsPlaceOf (event.Give i) = i < d
-  IsPlaceOf event.End = Unit {0}
-  IsPlaceOf event.Begin = Unit {0}
-  IsPlaceOf event.Hungry = Unit {0}
-  IsPlaceOf (event.Ask i) = i < d
-  IsPlaceOf (event.Done i) = i < d
-  IsPlaceOf (event.Close i) = i < d
+  abbrev pub IsPlaceOf : EventKind → Type 0
+  IsPlaceOf kind = IsPlaceWithin d (shape_of kind)
 
   -- the kind with this number
   abbrev kind_at : ℕ → Option EventKind
@@ -133,36 +127,22 @@ module _ (plan : SeenPlan) where
 
 -- ---- the enabled events
 
--- a world that is there
-world_there : (o : Option WorldState) → is_some o ≡ true → (new : WorldState) × (o ≡ Some new)
-world_there None h = absurd (false≢true h)
-world_there (Some new) h = (new, refl)
-
-module _ (plan : SeenPlan) (world : WorldState) (s : ℕ) (degree : length (state_of world s).traffic ≡ length (edges_of plan s)) where
+module _ (plan : SeenPlan) (world : WorldState) (s : ℕ) where
   abbrev state : LocalState
   state = state_of world s
 
   -- the step of the event may be done
-  by_step : (first one : Step) → ◌≡◌ {A = Option Step} (Some first) (Some one) → may plan s state one ≡ true → may plan s state first ≡ true
+  pub by_step : (first one : Step) → ◌≡◌ {A = Option Step} (Some first) (Some one) → may plan s state one ≡ true → may plan s state first ≡ true
   by_step first one is needs = subst (λ (x : Step). may plan s state x ≡ true) (sym (same_Some first one is)) needs
 
-  -- so its place is one of the site
-  place_of_step : (kind : EventKind) (one : Step) → step_of plan world s kind ≡ Some one → may plan s state one ≡ true → IsPlaceOf (length (edges_of plan s)) kind
-  place_of_step (event.Take i) one is needs =
-      let w = option_map_parts (step.Take i) (next_letter plan world s i) one is in
-      omega (arith, degree, ltb-true i (length state.traffic) (and_parts _ _ (subst (λ (x : Step). may plan s state x ≡ true) (sym w.2) needs)).0)
-  place_of_step (event.Give i) one is needs = omega (arith, degree, ltb-true i (length state.traffic) (and_parts _ _ (by_step (step.Give i) one is needs)).0)
-  place_of_step event.End one is needs = tt
-  place_of_step event.Begin one is needs = tt
-  place_of_step event.Hungry one is needs = tt
-  place_of_step (event.Ask i) one is needs = omega (arith, degree, ltb-true i (length state.traffic) (and_parts _ _ (by_step (step.Ask i) one is needs)).0)
-  place_of_step (event.Done i) one is needs = omega (arith, degree, ltb-true i (length state.traffic) (and_parts _ _ (by_step (step.Done i) one is needs)).0)
-  place_of_step (event.Close i) one is needs = omega (arith, degree, ltb-true i (length state.traffic) (and_parts _ _ (by_step (step.Close i) one is needs)).0)
+  -- so its place is one of the site, which has as many as edges
+  pub place_of_step : length state.traffic ≡ length (edges_of plan s) → (kind : EventKind) (one : Step) → step_of plan world s kind ≡ Some one → may plan s state one ≡ true → IsPlaceOf (length (edges_of plan s)) kind
+  place_of_step degree kind one is needs = subst (λ (n : ℕ). IsPlaceWithin n (shape_of kind)) degree (event_within plan s state (next_letter plan world s) kind one is needs)
 
 -- each enabled event of a world that events reach stands among the enabled ones
 pub listed : (plan : SeenPlan) (events : List Event) (world : WorldState) (e : Event) → IsPlan plan → Reaches plan events world → is_enabled plan world e ≡ true → StandsIn e (enabled_events plan world)
 listed plan events world e is_plan reached enabled =
-    let new = world_there (world_after plan world e) enabled in
+    let new = some_of (world_after plan world e) enabled in
     let one : IsStepOf plan world e new.0 = event_is_step plan world e new.0 new.1 in
     let degree : length (state_of world e.site).traffic ≡ length (edges_of plan e.site) = ((reached_kept plan events world is_plan reached).keeps e.site one.is_site).every_place in
     let d : ℕ = length (edges_of plan e.site) in

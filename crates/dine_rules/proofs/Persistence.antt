@@ -9,9 +9,12 @@ use Rattle.dine_rules.specs.declared.events.Event.{Event}
 use Rattle.dine_rules.specs.declared.events.EventKind.{EventKind}
 use Rattle.dine_rules.specs.declared.events.EventKind.TheVariants as event
 use Rattle.dine_rules.specs.Local.{LocalState, Traffic, no_traffic, traffic_at, edge_at, neighbour_at}
-use Rattle.dine_rules.specs.Steps.{Step, Give, Ask, Hungry, Begin, End, Done, Close, Break, Take, after, may}
+use Rattle.dine_rules.specs.Steps.{Step, Take, after, may}
 use Rattle.dine_rules.specs.World.{WorldState, no_state, state_of, place_of, put_to, next_letter, step_of, local_after, site_after, world_after, is_enabled}
-use Rattle.dine_rules.proofs.WorldStreams.{IsStepOf, event_is_step, option_map_parts, some_of}
+use Rattle.dine_rules.proofs.Counting.{slice_get-before}
+use Rattle.dine_rules.proofs.Shapes.{by_moves, moved, step_shape}
+use Rattle.dine_rules.proofs.Options.{option_map_parts, some_of}
+use Rattle.dine_rules.proofs.WorldStreams.{IsStepOf, event_is_step}
 
 -- an element of a changed list is the old one, or the new one at its position
 pub set_cases : {X : Type 0} (xs : List X) (k j : ℕ) (y d : X) → (get_or (slice_set xs k y) j d ≡ get_or xs j d) ⊎ ((j ≡ k) × (get_or (slice_set xs k y) j d ≡ y))
@@ -43,22 +46,13 @@ longer_place traffics k j traffic longer = elim (set_cases traffics k j traffic 
 
 -- each step only adds to what was put
 step_puts : (plan : SeenPlan) (s : ℕ) (state : LocalState) (step : Step) (j : ℕ) → IsLonger (traffic_at state j).put (traffic_at (after plan s state step) j).put
-step_puts plan s state (Give i) j = longer_place state.traffic i j _ (record { more = _; is = refl })
-step_puts plan s state (Ask i) j = longer_place state.traffic i j _ (record { more = _; is = refl })
-step_puts plan s state Hungry j = longer_same (traffic_at state j).put
-step_puts plan s state Begin j = longer_same (traffic_at state j).put
-step_puts plan s state End j = longer_same (traffic_at state j).put
-step_puts plan s state (Done i) j = longer_place state.traffic i j _ (record { more = _; is = refl })
-step_puts plan s state (Close i) j = longer_place state.traffic i j _ (record { more = _; is = refl })
-step_puts plan s state (Break i) j = longer_place state.traffic i j _ (record { more = _; is = refl })
-step_puts plan s state (Take i l) j = longer_place state.traffic i j _ (longer_same (traffic_at state i).put)
+step_puts plan s state step j = by_moves plan s state (λ new. IsLonger (traffic_at state j).put (traffic_at new j).put) (step_shape step) (after plan s state step) (moved plan s state step)
+    (λ i l is. longer_place state.traffic i j _ (record { more = l ∷ []; is = refl }))
+    (λ i l is. longer_place state.traffic i j _ (longer_same (traffic_at state i).put))
+    (λ same is. subst (λ (t : List Traffic). IsLonger (traffic_at state j).put (get_or t j no_traffic).put) (sym same) (longer_same (traffic_at state j).put))
 
 longer_get : (old new : List Letter) (k : ℕ) (l : Letter) → IsLonger old new → slice_get old k ≡ Some l → slice_get new k ≡ Some l
-longer_get old new k l longer h = ap (λ (x : List Letter). slice_get x k) longer.is ∙ in_front old k h where
-  in_front : (xs : List Letter) (j : ℕ) → slice_get xs j ≡ Some l → slice_get (xs ++ longer.more) j ≡ Some l
-  in_front [] j e = absurd cc
-  in_front (x ∷ xs) zero e = e
-  in_front (x ∷ xs) (suc j) e = in_front xs j e
+longer_get old new k l longer h = ap (λ (x : List Letter). slice_get x k) longer.is ∙ slice_get-before old longer.more l k h
 
 -- ---- one site acts, and another looks on
 
@@ -89,13 +83,7 @@ module _ (plan : SeenPlan) (world : WorldState) (s : ℕ) (step : Step) where
     step_stays (event.Take i) one h =
         let w = option_map_parts (Take i) (next_letter plan world t i) one h in
         ap (option_map (Take i)) (next_stays i w.0 w.1) ∙ ap (λ (x : Step). Some x) w.2
-    step_stays (event.Give i) one h = h
-    step_stays event.End one h = h
-    step_stays event.Begin one h = h
-    step_stays event.Hungry one h = h
-    step_stays (event.Ask i) one h = h
-    step_stays (event.Done i) one h = h
-    step_stays (event.Close i) one h = h
+    step_stays kind one h = h
 
 -- the world after an event is that after its step
 after_step : (plan : SeenPlan) (world : WorldState) (e : Event) (step : Step) → e.site < site_count plan

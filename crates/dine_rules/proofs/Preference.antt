@@ -1,5 +1,5 @@
 -- Which end of an edge has precedence, read off what its two ends put and took.
-use Rattle.std.proofs.Common.{◌≡◌, ℕ, zero, suc, ◌+◌, ◌-◌, ◌<◌, ◌≤◌, Bool, true, false, cond, not, ◌==◌, nat_lt, List, [], ◌∷◌, ◌++◌, length, get_or, slice_get, Option, Some, None, unwrap_or, refl, sym, ◌∙◌, ap, subst, inl, inr, arith}
+use Rattle.std.proofs.Common.{◌≡◌, ℕ, zero, suc, ◌+◌, ◌-◌, ◌<◌, ◌≤◌, Bool, true, false, cond, not, ◌==◌, nat_lt, List, [], ◌∷◌, ◌++◌, length, get_or, slice_get, Some, unwrap_or, refl, sym, ◌∙◌, ap, subst, inl, inr, arith}
 use Rattle.std.specs.Option.{option_or}
 use Rattle.std.proofs.lemmas.Bool.{false≢true, cases_Bool, cond-true, cond-false, eq-eqb, ne_eqb, eqb-true, eqb-false, ltb-true, ltb-false, lt-ltb, or_left, or_right}
 use Rattle.std.proofs.lemmas.Option.{slice_get-get_or}
@@ -18,13 +18,10 @@ use Rattle.dine_rules.specs.Precedence.{is_sent_to, preferred_in, preferred_end}
 use Rattle.dine_rules.proofs.Counting.{prefix_forks, length-logs_of, last_log_or-at}
 use Rattle.dine_rules.proofs.Across.{edge_at-place_of}
 use Rattle.dine_rules.proofs.InHand.{hand-here}
+use Rattle.dine_rules.proofs.Near.{near_log}
 use Rattle.dine_rules.proofs.WorldStreams.{WorldKeeps}
 
 -- ---- over plain logs
-
--- a log that lies near an end: in hand there, or on its way there
-abbrev near : Bool → Bool → List Entry → List Entry → Option (List Entry)
-near held sent hand last = cond held (Some hand) (cond sent (Some last) None)
 
 -- The lower end has precedence: it holds the fork clean, or the fork is on its way there, or the higher end holds it dirty.
 abbrev pub lower_first : Bool → Bool → Bool → Bool → Bool → Bool
@@ -57,7 +54,7 @@ record LogsLie (lo hi : ℕ) (held_low sent_low held_high sent_high : Bool) (han
 
 preferred_lies : (lo hi : ℕ) (held_low sent_low held_high sent_high : Bool) (hand_low last_low hand_high last_high : List Entry) → lo < hi
     → LogsLie lo hi held_low sent_low held_high sent_high hand_low last_low hand_high last_high
-    → preferred_in lo hi (unwrap_or (option_or (near held_low sent_low hand_low last_low) (near held_high sent_high hand_high last_high)) []) ≡ cond (lower_first held_low sent_low held_high (is_dirty hand_low) (is_dirty hand_high)) lo hi
+    → preferred_in lo hi (unwrap_or (option_or (near_log held_low sent_low hand_low last_low) (near_log held_high sent_high hand_high last_high)) []) ≡ cond (lower_first held_low sent_low held_high (is_dirty hand_low) (is_dirty hand_high)) lo hi
 preferred_lies lo hi true sent_low held_high sent_high hand_low last_low hand_high last_high ordered lie = at_low lo hi hand_low (lie.in_low_hand refl)
 preferred_lies lo hi false true held_high sent_high hand_low last_low hand_high last_high ordered lie =
     let w = lie.to_low refl in

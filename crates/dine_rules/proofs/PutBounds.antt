@@ -100,7 +100,3 @@ module _ (plan : SeenPlan) (s : ℕ) (state : LocalState) (i : ℕ) where
 
   pub puts_few : IsPlan plan → s < site_count plan → KeepsStreams plan s state → i < length state.traffic → length (traffic_at state i).put ≤ 2003
   puts_few is_plan is_site keeps within = omega (arith, puts_within keeps within, is_plan.few_jobs s is_site)
-
-  -- a Fork is put for each Fork taken, and the lower end starts with one
-  pub forks_follow : KeepsStreamsAt plan s state i → forks_in (traffic_at state i).put ≤ cond (is_lower_at plan s i) 1 0 + forks_in (traffic_at state i).taken
-  forks_follow k = omega (arith, k.forks_counted)

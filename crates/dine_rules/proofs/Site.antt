@@ -291,4 +291,5 @@ start_keeps plan s is_plan within = record {
   every_place = length-map (edges_of plan s) (λ edge. no_traffic);
   ate_within = omega arith;
   hungry_has_left = λ h. absurd (false≢true h);
+  eater_has_begun = λ h. absurd (false≢true h);
 }

@@ -36,11 +36,6 @@ not_thinking_while_eating phase.Thinking e h = false≢true e
 not_thinking_while_eating phase.Hungry e h = false≢true h
 not_thinking_while_eating phase.Eating e h = false≢true h
 
-not_hungry_while_thinking : (p : Phase) → is_thinking p ≡ true → is_hungry p ≡ true → ⊥
-not_hungry_while_thinking phase.Thinking e h = false≢true h
-not_hungry_while_thinking phase.Hungry e h = false≢true e
-not_hungry_while_thinking phase.Eating e h = false≢true h
-
 module _ (plan : SeenPlan) (s : ℕ) (state : LocalState) where
   -- each place has an edge of the site
   pub placed_at : IsPlan plan → KeepsStreams plan s state → (i : ℕ) → i < length state.traffic → IsPlaced plan s i
@@ -64,6 +59,7 @@ module _ (plan : SeenPlan) (s : ℕ) (state : LocalState) where
         every_place = long ∙ keeps.every_place;
         ate_within = keeps.ate_within;
         hungry_has_left = keeps.hungry_has_left;
+        eater_has_begun = keeps.eater_has_begun;
       }
 
   give_keeps : (i : ℕ) → IsPlan plan → KeepsStreams plan s state → may plan s state (Give i) ≡ true → KeepsStreams plan s (after plan s state (Give i))
@@ -119,6 +115,7 @@ module _ (plan : SeenPlan) (s : ℕ) (state : LocalState) where
         every_place = keeps.every_place;
         ate_within = keeps.ate_within;
         hungry_has_left = λ _. left;
+        eater_has_begun = λ e. absurd (false≢true e);
       }
     where
       ate_all : state.ate < job_count plan s → state.ate ≡ job_count plan s → ⊥
@@ -138,6 +135,7 @@ module _ (plan : SeenPlan) (s : ℕ) (state : LocalState) where
         every_place = keeps.every_place;
         ate_within = omega arith;
         hungry_has_left = λ e. absurd (false≢true e);
+        eater_has_begun = λ _. omega arith;
       }
     where
       fork_ready : (i : ℕ) → is_ready plan s state i ≡ true → fork_at plan s state i ≡ 1
@@ -152,6 +150,7 @@ module _ (plan : SeenPlan) (s : ℕ) (state : LocalState) where
     every_place = keeps.every_place;
     ate_within = keeps.ate_within;
     hungry_has_left = λ e. absurd (false≢true e);
+    eater_has_begun = λ e. absurd (false≢true e);
   }
 
   take_keeps : (i : ℕ) (l : Letter) → IsPlan plan → KeepsStreams plan s state → IsProper (Take i l) → may plan s state (Take i l) ≡ true → KeepsStreams plan s (after plan s state (Take i l))

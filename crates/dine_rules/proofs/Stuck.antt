@@ -23,6 +23,7 @@ use Rattle.dine_rules.proofs.Earlier.{HasEarlier, order_distinct, nobody_passes}
 use Rattle.dine_rules.proofs.Enabled.{IsStill}
 use Rattle.dine_rules.proofs.InOrder.{IsOrderly}
 use Rattle.dine_rules.proofs.Joined.{one_fork, one_token}
+use Rattle.dine_rules.proofs.Keeping.{hungry_not_thinking}
 use Rattle.dine_rules.proofs.Links.{joined, link_holds, puts_back}
 use Rattle.dine_rules.proofs.NextLetters.{next_allowed}
 use Rattle.dine_rules.proofs.Orders.{Before, before_from, in_order}
@@ -74,12 +75,6 @@ must_think : (p : Phase) → is_eating p ≡ false → is_hungry p ≡ false →
 must_think phase.Thinking awake fed = refl
 must_think phase.Hungry awake fed = absurd (true≢false fed)
 must_think phase.Eating awake fed = absurd (true≢false awake)
-
--- who is hungry does not think
-hungry_not_thinking : (p : Phase) → is_hungry p ≡ true → is_thinking p ≡ true → ⊥
-hungry_not_thinking phase.Thinking hungry thinks = false≢true hungry
-hungry_not_thinking phase.Hungry hungry thinks = false≢true thinks
-hungry_not_thinking phase.Eating hungry thinks = false≢true hungry
 
 -- who is hungry is a site of the world
 hungry_within : (world : WorldState) (s : ℕ) → is_hungry (state_of world s).phase ≡ true → s < length world

@@ -1,26 +1,28 @@
 -- Two ends of an edge whose sites keep their streams, by whole lists: a letter that comes next and is not allowed is a Close.
-use Rattle.std.proofs.Common.{◌≡◌, ◌≢◌, ℕ, ◌<◌, Bool, true, false, not, ◌||◌, ◌==◌, cond, List, ◌∷◌, length, drop, slice_get, Some, None, refl, sym, ◌∙◌, ap, subst, inl, inr, arith}
-use Rattle.std.proofs.lemmas.Bool.{false≢true, cases_Bool, cond-true, cond-false, not-true}
+use Rattle.std.proofs.Common.{◌≡◌, ℕ, ◌<◌, Bool, true, false, not, ◌||◌, ◌==◌, cond, List, [], ◌∷◌, ◌++◌, append-nil, length, drop, slice_get, Some, None, refl, sym, ◌∙◌, ap, subst, inl, inr, arith}
+use mathlib.Core.List.{IsPrefix}
+use Rattle.std.proofs.lemmas.Bool.{false≢true, true≢false, cond-false, not-true}
 use Rattle.std.proofs.lemmas.Option.{same_Some}
-use Rattle.dine_plan.specs.Plan.{SeenPlan, IsPlan, edge_count, edges_of, lo_of, hi_of, other_of}
+use Rattle.dine_plan.specs.Plan.{SeenPlan, IsPlan, site_count, edge_count, edges_of, lo_of, hi_of, other_of}
 use Rattle.dine_rules.specs.declared.breach.Breach.{Breach}
 use Rattle.dine_rules.specs.declared.breach.Breach.TheVariants.{AfterClose, ClosedEarly}
 use Rattle.dine_rules.specs.declared.letters.Letter.{Letter}
 use Rattle.dine_rules.specs.declared.letters.Letter.TheVariants.{Close}
 use Rattle.dine_rules.specs.Breach.{is_allowed, first_breach, breach_before_close}
-use Rattle.dine_rules.specs.JoinedEnds.{AreEndsOfEdge, AreLinked, next_between}
+use Rattle.dine_rules.specs.JoinedEnds.{AreEndsOfEdge, AreLinked, AreWhollyTaken, next_between, traffic_across}
 use Rattle.dine_rules.specs.Letters.{has_done, has_close}
 use Rattle.dine_rules.specs.Local.{LocalState, traffic_at, edge_at, neighbour_at}
-use Rattle.dine_rules.specs.Streams.{KeepsStreams, is_lower_at}
-use Rattle.dine_rules.specs.World.{place_of}
-use Rattle.dine_rules.proofs.Across.{across}
+use Rattle.dine_rules.specs.Streams.{KeepsStreams, is_lower_at, is_close_last}
+use Rattle.dine_rules.specs.World.{WorldState, IsComplete, state_of, place_of}
+use Rattle.dine_rules.proofs.Across.{IsAcross, across}
 use Rattle.dine_rules.proofs.BreachLaw.{no_breach}
 use Rattle.dine_rules.proofs.Coming.{allowed_or_close, still_open}
 use Rattle.dine_rules.proofs.Joined.{Joined}
-use Rattle.dine_rules.proofs.Links.{prefix_and_rest}
+use Rattle.dine_rules.proofs.Links.{prefix_and_rest, other, other_place, puts_back}
 use Rattle.dine_rules.proofs.Placed.{placed}
 use Rattle.dine_rules.proofs.Preference.{IsEdge, is_edge}
-use Rattle.dine_rules.proofs.WorldStreams.{neighbour_differs, next_of}
+use Rattle.dine_rules.proofs.Turns.{open_before}
+use Rattle.dine_rules.proofs.WorldStreams.{WorldKeeps, neighbour_differs, next_of}
 
 -- ---- the places of an edge
 
@@ -110,16 +112,45 @@ module _ (plan : SeenPlan) (is_plan : IsPlan plan) (s i j : ℕ) (near far : Loc
       early false breach h = absurd cc
 
 -- the same with the name of the other end
-pub refused_at : (plan : SeenPlan) → IsPlan plan → (s i other j : ℕ) (near far : LocalState) (l : Letter) → AreEndsOfEdge plan s i other j → KeepsStreams plan s near → KeepsStreams plan other far
+pub refused_at : (plan : SeenPlan) → IsPlan plan → (s i o j : ℕ) (near far : LocalState) (l : Letter) → AreEndsOfEdge plan s i o j → KeepsStreams plan s near → KeepsStreams plan o far
     → AreLinked (traffic_at near i) (traffic_at far j) → next_between (traffic_at near i) (traffic_at far j) ≡ Some l → is_allowed plan s near i l ≡ false → l ≡ Close
-refused_at plan is_plan s i other j near far l ends =
+refused_at plan is_plan s i o j near far l ends =
     subst (λ (o : ℕ). AreEndsOfEdge plan s i o j → KeepsStreams plan s near → KeepsStreams plan o far → AreLinked (traffic_at near i) (traffic_at far j)
     → next_between (traffic_at near i) (traffic_at far j) ≡ Some l → is_allowed plan s near i l ≡ false → l ≡ Close) ends.across
     (λ ends here there linked next. refused_is_close plan is_plan s i j near far ends here there linked l next) ends
 
-pub breach_at : (plan : SeenPlan) → IsPlan plan → (s i other j : ℕ) (near far : LocalState) (l : Letter) (breach : Breach) → AreEndsOfEdge plan s i other j → KeepsStreams plan s near → KeepsStreams plan other far
+pub breach_at : (plan : SeenPlan) → IsPlan plan → (s i o j : ℕ) (near far : LocalState) (l : Letter) (breach : Breach) → AreEndsOfEdge plan s i o j → KeepsStreams plan s near → KeepsStreams plan o far
     → AreLinked (traffic_at near i) (traffic_at far j) → next_between (traffic_at near i) (traffic_at far j) ≡ Some l → first_breach plan s near i l ≡ Some breach → breach ≡ ClosedEarly
-breach_at plan is_plan s i other j near far l breach ends =
+breach_at plan is_plan s i o j near far l breach ends =
     subst (λ (o : ℕ). AreEndsOfEdge plan s i o j → KeepsStreams plan s near → KeepsStreams plan o far → AreLinked (traffic_at near i) (traffic_at far j)
     → next_between (traffic_at near i) (traffic_at far j) ≡ Some l → first_breach plan s near i l ≡ Some breach → breach ≡ ClosedEarly) ends.across
     (λ ends here there linked next. breach_is_early plan is_plan s i j near far ends here there linked l next breach) ends
+
+-- ---- worlds, and closed links
+
+module _ (plan : SeenPlan) (is_plan : IsPlan plan) (world : WorldState) (kept : WorldKeeps plan world) (s i : ℕ) (is_site : s < site_count plan) (within : i < length (edges_of plan s)) where
+  -- the same edge is at a place of the other end
+  over : IsAcross plan s i (neighbour_at plan s i) (place_of plan (neighbour_at plan s i) (edge_at plan s i))
+  over = across plan s i is_plan within
+
+  -- the ends of a world's link took prefixes
+  pub world_linked : AreLinked (traffic_at (state_of world s) i) (traffic_across plan world s i)
+  world_linked = record {
+    comes = kept.links s i is_site within;
+    goes = subst (IsPrefix (traffic_across plan world s i).taken) (puts_back plan is_plan world kept s i is_site within)
+        (kept.links (other plan is_plan world kept s i is_site within) (other_place plan is_plan world kept s i is_site within) over.is_site over.within);
+  }
+
+  -- and in a complete world they took all
+  pub world_taken : IsComplete plan world → AreWhollyTaken (traffic_at (state_of world s) i) (traffic_across plan world s i)
+  world_taken complete = record {
+    comes = complete.all_taken s i is_site within;
+    goes = complete.all_taken (other plan is_plan world kept s i is_site within) (other_place plan is_plan world kept s i is_site within) over.is_site over.within ∙ puts_back plan is_plan world kept s i is_site within;
+  }
+
+-- nothing stands behind Close, so all was taken where Close was
+pub all_taken_with_close : (taken put : List Letter) → is_close_last put ≡ true → IsPrefix taken put → has_close taken ≡ true → taken ≡ put
+all_taken_with_close taken put last (rest, is) closed = elim rest as (λ rest. taken ++ rest ≡ put → taken ≡ put) [
+  | [] ↦ λ is. sym (append-nil taken) ∙ is
+  | l ∷ more ↦ λ is. absurd (true≢false (sym closed ∙ open_before taken more l (ap is_close_last is ∙ last)))
+] is

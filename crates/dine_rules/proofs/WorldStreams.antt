@@ -1,5 +1,5 @@
 -- In a world that events reach from the start, each site keeps its streams and each link is in order.
-use Rattle.std.proofs.Common.{◌≡◌, ◌≢◌, ◌⊎◌, ℕ, zero, suc, ◌+◌, ◌<◌, ◌≤◌, nat_lt, Bool, true, false, cond, List, [], ◌∷◌, ◌++◌, length, map, get_or, slice_get, slice_set, Option, Some, None, is_some, refl, sym, ◌∙◌, ap, subst, inl, inr, arith, append_assoc, append-nil, length-append, add-zero, zero-add}
+use Rattle.std.proofs.Common.{◌≡◌, ◌≢◌, ◌⊎◌, ℕ, zero, suc, ◌+◌, ◌<◌, ◌≤◌, nat_lt, true, List, [], ◌∷◌, ◌++◌, length, map, get_or, slice_get, slice_set, Some, refl, sym, ◌∙◌, ap, subst, inl, inr, arith, append_assoc, append-nil, length-append, add-zero, zero-add}
 use Rattle.std.specs.List.{range_with_len}
 use Rattle.std.specs.Option.{option_map, option_and_then}
 use mathlib.Core.List.{IsPrefix}
@@ -13,33 +13,19 @@ use Rattle.dine_rules.specs.declared.events.Event.{Event}
 use Rattle.dine_rules.specs.declared.events.EventKind.{EventKind}
 use Rattle.dine_rules.specs.declared.events.EventKind.TheVariants as event
 use Rattle.dine_rules.specs.Local.{LocalState, Traffic, no_traffic, traffic_at, start_of, edge_at, neighbour_at}
-use Rattle.dine_rules.specs.Steps.{Step, Give, Ask, Hungry, Begin, End, Done, Close, Break, Take, after, may, with_put}
+use Rattle.dine_rules.specs.Steps.{Step, Take, IsPlaceWithin, Takes, after, may, with_put}
 use Rattle.dine_rules.specs.Streams.{KeepsStreams, IsProper}
 use Rattle.dine_rules.specs.World.{WorldState, no_state, state_of, start, place_of, put_to, next_letter, step_of, local_after, site_after, world_after, after_events, Reaches, LinksAreOrdered}
 use Rattle.dine_rules.proofs.Placed.{IsPlaced, placed}
 use Rattle.dine_rules.proofs.Across.{across}
 use Rattle.dine_rules.proofs.Offers.{is_proper-of}
+use Rattle.dine_rules.proofs.Options.{cond_some_parts}
+pub use Rattle.dine_rules.proofs.Options.{and_then_parts, option_map_parts, some_of}
+use Rattle.dine_rules.proofs.Shapes.{by_moves, may_within, moved, shape_is, step_shape}
 use Rattle.dine_rules.proofs.Site.{start_keeps, no_traffic_yet}
 use Rattle.dine_rules.proofs.SiteSteps.{step_keeps}
 
 -- ---- what an event does
-
-cond_some_parts : {A : Type 0} (b : Bool) (o : Option A) (y : A) → cond b o None ≡ Some y → (b ≡ true) × (o ≡ Some y)
-cond_some_parts true o y h = (refl, h)
-cond_some_parts false o y h = absurd cc
-
-pub option_map_parts : {A B : Type 0} (f : A → B) (o : Option A) (y : B) → option_map f o ≡ Some y → (x : A) × (o ≡ Some x) × (f x ≡ y)
-option_map_parts f None y h = absurd cc
-option_map_parts f (Some x) y h = (x, refl, cc)
-
-pub and_then_parts : {A B : Type 0} (f : A → Option B) (o : Option A) (y : B) → option_and_then f o ≡ Some y → (x : A) × (o ≡ Some x) × (f x ≡ Some y)
-and_then_parts f None y h = absurd cc
-and_then_parts f (Some x) y h = (x, refl, h)
-
--- where there is something, it is what is there
-pub some_of : {A : Type 0} (o : Option A) → is_some o ≡ true → (x : A) × (o ≡ Some x)
-some_of None h = absurd cc
-some_of (Some x) h = (x, refl)
 
 -- what events lead to, and one event more
 pub events_then : (plan : SeenPlan) (old world new : WorldState) (events : List Event) (e : Event) → after_events plan old events ≡ Some world → world_after plan world e ≡ Some new → after_events plan old (events ++ e ∷ []) ≡ Some new
@@ -105,16 +91,12 @@ module _ (plan : SeenPlan) (s : ℕ) (state : LocalState) (offered : ℕ → Lis
   put_grows k j l within = grows_at offered state.traffic k j _ within (record { more = l ∷ []; puts = refl; takes = inl refl })
 
   step_grows : (step : Step) → TakesNext step → may plan s state step ≡ true → (j : ℕ) → Grows (offered j) (traffic_at state j) (traffic_at (after plan s state step) j)
-  step_grows (Give k) next h j = put_grows k j _ (ltb-true _ _ (and_parts _ _ h).0)
-  step_grows (Ask k) next h j = put_grows k j _ (ltb-true _ _ (and_parts _ _ h).0)
-  step_grows Hungry next h j = Grows-same (offered j) (traffic_at state j)
-  step_grows Begin next h j = Grows-same (offered j) (traffic_at state j)
-  step_grows End next h j = Grows-same (offered j) (traffic_at state j)
-  step_grows (Done k) next h j = put_grows k j _ (ltb-true _ _ (and_parts _ _ h).0)
-  step_grows (Close k) next h j = put_grows k j _ (ltb-true _ _ (and_parts _ _ h).0)
-  step_grows (Break k) next h j = put_grows k j _ (ltb-true _ _ (and_parts _ _ h).0)
   step_grows (Take k l) next h j = grows_at offered state.traffic k j _ (ltb-true _ _ (and_parts _ _ h).0)
       (record { more = []; puts = sym (append-nil (traffic_at state k).put); takes = inr (l, next, refl) })
+  step_grows step next h j = by_moves plan s state (λ new. Grows (offered j) (traffic_at state j) (traffic_at new j)) (step_shape step) (after plan s state step) (moved plan s state step)
+      (λ k l is. put_grows k j l (subst (IsPlaceWithin (length state.traffic)) is (may_within plan s state step h)))
+      (λ k l is. absurd cc)
+      (λ same is. subst (λ (t : List Traffic). Grows (offered j) (traffic_at state j) (get_or t j no_traffic)) (sym same) (Grows-same (offered j) (traffic_at state j)))
 
 -- ---- prefixes
 
@@ -167,8 +149,10 @@ module _ (plan : SeenPlan) (is_plan : IsPlan plan) (world : WorldState) (kept : 
   long : (i : ℕ) → i < length (state_of world s).traffic → i < length (edges_of plan s)
   long i h = omega (arith, (kept.keeps s is_site).every_place)
 
-  plain : (one step : Step) → ◌≡◌ {A = Option Step} (Some one) (Some step) → IsProper one × TakesNext plan s (state_of world s) offered one → IsProper step × TakesNext plan s (state_of world s) offered step
-  plain one step h is = subst (λ (x : Step). IsProper x × TakesNext plan s (state_of world s) offered x) (same_Some one step h) is
+  -- a step that takes no letter asks for none
+  takes_none : (step : Step) → ((i : ℕ) → step_shape step ≡ Takes i → ⊥) → IsProper step × TakesNext plan s (state_of world s) offered step
+  takes_none (Take i l) none = absurd (none i refl)
+  takes_none step none = (tt, tt)
 
   kind_is : (kind : EventKind) (step : Step) → step_of plan world s kind ≡ Some step → may plan s (state_of world s) step ≡ true → IsProper step × TakesNext plan s (state_of world s) offered step
   kind_is (event.Take i) step h may_be =
@@ -176,13 +160,7 @@ module _ (plan : SeenPlan) (is_plan : IsPlan plan) (world : WorldState) (kept : 
       let may_take : may plan s (state_of world s) (Take i w.0) ≡ true = subst (λ (x : Step). may plan s (state_of world s) x ≡ true) (sym w.2) may_be in
       let within : i < length (state_of world s).traffic = ltb-true _ _ (and_parts _ _ may_take).0 in
       subst (λ (x : Step). IsProper x × TakesNext plan s (state_of world s) offered x) w.2 (offer_is_proper i w.0 (long i within) w.1, w.1)
-  kind_is (event.Give i) step h may_be = plain (Give i) step h (tt, tt)
-  kind_is event.End step h may_be = plain End step h (tt, tt)
-  kind_is event.Begin step h may_be = plain Begin step h (tt, tt)
-  kind_is event.Hungry step h may_be = plain Hungry step h (tt, tt)
-  kind_is (event.Ask i) step h may_be = plain (Ask i) step h (tt, tt)
-  kind_is (event.Done i) step h may_be = plain (Done i) step h (tt, tt)
-  kind_is (event.Close i) step h may_be = plain (Close i) step h (tt, tt)
+  kind_is kind step h may_be = takes_none step (λ i is. let shape = shape_is (next_letter plan world s) kind step h in cc)
 
   -- the site's state and its lists after the step
   module _ (step : Step) (is_proper : IsProper step) (next : TakesNext plan s (state_of world s) offered step) (needs : may plan s (state_of world s) step ≡ true) where

@@ -6,10 +6,11 @@ use Rattle.dine_plan.specs.Plan.{SeenPlan, SeenSite, no_job, edge_count}
 use Rattle.dine_rules.specs.declared.events.Event.{Event}
 use Rattle.dine_rules.specs.declared.letters.Kind4.{Kind4}
 use Rattle.dine_rules.specs.Letters.{kind_of}
-use Rattle.dine_rules.specs.Local.{traffic_at}
-use Rattle.dine_rules.specs.World.{enabled_events, put_to, start, state_of}
-use Rattle.dine_rules.specs.Precedence.{fork_log}
-use Rattle.dine_rules.specs.Schedules.{Counted, replay, whole_run}
+use Rattle.dine_rules.specs.Local.{LocalState, start_of, traffic_at}
+use Rattle.dine_rules.specs.Steps.{Break, after}
+use Rattle.dine_rules.specs.World.{WorldState, enabled_events, put_to, start, state_of}
+use Rattle.dine_rules.specs.Precedence.{fork_log, preferred_end}
+use Rattle.dine_rules.specs.Schedules.{Counted, from_here, replay, whole_run}
 
 -- a site of this name with so many jobs
 abbrev pub site_with : List ℕ → ℕ → SeenSite
@@ -23,9 +24,13 @@ pair a b = record { sites = site_with (codes "a") a ∷ site_with (codes "b") b 
 abbrev pub alone : SeenPlan
 alone = record { sites = site_with (codes "a") 2 ∷ []; edges = [] }
 
--- three sites in a row, with one job each
+-- three sites in a row, with so many jobs each
+abbrev pub row : ℕ → ℕ → ℕ → SeenPlan
+row a b c = record { sites = site_with (codes "a") a ∷ site_with (codes "b") b ∷ site_with (codes "c") c ∷ []; edges = (0, 1) ∷ (1, 2) ∷ [] }
+
+-- with one job each
 abbrev pub path : SeenPlan
-path = record { sites = site_with (codes "a") 1 ∷ site_with (codes "b") 1 ∷ site_with (codes "c") 1 ∷ []; edges = (0, 1) ∷ (1, 2) ∷ [] }
+path = row 1 1 1
 
 -- what a run comes to: the log of each edge's fork, and how many events there were
 pub record Outcome : Type 0 where
@@ -39,14 +44,25 @@ outcome_in plan run = record { logs = map (fork_log plan run.world) (range_with_
 abbrev pub outcome_of : SeenPlan → List ℕ → Outcome
 outcome_of plan choices = outcome_in plan (whole_run plan choices)
 
--- the events that are enabled at the start
-abbrev pub enabled_at_start : SeenPlan → List Event
-enabled_at_start plan = enabled_events plan (start plan)
+-- the world after the choices
+abbrev pub world_after_choices : SeenPlan → List ℕ → WorldState
+world_after_choices plan choices = (replay plan (from_here (start plan)) choices).world
+
+-- the events that are enabled after the choices
+abbrev pub enabled_after : SeenPlan → List ℕ → List Event
+enabled_after plan choices = enabled_events plan (world_after_choices plan choices)
+
+-- the preferred end of the first edge after the choices, and at the end of their whole run
+abbrev pub preferred_after : SeenPlan → List ℕ → ℕ
+preferred_after plan choices = preferred_end plan (world_after_choices plan choices) 0
+
+abbrev pub preferred_at_end : SeenPlan → List ℕ → ℕ
+preferred_at_end plan choices = preferred_end plan (whole_run plan choices).world 0
 
 -- the kinds of the letters that lie in the link to a site at place i, after the choices
 abbrev pub next_after : SeenPlan → List ℕ → ℕ → ℕ → List Kind4
 next_after plan choices s i =
-    let world = (replay plan (record { world = start plan; events = 0 }) choices).world in
+    let world = world_after_choices plan choices in
     map kind_of (drop (length (traffic_at (state_of world s) i).taken) (put_to plan world s i))
 
 -- the meals that each site ate in the run of the first enabled events, where nothing is enabled at its end
@@ -54,3 +70,7 @@ abbrev pub ends_complete : SeenPlan → List ℕ
 ends_complete plan =
     let world = (whole_run plan []).world in
     if length (enabled_events plan world) == 0 then map (λ state. state.ate) world else []
+
+-- the higher site of a pair with a job each, which broke off at the start
+abbrev pub broken_off : LocalState
+broken_off = after (pair 1 1) 1 (start_of (pair 1 1) 1) (Break 0)

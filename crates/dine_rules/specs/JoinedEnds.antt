@@ -8,9 +8,10 @@ use Rattle.dine_token.specs.Lawful.{IsLawful, count_from}
 use Rattle.dine_plan.specs.Plan.{SeenPlan, edges_of, job_count, lo_of, hi_of}
 use Rattle.dine_rules.specs.declared.letters.Letter.{Letter}
 use Rattle.dine_rules.specs.Letters.{requests_in, last_log_or}
-use Rattle.dine_rules.specs.Local.{Traffic, edge_at, neighbour_at}
+use Rattle.dine_rules.specs.Local.{Traffic, traffic_at, edge_at, neighbour_at}
 use Rattle.dine_rules.specs.Holdings.{forks_held, hand}
 use Rattle.dine_rules.specs.Streams.{AreLawfulForks, IsChained}
+use Rattle.dine_rules.specs.World.{WorldState, state_of, place_of}
 
 -- Place i of site s and place j of the site `other` are the two ends of one edge.
 pub record AreEndsOfEdge (plan : SeenPlan) (s i other j : ℕ) : Type 0 where
@@ -33,6 +34,10 @@ pub record AreWhollyTaken (here there : Traffic) : Type 0 where
 -- the letter that comes next: the first that the other end put and this end did not take
 abbrev pub next_between : Traffic → Traffic → Option Letter
 next_between here there = slice_get there.put (length here.taken)
+
+-- in a world, what the other end of a place put and took
+abbrev pub traffic_across : SeenPlan → WorldState → ℕ → ℕ → Traffic
+traffic_across plan world s i = traffic_at (state_of world (neighbour_at plan s i)) (place_of plan (neighbour_at plan s i) (edge_at plan s i))
 
 -- An end accounts for the fork: the Forks that it put are those of the edge, lawful and in a chain, and it ate at most the
 -- meals that are due to it, and at least those that the last Fork which it took has of it.

@@ -6,6 +6,11 @@ use Rattle.dine_rules.specs.declared.letters.Letter.TheVariants.{Fork, Request, 
 use Rattle.dine_rules.specs.declared.letters.Kind4.{Kind4}
 use Rattle.dine_rules.specs.declared.letters.Kind4.TheVariants as kind
 
+-- A letter as contracts see it: a Fork with its edge, ends, due numbers and log, a Request with its edge, Done or Close. The rule
+-- of a link speaks of lists of these.
+abbrev pub SeenLetter : Type 0
+SeenLetter = Letter
+
 -- the kind of a letter
 abbrev pub kind_of : Letter → Kind4
 kind_of (Fork fork) = kind.Fork

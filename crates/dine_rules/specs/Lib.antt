@@ -4,11 +4,12 @@ pub mod Holdings
 pub mod Breach
 pub mod Steps
 pub mod Streams
+pub mod BreachCauses
 pub mod StepLists
 pub mod World
 pub mod Links
+pub mod JoinedEnds
 pub mod Precedence
 pub mod Bound
 pub mod Schedules
 pub mod Examples
-pub mod JoinedEnds

@@ -1,5 +1,5 @@
 -- One site, by what it has put and taken.
-use Rattle.std.specs.Prelude.{ℕ, ◌==◌, Bool, true, false, List, [], map, slice_index_or, if◌then◌else◌}
+use Rattle.std.specs.Prelude.{ℕ, Bool, true, false, List, [], map, slice_index_or}
 use Rattle.dine_plan.specs.Plan.{SeenPlan, edges_of, other_of}
 use Rattle.dine_rules.specs.declared.letters.Letter.{Letter}
 use Rattle.dine_rules.specs.declared.phase.Phase.{Phase}

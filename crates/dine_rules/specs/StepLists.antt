@@ -3,17 +3,11 @@ use Rattle.std.specs.Prelude.{◌≡◌, ℕ, suc, ◌==◌, Bool, true, false, 
 use Rattle.dine_plan.specs.Plan.{SeenPlan}
 use Rattle.dine_rules.specs.Local.{LocalState}
 use Rattle.dine_rules.specs.Steps.{Step, Give, Begin, may, after}
-use Rattle.dine_rules.specs.Streams.{IsProper}
 
 -- the steps lead from one state to the other, each where it may be done
 abbrev pub LeadTo : SeenPlan → ℕ → LocalState → List Step → LocalState → Type 0
 LeadTo plan s state [] new = state ≡ new
 LeadTo plan s state (step ∷ steps) new = (may plan s state step ≡ true) × LeadTo plan s (after plan s state step) steps new
-
--- each fork that is offered is a real one
-abbrev pub AreProper : List Step → Type 0
-AreProper [] = Unit {0}
-AreProper (step ∷ steps) = IsProper step × AreProper steps
 
 -- the meals that begin
 abbrev pub begins_in : List Step → ℕ

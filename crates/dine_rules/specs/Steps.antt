@@ -1,5 +1,5 @@
 -- The steps of one site: what each needs, and what it changes.
-use Rattle.std.specs.Prelude.{◌≡◌, ℕ, ◌+◌, ◌==◌, ◌&&◌, ◌||◌, not, Bool, true, List, [], ◌∷◌, ◌++◌, length, nat_lt, slice_set, Option, Some, option_map}
+use Rattle.std.specs.Prelude.{◌≡◌, ℕ, ◌+◌, ◌<◌, ◌==◌, ◌&&◌, ◌||◌, not, Bool, true, List, [], ◌∷◌, ◌++◌, length, nat_lt, slice_set, Option, Some, option_map}
 use Rattle.std.specs.List.{list_all, range_with_len}
 use Rattle.dine_token.specs.declared.entry.Entry.{Entry}
 use Rattle.dine_token.specs.declared.entry.Entry.TheVariants.{Move}
@@ -85,6 +85,34 @@ module _ (plan : SeenPlan) (s : ℕ) where
   pub record LocalStep (old : LocalState) (step : Step) (new : LocalState) : Type 0 where
     pub needs : may old step ≡ true
     pub changes : new ≡ after old step
+
+-- What an event does with the links of its site: it takes a letter at a place, puts one at a place, or neither.
+pub data Shape : Type 0 where
+  Takes : ℕ → Shape
+  Puts : ℕ → Shape
+  Alone : Shape
+
+abbrev pub shape_of : EventKind → Shape
+shape_of (event.Take i) = Takes i
+shape_of (event.Give i) = Puts i
+shape_of event.End = Alone
+shape_of event.Begin = Alone
+shape_of event.Hungry = Alone
+shape_of (event.Ask i) = Puts i
+shape_of (event.Done i) = Puts i
+shape_of (event.Close i) = Puts i
+
+-- the place that an event has, where it has one, is one of so many
+abbrev pub IsPlaceWithin : ℕ → Shape → Type 0
+IsPlaceWithin n (Takes i) = i < n
+IsPlaceWithin n (Puts i) = i < n
+IsPlaceWithin n Alone = Unit {0}
+
+-- what an event of this shape does to the letters of its site: one more is taken at its place, one more is put there, or none moves
+abbrev pub MovesBy : Shape → LocalState → LocalState → Type 0
+MovesBy (Takes i) old new = (l : Letter) × (new ≡ with_taken i l old)
+MovesBy (Puts i) old new = (l : Letter) × (new ≡ with_put i l old)
+MovesBy Alone old new = new.traffic ≡ old.traffic
 
 -- the step that an event is, by the next letter at each place: a Take takes that letter, where there is one
 abbrev pub step_by : (ℕ → Option Letter) → EventKind → Option Step

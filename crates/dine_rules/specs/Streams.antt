@@ -9,7 +9,7 @@ use Rattle.dine_plan.specs.Plan.{SeenPlan, edges_of, job_count, lo_of, hi_of, ot
 use Rattle.dine_rules.specs.declared.letters.Letter.{Letter}
 use Rattle.dine_rules.specs.declared.letters.Letter.TheVariants.{Fork, Request, Done, Close}
 use Rattle.dine_rules.specs.Letters.{forks_in, requests_in, has_done, has_close, last_log_or}
-use Rattle.dine_rules.specs.Local.{LocalState, Traffic, traffic_at, edge_at, neighbour_at, is_thinking, is_hungry}
+use Rattle.dine_rules.specs.Local.{LocalState, Traffic, traffic_at, edge_at, neighbour_at, is_thinking, is_hungry, is_eating}
 use Rattle.dine_rules.specs.Holdings.{forks_held, fork_at, token_at, hand_at, meals_from}
 use Rattle.dine_rules.specs.Breach.{was_sent_to, is_fork_of}
 use Rattle.dine_rules.specs.Steps.{Step, Take}
@@ -156,12 +156,13 @@ pub record KeepsStreamsAt (plan : SeenPlan) (s : ℕ) (state : LocalState) (i : 
   -- Close is taken only after Done was put
   pub closed_after : has_close (traffic_at state i).taken ≡ true → has_done (traffic_at state i).put ≡ true
 
--- What a site keeps: the same at every place, and never more meals than are due.
+-- What a site keeps: the same at every place, never more meals than are due, and one at least while it eats.
 pub record KeepsStreams (plan : SeenPlan) (s : ℕ) (state : LocalState) : Type 0 where
   pub places : (i : ℕ) → i < length state.traffic → KeepsStreamsAt plan s state i
   pub every_place : length state.traffic ≡ length (edges_of plan s)
   pub ate_within : state.ate ≤ job_count plan s
   pub hungry_has_left : is_hungry state.phase ≡ true → state.ate < job_count plan s
+  pub eater_has_begun : is_eating state.phase ≡ true → 1 ≤ state.ate
 
 -- a fork that is offered is a real one, as each value of its type is; no more is asked of the letters that come
 abbrev pub IsProper : Step → Type 0

@@ -1,32 +1,44 @@
 //! Laws over the definitions alone. Each function does nothing: its contract is the law.
 
-ghost use Rattle.std.specs.Prelude.{◌≡◌, ◌≢◌, ◌<◌, ◌≤◌, ◌+◌, ◌*◌, ◌↔◌, ℕ, List, [], ◌∷◌, ◌++◌, None, Some, false, length, slice_get, true};
+ghost use Rattle.std.specs.Prelude.{◌≡◌, ◌≢◌, ◌<◌, ◌≤◌, ◌+◌, ◌*◌, ◌↔◌, ℕ, List, [], ◌∷◌, ◌++◌, None, Option, Some, false, length, map, slice_get, true};
 ghost use Rattle.std.specs.List.{list_any};
-ghost use Rattle.dine_plan.specs.Plan.{IsPlan, SeenPlan, edge_count, edges_of, hi_of, job_count, lo_of, site_count};
+ghost use Rattle.dine_plan.specs.Plan.{IsPlan, SeenPlan, edge_count, hi_of, job_count, lo_of, site_count};
+ghost use Rattle.dine_token.specs.Fork.{SeenFork};
 ghost use Rattle.dine_token.specs.Lawful.{IsLawful};
 ghost use Rattle.dine_token.specs.Log.{meals_of};
 ghost use Rattle.dine_token.specs.declared.entry.Entry.TheVariants.{Meal, Move};
 ghost use Rattle.dine_rules.specs.Bound.{bound_of, effects_of};
-ghost use Rattle.dine_rules.specs.Examples.{alone, enabled_at_start, ends_complete, next_after, outcome_of, pair, path};
-ghost use Rattle.dine_rules.specs.Breach.{first_breach, is_allowed};
-ghost use Rattle.dine_rules.specs.Holdings.{fork_at, forks_held, token_at, tokens_held};
-ghost use Rattle.dine_rules.specs.JoinedEnds.{AccountsForFork, AccountsForToken, AreEndsOfEdge, AreLinked, AreWhollyTaken, HaveOneWholeFork, next_between};
+ghost use Rattle.dine_rules.specs.Examples.{alone, enabled_after, ends_complete, next_after, outcome_of, pair, path, preferred_after, preferred_at_end, row};
+ghost use Rattle.dine_rules.specs.Breach.{first_breach, is_allowed, number_of};
+ghost use Rattle.dine_rules.specs.BreachCauses.{Applies};
+ghost use Rattle.dine_rules.specs.declared.breach.Breach.{Breach};
+ghost use Rattle.dine_rules.specs.declared.breach.Breach.TheVariants.{AfterClose, ClosedEarly, DoneOutOfTurn, ForkOutOfTurn, RequestOutOfTurn, StrangeFork};
+ghost use Rattle.dine_rules.specs.Holdings.{fork_at, hand_at, token_at};
 ghost use Rattle.dine_rules.specs.Letters.{closes_in, dones_in, forks_in, requests_in};
 ghost use Rattle.dine_rules.specs.Links.{ForEachEdge, ForEachLink, forks_of_edge, queue_to, tokens_of_edge};
-ghost use Rattle.dine_rules.specs.Local.{LocalState, Traffic, edge_at, is_eating, neighbour_at, start_of, traffic_at};
-ghost use Rattle.dine_rules.specs.Precedence.{IsAcyclic, fork_log};
-ghost use Rattle.dine_rules.specs.StepLists.{AreProper, LeadTo, begins_in, is_give_at};
+ghost use Rattle.dine_rules.specs.Local.{LocalState, edge_at, is_eating, neighbour_at, start_of, traffic_at};
+ghost use Rattle.dine_rules.specs.Precedence.{IsAcyclic, StandsBefore, fork_log};
+ghost use Rattle.dine_rules.specs.StepLists.{LeadTo, begins_in, is_give_at};
 ghost use Rattle.dine_rules.specs.Schedules.{after_choices, finish_within, from_here, replay, whole_run};
-ghost use Rattle.dine_rules.specs.Steps.{LocalStep, Step};
+ghost use Rattle.dine_rules.specs.Steps as step;
+ghost use Rattle.dine_rules.specs.Steps.{IsPlaceWithin, LocalStep, MovesBy, Step, after, may, shape_of, step_by};
 ghost use Rattle.dine_rules.specs.Streams.{IsProper, KeepsStreams};
-ghost use Rattle.dine_rules.specs.World.{LinksAreOrdered, IsComplete, Reaches, WorldState, enabled_events, is_enabled, next_letter, place_of, put_to, start, state_of, world_after};
+ghost use Rattle.dine_rules.specs.World.{LinksAreOrdered, IsComplete, Reaches, WorldState, enabled_events, is_enabled, kinds_at, next_letter, put_to, start, state_of, world_after};
 ghost use Rattle.dine_rules.specs.declared.events.Event.{Event};
-ghost use Rattle.dine_rules.specs.declared.breach.Breach.{Breach};
-ghost use Rattle.dine_rules.specs.declared.breach.Breach.TheVariants.{ClosedEarly};
+ghost use Rattle.dine_rules.specs.declared.events.EventKind.{EventKind};
 ghost use Rattle.dine_rules.specs.declared.letters.Letter.{Letter};
-ghost use Rattle.dine_rules.specs.declared.letters.Letter.TheVariants.{Close};
-ghost use Rattle.dine_rules.specs.declared.events.EventKind.TheVariants.{Hungry};
+ghost use Rattle.dine_rules.specs.declared.letters.Letter.TheVariants.{Fork};
+ghost use Rattle.dine_rules.specs.declared.events.EventKind.TheVariants.{Ask, Begin, Close, Done, End, Give, Hungry, Take};
 ghost use Rattle.dine_rules.specs.declared.letters.Kind4.TheVariants as kind;
+
+mod joined;
+
+pub use joined::{
+    closed_links_are_wholly_taken, early_close_comes_as_worked, edges_have_a_place_at_each_end,
+    joined_ends_have_one_whole_fork_and_one_token, kept_streams_account_for_fork_and_token,
+    linked_ends_have_at_most_one_fork_and_token, reached_worlds_have_linked_ends,
+    refused_letters_are_closes,
+};
 
 /// What the definitions come to on small plans: the log of each edge and the number of events, computed from the list
 /// of choices alone. A choice with no event is passed over.
@@ -54,9 +66,40 @@ pub fn small_plans_have_these_bounds()
 /// schedule above the link to the higher site has a Fork and then a Request. At the end nothing is enabled, and each
 /// site ate all its meals.
 pub fn pair_goes_as_worked()
-    ensures start { enabled_at_start (pair 1 1) ≡ record { site = 0; kind = Hungry } ∷ record { site = 1; kind = Hungry } ∷ [] }
+    ensures start { enabled_after (pair 1 1) [] ≡ record { site = 0; kind = Hungry } ∷ record { site = 1; kind = Hungry } ∷ [] }
     ensures sixth { next_after (pair 1 1) (1 ∷ 1 ∷ 0 ∷ 0 ∷ 0 ∷ 0 ∷ []) 1 0 ≡ kind.Fork ∷ kind.Request ∷ [] }
     ensures end { ends_complete (pair 1 1) ≡ 1 ∷ 1 ∷ [] }
+{}
+
+/// The fixed order of events. First that of all events of a site with two places. Then the middle of three sites with one job each
+/// may take the fork that it asked for, and give the one that it was asked for; and with no jobs it may say Done at one place
+/// and Close at the other.
+pub fn events_are_ordered_as_worked()
+    ensures kinds { kinds_at (0 ∷ 1 ∷ []) ≡ Take 0 ∷ Take 1 ∷ Give 0 ∷ Give 1 ∷ End ∷ Begin ∷ Hungry ∷ Ask 0 ∷ Ask 1 ∷ Done 0 ∷ Done 1 ∷ Close 0 ∷ Close 1 ∷ [] }
+    ensures take_before_give { enabled_after path (2 ∷ 2 ∷ 1 ∷ 2 ∷ 2 ∷ 0 ∷ 0 ∷ [])
+        ≡ record { site = 0; kind = Hungry } ∷ record { site = 1; kind = Take 0 } ∷ record { site = 1; kind = Give 1 } ∷ [] }
+    ensures done_before_close { enabled_after (row 0 0 0) (0 ∷ 0 ∷ 0 ∷ [])
+        ≡ record { site = 0; kind = Take 0 } ∷ record { site = 1; kind = Done 1 } ∷ record { site = 1; kind = Close 0 } ∷ record { site = 2; kind = Done 0 } ∷ [] }
+{}
+
+/// The preferred end of a pair's edge: at the start the higher, which has no fork; so it is while the fork is clean on its way there,
+/// until the higher ate. At the end of a run it is the end that ate first, since the other has the fork dirty. And who stands
+/// before whom in a list.
+pub fn precedence_goes_as_worked()
+    ensures start { preferred_after (pair 1 1) [] ≡ 1 }
+    ensures on_its_way { preferred_after (pair 1 1) (1 ∷ 1 ∷ 0 ∷ 0 ∷ 0 ∷ 0 ∷ []) ≡ 1 }
+    ensures lower_ate_first { preferred_at_end (pair 1 1) [] ≡ 0 }
+    ensures higher_ate_first { preferred_at_end (pair 1 1) (1 ∷ 1 ∷ 0 ∷ 0 ∷ []) ≡ 1 }
+    ensures before { StandsBefore 2 0 (2 ∷ 1 ∷ 0 ∷ []) }
+    ensures not_behind { StandsBefore 0 2 (2 ∷ 1 ∷ 0 ∷ []) → ⊥ }
+{}
+
+/// The meals that begin in a list of steps, and which step is a Give at a place.
+pub fn steps_are_told_as_worked()
+    ensures begins { begins_in (step.Hungry ∷ step.Begin ∷ step.End ∷ step.Hungry ∷ step.Begin ∷ []) ≡ 2 }
+    ensures gives { is_give_at 1 (step.Give 1) ≡ true }
+    ensures gives_elsewhere { is_give_at 1 (step.Give 0) ≡ false }
+    ensures asks { is_give_at 1 (step.Ask 1) ≡ false }
 {}
 
 /// A site keeps its streams: at the start, and after each step that its state allows, whatever forks it is offered.
@@ -67,7 +110,7 @@ pub fn streams_are_kept()
 {}
 
 /// A site that keeps its streams puts few letters at a place: at most as many Requests as it has jobs, one Fork more than
-/// that, one Done and one Close.
+/// that, one Done and one Close. A site of a plan has at most 1,000 jobs, so that is at most 2,003 letters.
 pub fn few_letters_are_put()
     ensures requests { (plan : SeenPlan) (s : ℕ) (state : LocalState) (i : ℕ) → KeepsStreams plan s state → i < length state.traffic
         → requests_in (traffic_at state i).put ≤ job_count plan s }
@@ -77,6 +120,23 @@ pub fn few_letters_are_put()
         → dones_in (traffic_at state i).put ≤ 1 }
     ensures closes { (plan : SeenPlan) (s : ℕ) (state : LocalState) (i : ℕ) → KeepsStreams plan s state → i < length state.traffic
         → closes_in (traffic_at state i).put ≤ 1 }
+    ensures letters { (plan : SeenPlan) (s : ℕ) (state : LocalState) (i : ℕ) → IsPlan plan → s < site_count plan → KeepsStreams plan s state
+        → i < length state.traffic → length (traffic_at state i).put ≤ 2003 }
+{}
+
+/// A site that keeps its streams takes few letters at a place: at most as many Forks as it put Requests, one Request more than
+/// that, one Done and one Close.
+pub fn few_letters_are_taken()
+    ensures forks { (plan : SeenPlan) (s : ℕ) (state : LocalState) (i : ℕ) → KeepsStreams plan s state → i < length state.traffic
+        → forks_in (traffic_at state i).taken ≤ job_count plan s }
+    ensures requests { (plan : SeenPlan) (s : ℕ) (state : LocalState) (i : ℕ) → KeepsStreams plan s state → i < length state.traffic
+        → requests_in (traffic_at state i).taken ≤ job_count plan s + 1 }
+    ensures dones { (plan : SeenPlan) (s : ℕ) (state : LocalState) (i : ℕ) → KeepsStreams plan s state → i < length state.traffic
+        → dones_in (traffic_at state i).taken ≤ 1 }
+    ensures closes { (plan : SeenPlan) (s : ℕ) (state : LocalState) (i : ℕ) → KeepsStreams plan s state → i < length state.traffic
+        → closes_in (traffic_at state i).taken ≤ 1 }
+    ensures letters { (plan : SeenPlan) (s : ℕ) (state : LocalState) (i : ℕ) → IsPlan plan → s < site_count plan → KeepsStreams plan s state
+        → i < length state.traffic → length (traffic_at state i).taken ≤ 2003 }
 {}
 
 /// A letter is allowed exactly where no breach applies.
@@ -85,11 +145,36 @@ pub fn allowed_letters_meet_no_breach()
         → (is_allowed plan s state i letter ≡ true) ↔ (first_breach plan s state i letter ≡ None) }
 {}
 
-/// Precedence to the asker: in each state that steps lead to from the start, where the forks offered on the way were real
-/// ones, a site that holds the fork and the token of a place begins at most one meal more before it gives the fork away.
+/// The breach that is told of a letter is the first that applies, in the order of their numbers: it applies, and none with a
+/// lower number does. Where none is told, none applies.
+pub fn first_breach_is_first()
+    ensures applies { (plan : SeenPlan) (s : ℕ) (state : LocalState) (i : ℕ) (letter : Letter) (breach : Breach)
+        → first_breach plan s state i letter ≡ Some breach → Applies plan s state i breach letter }
+    ensures first { (plan : SeenPlan) (s : ℕ) (state : LocalState) (i : ℕ) (letter : Letter) (breach earlier : Breach)
+        → first_breach plan s state i letter ≡ Some breach → number_of earlier < number_of breach → Applies plan s state i earlier letter → ⊥ }
+    ensures none { (plan : SeenPlan) (s : ℕ) (state : LocalState) (i : ℕ) (letter : Letter) (breach : Breach)
+        → first_breach plan s state i letter ≡ None → Applies plan s state i breach letter → ⊥ }
+{}
+
+/// An event moves letters by its shape: it takes one at its place, puts one there, or moves none. The place of an event that a
+/// site may do is one of the site's.
+pub fn events_move_letters_by_their_shape()
+    ensures moves { (plan : SeenPlan) (s : ℕ) (state : LocalState) (next : ℕ → Option Letter) (kind : EventKind) (step : Step)
+        → step_by next kind ≡ Some step → MovesBy (shape_of kind) state (after plan s state step) }
+    ensures place { (plan : SeenPlan) (s : ℕ) (state : LocalState) (next : ℕ → Option Letter) (kind : EventKind) (step : Step)
+        → step_by next kind ≡ Some step → may plan s state step ≡ true → IsPlaceWithin (length state.traffic) (shape_of kind) }
+{}
+
+/// The numbers of the breaches.
+pub fn breaches_are_numbered()
+    ensures { map number_of (AfterClose ∷ RequestOutOfTurn ∷ ForkOutOfTurn ∷ StrangeFork ∷ DoneOutOfTurn ∷ ClosedEarly ∷ []) ≡ 1 ∷ 2 ∷ 3 ∷ 4 ∷ 5 ∷ 6 ∷ [] }
+{}
+
+/// Precedence to the asker: in each state that steps lead to from the start, whatever letters came, a site that holds the
+/// fork and the token of a place begins at most one meal more before it gives the fork away.
 pub fn asker_has_precedence()
-    ensures { (plan : SeenPlan) (s i : ℕ) → IsPlan plan → s < site_count plan → (state new : LocalState) (before steps : List Step)
-        → AreProper before → LeadTo plan s (start_of plan s) before state → i < length state.traffic
+    ensures { (plan : SeenPlan) (s i : ℕ) (state new : LocalState) (before steps : List Step)
+        → LeadTo plan s (start_of plan s) before state → i < length state.traffic
         → fork_at plan s state i ≡ 1 → token_at plan s state i ≡ 1
         → LeadTo plan s state steps new → list_any (is_give_at i) steps ≡ false → begins_in steps ≤ 1 }
 {}
@@ -179,6 +264,12 @@ pub fn stuck_worlds_are_complete()
         → enabled_events plan world ≡ [] → IsComplete plan world }
 {}
 
+/// And a complete world is stuck: where events reach it from the start, no event is enabled in it.
+pub fn complete_worlds_are_stuck()
+    ensures { (plan : SeenPlan) (events : List Event) (world : WorldState) → IsPlan plan → Reaches plan events world
+        → IsComplete plan world → enabled_events plan world ≡ [] }
+{}
+
 /// A run that does the first enabled event again and again, at most as many times as the bound of the plan, ends in a world
 /// where no event is enabled and which is complete: from each world that events reach from the start, and as the end of a
 /// whole run, after any choices.
@@ -206,6 +297,14 @@ pub fn whole_runs_go_on_after_the_choices()
     ensures events { (plan : SeenPlan) (choices : List ℕ) → (whole_run plan choices).events ≡ (replay plan (from_here (start plan)) choices).events + (after_choices plan choices).events }
 {}
 
+/// The log that is told of an edge's fork is that of its one fork, in every world that events reach from the start: where a site
+/// holds the fork, the log in its hand, and where the fork is in a link, the log that the letter has.
+pub fn fork_logs_are_of_the_one_fork()
+    ensures held { ForEachLink (λ plan world s i. fork_at plan s (state_of world s) i ≡ 1 → fork_log plan world (edge_at plan s i) ≡ hand_at s (state_of world s) i) }
+    ensures sent { ForEachLink (λ plan world s i. (fork : SeenFork) (k : ℕ) → slice_get (queue_to plan world s i) k ≡ Some (Fork fork)
+        → fork_log plan world (edge_at plan s i) ≡ fork.log) }
+{}
+
 /// The log of each edge's fork is lawful, in every world that events reach from the start and wherever the fork lies: in hand, in
 /// a meal or in a link. Where the world is complete, the log has all meals of both ends. So at the end of a whole run, after any
 /// choices, each log is lawful and has all meals of both ends.
@@ -218,56 +317,4 @@ pub fn forks_are_lawful_and_whole()
     ensures run_whole { (plan : SeenPlan) (choices : List ℕ) (edge : ℕ) → IsPlan plan → edge < edge_count plan
         → (meals_of (lo_of plan edge) (fork_log plan (whole_run plan choices).world edge) ≡ job_count plan (lo_of plan edge))
         × (meals_of (hi_of plan edge) (fork_log plan (whole_run plan choices).world edge) ≡ job_count plan (hi_of plan edge)) }
-{}
-
-/// Each edge has a place at its lower end and one at its higher, and each place of a site is an end of its edge.
-pub fn edges_have_a_place_at_each_end()
-    ensures ends { (plan : SeenPlan) (edge : ℕ) → IsPlan plan → edge < edge_count plan
-        → AreEndsOfEdge plan (lo_of plan edge) (place_of plan (lo_of plan edge) edge) (hi_of plan edge) (place_of plan (hi_of plan edge) edge) }
-    ensures edge { (plan : SeenPlan) (edge : ℕ) → IsPlan plan → edge < edge_count plan → edge_at plan (lo_of plan edge) (place_of plan (lo_of plan edge) edge) ≡ edge }
-    ensures places { (plan : SeenPlan) (s i : ℕ) → IsPlan plan → i < length (edges_of plan s)
-        → AreEndsOfEdge plan s i (neighbour_at plan s i) (place_of plan (neighbour_at plan s i) (edge_at plan s i)) }
-{}
-
-/// A letter that comes next and is not allowed is a Close, and its breach is that it came early. So it is for two sites that keep
-/// their streams, at the two ends of an edge where each took a prefix of what the other put, also where sites break off.
-/// Whole lists are counted, and no order of events is asked for.
-pub fn refused_letters_are_closes()
-    ensures close { (plan : SeenPlan) (s i other j : ℕ) (here there : LocalState) (letter : Letter) → IsPlan plan → AreEndsOfEdge plan s i other j
-        → KeepsStreams plan s here → KeepsStreams plan other there → AreLinked (traffic_at here i) (traffic_at there j)
-        → next_between (traffic_at here i) (traffic_at there j) ≡ Some letter → is_allowed plan s here i letter ≡ false → letter ≡ Close }
-    ensures early { (plan : SeenPlan) (s i other j : ℕ) (here there : LocalState) (letter : Letter) (breach : Breach) → IsPlan plan → AreEndsOfEdge plan s i other j
-        → KeepsStreams plan s here → KeepsStreams plan other there → AreLinked (traffic_at here i) (traffic_at there j)
-        → next_between (traffic_at here i) (traffic_at there j) ≡ Some letter → first_breach plan s here i letter ≡ Some breach → breach ≡ ClosedEarly }
-{}
-
-/// A site that keeps its streams accounts for the fork and for the token of each of its places.
-pub fn kept_streams_account_for_fork_and_token()
-    ensures fork { (plan : SeenPlan) (s i : ℕ) (state : LocalState) → KeepsStreams plan s state → i < length (edges_of plan s)
-        → AccountsForFork plan s (edge_at plan s i) state.ate (traffic_at state i) }
-    ensures token { (plan : SeenPlan) (s i : ℕ) (state : LocalState) → IsPlan plan → KeepsStreams plan s state → i < length (edges_of plan s)
-        → AccountsForToken plan s (edge_at plan s i) (traffic_at state i) }
-{}
-
-/// Two ends of an edge that account for the fork and took a prefix of what the other put, hold at most one fork. Where they
-/// account for the token, they hold at most one token.
-pub fn linked_ends_have_at_most_one_fork_and_token()
-    ensures fork { (plan : SeenPlan) (edge low_ate high_ate : ℕ) (low high : Traffic) → IsPlan plan → edge < edge_count plan
-        → AccountsForFork plan (lo_of plan edge) edge low_ate low → AccountsForFork plan (hi_of plan edge) edge high_ate high → AreLinked low high
-        → forks_held plan (lo_of plan edge) edge low + forks_held plan (hi_of plan edge) edge high ≤ 1 }
-    ensures token { (plan : SeenPlan) (edge : ℕ) (low high : Traffic) → IsPlan plan → edge < edge_count plan
-        → AccountsForToken plan (lo_of plan edge) edge low → AccountsForToken plan (hi_of plan edge) edge high → AreLinked low high
-        → tokens_held plan (lo_of plan edge) edge low + tokens_held plan (hi_of plan edge) edge high ≤ 1 }
-{}
-
-/// Two ends of an edge that took all that the other put, hold exactly one fork, where they account for it: its log is lawful, and
-/// it has each meal that either end ate once. Where they account for the token, they hold exactly one token. So it is for
-/// the lists that are left when threads have joined. No order of events is asked for.
-pub fn joined_ends_have_one_whole_fork_and_one_token()
-    ensures fork { (plan : SeenPlan) (edge low_ate high_ate : ℕ) (low high : Traffic) → IsPlan plan → edge < edge_count plan
-        → AccountsForFork plan (lo_of plan edge) edge low_ate low → AccountsForFork plan (hi_of plan edge) edge high_ate high → AreWhollyTaken low high
-        → HaveOneWholeFork plan edge low_ate high_ate low high }
-    ensures token { (plan : SeenPlan) (edge : ℕ) (low high : Traffic) → IsPlan plan → edge < edge_count plan
-        → AccountsForToken plan (lo_of plan edge) edge low → AccountsForToken plan (hi_of plan edge) edge high → AreWhollyTaken low high
-        → tokens_held plan (lo_of plan edge) edge low + tokens_held plan (hi_of plan edge) edge high ≡ 1 }
 {}

@@ -1,0 +1,9 @@
+pub mod Letters
+pub mod Lists
+pub mod AtPlaces
+pub mod Replaced
+pub mod Ways
+pub mod Stops
+pub mod Seen
+pub mod Meals
+pub mod Ends

@@ -1,4 +1,6 @@
 pub mod Diners
+pub mod CallLogs
+pub mod CallLogFields
 pub mod Ports
 pub mod SiteEnds
 pub mod Running

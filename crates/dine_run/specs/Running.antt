@@ -1,42 +1,138 @@
--- A site on its way: what holds of its core and its link ends between two of its events, and after its first fault.
-use Rattle.std.specs.Prelude.{◌≡◌, ℕ, ◌<◌, ◌++◌, not, Bool, true, false, List, length, slice_get, Option, Some, option_to_list}
+-- A site on its way: what holds of its core and its link ends between two of its events, while a letter goes out, after its
+-- first fault, and at its end; and what is left as it was.
+use Rattle.std.specs.Prelude.{◌≡◌, ℕ, ◌+◌, ◌<◌, ◌≤◌, ◌++◌, not, Bool, true, false, List, length, slice_get, Option, Some, None, option_to_list, Result, MatchResult, vec_len}
 use Rattle.dine_plan.specs.Plan.{SeenPlan, IsPlan, site_count}
 use Rattle.dine_rules.specs.declared.breach.Breach.{Breach}
+use Rattle.dine_rules.specs.declared.letters.Letter.{Letter}
 use Rattle.dine_rules.specs.Letters.{has_close}
-use Rattle.dine_rules.specs.Local.{LocalState, is_eating, traffic_at}
+use Rattle.dine_rules.specs.Local.{LocalState, Traffic, is_eating, traffic_at}
+use Rattle.dine_rules.specs.Steps.{with_put}
 use Rattle.dine_rules.specs.Streams.{KeepsStreams}
 use Rattle.dine_core.specs.Core.{SeenCore, StandsFor}
+use Rattle.dine_core.specs.Places.{place_at}
+use Rattle.dine_core.specs.Standing.{ForEachState, has_finished}
+use Rattle.dine_run.specs.declared.diner.Call.{Call}
 use Rattle.dine_run.specs.declared.site_end.SiteFault.{SiteFault}
 use Rattle.dine_run.specs.declared.site_end.SiteFault.TheVariants as fault
 use Rattle.dine_run.specs.declared.site_end.Stray.{Stray}
-use Rattle.dine_run.specs.Ports.{SeenPort, SameLinks, PutsFit}
+use Rattle.dine_run.specs.declared.site_loop.running.Stop.{Stop}
+use Rattle.dine_run.specs.declared.site_loop.running.Running.{Running}
+use Rattle.dine_link.specs.Links.{SeenEnd}
+use Rattle.dine_run.specs.Diners.{HasEaten}
+use Rattle.dine_run.specs.Ports.{SeenPort, SameLinks, PutsFit, seen_ports}
 use Rattle.dine_run.specs.SiteEnds.{IsBreached, breached_at, refused_at}
+
+-- a site on its way, but for its diner
+pub record SeenRun (Identity : Type 0) : Type 0 where
+  pub core : SeenCore
+  pub ports : List (SeenPort Identity)
+
+-- so it is at each place, of what the state put and took there and of the port
+abbrev pub AtEach : {Identity : Type 0} → (ℕ → Traffic → SeenPort Identity → Type 0) → LocalState → List (SeenPort Identity) → Type 0
+AtEach {Identity} P state ports = (i : ℕ) (port : SeenPort Identity) → slice_get ports i ≡ Some port → P i (traffic_at state i) port
+
+-- the links have just what the state put and took, and the end is live where the state has not put Close
+pub record RunsAt {Identity : Type 0} (traffic : Traffic) (port : SeenPort Identity) : Type 0 where
+  pub puts : port.tx.letters ≡ traffic.put
+  pub takes : port.rx.letters ≡ traffic.taken
+  pub live : port.is_live ≡ not (has_close traffic.put)
+
+-- the same, but for a letter that the link refused, for the letter of a breach, and for a Close that the link refused
+pub record StopsAt {Identity : Type 0} (refused breached : Option Letter) (traffic : Traffic) (port : SeenPort Identity) : Type 0 where
+  pub puts : PutsFit refused traffic.put port.tx.letters
+  pub takes : port.rx.letters ≡ traffic.taken ++ option_to_list breached
+  pub live : has_close traffic.put ≡ false → port.is_live ≡ true
 
 -- The core stands for a state that keeps the streams and in which the site does not eat, and the link ends are those that were
 -- handed in, one pair a place.
-pub record HasState {Identity : Type 0} (plan : SeenPlan) (given : List (SeenPort Identity)) (core : SeenCore) (ports : List (SeenPort Identity)) (state : LocalState) : Type 0 where
+pub record HasState {Identity : Type 0} (plan : SeenPlan) (given : List (SeenPort Identity)) (run : SeenRun Identity) (state : LocalState) : Type 0 where
   pub is_plan : IsPlan plan
-  pub is_site : core.site < site_count plan
-  pub keeps : KeepsStreams plan core.site state
-  pub stands : StandsFor plan state core
+  pub is_site : run.core.site < site_count plan
+  pub keeps : KeepsStreams plan run.core.site state
+  pub stands : StandsFor plan state run.core
   pub rests : is_eating state.phase ≡ false
-  pub count : length ports ≡ length given
-  pub places : length ports ≡ length core.places
-  pub same_links : (i : ℕ) (old new : SeenPort Identity) → slice_get given i ≡ Some old → slice_get ports i ≡ Some new → SameLinks old new
+  pub count : length run.ports ≡ length given
+  pub places : length run.ports ≡ length run.core.places
+  pub same_links : (i : ℕ) (old new : SeenPort Identity) → slice_get given i ≡ Some old → slice_get run.ports i ≡ Some new → SameLinks old new
 
--- Without a fault: the links have just what the core put and took, and an end is live where the core has not put Close.
-pub record IsRunning {Identity : Type 0} (plan : SeenPlan) (given : List (SeenPort Identity)) (core : SeenCore) (ports : List (SeenPort Identity)) : Type 0 where
+-- Between two events, without a fault.
+pub record IsRunning {Identity : Type 0} (plan : SeenPlan) (given : List (SeenPort Identity)) (run : SeenRun Identity) : Type 0 where
   pub state : LocalState
-  pub has : HasState plan given core ports state
-  pub puts : (i : ℕ) (port : SeenPort Identity) → slice_get ports i ≡ Some port → port.tx.letters ≡ (traffic_at state i).put
-  pub takes : (i : ℕ) (port : SeenPort Identity) → slice_get ports i ≡ Some port → port.rx.letters ≡ (traffic_at state i).taken
-  pub live : (i : ℕ) (port : SeenPort Identity) → slice_get ports i ≡ Some port → port.is_live ≡ not (has_close (traffic_at state i).put)
+  pub has : HasState plan given run state
+  pub lists : AtEach (λ i. RunsAt) state run.ports
 
--- After the first fault: the same, but for the stray and for a Close that a link refused. A breach that is told is that of the stray.
-pub record IsStopped {Identity : Type 0} (plan : SeenPlan) (given : List (SeenPort Identity)) (core : SeenCore) (ports : List (SeenPort Identity)) (stray : Option Stray) (cause : SiteFault) : Type 0 where
+-- The core has put the letter at place i, and the link has it not yet.
+pub record IsPutting {Identity : Type 0} (i : ℕ) (letter : Letter) (plan : SeenPlan) (given : List (SeenPort Identity)) (run : SeenRun Identity) : Type 0 where
+  pub before : LocalState
+  pub within : i < length before.traffic
+  pub open_place : has_close (traffic_at before i).put ≡ false
+  pub has : HasState plan given run (with_put i letter before)
+  pub lists : AtEach (λ j. RunsAt) before run.ports
+
+-- After the first fault. A breach that is told is that of the stray.
+pub record IsStopped {Identity : Type 0} (stray : Option Stray) (cause : SiteFault) (plan : SeenPlan) (given : List (SeenPort Identity)) (run : SeenRun Identity) : Type 0 where
   pub state : LocalState
-  pub has : HasState plan given core ports state
-  pub puts : (i : ℕ) (port : SeenPort Identity) → slice_get ports i ≡ Some port → PutsFit (refused_at i (Some cause) stray) (traffic_at state i).put port.tx.letters
-  pub takes : (i : ℕ) (port : SeenPort Identity) → slice_get ports i ≡ Some port → port.rx.letters ≡ (traffic_at state i).taken ++ option_to_list (breached_at i (Some cause) stray)
-  pub live : (i : ℕ) (port : SeenPort Identity) → slice_get ports i ≡ Some port → has_close (traffic_at state i).put ≡ false → port.is_live ≡ true
-  pub breach : (link : ℕ) (breach : Breach) → cause ≡ fault.Breach link breach → IsBreached plan core.site state stray link breach
+  pub has : HasState plan given run state
+  pub lists : AtEach (λ i. StopsAt (refused_at i (Some cause) stray) (breached_at i (Some cause) stray)) state run.ports
+  pub breach : (link : ℕ) (breach : Breach) → cause ≡ fault.Breach link breach → IsBreached plan run.core.site state stray link breach
+
+-- Close is put at each of the places below i
+abbrev pub ClosedBelow : ℕ → SeenCore → Type 0
+ClosedBelow i core = (j : ℕ) → j < i → (place_at core j).close_put ≡ true
+
+-- the site has done all, in each state for which its core stands
+abbrev pub IsFinished : SeenCore → Type 0
+IsFinished core = ForEachState core (λ plan state. has_finished plan core.site state ≡ true)
+
+-- what holds when the site ends: with no fault it has done all, and after a fault Close is put at every place
+abbrev pub MayEnd : {Identity : Type 0} → Option Stray → Option SiteFault → SeenPlan → List (SeenPort Identity) → SeenRun Identity → Type 0
+MayEnd stray None plan given run = IsRunning plan given run × IsFinished run.core × (stray ≡ None)
+MayEnd stray (Some cause) plan given run = IsStopped stray cause plan given run × ClosedBelow (length run.core.places) run.core
+
+-- so it is for some plan, and some ports that were handed in
+abbrev pub ForSome : {Identity : Type 0} → (SeenPlan → List (SeenPort Identity) → SeenRun Identity → Type 0) → SeenRun Identity → Type 0
+ForSome {Identity} P run = (plan : SeenPlan) × (given : List (SeenPort Identity)) × P plan given run
+
+-- for each plan and ports for which the first is so of the old run, the second is so of the new one
+abbrev pub Leads : {Identity : Type 0} → (SeenPlan → List (SeenPort Identity) → SeenRun Identity → Type 0) → (SeenPlan → List (SeenPort Identity) → SeenRun Identity → Type 0) → SeenRun Identity → SeenRun Identity → Type 0
+Leads {Identity} P Q old new = (plan : SeenPlan) (given : List (SeenPort Identity)) → P plan given old → Q plan given new
+
+-- it has stopped, with some stray and some cause; and it stays so, with the same
+abbrev pub HasStopped : {Identity : Type 0} → SeenRun Identity → Type 0
+HasStopped run = (stray : Option Stray) × (cause : SiteFault) × ForSome (IsStopped stray cause) run
+
+abbrev pub StaysStopped : {Identity : Type 0} → SeenRun Identity → SeenRun Identity → Type 0
+StaysStopped old new = (stray : Option Stray) (cause : SiteFault) → Leads (IsStopped stray cause) (IsStopped stray cause) old new
+
+-- after an answer: the site goes on, or it has stopped with this cause and this stray
+abbrev pub GoesOn : {Identity : Type 0} → Result (Unit {0}) Stop → SeenPlan → List (SeenPort Identity) → SeenRun Identity → Type 0
+GoesOn result plan given run = MatchResult result (λ _. IsRunning plan given run) (λ stop. IsStopped stop.stray stop.fault plan given run)
+
+-- the same, and where it goes on it has done all
+abbrev pub GoesToEnd : {Identity : Type 0} → Result (Unit {0}) Stop → SeenPlan → List (SeenPort Identity) → SeenRun Identity → Type 0
+GoesToEnd result plan given run = MatchResult result (λ _. IsRunning plan given run × IsFinished run.core) (λ stop. IsStopped stop.stray stop.fault plan given run)
+
+module _ {Lane Tx Closed Rx Identity Diner : Type 0} (live : Tx → SeenEnd Identity) (shut : Closed → SeenEnd Identity) (taking : Rx → SeenEnd Identity) where
+  abbrev pub seen_run : Running Lane Diner Tx Closed Rx → SeenRun Identity
+  seen_run run = record { core = run.core; ports = seen_ports live shut taking run.ports.items }
+
+module _ {Lane Tx Closed Rx Diner : Type 0} where
+  -- The bell is that of the places, there is room for the calls of all meals to come, and no more meals failed than were begun.
+  pub record IsReady (room_left : Diner → ℕ) (run : Running Lane Diner Tx Closed Rx) : Type 0 where
+    pub bell : run.bell.degree ≡ vec_len run.ports
+    pub room : run.core.due ≤ run.core.ate + room_left run.diner
+    pub failed : run.failed ≤ run.core.ate
+
+  -- what the diner did since any start goes on to what it has done now
+  abbrev pub EatsOn : (Diner → List Call) → (Diner → List Bool) → (List Bool → ℕ → Bool → Bool) → Running Lane Diner Tx Closed Rx → Running Lane Diner Tx Closed Rx → Type 0
+  EatsOn calls marks fits old new = (first : Diner) → HasEaten calls marks fits old.core.ate old.failed first old.diner → HasEaten calls marks fits new.core.ate new.failed first new.diner
+
+  -- The site, its meals, the diner and the bell are as they were, and so is the number of ports.
+  pub record SameMeals (old new : Running Lane Diner Tx Closed Rx) : Type 0 where
+    pub site : new.core.site ≡ old.core.site
+    pub due : new.core.due ≡ old.core.due
+    pub ate : new.core.ate ≡ old.core.ate
+    pub diner : new.diner ≡ old.diner
+    pub failed : new.failed ≡ old.failed
+    pub bell : new.bell.degree ≡ old.bell.degree
+    pub count : vec_len new.ports ≡ vec_len old.ports

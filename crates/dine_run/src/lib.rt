@@ -1,12 +1,14 @@
 //! Sites on their threads: who eats, and one site from its first step to its last.
 #![tactic(auto)]
 
+mod call_log;
 mod diner;
 mod gathered;
 mod port;
 mod site_end;
 mod site_loop;
 
+pub use call_log::CallLog;
 pub use diner::{Call, Diner, JobFault};
 pub use gathered::{Gathered, Joined, RunFault, SiteOut};
 pub use port::Port;

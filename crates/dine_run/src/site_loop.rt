@@ -13,6 +13,7 @@ use crate::port::Port;
 use crate::site_end::SiteEnd;
 use dine_core::SiteCore;
 use dine_link::{Bell, Lane};
+use dine_rules::laws;
 use running::Running;
 use std::sync::Wait;
 
@@ -33,19 +34,20 @@ pub fn run_site<R: Wait, L: Lane, D: Diner>(
     requires fresh { IsFresh core }
     requires ports { vec_len ports ≡ length core.places }
     requires unused { All IsFreshPort (seen_ports L.seen_tx L.seen_closed L.seen_rx ports.items) }
-    requires bell { bell ≡ length core.places }
+    requires bell { bell.degree ≡ length core.places }
     requires room { core.due ≤ D.room_left diner }
     ensures end { (plan : SeenPlan) → IsFreshFor plan core → IsSiteEnd plan core.site (seen_ports L.seen_tx L.seen_closed L.seen_rx ports.items) (record {
-        site = result.site;
-        ate = result.ate;
-        forks = result.forks.items;
-        tokens = result.tokens.items;
-        ports = seen_ports L.seen_tx L.seen_closed L.seen_rx result.ports.items;
-        stray = result.stray;
-        fault = result.fault;
+      site = result.site;
+      ate = result.ate;
+      forks = result.forks.items;
+      tokens = result.tokens.items;
+      ports = seen_ports L.seen_tx L.seen_closed L.seen_rx result.ports.items;
+      stray = result.stray;
+      fault = result.fault;
     }) }
     ensures eaten { HasEaten D.calls D.marks D.fits result.ate result.failed diner result.diner }
 {
+    laws::streams_are_kept();
     let mut site = Running::new(core, ports, bell, diner);
     match site.work(rt) {
         Ok(()) => site.end(None, None),

@@ -148,17 +148,3 @@ fn an_endless_input_is_left_after_as_many_reads(rt: HostRuntime) {
     );
     assert_eq!(rt; input.reads, 8_388_609);
 }
-
-#[test]
-fn a_fault_is_told_as_the_program_prints_it(rt: HostRuntime) -> Result<(), Fail> {
-    let faults = [
-        (InputFault::Failed, "reading failed"),
-        (InputFault::TooLong, "input too long"),
-        (InputFault::Memory, "out of memory"),
-    ];
-    for (fault, line) in faults {
-        let text = format!(in rt.alloc(); "{fault}")?;
-        assert_eq!(rt; text.as_str(), line);
-    }
-    Ok(())
-}

@@ -1,4 +1,4 @@
-use super::{WriteFault, print_fault, write_out};
+use super::{WriteFault, write_line, write_out};
 use std::alloc::Global;
 use std::io;
 use std::io::Write;
@@ -101,25 +101,28 @@ fn an_interrupted_write_is_tried_again(rt: HostRuntime) {
 }
 
 #[test]
-fn a_fault_is_printed_as_a_line(rt: HostRuntime) {
-    let mut faults = takes_pieces(rt.alloc(), 100);
-    print_fault(&mut faults, "dine: reading failed");
+fn a_line_is_written_with_its_line_feed_and_flushed(rt: HostRuntime) {
+    let mut output = takes_pieces(rt.alloc(), 100);
+    assert_eq!(rt; write_line(&mut output, "dine: reading failed"), Ok(()));
     assert_eq!(rt;
-        faults.held.as_slice(),
+        output.held.as_slice(),
         b"dine: reading failed\n".as_slice()
     );
-    assert_eq!(rt; (faults.writes, faults.flushes), (2, 1));
+    assert_eq!(rt; (output.writes, output.flushes), (2, 1));
 }
 
 #[test]
-fn a_fault_in_printing_is_not_told(rt: HostRuntime) {
+fn a_failed_write_ends_a_line(rt: HostRuntime) {
     for bad_write in 1..=3 {
-        let mut faults = takes_pieces(rt.alloc(), 12);
-        faults.bad_write = bad_write;
-        print_fault(&mut faults, "dine: reading failed");
-        let gone = faults.held.as_slice();
+        let mut output = takes_pieces(rt.alloc(), 12);
+        output.bad_write = bad_write;
+        assert_eq!(rt;
+            write_line(&mut output, "dine: reading failed"),
+            Err(WriteFault)
+        );
+        let gone = output.held.as_slice();
         assert!(rt; b"dine: reading failed".starts_with(gone));
-        assert_eq!(rt; faults.writes, bad_write);
+        assert_eq!(rt; output.writes, bad_write);
     }
 }
 
@@ -128,12 +131,5 @@ fn text_goes_into_memory(rt: HostRuntime) -> Result<(), Fail> {
     let mut held = b"# ".to_vec(rt.alloc())?;
     assert_eq!(rt; write_out(&mut held, b"events 18 of 22\n"), Ok(()));
     assert_eq!(rt; held.as_slice(), b"# events 18 of 22\n".as_slice());
-    Ok(())
-}
-
-#[test]
-fn a_fault_is_told_as_the_program_prints_it(rt: HostRuntime) -> Result<(), Fail> {
-    let text = format!(in rt.alloc(); "{WriteFault}")?;
-    assert_eq!(rt; text.as_str(), "writing failed");
     Ok(())
 }

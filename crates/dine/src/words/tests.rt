@@ -103,13 +103,3 @@ fn other_words_are_refused(rt: HostRuntime) -> Result<(), Fail> {
     }
     Ok(())
 }
-
-#[test]
-fn a_fault_is_told_as_the_program_prints_it(rt: HostRuntime) -> Result<(), Fail> {
-    let usage = "usage: dine [run [--table edges|sites] | replay [--choices LIST] | check]";
-    let text = format!(in rt.alloc(); "{}", WordsFault::Usage)?;
-    assert_eq!(rt; text.as_str(), usage);
-    let text = format!(in rt.alloc(); "{}", WordsFault::Memory)?;
-    assert_eq!(rt; text.as_str(), "out of memory");
-    Ok(())
-}

@@ -71,8 +71,7 @@ impl ForkSlot {
 }
 
 impl Place {
-    ghost use Rattle.dine_core.specs.Forks.{hand_of};
-    ghost use Rattle.dine_core.specs.Places.{neighbour_of, due_of_neighbour, is_held, is_dirty_in_hand, meals_in, has_all, is_ready_at, can_give_at, is_own_fork, breach_of_request, breach_of_fork, breach_of_done, breach_of_close, breach_at, noted, lifted, opened, is_over_at, fork_in_hand, EndsOf, OnHere, with_fork};
+    ghost use Rattle.dine_core.specs.Places.{neighbour_of, due_of_neighbour, is_held, is_dirty_in_hand, meals_in, has_all, is_ready_at, can_give_at, is_own_fork, breach_of_request, breach_of_fork, breach_of_done, breach_of_close, breach_at, noted, lifted, opened, is_over_at, hand_of, fork_in_hand, EndsOf, OnHere, with_fork};
 
     /// The site at the other end.
     pub(crate) fn neighbour(&self, site: u32) -> u32

@@ -1,14 +1,14 @@
 // What a site of the world may do, and does.
-ghost use Rattle.std.specs.Prelude.{◌≡◌, ◌<◌, ◌+◌, IfSome, List, MatchOption, None, length, is_some, option_and_then, option_map, slice_get, true};
+ghost use Rattle.std.specs.Prelude.{◌≡◌, ℕ, ◌<◌, ◌+◌, IfSome, List, MatchOption, None, Some, length, is_some, option_and_then, option_map, slice_get, true};
 ghost use Rattle.dine_rules.specs.declared.letters.Letter.{Letter};
 ghost use Rattle.dine_rules.specs.Local.{is_eating};
 ghost use Rattle.dine_core.specs.Forks.{woken};
 ghost use Rattle.dine_core.specs.LinkNumbers.{link_to};
-ghost use Rattle.dine_rules.specs.Steps.{Begin, End, Take, after};
+ghost use Rattle.dine_rules.specs.Steps.{Begin, End, Puts, Step, Take, after, shape_of, step_by};
 ghost use Rattle.dine_core.specs.Core.{forks_in_hand};
 ghost use Rattle.dine_core.specs.Places.{begun, can_begin, ended, place_at, took};
-ghost use Rattle.dine_core.specs.WorldSites.{SiteSteps, HasOwnMeal, HasRoomFor, IsAwake, TakesAllowed, can_do, meets_no_breach, next_in, without_next};
-ghost use Rattle.dine_core.specs.Standing.{ForEachState, CoreStep, CoreSteps, all_places};
+ghost use Rattle.dine_core.specs.WorldSites.{SiteSteps, HasOwnMeal, HasRoomAt, HasRoomFor, IsAwake, TakesAllowed, can_do, meets_no_breach, next_in, without_next};
+ghost use Rattle.dine_core.specs.Standing.{ForEachState, CorePuts, CoreStep, CoreSteps, all_places};
 
 use super::queue::Queue;
 use super::sites::WorldSite;
@@ -19,36 +19,50 @@ use std::mem;
 /// Does that, where it may be done.
 pub(crate) fn act(world_site: &mut WorldSite, links: &mut [Queue], kind: EventKind)
     requires can { can_do links.old world_site.old.core kind ≡ true }
-    requires allowed { TakesAllowed links.old world_site.old.core kind }
+    requires allowed { TakesAllowed links.old world_site.old.core (shape_of kind) }
     requires meal { HasOwnMeal world_site.old }
-    requires room { HasRoomFor links.old world_site.old.core kind }
+    requires room { HasRoomFor links.old world_site.old.core (shape_of kind) }
     ensures count { length links.new ≡ length links.old }
     ensures does { SiteSteps kind world_site.old world_site.new links.old links.new }
 {
     match kind {
         EventKind::Take(i) => take(world_site, links, i),
-        EventKind::Give(i) => {
-            let link = world_site.core.link_from(i);
-            let letter = world_site.core.give(i);
-            links[link].put(letter);
-        }
         EventKind::End => end(world_site),
         EventKind::Begin => begin(world_site),
         EventKind::Hungry => world_site.core.hungry(),
-        EventKind::Ask(i) => {
-            let link = world_site.core.link_from(i);
-            let letter = world_site.core.ask(i);
-            links[link].put(letter);
+        EventKind::Give(i) | EventKind::Ask(i) | EventKind::Done(i) | EventKind::Close(i) => {
+            put(world_site, links, kind, i)
         }
-        EventKind::Done(i) => {
-            let link = world_site.core.link_from(i);
-            let letter = world_site.core.done(i);
-            links[link].put(letter);
-        }
-        EventKind::Close(i) => {
-            let link = world_site.core.link_from(i);
-            let letter = world_site.core.close(i);
-            links[link].put(letter);
+    }
+}
+
+// Puts the letter of the event at place i, last in the link that leads away.
+fn put(world_site: &mut WorldSite, links: &mut [Queue], kind: EventKind, i: u32)
+    requires puts { shape_of kind ≡ Puts i }
+    requires can { can_do links.old world_site.old.core kind ≡ true }
+    requires room { HasRoomAt links.old world_site.old.core i }
+    ensures count { length links.new ≡ length links.old }
+    ensures does { SiteSteps kind world_site.old world_site.new links.old links.new }
+{
+    let link = world_site.core.link_from(i);
+    let letter = letter_of(&mut world_site.core, kind);
+    links[link].put(letter);
+}
+
+// Does the event, and hands out the letter that it puts.
+fn letter_of(core: &mut SiteCore, kind: EventKind) -> Letter
+    requires puts { (i : ℕ) × (shape_of kind ≡ Puts i) }
+    requires can { (links : List (List Letter)) → can_do links core.old kind ≡ true }
+    ensures site { core.new.site ≡ core.old.site }
+    ensures step { (i : ℕ) (one : Step) → shape_of kind ≡ Puts i → step_by (λ place. None) kind ≡ Some one → CorePuts i one core.old core.new result }
+{
+    match kind {
+        EventKind::Give(i) => core.give(i),
+        EventKind::Ask(i) => core.ask(i),
+        EventKind::Done(i) => core.done(i),
+        EventKind::Close(i) => core.close(i),
+        EventKind::Take(_) | EventKind::End | EventKind::Begin | EventKind::Hungry => {
+            unreachable!()
         }
     }
 }

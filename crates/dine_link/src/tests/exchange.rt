@@ -1,9 +1,11 @@
 // One thread puts letters in a link, and another takes them, whatever lane the link is of.
-ghost use Rattle.std.specs.Prelude.{◌≡◌, ◌+◌, ◌<◌, ◌≤◌, ◌^◌, ◌++◌, [], length, IfOk, OnOk, vec_len, vec_capacity};
+ghost use Rattle.std.specs.Prelude.{◌≡◌, ◌+◌, ◌<◌, ◌≤◌, ◌^◌, ◌++◌, ◌∷◌, [], length, if◌then◌else◌, IfOk, OnOk, vec_len, vec_capacity};
+ghost use Rattle.dine_rules.specs.declared.letters.Letter.TheVariants.{Close};
+ghost use Rattle.dine_link.specs.Lanes.{seen_end};
 ghost use Rattle.dine_link.specs.Links.{IsLink, with_letters};
 
 use crate::closing::is_close;
-use crate::{Lane, LinkEnd, Lost, TxEnd};
+use crate::{Lane, LinkEnd, TxEnd};
 use dine_rules::Letter;
 use std::alloc::Global;
 use std::snapshot::Snapshot;
@@ -18,17 +20,36 @@ pub enum Fault {
     Lost,
 }
 
-// Puts the letters in their order. Close is not among them.
-fn put_all<L: Lane, R: Wait>(rt: &R, mut tx: L::Tx, letters: Vec<Letter>) -> Result<L::Tx, Fault>
-    requires room { length (L.seen_tx tx).letters + vec_len letters < 2 ^ 61 }
-    ensures { IfOk result (λ after. L.seen_tx after ≡ with_letters letters.items (L.seen_tx tx)) }
+// What one thread is to do: to put the letters in their order, and then Close where `closes` says so.
+#[derive(Drop)]
+pub struct Task<L: Lane> {
+    tx: L::Tx,
+    letters: Vec<Letter>,
+    closes: bool,
+}
+
+// Does the task. Close is not among its letters.
+fn put_all<L: Lane, R: Wait>(rt: &R, task: Task<L>) -> Result<TxEnd<L>, Fault>
+    requires room { length (L.seen_tx task.tx).letters + vec_len task.letters < 2 ^ 61 }
+    ensures { IfOk result (λ after. seen_end L.seen_tx L.seen_closed after ≡ with_letters (if task.closes then task.letters.items ++ Close ∷ [] else task.letters.items) (L.seen_tx task.tx)) }
 {
+    let Task {
+        mut tx,
+        letters,
+        closes,
+    } = task;
     for letter in letters {
         if is_close(&letter) || L::put(rt, &mut tx, letter).is_err() {
             return Err(Fault::Lost);
         }
     }
-    Ok(tx)
+    if !closes {
+        return Ok(TxEnd::Live(tx));
+    }
+    match L::close(rt, tx) {
+        Ok(closed) => Ok(TxEnd::Shut(closed)),
+        Err(_) => Err(Fault::Lost),
+    }
 }
 
 // Takes so many letters, in the order in which they come.
@@ -56,23 +77,19 @@ fn take_many<L: Lane, R: Wait>(
     Ok(())
 }
 
-// The end after all letters were put in it.
+// The task was done, and this is its end.
+#[derive(Drop)]
 struct AllPut<L: Lane> {
-    tx: Snapshot<L::Tx>,
-    letters: Snapshot<Vec<Letter>>,
+    task: Snapshot<Task<L>>,
 }
 
-impl<L: Lane> Drop for AllPut<L> {
-    fn drop(self) {
-        let AllPut { tx: _, letters: _ } = self;
-    }
-}
-
-impl<L: Lane> Promise<Result<L::Tx, Fault>> for AllPut<L> {
-    ghost use Rattle.std.specs.Prelude.{◌≡◌, IfOk};
+impl<L: Lane> Promise<Result<TxEnd<L>, Fault>> for AllPut<L> {
+    ghost use Rattle.std.specs.Prelude.{◌≡◌, ◌++◌, ◌∷◌, [], IfOk, if◌then◌else◌};
+    ghost use Rattle.dine_rules.specs.declared.letters.Letter.TheVariants.{Close};
+    ghost use Rattle.dine_link.specs.Lanes.{seen_end};
     ghost use Rattle.dine_link.specs.Links.{with_letters};
 
-    ghost kept_by = { λ promise result. IfOk result (λ after. L.seen_tx after ≡ with_letters promise.letters.value.items (L.seen_tx promise.tx.value)) };
+    ghost kept_by = { λ promise result. IfOk result (λ after. seen_end L.seen_tx L.seen_closed after ≡ with_letters (if promise.task.value.closes then promise.task.value.letters.items ++ Close ∷ [] else promise.task.value.letters.items) (L.seen_tx promise.task.value.tx)) };
 }
 
 // Puts the letters in one thread and takes `count` of them in this one. Answers the link, and the letters taken.
@@ -80,6 +97,7 @@ pub fn exchange<L: Lane, R>(
     rt: R,
     alloc: Global,
     letters: Vec<Letter>,
+    closes: bool,
     count: usize,
 ) -> Result<(LinkEnd, Vec<Letter>), Fault>
 where
@@ -89,7 +107,7 @@ where
     L::ClosedTx: 'static,
     L::Rx: 'static,
     requires few { (vec_len letters < 2 ^ 60) × (count < 2 ^ 60) }
-    ensures put { IfOk result (λ got. got.0.put ≡ letters.items) }
+    ensures put { IfOk result (λ got. got.0.put ≡ (if closes then letters.items ++ Close ∷ [] else letters.items)) }
     ensures taken { IfOk result (λ got. (got.0.taken ≡ got.1.items) × (vec_len got.1 ≡ count)) }
     ensures prefix { IfOk result (λ got. IsLink got.0) }
 {
@@ -99,17 +117,21 @@ where
     let Ok((tx, mut rx)) = L::pair(alloc, 7, 1) else {
         return Err(Fault::Memory);
     };
+    let task = Task::<L> {
+        tx,
+        letters,
+        closes,
+    };
     let promise = AllPut::<L> {
-        tx: Snapshot::of(&tx),
-        letters: Snapshot::of(&letters),
+        task: Snapshot::of(&task),
     };
     let started = thread::spawn_with(
         &rt,
         promise,
-        move || -> Result<L::Tx, Fault>
-            requires { length (L.seen_tx tx).letters + vec_len letters < 2 ^ 61 }
-            ensures { IfOk result (λ after. L.seen_tx after ≡ with_letters letters.items (L.seen_tx tx)) }
-        { put_all::<L, R>(&rt, tx, letters) },
+        move || -> Result<TxEnd<L>, Fault>
+            requires { length (L.seen_tx task.tx).letters + vec_len task.letters < 2 ^ 61 }
+            ensures { IfOk result (λ after. seen_end L.seen_tx L.seen_closed after ≡ with_letters (if task.closes then task.letters.items ++ Close ∷ [] else task.letters.items) (L.seen_tx task.tx)) }
+        { put_all::<L, R>(&rt, task) },
     );
     let Ok(child) = started else {
         return Err(Fault::Memory);
@@ -117,5 +139,5 @@ where
     let all_taken = take_many::<L, R>(&rt, &mut rx, count, &mut taken);
     let tx = child.join(&rt);
     all_taken?;
-    Ok((L::reconcile(TxEnd::Live(tx?), rx), taken))
+    Ok((L::reconcile(tx?, rx), taken))
 }

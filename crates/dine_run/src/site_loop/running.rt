@@ -1,10 +1,21 @@
 // A site on its way.
+ghost use Rattle.std.specs.Prelude.{◌≡◌, ◌<◌, ◌+◌, ◌^◌, List, length, true, false, None, vec_len, slice_get, slice_set, IfSome, MatchResult};
+ghost use Rattle.dine_plan.specs.Plan.{SeenPlan};
+ghost use Rattle.dine_rules.specs.Letters.{has_close};
+ghost use Rattle.dine_rules.specs.Local.{traffic_at};
+ghost use Rattle.dine_core.specs.NextEvent.{can_by_itself};
+ghost use Rattle.dine_core.specs.Standing.{ForEachState};
+ghost use Rattle.dine_link.specs.Closing.{is_close};
+ghost use Rattle.dine_run.specs.Ports.{SeenPort, closed_on, seen_ports};
+ghost use Rattle.dine_run.specs.SiteEnds.{IsSiteEnd};
+ghost use Rattle.dine_run.specs.Running.{ClosedBelow, EatsOn, ForSome, GoesOn, GoesToEnd, HasStopped, IsPutting, IsReady, IsRunning, Leads, MayEnd, SameMeals, StaysStopped, seen_run};
+
 use crate::diner::Diner;
 use crate::port::Port;
 use crate::site_end::{SiteEnd, SiteFault, Stray};
 use dine_core::SiteCore;
-use dine_link::{Bell, Lane, Lost, TxEnd};
-use dine_rules::{EventKind, Letter};
+use dine_link::{Bell, Lane, Lost};
+use dine_rules::{EventKind, Letter, laws};
 use std::sync::Wait;
 
 // The first fault, with the letter that was handed back.
@@ -24,7 +35,9 @@ pub struct Running<L: Lane, D: Diner> {
 }
 
 impl<L: Lane, D: Diner> Running<L, D> {
-    pub fn new(core: SiteCore, ports: Vec<Port<L>>, bell: Bell, diner: D) -> Running<L, D> {
+    pub fn new(core: SiteCore, ports: Vec<Port<L>>, bell: Bell, diner: D) -> Running<L, D>
+        ensures { result ≡ record { core = core; ports = ports; bell = bell; diner = diner; failed = 0 } }
+    {
         Running {
             core,
             ports,
@@ -35,7 +48,13 @@ impl<L: Lane, D: Diner> Running<L, D> {
     }
 
     // Goes on until the site is finished, or until a fault.
-    pub fn work<R: Wait>(&mut self, rt: &R) -> Result<(), Stop> {
+    pub fn work<R: Wait>(&mut self, rt: &R) -> Result<(), Stop>
+        requires running { ForSome IsRunning (seen_run L.seen_tx L.seen_closed L.seen_rx self.old) }
+        requires ready { IsReady D.room_left self.old }
+        ensures way { Leads IsRunning (GoesToEnd result) (seen_run L.seen_tx L.seen_closed L.seen_rx self.old) (seen_run L.seen_tx L.seen_closed L.seen_rx self.new) }
+        ensures eats { EatsOn D.calls D.marks D.fits self.old self.new }
+        ensures site { self.new.core.site ≡ self.old.core.site }
+    {
         for _ in rt.forever() {
             self.do_events(rt)?;
             if self.core.is_finished() {
@@ -47,7 +66,14 @@ impl<L: Lane, D: Diner> Running<L, D> {
     }
 
     // Does events other than Take until there is none.
-    fn do_events<R: Wait>(&mut self, rt: &R) -> Result<(), Stop> {
+    fn do_events<R: Wait>(&mut self, rt: &R) -> Result<(), Stop>
+        requires running { ForSome IsRunning (seen_run L.seen_tx L.seen_closed L.seen_rx self.old) }
+        requires ready { IsReady D.room_left self.old }
+        ensures way { Leads IsRunning (GoesOn result) (seen_run L.seen_tx L.seen_closed L.seen_rx self.old) (seen_run L.seen_tx L.seen_closed L.seen_rx self.new) }
+        ensures ready { IsReady D.room_left self.new }
+        ensures eats { EatsOn D.calls D.marks D.fits self.old self.new }
+        ensures site { self.new.core.site ≡ self.old.core.site }
+    {
         for _ in rt.forever() {
             match self.core.next_event() {
                 Some(kind) => self.act(rt, kind)?,
@@ -58,7 +84,15 @@ impl<L: Lane, D: Diner> Running<L, D> {
     }
 
     // Does an event other than Take.
-    fn act<R: Wait>(&mut self, rt: &R, kind: EventKind) -> Result<(), Stop> {
+    fn act<R: Wait>(&mut self, rt: &R, kind: EventKind) -> Result<(), Stop>
+        requires running { ForSome IsRunning (seen_run L.seen_tx L.seen_closed L.seen_rx self.old) }
+        requires ready { IsReady D.room_left self.old }
+        requires may { can_by_itself self.old.core kind ≡ true }
+        ensures way { Leads IsRunning (GoesOn result) (seen_run L.seen_tx L.seen_closed L.seen_rx self.old) (seen_run L.seen_tx L.seen_closed L.seen_rx self.new) }
+        ensures ready { IsReady D.room_left self.new }
+        ensures eats { EatsOn D.calls D.marks D.fits self.old self.new }
+        ensures site { self.new.core.site ≡ self.old.core.site }
+    {
         match kind {
             EventKind::Give(i) => {
                 let letter = self.core.give(i);
@@ -89,32 +123,46 @@ impl<L: Lane, D: Diner> Running<L, D> {
     }
 
     // Eats one meal.
-    fn eat(&mut self) {
+    fn eat(&mut self)
+        requires running { ForSome IsRunning (seen_run L.seen_tx L.seen_closed L.seen_rx self.old) }
+        requires ready { IsReady D.room_left self.old }
+        requires may { can_by_itself self.old.core EventKind.Begin ≡ true }
+        ensures way { Leads IsRunning IsRunning (seen_run L.seen_tx L.seen_closed L.seen_rx self.old) (seen_run L.seen_tx L.seen_closed L.seen_rx self.new) }
+        ensures ready { IsReady D.room_left self.new }
+        ensures eats { EatsOn D.calls D.marks D.fits self.old self.new }
+        ensures site { self.new.core.site ≡ self.old.core.site }
+    {
         let meal = self.core.begin();
-        if self.diner.eat(meal.k(), &meal).is_err() {
-            self.failed += 1;
-        }
+        let ok = self.diner.eat(meal.k(), &meal).is_ok();
+        self.failed += u32::from(!ok);
         self.core.end(meal);
     }
 
     // Puts a letter other than Close, and rings.
-    fn put<R: Wait>(&mut self, rt: &R, i: u32, letter: Letter) -> Result<(), Stop> {
-        let port = &mut self.ports[i as usize];
-        match &mut port.tx {
-            TxEnd::Live(tx) => match L::put(rt, tx, letter) {
-                Ok(()) => self.ring(rt, i),
-                Err((letter, Lost)) => Err(Stop {
-                    fault: SiteFault::Lost(i),
-                    stray: Some(Stray { link: i, letter }),
-                }),
-            },
-            TxEnd::Shut(_) => unreachable!(),
+    fn put<R: Wait>(&mut self, rt: &R, i: u32, letter: Letter) -> Result<(), Stop>
+        requires putting { ForSome (IsPutting i letter) (seen_run L.seen_tx L.seen_closed L.seen_rx self.old) }
+        requires letter { is_close letter ≡ false }
+        ensures way { Leads (IsPutting i letter) (GoesOn result) (seen_run L.seen_tx L.seen_closed L.seen_rx self.old) (seen_run L.seen_tx L.seen_closed L.seen_rx self.new) }
+        ensures same { SameMeals self.old self.new }
+    {
+        laws::few_letters_are_put();
+        match self.ports[i as usize].put(rt, letter) {
+            Ok(()) => self.ring(rt, i),
+            Err((letter, Lost)) => Err(Stop {
+                fault: SiteFault::Lost(i),
+                stray: Some(Stray { link: i, letter }),
+            }),
         }
     }
 
     // Puts Close, and rings.
-    fn close<R: Wait>(&mut self, rt: &R, i: u32) -> Result<(), Stop> {
-        match close_port(rt, &mut self.ports, i as usize) {
+    fn close<R: Wait>(&mut self, rt: &R, i: u32) -> Result<(), Stop>
+        requires putting { ForSome (IsPutting i Letter.Close) (seen_run L.seen_tx L.seen_closed L.seen_rx self.old) }
+        ensures way { Leads (IsPutting i Letter.Close) (GoesOn result) (seen_run L.seen_tx L.seen_closed L.seen_rx self.old) (seen_run L.seen_tx L.seen_closed L.seen_rx self.new) }
+        ensures same { SameMeals self.old self.new }
+    {
+        laws::few_letters_are_put();
+        match close_at(rt, &mut self.ports, i as usize) {
             Ok(()) => self.ring(rt, i),
             Err(Lost) => Err(Stop {
                 fault: SiteFault::Lost(i),
@@ -124,16 +172,22 @@ impl<L: Lane, D: Diner> Running<L, D> {
     }
 
     // Rings the neighbour's bell.
-    fn ring<R: Wait>(&mut self, rt: &R, i: u32) -> Result<(), Stop> {
-        let port = &mut self.ports[i as usize];
-        match port.ringer.ring(rt) {
+    fn ring<R: Wait>(&mut self, rt: &R, i: u32) -> Result<(), Stop>
+        requires place { i < vec_len self.old.ports }
+        ensures way { Leads IsRunning (GoesOn result) (seen_run L.seen_tx L.seen_closed L.seen_rx self.old) (seen_run L.seen_tx L.seen_closed L.seen_rx self.new) }
+        ensures ends { seen_run L.seen_tx L.seen_closed L.seen_rx self.new ≡ seen_run L.seen_tx L.seen_closed L.seen_rx self.old }
+        ensures same { SameMeals self.old self.new }
+    {
+        match self.ports[i as usize].ring(rt) {
             Ok(()) => Ok(()),
             Err(Lost) => Err(self.lost_bell()),
         }
     }
 
     // A bell was refused.
-    fn lost_bell(&self) -> Stop {
+    fn lost_bell(&self) -> Stop
+        ensures { result ≡ record { fault = SiteFault.Lost (length self.now.core.places); stray = None } }
+    {
         Stop {
             fault: SiteFault::Lost(self.core.degree()),
             stray: None,
@@ -141,7 +195,12 @@ impl<L: Lane, D: Diner> Running<L, D> {
     }
 
     // Waits for the bell, and takes a letter at the place that rang.
-    fn hear<R: Wait>(&mut self, rt: &R) -> Result<(), Stop> {
+    fn hear<R: Wait>(&mut self, rt: &R) -> Result<(), Stop>
+        requires running { ForSome IsRunning (seen_run L.seen_tx L.seen_closed L.seen_rx self.old) }
+        requires bell { self.old.bell.degree ≡ vec_len self.old.ports }
+        ensures way { Leads IsRunning (GoesOn result) (seen_run L.seen_tx L.seen_closed L.seen_rx self.old) (seen_run L.seen_tx L.seen_closed L.seen_rx self.new) }
+        ensures same { SameMeals self.old self.new }
+    {
         match self.bell.wait(rt) {
             Ok(i) if self.core.has_taken_close(i) => Ok(()),
             Ok(i) => self.take(rt, i),
@@ -149,35 +208,80 @@ impl<L: Lane, D: Diner> Running<L, D> {
         }
     }
 
-    // Takes a letter.
-    fn take<R: Wait>(&mut self, rt: &R, i: u32) -> Result<(), Stop> {
-        let port = &mut self.ports[i as usize];
-        let Ok(letter) = L::take(rt, &mut port.rx) else {
-            return Err(Stop {
+    // Takes a letter at a place where Close was not taken.
+    fn take<R: Wait>(&mut self, rt: &R, i: u32) -> Result<(), Stop>
+        requires running { ForSome IsRunning (seen_run L.seen_tx L.seen_closed L.seen_rx self.old) }
+        requires place { i < length self.old.core.places }
+        requires not_closed { ForEachState self.old.core (λ plan state. has_close (traffic_at state i).taken ≡ false) }
+        ensures way { Leads IsRunning (GoesOn result) (seen_run L.seen_tx L.seen_closed L.seen_rx self.old) (seen_run L.seen_tx L.seen_closed L.seen_rx self.new) }
+        ensures same { SameMeals self.old self.new }
+    {
+        laws::few_letters_are_taken();
+        match self.ports[i as usize].take(rt) {
+            Ok(letter) => match self.core.take(i, letter) {
+                Ok(()) => Ok(()),
+                Err((letter, breach)) => Err(Stop {
+                    fault: SiteFault::Breach(i, breach),
+                    stray: Some(Stray { link: i, letter }),
+                }),
+            },
+            Err(Lost) => Err(Stop {
                 fault: SiteFault::Lost(i),
                 stray: None,
-            });
-        };
-        match self.core.take(i, letter) {
-            Ok(()) => Ok(()),
-            Err((letter, breach)) => Err(Stop {
-                fault: SiteFault::Breach(i, breach),
-                stray: Some(Stray { link: i, letter }),
             }),
         }
     }
 
-    // Puts Close at each place where the site has put none, in order.
-    pub fn break_off<R: Wait>(&mut self, rt: &R) {
+    // Puts Close at each place where the site has put none, in order. Faults that it meets are not told.
+    pub fn break_off<R: Wait>(&mut self, rt: &R)
+        requires stopped { HasStopped (seen_run L.seen_tx L.seen_closed L.seen_rx self.old) }
+        ensures way { StaysStopped (seen_run L.seen_tx L.seen_closed L.seen_rx self.old) (seen_run L.seen_tx L.seen_closed L.seen_rx self.new) }
+        ensures closed { ClosedBelow (length self.new.core.places) self.new.core }
+        ensures same { SameMeals self.old self.new }
+    {
         for i in 0..self.core.degree() {
-            if let Some(_) = self.core.break_off(i) {
-                let _ = self.close(rt, i);
-            }
+            self.break_at(rt, i);
+        }
+    }
+
+    // Puts Close at a place, where the site has put none, and rings.
+    fn break_at<R: Wait>(&mut self, rt: &R, i: u32)
+        requires stopped { HasStopped (seen_run L.seen_tx L.seen_closed L.seen_rx self.old) }
+        requires place { i < length self.old.core.places }
+        requires before { ClosedBelow i self.old.core }
+        ensures way { StaysStopped (seen_run L.seen_tx L.seen_closed L.seen_rx self.old) (seen_run L.seen_tx L.seen_closed L.seen_rx self.new) }
+        ensures closed { ClosedBelow (i + 1) self.new.core }
+        ensures places { length self.new.core.places ≡ length self.old.core.places }
+        ensures same { SameMeals self.old self.new }
+    {
+        laws::few_letters_are_put();
+        match self.core.break_off(i) {
+            None => {}
+            Some(_) => match close_at(rt, &mut self.ports, i as usize) {
+                Ok(()) => {
+                    let _ = self.ring(rt, i);
+                }
+                Err(Lost) => {}
+            },
         }
     }
 
     // What the site leaves.
-    pub fn end(self, stray: Option<Stray>, fault: Option<SiteFault>) -> SiteEnd<L, D> {
+    pub fn end(self, stray: Option<Stray>, fault: Option<SiteFault>) -> SiteEnd<L, D>
+        requires may_end { ForSome (MayEnd stray fault) (seen_run L.seen_tx L.seen_closed L.seen_rx self) }
+        ensures end { (plan : SeenPlan) (given : List (SeenPort L.Identity)) → MayEnd stray fault plan given (seen_run L.seen_tx L.seen_closed L.seen_rx self) → IsSiteEnd plan self.core.site given (record {
+          site = result.site;
+          ate = result.ate;
+          forks = result.forks.items;
+          tokens = result.tokens.items;
+          ports = seen_ports L.seen_tx L.seen_closed L.seen_rx result.ports.items;
+          stray = result.stray;
+          fault = result.fault;
+        }) }
+        ensures ate { result.ate ≡ self.core.ate }
+        ensures failed { result.failed ≡ self.failed }
+        ensures diner { result.diner ≡ self.diner }
+    {
         let Running {
             core,
             ports,
@@ -203,18 +307,19 @@ impl<L: Lane, D: Diner> Running<L, D> {
 }
 
 // Puts Close at place i, where the end is live. Where that is refused, the end stays live.
-fn close_port<R: Wait, L: Lane>(rt: &R, ports: &mut Vec<Port<L>>, i: usize) -> Result<(), Lost> {
+fn close_at<R: Wait, L: Lane>(rt: &R, ports: &mut Vec<Port<L>>, i: usize) -> Result<(), Lost>
+    requires place { i < vec_len ports.old }
+    requires live { IfSome (slice_get (seen_ports L.seen_tx L.seen_closed L.seen_rx ports.old.items) i) (λ port. port.is_live ≡ true) }
+    requires room { IfSome (slice_get (seen_ports L.seen_tx L.seen_closed L.seen_rx ports.old.items) i) (λ port. length port.tx.letters < 2 ^ 61) }
+    ensures count { vec_len ports.new ≡ vec_len ports.old }
+    ensures closed { IfSome (slice_get (seen_ports L.seen_tx L.seen_closed L.seen_rx ports.old.items) i) (λ port. MatchResult result
+        (λ _. seen_ports L.seen_tx L.seen_closed L.seen_rx ports.new.items ≡ slice_set (seen_ports L.seen_tx L.seen_closed L.seen_rx ports.old.items) i (closed_on port))
+        (λ _. seen_ports L.seen_tx L.seen_closed L.seen_rx ports.new.items ≡ seen_ports L.seen_tx L.seen_closed L.seen_rx ports.old.items)) }
+{
     // The last port stands in for this one until it comes back: an end has to be owned to be closed.
-    let Port { tx, rx, ringer } = ports.swap_remove(i);
-    let (tx, closed) = match tx {
-        TxEnd::Live(tx) => match L::close(rt, tx) {
-            Ok(tx) => (TxEnd::Shut(tx), Ok(())),
-            Err((tx, Lost)) => (TxEnd::Live(tx), Err(Lost)),
-        },
-        TxEnd::Shut(_) => unreachable!(),
-    };
+    let (port, closed) = ports.swap_remove(i).close(rt);
     let last = ports.len();
-    ports.push_reserved(Port { tx, rx, ringer });
+    ports.push_reserved(port);
     ports.swap(i, last);
     closed
 }

@@ -5,7 +5,7 @@ use Rattle.std.proofs.lemmas.Result.{IfOk-weaker}
 use Rattle.dine_core.specs.Schedules.{after_choices, from_here, replay, whole_run}
 use Rattle.dine_core.specs.World.{WorldState, start}
 use Rattle.dine_core.specs.Worlds.{IsWorldOf}
-use Rattle.dine.specs.Text.{world_text}
+use Rattle.dine.specs.Logs.{world_text}
 use Rattle.dine.proofs.replay.replay_text.Goals as goal
 
 pub overflow_add-chosen : goal.overflow_add-chosen

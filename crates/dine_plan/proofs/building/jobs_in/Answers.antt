@@ -1,10 +1,10 @@
 use Rattle.std.proofs.Common.{◌≡◌, nat_lt, map, length, Bool, sym, ap, ◌∙◌, arith}
 use Rattle.std.proofs.lemmas.Bool.{ltb-false}
-use Rattle.std.proofs.lemmas.List.{get_or-map}
+use Rattle.std.proofs.lemmas.List.{get_or-map, length-map}
 use Rattle.toml.specs.Data.{Data}
 use Rattle.toml.specs.View.{view}
 use Rattle.dine_plan.specs.Document.{turns_in}
-use Rattle.dine_plan.proofs.ListLemmas.{length-map, list_any_false_at}
+use Rattle.dine_plan.proofs.ListLemmas.{list_any_false_at}
 use Rattle.dine_plan.proofs.building.jobs_in.Goals as goal
 
 pub job_in-requires : goal.job_in-requires
@@ -12,6 +12,6 @@ job_in-requires c =
     let tables = c.args.tables.now in
     let table = c.table-item.result in
     let large : Data → Bool = λ job. nat_lt 1000000 (turns_in job) in
-    let long : length (map view tables) ≡ length tables = length-map view tables in
+    let long : length (map view tables) ≡ length tables = length-map tables view in
     let at = get_or-map view tables c.loop-table.table-index table (view table) c.loop-table-test.true ∙ ap view (sym c.table-item.is) in
     ltb-false 1000000 (turns_in (view table)) (rw at at (list_any_false_at large (map view tables) c.loop-table.table-index (view table) c.requires (omega arith)))

@@ -1,14 +1,14 @@
 use Rattle.std.proofs.Common.{◌≡◌, map, length, sym, ap, ◌∙◌, arith}
-use Rattle.std.proofs.lemmas.List.{get_or-map}
+use Rattle.std.proofs.lemmas.List.{get_or-map, length-map}
 use Rattle.toml.specs.View.{view}
 use Rattle.dine_plan.specs.Refusals.{has_many_turns}
-use Rattle.dine_plan.proofs.ListLemmas.{length-map, position_none_at}
+use Rattle.dine_plan.proofs.ListLemmas.{position_none_at}
 use Rattle.dine_plan.proofs.building.sites_in.Goals as goal
 
 pub site_in-requires : goal.site_in-requires
 site_in-requires c =
     let tables = c.args.tables.now in
     let table = c.table-item.result in
-    let long : length (map view tables) ≡ length tables = length-map view tables in
+    let long : length (map view tables) ≡ length tables = length-map tables view in
     let at = get_or-map view tables c.loop-table.table-index table (view table) c.loop-table-test.true ∙ ap view (sym c.table-item.is) in
     rw at at (position_none_at has_many_turns (map view tables) c.loop-table.table-index (view table) c.requires (omega arith))

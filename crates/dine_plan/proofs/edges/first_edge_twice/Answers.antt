@@ -1,8 +1,8 @@
 use Rattle.std.proofs.Common.{◌≡◌, ℕ, ◌<◌, List, length, map, take, get_or, Some, None, below_more, arith, sym, ◌∙◌}
 use Rattle.std.specs.List.{list_any}
-use Rattle.std.proofs.lemmas.List.{get_or-map, take-map}
+use Rattle.std.proofs.lemmas.List.{get_or-map, take-map, length-map}
 use Rattle.dine_plan.specs.Refusals.{stands_before, same_ends}
-use Rattle.dine_plan.proofs.ListLemmas.{length-map, list_any-map, first_twice_here, first_twice_none}
+use Rattle.dine_plan.proofs.ListLemmas.{list_any-map, first_twice_here, first_twice_none}
 use Rattle.dine_plan.proofs.edges.first_edge_twice.Goals as goal
 
 -- whether a pair stands before
@@ -15,7 +15,7 @@ before pairs i within =
 pub returns-then-has_pair : goal.returns-then-has_pair
 returns-then-has_pair c =
     let pairs = c.args.pairs.now in
-    let long = length-map Some pairs in
+    let long = length-map pairs Some in
     let here = before pairs c.loop-i.i c.loop-i-test.true ∙ sym c.has_pair.ensures ∙ c.if-has_pair.true in
     sym (first_twice_here same_ends None (map Some pairs) c.loop-i.i (omega arith) c.loop-i.invariant here)
 
@@ -26,5 +26,5 @@ loop-i-preserved c =
 pub returns : goal.returns
 returns c =
     let pairs = c.args.pairs.now in
-    let long = length-map Some pairs in
+    let long = length-map pairs Some in
     sym (first_twice_none same_ends None (map Some pairs) (λ k h. c.loop-i.invariant k (omega arith)))

@@ -1,10 +1,10 @@
 use Rattle.std.proofs.Common.{◌≡◌, ℕ, List, map, Some, None, sym, ap, ◌∙◌, arith}
 use Rattle.std.proofs.lemmas.Bool.{ltb-false}
+use Rattle.std.proofs.lemmas.List.{length-map}
 use Rattle.toml.specs.Data.{Data}
 use Rattle.toml.specs.View.{view}
 use Rattle.dine_plan.specs.PlanOf.{ends_in}
 use Rattle.dine_plan.specs.Refusals.{first_some, end_refusals, joined_by}
-use Rattle.dine_plan.proofs.ListLemmas.{length-map}
 use Rattle.dine_plan.proofs.GraphLemmas.{are_sites, are_ends, are_pairs, join_known, is_plan, first_of_graph}
 use Rattle.dine_plan.proofs.reading.read_graph.Goals as goal
 
@@ -24,7 +24,7 @@ pub pairs_in-requires : goal.pairs_in-requires
 pairs_in-requires c =
     let sites = are_sites _ (sym c.in_ok-site_fault.ensures ∙ c.in_default.is) in
     let few = ltb-false 64 _ sites.few in
-    let long = length-map view c.args.sites.now in
+    let long = length-map c.args.sites.now view in
     omega arith
 
 pub returns-in-Some-first_pair_fault-clause-refused : goal.returns-in-Some-first_pair_fault-clause-refused

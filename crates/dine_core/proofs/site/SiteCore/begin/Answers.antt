@@ -1,16 +1,17 @@
 use Rattle.std.proofs.Common.{◌≡◌, ◌++◌, take, drop, ◌+◌, true, List, map, length, refl, sym, ◌∙◌, ap, subst, arith}
 use Rattle.std.specs.List.{All}
 use Rattle.std.proofs.lemmas.Bool.{false≢true}
+use Rattle.std.proofs.lemmas.List.{length-map}
 use Rattle.std.proofs.lemmas.Grind.{common_steps}
 use Rattle.dine_token.specs.Fork.{MayEat, eaten}
 use Rattle.dine_core.specs.declared.site.places.Place.{Place}
 use Rattle.dine_core.specs.SiteFields.{seen}
-use Rattle.dine_core.specs.Core.{SeenCore, StandsFor}
-use Rattle.dine_rules.specs.Steps.{after, Begin}
+use Rattle.dine_core.specs.Core.{SeenCore}
+use Rattle.dine_rules.specs.Steps.{Begin}
 use Rattle.dine_core.specs.Places.{can_begin, forks_of, lifted, begun, IsMealOf, IsSound}
 use Rattle.dine_core.proofs.CoreSteps.{stepped}
 use Rattle.dine_core.proofs.SiteTests.{may_begin}
-use Rattle.dine_core.proofs.Eating.{all_may_eat, forks_are_all, length_map_place, fork_at_place, is_meal, sound_begun, stands_begun, in_hand_begun}
+use Rattle.dine_core.proofs.Eating.{all_may_eat, forks_are_all, fork_at_place, is_meal, sound_begun, stands_begun, in_hand_begun}
 use Rattle.dine_core.proofs.site.SiteCore.begin.Goals as goal
 
 pub begin-requires-clause-may_eat : goal.begin-requires-clause-may_eat
@@ -25,8 +26,8 @@ begin-requires-clause-countable c =
     let old = seen c.self.inside in
     let can : can_begin old ≡ true = subst (λ (core : SeenCore). can_begin core ≡ true) (sym c.self.view_is) c.requires in
     let is : c.lift.new.hands.items ≡ forks_of old.places = grind (arith, common_steps) in
-    let same : length c.lift.new.hands.items ≡ length old.places = ap length is ∙ ap length (forks_are_all old c.self.invariant.sound can) ∙ length_map_place fork_at_place old.places in
-    omega (arith, same, c.self.invariant.few, c.lift.new.hands.ok.0, c.self.inside.places.ok.0)
+    let same : length c.lift.new.hands.items ≡ length old.places = ap length is ∙ ap length (forks_are_all old c.self.invariant.sound can) ∙ length-map old.places fork_at_place in
+    omega (arith, same, c.self.invariant.room.few, c.lift.new.hands.ok.0, c.self.inside.places.ok.0)
 
 pub invariant_of-self : goal.invariant_of-self
 invariant_of-self c =
@@ -36,13 +37,9 @@ invariant_of-self c =
     let is : take c.self.inside.places.len (c.lift.new.places ++ drop (length c.lift.new.places) c.self.inside.places.items) ≡ map (lifted old.site) old.places = grind (arith, common_steps) in
     record {
       sound = subst (λ (l : List Place). IsSound (record (begun old) { places = l })) (sym is) (sound_begun old kept.sound can);
-      few = kept.few;
       no_hands = grind (arith, common_steps);
       room_for_hands = λ h. absurd (false≢true (sym h));
-      no_forks = kept.no_forks;
-      room_for_forks = kept.room_for_forks;
-      no_tokens = kept.no_tokens;
-      room_for_tokens = kept.room_for_tokens;
+      room = kept.room;
     }
 
 pub returns-clause-core : goal.returns-clause-core

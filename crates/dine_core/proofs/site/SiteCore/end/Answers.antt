@@ -3,8 +3,8 @@ use Rattle.std.proofs.lemmas.Grind.{common_steps}
 use Rattle.dine_core.specs.declared.site.places.Place.{Place}
 use Rattle.dine_rules.specs.Local.{is_eating}
 use Rattle.dine_core.specs.SiteFields.{seen}
-use Rattle.dine_core.specs.Core.{SeenCore, StandsFor}
-use Rattle.dine_rules.specs.Steps.{after, End}
+use Rattle.dine_core.specs.Core.{SeenCore}
+use Rattle.dine_rules.specs.Steps.{End}
 use Rattle.dine_core.specs.Places.{laid_down, ended, IsMealOf, IsSound}
 use Rattle.dine_core.proofs.CoreSteps.{stepped}
 use Rattle.dine_core.proofs.SiteTests.{may_end}
@@ -30,12 +30,8 @@ invariant_of-self c =
     let laid : take c.self.inside.places.len (c.lay_down.new.places ++ drop (length c.lay_down.new.places) c.self.inside.places.items) ≡ laid_down old.places c.args.meal.forks = grind (arith, common_steps) in
     record {
       sound = subst (λ (l : List Place). IsSound (record (ended c.args.meal.forks old) { places = l })) (sym laid) (sound_ended old c.args.meal kept.sound eating is);
-      few = kept.few;
       no_hands = grind (arith, common_steps);
       room_for_hands = λ awake.
           omega (arith, c.lay_down.ensures.room, ap vec_capacity c.replace.ensures.after, ap length c.end-hands.ensures, is.count, c.end-hands.result.ok.0, c.end-hands.result.ok.1, c.self.inside.places.ok.0);
-      no_forks = kept.no_forks;
-      room_for_forks = kept.room_for_forks;
-      no_tokens = kept.no_tokens;
-      room_for_tokens = kept.room_for_tokens;
+      room = kept.room;
     }

@@ -1,12 +1,12 @@
-use Rattle.std.proofs.Common.{◌≡◌, ℕ, false, refl, sym, subst, arith}
+use Rattle.std.proofs.Common.{◌≡◌, ℕ, false, refl, subst, arith, ◌<◌, length}
 use Rattle.std.proofs.lemmas.Grind.{common_steps}
 use Rattle.dine_token.specs.Fork.{moved}
 use Rattle.dine_rules.specs.declared.letters.Letter.TheVariants.{Fork}
 use Rattle.dine_core.specs.declared.site.places.Place.{Place}
 use Rattle.dine_rules.specs.Local.{is_eating}
 use Rattle.dine_core.specs.SiteFields.{seen}
-use Rattle.dine_core.specs.Places.{place_at, no_place, neighbour_of, OnHere, IsSoundPlace}
-use Rattle.dine_core.proofs.Sound.{sound_with_place, sound_away}
+use Rattle.dine_core.specs.Places.{place_at, neighbour_of, OnHere}
+use Rattle.dine_core.proofs.Sound.{sound_gave}
 use Rattle.dine_rules.specs.Steps.{Give}
 use Rattle.dine_core.proofs.CoreSteps.{puts, stepped}
 use Rattle.dine_core.proofs.SiteTests.{may_give}
@@ -38,14 +38,10 @@ invariant_of-self c =
     let old = seen c.self.inside in
     let is : c.index_mut-place.result.now ≡ place_at old c.args.i = grind (arith, common_steps) in
     let awake : is_eating old.phase ≡ false = grind (arith, common_steps) in
-    let here : IsSoundPlace old c.index_mut-place.result.now = subst (IsSoundPlace old) (sym is) (kept.sound.places c.args.i no_place (grind (arith, common_steps))) in
+    let within : c.args.i < length old.places = grind (arith, common_steps) in
     record {
-      sound = sound_with_place old c.args.i c.give.new.self kept.sound (subst (IsSoundPlace old) (sym c.give.ensures.away) (sound_away old _ awake here));
-      few = kept.few;
+      sound = sound_gave old c.args.i _ c.give.new.self kept.sound awake within is c.give.ensures.away;
       no_hands = kept.no_hands;
       room_for_hands = kept.room_for_hands;
-      no_forks = kept.no_forks;
-      room_for_forks = kept.room_for_forks;
-      no_tokens = kept.no_tokens;
-      room_for_tokens = kept.room_for_tokens;
+      room = kept.room;
     }

@@ -1,12 +1,13 @@
 use Rattle.std.proofs.Common.{◌≡◌, Some, refl, sym, ◌∙◌, subst, arith}
 use Rattle.std.proofs.lemmas.Grind.{common_steps}
-use Rattle.dine_core.specs.Core.{SeenCore, StandsFor}
+use Rattle.dine_core.specs.Core.{SeenCore}
 use Rattle.dine_rules.specs.Steps.{Take}
 use Rattle.dine_core.specs.SiteFields.{seen}
 use Rattle.dine_core.specs.Places.{place_at, no_place, breach_at, IsSoundPlace}
 use Rattle.dine_core.proofs.Sound.{sound_with_place, sound_noted}
 use Rattle.dine_core.proofs.CoreSteps.{stepped}
-use Rattle.dine_core.proofs.Breaches.{breach_is, may_take, stands-took, none_from}
+use Rattle.dine_core.proofs.Breaches.{breach_is, may_take, stands-took}
+use Rattle.dine_core.proofs.Options.{none_from}
 use Rattle.dine_core.proofs.site.SiteCore.take.Goals as goal
 
 pub returns-in-Some-clause-taken : goal.returns-in-Some-clause-taken
@@ -27,13 +28,9 @@ invariant_of-self-2 c =
     let turn = sym c.breach_of.ensures.breach ∙ none_from c.breach_of.result c.in_default.not-Some in
     record {
       sound = sound_with_place old c.args.i c.note.new.self kept.sound (subst (IsSoundPlace old) (sym c.note.ensures) (sound_noted old c.index_mut-place.result.now c.args.letter turn here));
-      few = kept.few;
       no_hands = kept.no_hands;
       room_for_hands = kept.room_for_hands;
-      no_forks = kept.no_forks;
-      room_for_forks = kept.room_for_forks;
-      no_tokens = kept.no_tokens;
-      room_for_tokens = kept.room_for_tokens;
+      room = kept.room;
     }
 
 pub returns-clause-core : goal.returns-clause-core

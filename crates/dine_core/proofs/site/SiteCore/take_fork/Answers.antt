@@ -1,9 +1,9 @@
-use Rattle.std.proofs.Common.{◌≡◌, false, sym, subst, arith}
+use Rattle.std.proofs.Common.{◌≡◌, false, arith, ◌<◌, length}
 use Rattle.std.proofs.lemmas.Grind.{common_steps}
 use Rattle.dine_rules.specs.Local.{is_eating}
 use Rattle.dine_core.specs.SiteFields.{seen}
-use Rattle.dine_core.specs.Places.{place_at, no_place, IsSoundPlace}
-use Rattle.dine_core.proofs.Sound.{sound_with_place, sound_away}
+use Rattle.dine_core.specs.Places.{place_at}
+use Rattle.dine_core.proofs.Sound.{sound_gave}
 use Rattle.dine_core.proofs.site.SiteCore.take_fork.Goals as goal
 
 pub invariant_of-self : goal.invariant_of-self
@@ -12,14 +12,10 @@ invariant_of-self c =
     let old = seen c.self.inside in
     let is : c.index_mut.result.now ≡ place_at old c.args.i = grind (arith, common_steps) in
     let awake : is_eating old.phase ≡ false = grind (arith, common_steps) in
-    let here : IsSoundPlace old c.index_mut.result.now = subst (IsSoundPlace old) (sym is) (kept.sound.places c.args.i no_place (grind (arith, common_steps))) in
+    let within : c.args.i < length old.places = grind (arith, common_steps) in
     record {
-      sound = sound_with_place old c.args.i c.take_fork.new.self kept.sound (subst (IsSoundPlace old) (sym c.take_fork.ensures.away) (sound_away old _ awake here));
-      few = kept.few;
+      sound = sound_gave old c.args.i _ c.take_fork.new.self kept.sound awake within is c.take_fork.ensures.away;
       no_hands = kept.no_hands;
       room_for_hands = kept.room_for_hands;
-      no_forks = kept.no_forks;
-      room_for_forks = kept.room_for_forks;
-      no_tokens = kept.no_tokens;
-      room_for_tokens = kept.room_for_tokens;
+      room = kept.room;
     }

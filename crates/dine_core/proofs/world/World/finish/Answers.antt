@@ -2,7 +2,8 @@ use Rattle.std.proofs.Common.{◌≡◌, ◌-◌, ◌≤◌, ℕ, sym, ◌∙◌
 use Rattle.dine_rules.specs.World.{enabled_events}
 use Rattle.dine_core.specs.Worlds.{IsWorldOf, SeenWorld}
 use Rattle.dine_rules.proofs.Finishing.{none_first, stuck_is_complete}
-use Rattle.dine_core.proofs.WorldSchedules.{IsUnderWay, chosen_can, none_of, one_left, runs_to, under_way_at_start, under_way_next}
+use Rattle.dine_core.proofs.Options.{none_from}
+use Rattle.dine_core.proofs.WorldSchedules.{IsUnderWay, chosen_can, one_left, runs_to, under_way_at_start, under_way_next}
 use Rattle.dine_core.proofs.world.World.finish.Goals as goal
 
 pub loop-event-init : goal.loop-event-init
@@ -55,9 +56,9 @@ returns-clause-run c plan world stands =
     let kept = c.loop-event.invariant in
     let left = c.loop-event.left in
     let way = kept.under_way plan world stands in
-    runs_to plan world left (c.self.inside.bound - left) c.loop-event.self way (none_of c.enabled.result c.in_default.not-Some ∙ c.enabled.ensures plan way.now.world way.stands) (omega (arith, kept.within, kept.bound plan world stands))
+    runs_to plan world left (c.self.inside.bound - left) c.loop-event.self way (sym (none_from c.enabled.result c.in_default.not-Some) ∙ c.enabled.ensures plan way.now.world way.stands) (omega (arith, kept.within, kept.bound plan world stands))
 
 pub returns-clause-complete : goal.returns-clause-complete
 returns-clause-complete c plan world stands =
-    let none = none_of c.enabled.result c.in_default.not-Some ∙ c.enabled.ensures plan world stands in
+    let none = sym (none_from c.enabled.result c.in_default.not-Some) ∙ c.enabled.ensures plan world stands in
     stuck_is_complete plan stands.reached.events world stands.reached.is_plan stands.reached.reaches (none_first (enabled_events plan world) (sym none))

@@ -1,6 +1,7 @@
 use Rattle.std.proofs.Common.{◌≡◌, ◌++◌, true, List, drop, length, slice_set, take, sym, ◌∙◌, ap, subst, arith}
 use Rattle.std.proofs.lemmas.Grind.{common_steps}
 use Rattle.dine_rules.specs.declared.letters.Letter.{Letter}
+use Rattle.dine_rules.specs.Steps.{shape_of}
 use Rattle.dine_core.specs.WorldSites.{SiteSteps, HasRoomFor, TakesAllowed, can_do}
 use Rattle.dine_core.specs.WorldFields.{seen_world}
 use Rattle.dine_core.specs.Worlds.{WorldStep, IsWorldOf, SeenWorld, can_happen}
@@ -32,7 +33,7 @@ act-requires-clause-allowed c =
     let can : can_happen seen c.args.event ≡ true = ap (λ (w : SeenWorld). can_happen w c.args.event) c.self.view_is ∙ c.requires in
     let kept = c.self.invariant in
     let world_site = c.index_mut-world_site.result.now in
-    subst (λ (links : List (List Letter)). TakesAllowed links world_site.core c.args.event.kind) (sym c.as_mut_slice.ensures.value)
+    subst (λ (links : List (List Letter)). TakesAllowed links world_site.core (shape_of c.args.event.kind)) (sym c.as_mut_slice.ensures.value)
     (site_allowed seen c.args.event can kept.plan kept.state kept.stands world_site c.index_mut-world_site.ensures.value)
 
 pub act-requires-clause-room : goal.act-requires-clause-room
@@ -41,7 +42,7 @@ act-requires-clause-room c =
     let can : can_happen seen c.args.event ≡ true = ap (λ (w : SeenWorld). can_happen w c.args.event) c.self.view_is ∙ c.requires in
     let kept = c.self.invariant in
     let world_site = c.index_mut-world_site.result.now in
-    subst (λ (links : List (List Letter)). HasRoomFor links world_site.core c.args.event.kind) (sym c.as_mut_slice.ensures.value)
+    subst (λ (links : List (List Letter)). HasRoomFor links world_site.core (shape_of c.args.event.kind)) (sym c.as_mut_slice.ensures.value)
     (site_room seen c.args.event can kept.plan kept.state kept.stands world_site c.index_mut-world_site.ensures.value)
 
 pub invariant_of-self : goal.invariant_of-self

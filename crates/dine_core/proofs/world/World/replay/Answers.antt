@@ -2,7 +2,8 @@ use Rattle.std.proofs.Common.{◌+◌, ℕ, List, drop, get_or, sym, ◌∙◌, 
 use Rattle.dine_plan.specs.Plan.{SeenPlan}
 use Rattle.dine_rules.specs.World.{WorldState}
 use Rattle.dine_core.specs.Worlds.{IsWorldOf, SeenWorld}
-use Rattle.dine_core.proofs.WorldSchedules.{IsReplaying, chosen_can, drop_all, drop_choice, none_of, replayed, replaying_at_start, replaying_next, replaying_on}
+use Rattle.dine_core.proofs.Options.{none_from}
+use Rattle.dine_core.proofs.WorldSchedules.{IsReplaying, chosen_can, drop_all, drop_choice, replayed, replaying_at_start, replaying_next, replaying_on}
 use Rattle.dine_core.proofs.world.World.replay.Goals as goal
 use Rattle.dine_core.proofs.world.World.replay.Goals.{in-Some, in_default}
 
@@ -55,7 +56,7 @@ loop-choice-preserved c =
             subst (λ (seen : SeenWorld). IsReplaying plan world choices (drop (i + 1) choices) c.match-enabled.events seen) (sym w.self-is)
             (subst (λ (events : ℕ). IsReplaying plan world choices (drop (i + 1) choices) events c.loop-choice.self) (sym w.events-is)
             (replaying_on plan world choices (drop (i + 1) choices) n c.loop-choice.events c.loop-choice.self way
-            (none_of c.enabled.result w.in_default.not-Some ∙ c.enabled.ensures plan way.now.world way.stands)));
+            (sym (none_from c.enabled.result w.in_default.not-Some) ∙ c.enabled.ensures plan way.now.world way.stands)));
       }
     ]
 

@@ -1,61 +1,19 @@
-use Rattle.std.proofs.Common.{◌≡◌, ◌<◌, ℕ, ◌+◌, ◌&&◌, nat_lt, true, length, Some, None, is_some, option_map, refl, sym, ◌∙◌, ap, subst, arith, slice_set}
+use Rattle.std.proofs.Common.{◌≡◌, ◌<◌, ℕ, ◌+◌, ◌&&◌, nat_lt, true, length, Some, None, is_some, option_map, refl, sym, ◌∙◌, ap, subst}
 use Rattle.std.proofs.lemmas.Option.{same_Some}
-use Rattle.std.proofs.lemmas.Grind.{common_steps}
 use Rattle.dine_token.specs.Meal.{SeenMeal}
-use Rattle.dine_rules.specs.declared.letters.Letter.TheVariants as letter
 use Rattle.dine_rules.specs.declared.events.EventKind.{EventKind}
 use Rattle.dine_rules.specs.declared.events.EventKind.TheVariants as event
 use Rattle.dine_rules.specs.Local.{LocalState}
-use Rattle.dine_rules.specs.Steps.{Step, after, may, with_taken}
+use Rattle.dine_rules.specs.Steps.{Step, after, may, shape_of, with_taken}
 use Rattle.dine_rules.specs.Steps as step
-use Rattle.dine_core.specs.Core.{SeenCore, StandsFor, forks_in_hand}
-use Rattle.dine_core.specs.LinkNumbers.{link_from}
-use Rattle.dine_core.specs.Places.{breach_at, can_close, can_say_done, place_at}
-use Rattle.dine_core.specs.WorldSites.{SiteStep, TakesAllowed, can_do, meets_no_breach, meal_of, next_in, step_in, with_letter}
+use Rattle.dine_core.specs.Core.{SeenCore, forks_in_hand}
+use Rattle.dine_core.specs.Places.{breach_at, place_at}
+use Rattle.dine_core.specs.WorldSites.{SiteStep, SiteSteps, TakesAllowed, can_do, meets_no_breach, meal_of, next_in, step_in}
 use Rattle.dine_core.specs.Standing.{all_places}
 use Rattle.dine_core.proofs.Breaches.{breach_is, may_take}
-use Rattle.dine_core.proofs.OpenedSites.{none_applies, meal-put, meal-taken, meal_is, some_of, within_of}
+use Rattle.dine_core.proofs.OpenedSites.{none_applies, meal-taken, meal_is, within_of}
+use Rattle.dine_core.proofs.Options.{some_of}
 use Rattle.dine_core.proofs.world.acts.act.Goals as goal
-
-pub returns-in-Done-clause-does : goal.returns-in-Done-clause-does
-returns-in-Done-clause-does c plan state one keeps eats world_site is =
-    let core = c.args.world_site.now.core in
-    let i = c.in-Done.i in
-    let same : step.Done i ≡ one = same_Some _ _ (sym (ap (step_in c.args.links.now core) c.in-Done.is) ∙ is) in
-    let can : (nat_lt i (length core.places) && can_say_done core i) ≡ true = sym (ap (can_do c.args.links.now core) c.in-Done.is) ∙ c.requires.can in
-    let did = c.done-letter.ensures.step plan state keeps world_site.core in
-    let site : c.done-letter.new.self.site ≡ core.site = ap (λ (x : SeenCore). x.site) c.done-letter.ensures.core in
-    let within : i < length state.traffic = omega (arith, within_of i (length core.places) _ can, world_site.core.degree) in
-    let links : slice_set c.args.links.now c.link_from-link-in-Done.result c.put-in-Done.new.self ≡ with_letter c.args.links.now (link_from core.site (place_at core i)) c.done-letter.result = grind (arith, common_steps) in
-    subst (λ (k : EventKind). SiteStep plan state k one c.args.world_site.now (record { core = c.done-letter.new.self; meal = c.args.world_site.now.meal }) c.args.links.now (slice_set c.args.links.now c.link_from-link-in-Done.result c.put-in-Done.new.self)) (sym c.in-Done.is)
-    (subst (λ (x : Step). SiteStep plan state (event.Done i) x c.args.world_site.now (record { core = c.done-letter.new.self; meal = c.args.world_site.now.meal }) c.args.links.now (slice_set c.args.links.now c.link_from-link-in-Done.result c.put-in-Done.new.self)) same (record {
-      site = site;
-      stands = record {
-        core = did.1.stands;
-        meal = world_site.meal ∙ sym (meal-put plan core.site state i within letter.Done refl) ∙ ap (λ x. meal_of plan x (step.with_put i letter.Done state)) (sym site);
-      };
-      letters = (c.done-letter.result, did.0, links);
-    }))
-
-pub returns-in-Close-clause-does : goal.returns-in-Close-clause-does
-returns-in-Close-clause-does c plan state one keeps eats world_site is =
-    let core = c.args.world_site.now.core in
-    let i = c.in-Close.i in
-    let same : step.Close i ≡ one = same_Some _ _ (sym (ap (step_in c.args.links.now core) c.in-Close.is) ∙ is) in
-    let can : (nat_lt i (length core.places) && can_close core i) ≡ true = sym (ap (can_do c.args.links.now core) c.in-Close.is) ∙ c.requires.can in
-    let did = c.close-letter.ensures.step plan state keeps world_site.core in
-    let site : c.close-letter.new.self.site ≡ core.site = ap (λ (x : SeenCore). x.site) c.close-letter.ensures.core in
-    let within : i < length state.traffic = omega (arith, within_of i (length core.places) _ can, world_site.core.degree) in
-    let links : slice_set c.args.links.now c.link_from-link-in-Close.result c.put-in-Close.new.self ≡ with_letter c.args.links.now (link_from core.site (place_at core i)) c.close-letter.result = grind (arith, common_steps) in
-    subst (λ (k : EventKind). SiteStep plan state k one c.args.world_site.now (record { core = c.close-letter.new.self; meal = c.args.world_site.now.meal }) c.args.links.now (slice_set c.args.links.now c.link_from-link-in-Close.result c.put-in-Close.new.self)) (sym c.in-Close.is)
-    (subst (λ (x : Step). SiteStep plan state (event.Close i) x c.args.world_site.now (record { core = c.close-letter.new.self; meal = c.args.world_site.now.meal }) c.args.links.now (slice_set c.args.links.now c.link_from-link-in-Close.result c.put-in-Close.new.self)) same (record {
-      site = site;
-      stands = record {
-        core = did.1.stands;
-        meal = world_site.meal ∙ sym (meal-put plan core.site state i within letter.Close refl) ∙ ap (λ x. meal_of plan x (step.with_put i letter.Close state)) (sym site);
-      };
-      letters = (c.close-letter.result, did.0, links);
-    }))
 
 pub returns-in-Begin-clause-does : goal.returns-in-Begin-clause-does
 returns-in-Begin-clause-does c plan state one keeps eats world_site is =
@@ -85,7 +43,7 @@ returns-in-Take-clause-does c plan state one keeps eats world_site is =
     let new = c.take.new.world_site in
     let links = c.args.links.now in
     let can : (nat_lt i (length core.places) && is_some (next_in links core i)) ≡ true = sym (ap (can_do links core) c.in-Take.is) ∙ c.requires.can in
-    let turn : meets_no_breach core i (next_in links core i) ≡ true = subst (TakesAllowed links core) c.in-Take.is c.requires.allowed in
+    let turn : meets_no_breach core i (next_in links core i) ≡ true = subst (λ (k : EventKind). TakesAllowed links core (shape_of k)) c.in-Take.is c.requires.allowed in
     let did = some_of (next_in links core i) _ c.take.ensures.core in
     let l = did.0 in
     let same : step.Take i l ≡ one = same_Some _ _ (sym (ap (step_in links core) c.in-Take.is ∙ ap (option_map (step.Take i)) did.1) ∙ is) in
@@ -103,3 +61,6 @@ returns-in-Take-clause-does c plan state one keeps eats world_site is =
       };
       letters = c.take.ensures.links;
     }))
+
+pub returns-in-Give-clause-does : goal.returns-in-Give-clause-does
+returns-in-Give-clause-does c = subst (λ (k : EventKind). SiteSteps k c.args.world_site.now c.put.new.world_site c.args.links.now c.put.new.links) c.in-Give.kind-is c.put.ensures.does

@@ -2,4 +2,4 @@ use Rattle.dine_link.proofs.BellSteps.{rings}
 use Rattle.dine_link.proofs.bell.Ringer.ring.Goals as goal
 
 pub send-rung-requires-clause-rule : goal.send-rung-requires-clause-rule
-send-rung-requires-clause-rule g c = (rings _ _ _ _ c.self.invariant.knows, λ queue views h at. tt)
+send-rung-requires-clause-rule g c = (rings _ _ _ _ c.self.invariant.own, λ queue views h at. tt)

@@ -1,12 +1,15 @@
 use Rattle.std.proofs.Common.{rules, ◌≡◌, ◌++◌, subst}
 use Rattle.crossbeam_channel.specs.Claims.{view}
 use Rattle.dine_link.specs.declared.rule.Known.{Known}
-use Rattle.dine_link.proofs.Relays.{merges}
+use Rattle.dine_link.proofs.Relays.{merges, learns}
 use Rattle.dine_link.proofs.Endings.{whole}
 use Rattle.dine_link.proofs.channel.Putting.join.Goals as goal
 
 pub absorb-requires-clause-rule : goal.absorb-requires-clause-rule
 absorb-requires-clause-rule c = merges _ _ _ _ (search rules) (search rules)
+
+pub learn_as-requires-clause-rule : goal.learn_as-requires-clause-rule
+learn_as-requires-clause-rule c = learns _ _ (search rules) (search rules)
 
 pub returns-clause-whole : goal.returns-clause-whole
 returns-clause-whole c = λ closed.

@@ -1,4 +1,4 @@
-use Rattle.std.proofs.Common.{◌≡◌, ◌+◌, ◌≤◌, ◌<◌, ◌^◌, vec_len, vec_items, vec_capacity}
+use Rattle.std.proofs.Common.{◌≡◌, ◌≤◌, vec_len, vec_items, vec_capacity}
 use Rattle.dine_link.proofs.tests.exchange.take_many.Given as goal
 
 abbrev pub invariant-loop : goal.invariant-loop

@@ -1,0 +1,144 @@
+//! What ends a command before its end, and the line that tells of it.
+ghost use Rattle.std.specs.Prelude.{◌≡◌, IfSome, OnOk};
+ghost use Rattle.std.specs.Io.KnownBytes.{Appends};
+
+use crate::input::InputFault;
+use crate::output::{WriteFault, write_line};
+use crate::status::Status;
+use crate::words::WordsFault;
+use dine_plan::PlanFault;
+use std::alloc::AllocError;
+use std::io::Write;
+
+#[cfg(test)]
+mod tests;
+
+/// What ended a command before its end.
+#[derive(Clone, Copy, Debug, PartialEq, Eq)]
+pub enum Fault {
+    /// The words are refused.
+    Usage,
+    /// The input is no plan, for this cause.
+    NoPlan(PlanFault),
+    /// Memory was refused.
+    OutOfMemory,
+    /// A read failed.
+    ReadingFailed,
+    /// More bytes came than an input may have.
+    InputTooLong,
+    /// A write or a flush failed, or a write took no byte.
+    WritingFailed,
+}
+
+impl Fault {
+    ghost use Rattle.dine.specs.Faults.{TellsLine, line_of, status_of, whole_line};
+
+    /// Prints the line that tells of it to `faults`, and answers the status that it ends the program with.
+    ///
+    /// That the line can't be printed, whole or at all, is told to nobody.
+    pub fn end<F: Write>(self, faults: &mut F) -> Status
+        ensures status { result ≡ status_of self }
+        ensures told { TellsLine (line_of self) (F.contents faults.old) (F.contents faults.new) }
+    {
+        let _ = self.tell(faults);
+        self.status()
+    }
+
+    // The status that it ends the program with.
+    fn status(self) -> Status
+        ensures { result ≡ status_of self }
+    {
+        match self {
+            Fault::Usage => Status::Usage,
+            Fault::NoPlan(_) => Status::PlanRefused,
+            Fault::OutOfMemory => Status::OutOfMemory,
+            Fault::ReadingFailed | Fault::InputTooLong | Fault::WritingFailed => {
+                Status::InputOutput
+            }
+        }
+    }
+
+    // Writes the line that tells of it, and flushes.
+    fn tell<F: Write>(self, faults: &mut F) -> Result<(), WriteFault>
+        ensures whole { OnOk result (IfSome (line_of self) (λ line. Appends (F.contents faults.old) (F.contents faults.new) (whole_line line))) }
+        ensures begun { TellsLine (line_of self) (F.contents faults.old) (F.contents faults.new) }
+    {
+        match self {
+            Fault::Usage => write_line(
+                faults,
+                "dine: usage: dine [run [--table edges|sites] | replay [--choices LIST] | check]",
+            ),
+            Fault::NoPlan(cause) => tell_cause(cause, faults),
+            Fault::OutOfMemory => write_line(faults, "dine: out of memory"),
+            Fault::ReadingFailed => write_line(faults, "dine: reading failed"),
+            Fault::InputTooLong => write_line(faults, "dine: input too long"),
+            Fault::WritingFailed => write_line(faults, "dine: writing failed"),
+        }
+    }
+}
+
+// Writes the line of a plan that is refused for this cause, and flushes.
+fn tell_cause<F: Write>(cause: PlanFault, faults: &mut F) -> Result<(), WriteFault> {
+    write!(faults, "dine: plan refused: {cause}").map_err(|_| WriteFault)?;
+    write_line(faults, "")
+}
+
+impl From<WordsFault> for Fault {
+    ghost use Rattle.dine.specs.Faults.{fault_of_words};
+
+    ghost from_gives = { λ fault made. made ≡ fault_of_words fault };
+
+    fn from(fault: WordsFault) -> Fault {
+        match fault {
+            WordsFault::Usage => Fault::Usage,
+            WordsFault::Memory => Fault::OutOfMemory,
+        }
+    }
+}
+
+impl From<InputFault> for Fault {
+    ghost use Rattle.dine.specs.Faults.{fault_of_input};
+
+    ghost from_gives = { λ fault made. made ≡ fault_of_input fault };
+
+    fn from(fault: InputFault) -> Fault {
+        match fault {
+            InputFault::Failed => Fault::ReadingFailed,
+            InputFault::TooLong => Fault::InputTooLong,
+            InputFault::Memory => Fault::OutOfMemory,
+        }
+    }
+}
+
+impl From<AllocError> for Fault {
+    ghost use Rattle.dine.specs.declared.faults.Fault.TheVariants as fault;
+
+    ghost from_gives = { λ _ made. made ≡ fault.OutOfMemory };
+
+    fn from(_error: AllocError) -> Fault {
+        Fault::OutOfMemory
+    }
+}
+
+impl From<WriteFault> for Fault {
+    ghost use Rattle.dine.specs.declared.faults.Fault.TheVariants as fault;
+
+    ghost from_gives = { λ _ made. made ≡ fault.WritingFailed };
+
+    fn from(_fault: WriteFault) -> Fault {
+        Fault::WritingFailed
+    }
+}
+
+impl From<PlanFault> for Fault {
+    ghost use Rattle.dine.specs.Faults.{fault_of_text};
+
+    ghost from_gives = { λ fault made. made ≡ fault_of_text fault };
+
+    fn from(fault: PlanFault) -> Fault {
+        match fault {
+            PlanFault::Memory => Fault::OutOfMemory,
+            _ => Fault::NoPlan(fault),
+        }
+    }
+}

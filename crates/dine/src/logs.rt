@@ -1,0 +1,96 @@
+//! The text of a world.
+
+ghost use Rattle.std.specs.Prelude.{◌≡◌, ◌++◌, codes, string_bytes, IfOk, OnOk};
+ghost use Rattle.dine_plan.specs.Plan.{name_of};
+ghost use Rattle.dine_core.specs.World.{WorldState};
+ghost use Rattle.dine_core.specs.Worlds.{IsWorldOf, IsOpenedFor};
+ghost use Rattle.dine.specs.Logs.{edge_line, edge_lines, entries_text, entry_text, events_line, world_text};
+
+use dine_core::World;
+use dine_plan::Plan;
+use dine_token::{Entry, Fork};
+use std::alloc::{AllocError, Global};
+
+/// The text of the world, which was opened for the plan, after so many events: the log of each edge, and the last line.
+pub fn world_text(
+    alloc: Global,
+    plan: &Plan,
+    world: &World,
+    events: u64,
+) -> Result<Vec<u8>, AllocError>
+    requires { IsOpenedFor plan.now world.now }
+    ensures { IfOk result (λ text. (state : WorldState) → IsWorldOf plan.now state world.now → text.items ≡ world_text plan.now state events) }
+{
+    let mut text = String::new(alloc);
+    push_lines(&mut text, plan, world)?;
+    push_events_line(&mut text, events, world.bound())?;
+    Ok(text.into_bytes())
+}
+
+// Adds the lines of all edges to the text.
+fn push_lines(text: &mut String, plan: &Plan, world: &World) -> Result<(), AllocError>
+    requires { IsOpenedFor plan.now world.now }
+    ensures { OnOk result ((state : WorldState) → IsWorldOf plan.now state world.now
+        → string_bytes text.new ≡ string_bytes text.old ++ edge_lines plan.now state) }
+{
+    for edge in 0..plan.edges() {
+        match world.fork(edge) {
+            Some(fork) => push_edge_line(text, plan, fork)?,
+            None => unreachable!(),
+        }
+    }
+    Ok(())
+}
+
+// The name of the site. A number that is no site has none.
+fn name_of(plan: &Plan, site: u32) -> &str
+    ensures { result.now ≡ name_of plan.now site }
+{
+    if site < plan.sites() {
+        plan.name(site)
+    } else {
+        ""
+    }
+}
+
+// Adds the entry to the text.
+fn push_entry(text: &mut String, plan: &Plan, entry: Entry) -> Result<(), AllocError>
+    ensures { OnOk result (string_bytes text.new ≡ string_bytes text.old ++ entry_text (name_of plan.now) entry) }
+{
+    match entry {
+        Entry::Meal { site, k } => write!(text, "{}#{k}", name_of(plan, site)),
+        Entry::Move { to } => write!(text, "to {}", name_of(plan, to)),
+    }
+}
+
+// Adds the entries of the fork's log to the text.
+fn push_entries(text: &mut String, plan: &Plan, fork: &Fork) -> Result<(), AllocError>
+    ensures { OnOk result (string_bytes text.new ≡ string_bytes text.old ++ entries_text (name_of plan.now) (codes " ") fork.now.log) }
+{
+    for i in 0..fork.len() {
+        let separator = if i == 0 { " " } else { ", " };
+        text.push_str(separator)?;
+        push_entry(text, plan, fork.entry(i))?;
+    }
+    Ok(())
+}
+
+// Adds the line of the fork's edge to the text.
+fn push_edge_line(text: &mut String, plan: &Plan, fork: &Fork) -> Result<(), AllocError>
+    ensures { OnOk result (string_bytes text.new ≡ string_bytes text.old ++ edge_line (name_of plan.now) fork.now.edge fork.now.ends fork.now.log) }
+{
+    let edge = fork.edge();
+    let (lower, higher) = fork.ends();
+    let lower = name_of(plan, lower);
+    let higher = name_of(plan, higher);
+    write!(text, "edge {edge} {lower} {higher}:")?;
+    push_entries(text, plan, fork)?;
+    text.push_str("\n")
+}
+
+// Adds the last line to the text.
+fn push_events_line(text: &mut String, events: u64, bound: u64) -> Result<(), AllocError>
+    ensures { OnOk result (string_bytes text.new ≡ string_bytes text.old ++ events_line events bound) }
+{
+    writeln!(text, "events {events} of {bound}")
+}

@@ -1,0 +1,5 @@
+use Rattle.dine_rules.proofs.Complete.{complete_is_stuck}
+use Rattle.dine_rules.proofs.laws.complete_worlds_are_stuck.Goals as goal
+
+pub returns : goal.returns
+returns c = complete_is_stuck

@@ -1,5 +1,0 @@
-use Rattle.dine_rules.proofs.TwoEnds.{ends_at, ends_of_edge, edge_of_low}
-use Rattle.dine_rules.proofs.laws.edges_have_a_place_at_each_end.Goals as goal
-
-pub returns : goal.returns
-returns c = record { ends = ends_of_edge; edge = edge_of_low; places = ends_at }

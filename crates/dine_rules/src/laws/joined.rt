@@ -1,0 +1,90 @@
+//! Laws over whole lists alone, as they are left when threads have joined: no order of events is asked for.
+
+ghost use Rattle.std.specs.Prelude.{◌≡◌, ◌<◌, ◌≤◌, ◌+◌, Bool, List, Some, false, length, true, ℕ};
+ghost use mathlib.Core.List.{IsPrefix};
+ghost use Rattle.dine_plan.specs.Plan.{IsPlan, SeenPlan, edge_count, edges_of, hi_of, lo_of};
+ghost use Rattle.dine_rules.specs.Breach.{first_breach, is_allowed};
+ghost use Rattle.dine_rules.specs.Examples.{broken_off, pair};
+ghost use Rattle.dine_rules.specs.Holdings.{forks_held, tokens_held};
+ghost use Rattle.dine_rules.specs.JoinedEnds.{AccountsForFork, AccountsForToken, AreEndsOfEdge, AreLinked, AreWhollyTaken, HaveOneWholeFork, next_between, traffic_across};
+ghost use Rattle.dine_rules.specs.Letters.{has_close};
+ghost use Rattle.dine_rules.specs.Links.{ForEachLink};
+ghost use Rattle.dine_rules.specs.Local.{LocalState, Traffic, edge_at, neighbour_at, start_of, traffic_at};
+ghost use Rattle.dine_rules.specs.Streams.{IsLawfulStream, KeepsStreams};
+ghost use Rattle.dine_rules.specs.World.{IsComplete, WorldState, next_letter, place_of, state_of};
+ghost use Rattle.dine_rules.specs.declared.breach.Breach.{Breach};
+ghost use Rattle.dine_rules.specs.declared.breach.Breach.TheVariants.{ClosedEarly};
+ghost use Rattle.dine_rules.specs.declared.letters.Letter.{Letter};
+ghost use Rattle.dine_rules.specs.declared.letters.Letter.TheVariants.{Close};
+
+/// Each edge has a place at its lower end and one at its higher, and each place of a site is an end of its edge.
+pub fn edges_have_a_place_at_each_end()
+    ensures ends { (plan : SeenPlan) (edge : ℕ) → IsPlan plan → edge < edge_count plan
+        → AreEndsOfEdge plan (lo_of plan edge) (place_of plan (lo_of plan edge) edge) (hi_of plan edge) (place_of plan (hi_of plan edge) edge) }
+    ensures edge { (plan : SeenPlan) (edge : ℕ) → IsPlan plan → edge < edge_count plan → edge_at plan (lo_of plan edge) (place_of plan (lo_of plan edge) edge) ≡ edge }
+    ensures places { (plan : SeenPlan) (s i : ℕ) → IsPlan plan → i < length (edges_of plan s)
+        → AreEndsOfEdge plan s i (neighbour_at plan s i) (place_of plan (neighbour_at plan s i) (edge_at plan s i)) }
+{}
+
+/// In every world that events reach from the start the two ends of each link took prefixes of what the other put. Where the world
+/// is complete, they took all. The next letter of a world is that of the two ends' lists.
+pub fn reached_worlds_have_linked_ends()
+    ensures linked { ForEachLink (λ plan world s i. AreLinked (traffic_at (state_of world s) i) (traffic_across plan world s i)) }
+    ensures next { (plan : SeenPlan) (world : WorldState) (s i : ℕ) → next_letter plan world s i ≡ next_between (traffic_at (state_of world s) i) (traffic_across plan world s i) }
+    ensures joined { ForEachLink (λ plan world s i. IsComplete plan world → AreWhollyTaken (traffic_at (state_of world s) i) (traffic_across plan world s i)) }
+{}
+
+/// Where Close was taken from a link all was taken: what was put is a lawful stream, what was taken is a prefix of it, and
+/// nothing stands behind Close.
+pub fn closed_links_are_wholly_taken()
+    ensures { (from_lower : Bool) (taken put : List Letter) → IsLawfulStream from_lower put → IsPrefix taken put → has_close taken ≡ true → taken ≡ put }
+{}
+
+/// A letter that comes next and is not allowed is a Close, and its breach is that it came early. So it is for two sites that keep
+/// their streams, at the two ends of an edge where each took a prefix of what the other put, also where sites break off.
+/// Whole lists are counted, and no order of events is asked for.
+pub fn refused_letters_are_closes()
+    ensures close { (plan : SeenPlan) (s i other j : ℕ) (here there : LocalState) (letter : Letter) → IsPlan plan → AreEndsOfEdge plan s i other j
+        → KeepsStreams plan s here → KeepsStreams plan other there → AreLinked (traffic_at here i) (traffic_at there j)
+        → next_between (traffic_at here i) (traffic_at there j) ≡ Some letter → is_allowed plan s here i letter ≡ false → letter ≡ Close }
+    ensures early { (plan : SeenPlan) (s i other j : ℕ) (here there : LocalState) (letter : Letter) (breach : Breach) → IsPlan plan → AreEndsOfEdge plan s i other j
+        → KeepsStreams plan s here → KeepsStreams plan other there → AreLinked (traffic_at here i) (traffic_at there j)
+        → next_between (traffic_at here i) (traffic_at there j) ≡ Some letter → first_breach plan s here i letter ≡ Some breach → breach ≡ ClosedEarly }
+{}
+
+/// A site that breaks off at the start puts a Close. It comes next at the other end, and there it is told that it came early.
+pub fn early_close_comes_as_worked()
+    ensures next { next_between (traffic_at (start_of (pair 1 1) 0) 0) (traffic_at broken_off 0) ≡ Some Close }
+    ensures told { first_breach (pair 1 1) 0 (start_of (pair 1 1) 0) 0 Close ≡ Some ClosedEarly }
+{}
+
+/// A site that keeps its streams accounts for the fork and for the token of each of its places.
+pub fn kept_streams_account_for_fork_and_token()
+    ensures fork { (plan : SeenPlan) (s i : ℕ) (state : LocalState) → KeepsStreams plan s state → i < length (edges_of plan s)
+        → AccountsForFork plan s (edge_at plan s i) state.ate (traffic_at state i) }
+    ensures token { (plan : SeenPlan) (s i : ℕ) (state : LocalState) → IsPlan plan → KeepsStreams plan s state → i < length (edges_of plan s)
+        → AccountsForToken plan s (edge_at plan s i) (traffic_at state i) }
+{}
+
+/// Two ends of an edge, of which each took a prefix of what the other put, hold at most one fork if both account for it, and at
+/// most one token if both account for that. So it is also where sites broke off.
+pub fn linked_ends_have_at_most_one_fork_and_token()
+    ensures fork { (plan : SeenPlan) (edge low_ate high_ate : ℕ) (low high : Traffic) → IsPlan plan → edge < edge_count plan
+        → AccountsForFork plan (lo_of plan edge) edge low_ate low → AccountsForFork plan (hi_of plan edge) edge high_ate high → AreLinked low high
+        → forks_held plan (lo_of plan edge) edge low + forks_held plan (hi_of plan edge) edge high ≤ 1 }
+    ensures token { (plan : SeenPlan) (edge : ℕ) (low high : Traffic) → IsPlan plan → edge < edge_count plan
+        → AccountsForToken plan (lo_of plan edge) edge low → AccountsForToken plan (hi_of plan edge) edge high → AreLinked low high
+        → tokens_held plan (lo_of plan edge) edge low + tokens_held plan (hi_of plan edge) edge high ≤ 1 }
+{}
+
+/// Two ends of an edge, of which each took all that the other put, hold exactly one fork if both account for it. Its log is lawful
+/// and has each meal that either end ate exactly once. They hold exactly one token if both account for that. So it is for
+/// the lists that are left when threads have joined, whatever order their events had.
+pub fn joined_ends_have_one_whole_fork_and_one_token()
+    ensures fork { (plan : SeenPlan) (edge low_ate high_ate : ℕ) (low high : Traffic) → IsPlan plan → edge < edge_count plan
+        → AccountsForFork plan (lo_of plan edge) edge low_ate low → AccountsForFork plan (hi_of plan edge) edge high_ate high → AreWhollyTaken low high
+        → HaveOneWholeFork plan edge low_ate high_ate low high }
+    ensures token { (plan : SeenPlan) (edge : ℕ) (low high : Traffic) → IsPlan plan → edge < edge_count plan
+        → AccountsForToken plan (lo_of plan edge) edge low → AccountsForToken plan (hi_of plan edge) edge high → AreWhollyTaken low high
+        → tokens_held plan (lo_of plan edge) edge low + tokens_held plan (hi_of plan edge) edge high ≡ 1 }
+{}

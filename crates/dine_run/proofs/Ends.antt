@@ -1,0 +1,91 @@
+-- What a site leaves when it ends.
+use Rattle.std.proofs.Common.{◌≡◌, ℕ, ◌+◌, ◌<◌, ◌==◌, ◌&&◌, Bool, true, false, List, [], ◌∷◌, ◌++◌, length, set, get_or, Option, Some, None, refl, sym, ◌∙◌, ap, subst, inl, inr, arith, append-nil}
+use Rattle.std.specs.List.{slice_get, list_all}
+use Rattle.std.proofs.lemmas.List.{get_or-set_same, get_or-set_other}
+use Rattle.std.proofs.lemmas.Bool.{and_parts, cases_eq}
+use Rattle.dine_token.specs.Fork.{SeenFork}
+use Rattle.dine_plan.specs.Plan.{SeenPlan, job_count}
+use Rattle.dine_rules.specs.Letters.{has_close, has_done}
+use Rattle.dine_rules.specs.Local.{LocalState, traffic_at, is_thinking}
+use Rattle.dine_core.specs.declared.site.places.Place.{Place}
+use Rattle.dine_core.specs.Core.{SeenCore, StandsFor}
+use Rattle.dine_core.specs.Places.{closed, no_place, place_at}
+use Rattle.dine_core.specs.Standing.{AreForksInHand, AreTokensInHand, all_places, has_closed, has_finished}
+use Rattle.dine_run.specs.declared.site_end.SiteFault.{SiteFault}
+use Rattle.dine_run.specs.declared.site_end.Stray.{Stray}
+use Rattle.dine_run.specs.Ports.{SeenPort}
+use Rattle.dine_run.specs.SiteEnds.{IsSiteEnd}
+use Rattle.dine_run.specs.Running.{SeenRun, ClosedBelow, IsRunning, IsStopped, IsFinished, MayEnd}
+use Rattle.dine_run.proofs.Lists.{list_all-weaker, list_all-each}
+use Rattle.dine_run.proofs.Letters.{puts_fit-same}
+
+-- one place more is closed
+pub closed_more : (core : SeenCore) (i : ℕ) → i < length core.places → ClosedBelow i core → ClosedBelow (i + 1) (closed i core)
+closed_more core i within below j h = elim (cases_eq j i) [
+  | inl same ↦ ap (λ (n : ℕ). (place_at (closed i core) n).close_put) same
+      ∙ ap (λ (place : Place). place.close_put) (get_or-set_same core.places i (record (place_at core i) { close_put = true }) no_place within)
+  | inr ne ↦ ap (λ (place : Place). place.close_put) (get_or-set_other core.places i j (record (place_at core i) { close_put = true }) no_place ne) ∙ below j (omega (arith, h, ne))
+]
+
+pub closed_already : (core : SeenCore) (i : ℕ) → (place_at core i).close_put ≡ true → ClosedBelow i core → ClosedBelow (i + 1) core
+closed_already core i is below j h = elim (cases_eq j i) [
+  | inl same ↦ ap (λ (n : ℕ). (place_at core n).close_put) same ∙ is
+  | inr ne ↦ below j (omega (arith, h, ne))
+]
+
+-- Close was put everywhere: by the core's places, and where the site has done all
+pub closed_everywhere : (plan : SeenPlan) (state : LocalState) (core : SeenCore) → StandsFor plan state core → ClosedBelow (length core.places) core → has_closed state ≡ true
+closed_everywhere plan state core stands below =
+    list_all-each (λ i. has_close (traffic_at state i).put) 0 (length state.traffic)
+    (λ i within. let inside : i < length core.places = omega (arith, within, stands.degree) in
+    sym (ap (λ (place : Place). place.close_put) (stands.places i no_place inside)) ∙ below i inside)
+
+pub finished_is_closed : (plan : SeenPlan) (s : ℕ) (state : LocalState) → has_finished plan s state ≡ true → has_closed state ≡ true
+finished_is_closed plan s state h =
+    list_all-weaker _ (λ i. has_close (traffic_at state i).put) (λ i said. (and_parts _ _ (and_parts _ _ said).0).1) (all_places state) (and_parts _ _ h).1
+
+module _ {Identity : Type 0} (plan : SeenPlan) (given : List (SeenPort Identity)) (run : SeenRun Identity) (forks : List SeenFork) (tokens : List ℕ)
+    (are_forks : AreForksInHand run.core forks) (are_tokens : AreTokensInHand run.core tokens) where
+  pub site_end : (stray : Option Stray) (cause : Option SiteFault) → MayEnd stray cause plan given run
+      → IsSiteEnd plan run.core.site given (record { site = run.core.site; ate = run.core.ate; forks = forks; tokens = tokens; ports = run.ports; stray = stray; fault = cause })
+  site_end stray None h =
+      let running = h.0 in
+      let finished = h.1 plan running.state running.has.keeps running.has.stands in
+      record {
+        state = running.state;
+        keeps = running.has.keeps;
+        rests = running.has.rests;
+        site = refl;
+        ate = running.has.stands.ate;
+        forks = are_forks plan running.state running.has.keeps running.has.stands;
+        tokens = are_tokens plan running.state running.has.keeps running.has.stands;
+        count = running.has.count;
+        same_links = running.has.same_links;
+        puts = λ i port at. puts_fit-same (traffic_at running.state i).put port.tx.letters (running.lists i port at).puts;
+        takes = λ i port at. (running.lists i port at).takes ∙ sym (append-nil (traffic_at running.state i).taken);
+        closed = finished_is_closed plan run.core.site running.state finished;
+        finished = λ e. finished;
+        whole = λ e i port at. (running.lists i port at).puts;
+        no_stray = λ e. h.2;
+        breach = λ link breach e. absurd (cc);
+      }
+  site_end stray (Some cause) h =
+      let stopped = h.0 in
+      record {
+        state = stopped.state;
+        keeps = stopped.has.keeps;
+        rests = stopped.has.rests;
+        site = refl;
+        ate = stopped.has.stands.ate;
+        forks = are_forks plan stopped.state stopped.has.keeps stopped.has.stands;
+        tokens = are_tokens plan stopped.state stopped.has.keeps stopped.has.stands;
+        count = stopped.has.count;
+        same_links = stopped.has.same_links;
+        puts = λ i port at. (stopped.lists i port at).puts;
+        takes = λ i port at. (stopped.lists i port at).takes;
+        closed = closed_everywhere plan stopped.state run.core stopped.has.stands h.1;
+        finished = λ e. absurd (cc);
+        whole = λ e. absurd (cc);
+        no_stray = λ e. absurd (cc);
+        breach = λ link breach e. stopped.breach link breach (cc);
+      }

@@ -1,0 +1,66 @@
+use Rattle.std.proofs.Common.{◌≡◌, true, ◌+◌, ◌<◌, ◌^◌, ℕ, List, length, set, Option, Some, None, refl, sym, ◌∙◌, ap, subst, arith}
+use Rattle.std.proofs.lemmas.List.{length-map}
+use Rattle.std.specs.List.{slice_get}
+use Rattle.dine_rules.specs.declared.letters.Letter.{Letter}
+use Rattle.dine_rules.specs.declared.letters.Letter.TheVariants as letter
+use Rattle.dine_run.specs.declared.site_loop.running.Stop.{Stop}
+use Rattle.dine_run.specs.declared.site_end.SiteFault.TheVariants as fault
+use Rattle.dine_run.specs.Ports.{SeenPort, seen_port, seen_ports, put_on, closed_on, taken_on}
+use Rattle.dine_run.specs.Running.{SeenRun, IsRunning, IsStopped, GoesOn, seen_run}
+use Rattle.dine_run.proofs.Seen.{seen_at, seen_set, seen_same, there_is, if_there, of_there}
+use Rattle.dine_core.specs.Standing.{CorePuts}
+use Rattle.dine_rules.specs.Steps.{Give, Ask, Done, Close}
+use Rattle.dine_run.proofs.AtPlaces.{opens-give, opens-ask, opens-done, opens-close, putting}
+use Rattle.dine_run.proofs.Ways.{hungry_runs}
+use Rattle.dine_run.proofs.site_loop.running.Running.act.Goals as goal
+
+pub put-requires-clause-putting : goal.put-requires-clause-putting
+put-requires-clause-putting g c κs ls =
+    let p = c.requires.running in
+    let run : SeenRun g.L.Lane.Identity = seen_run g.L.Lane.seen_tx g.L.Lane.seen_closed g.L.Lane.seen_rx c.args.self.now in
+    (p.0, p.1, putting p.0 p.1 c.in-Give.i (Give c.in-Give.i) c.give-letter.result (opens-give c.in-Give.i) run c.give-letter.new.self c.give-letter.ensures.step p.2)
+
+pub returns-in-Give-clause-way : goal.returns-in-Give-clause-way
+returns-in-Give-clause-way g c plan given running =
+    let run : SeenRun g.L.Lane.Identity = seen_run g.L.Lane.seen_tx g.L.Lane.seen_closed g.L.Lane.seen_rx c.args.self.now in
+    c.put.ensures.way plan given (putting plan given c.in-Give.i (Give c.in-Give.i) c.give-letter.result (opens-give c.in-Give.i) run c.give-letter.new.self c.give-letter.ensures.step running)
+
+pub put-requires-in-Ask-clause-putting : goal.put-requires-in-Ask-clause-putting
+put-requires-in-Ask-clause-putting g c κs ls =
+    let p = c.requires.running in
+    let run : SeenRun g.L.Lane.Identity = seen_run g.L.Lane.seen_tx g.L.Lane.seen_closed g.L.Lane.seen_rx c.args.self.now in
+    (p.0, p.1, putting p.0 p.1 c.in-Ask.i (Ask c.in-Ask.i) c.ask-letter.result (opens-ask c.in-Ask.i) run c.ask-letter.new.self c.ask-letter.ensures.step p.2)
+
+pub returns-in-Ask-clause-way : goal.returns-in-Ask-clause-way
+returns-in-Ask-clause-way g c plan given running =
+    let run : SeenRun g.L.Lane.Identity = seen_run g.L.Lane.seen_tx g.L.Lane.seen_closed g.L.Lane.seen_rx c.args.self.now in
+    c.put-in-Ask.ensures.way plan given (putting plan given c.in-Ask.i (Ask c.in-Ask.i) c.ask-letter.result (opens-ask c.in-Ask.i) run c.ask-letter.new.self c.ask-letter.ensures.step running)
+
+pub put-requires-in-Done-clause-putting : goal.put-requires-in-Done-clause-putting
+put-requires-in-Done-clause-putting g c κs ls =
+    let p = c.requires.running in
+    let run : SeenRun g.L.Lane.Identity = seen_run g.L.Lane.seen_tx g.L.Lane.seen_closed g.L.Lane.seen_rx c.args.self.now in
+    (p.0, p.1, putting p.0 p.1 c.in-Done.i (Done c.in-Done.i) c.done-letter.result (opens-done c.in-Done.i) run c.done-letter.new.self c.done-letter.ensures.step p.2)
+
+pub returns-in-Done-clause-way : goal.returns-in-Done-clause-way
+returns-in-Done-clause-way g c plan given running =
+    let run : SeenRun g.L.Lane.Identity = seen_run g.L.Lane.seen_tx g.L.Lane.seen_closed g.L.Lane.seen_rx c.args.self.now in
+    c.put-in-Done.ensures.way plan given (putting plan given c.in-Done.i (Done c.in-Done.i) c.done-letter.result (opens-done c.in-Done.i) run c.done-letter.new.self c.done-letter.ensures.step running)
+
+pub close-requires-in-Close-clause-putting : goal.close-requires-in-Close-clause-putting
+close-requires-in-Close-clause-putting g c κs ls =
+    let p = c.requires.running in
+    let run : SeenRun g.L.Lane.Identity = seen_run g.L.Lane.seen_tx g.L.Lane.seen_closed g.L.Lane.seen_rx c.args.self.now in
+    let puts : CorePuts c.in-Close.i (Close c.in-Close.i) c.args.self.now.core c.close.new.self letter.Close = subst (λ (l : Letter). CorePuts c.in-Close.i (Close c.in-Close.i) c.args.self.now.core c.close.new.self l) c.close.ensures.letter c.close.ensures.step in
+    (p.0, p.1, putting p.0 p.1 c.in-Close.i (Close c.in-Close.i) letter.Close (opens-close c.in-Close.i) run c.close.new.self puts p.2)
+
+pub returns-in-Close-clause-way : goal.returns-in-Close-clause-way
+returns-in-Close-clause-way g c plan given running =
+    let run : SeenRun g.L.Lane.Identity = seen_run g.L.Lane.seen_tx g.L.Lane.seen_closed g.L.Lane.seen_rx c.args.self.now in
+    let puts : CorePuts c.in-Close.i (Close c.in-Close.i) c.args.self.now.core c.close.new.self letter.Close = subst (λ (l : Letter). CorePuts c.in-Close.i (Close c.in-Close.i) c.args.self.now.core c.close.new.self l) c.close.ensures.letter c.close.ensures.step in
+    c.close-in-Close.ensures.way plan given (putting plan given c.in-Close.i (Close c.in-Close.i) letter.Close (opens-close c.in-Close.i) run c.close.new.self puts running)
+
+pub returns-in-Hungry-clause-way : goal.returns-in-Hungry-clause-way
+returns-in-Hungry-clause-way g c plan given running =
+    let run : SeenRun g.L.Lane.Identity = seen_run g.L.Lane.seen_tx g.L.Lane.seen_closed g.L.Lane.seen_rx c.args.self.now in
+    hungry_runs plan given run c.hungry.new.self c.hungry.ensures.step running

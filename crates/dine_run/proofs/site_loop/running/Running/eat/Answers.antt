@@ -1,0 +1,32 @@
+use mir.Val.{bool_byte}
+use Rattle.std.proofs.Common.{◌≡◌, Bool, true, false, not, ◌+◌, ◌<◌, ◌^◌, ℕ, List, length, set, Option, Some, None, refl, sym, ◌∙◌, ap, subst, arith}
+use Rattle.std.proofs.lemmas.List.{length-map}
+use Rattle.std.specs.List.{slice_get}
+use Rattle.dine_rules.specs.declared.letters.Letter.{Letter}
+use Rattle.dine_rules.specs.declared.letters.Letter.TheVariants as letter
+use Rattle.dine_run.specs.declared.site_loop.running.Stop.{Stop}
+use Rattle.dine_run.specs.declared.site_end.SiteFault.TheVariants as fault
+use Rattle.dine_run.specs.Ports.{SeenPort, seen_port, seen_ports, put_on, closed_on, taken_on}
+use Rattle.dine_run.specs.Running.{SeenRun, IsRunning, IsStopped, GoesOn, seen_run}
+use Rattle.dine_run.proofs.Seen.{seen_at, seen_set, seen_same, there_is, if_there, of_there}
+use Rattle.dine_core.specs.Core.{SeenCore}
+use Rattle.dine_run.proofs.Meals.{eaten_more, failed_by}
+use Rattle.dine_run.proofs.Ways.{eat_runs}
+use Rattle.dine_run.proofs.site_loop.running.Running.eat.Goals as goal
+
+byte_of : (ok : Bool) → bool_byte (not ok) ≡ failed_by ok
+byte_of true = refl
+byte_of false = refl
+
+pub returns-clause-way : goal.returns-clause-way
+returns-clause-way g c plan given running =
+    let run : SeenRun g.L.Lane.Identity = seen_run g.L.Lane.seen_tx g.L.Lane.seen_closed g.L.Lane.seen_rx c.args.self.now in
+    eat_runs plan given run c.begin-meal.new.self c.end.new.self c.begin-meal.result.forks c.begin-meal.ensures.step c.begin-meal.ensures.in_hand c.end.ensures.step running
+
+pub returns-clause-eats : goal.returns-clause-eats
+returns-clause-eats g c first eaten =
+    let ate : c.begin-meal.new.self.ate ≡ c.args.self.now.core.ate + 1 = ap (λ (core : SeenCore). core.ate) c.begin-meal.ensures.core in
+    let later : c.end.new.self.ate ≡ c.begin-meal.new.self.ate = ap (λ (core : SeenCore). core.ate) c.end.ensures.core in
+    let k = c.k.ensures ∙ c.begin-meal.ensures.meal.k ∙ ate in
+    eaten_more g.D.Diner.calls g.D.Diner.marks g.D.Diner.fits c.args.self.now.core.ate c.args.self.now.failed c.k.result c.end.new.self.ate _ first c.args.self.now.diner c.eat.new.self _ eaten
+    k (later ∙ ate) (ap (λ (n : ℕ). c.args.self.now.failed + n) (c.from.ensures ∙ byte_of c.is_ok-ok.result ∙ ap failed_by c.is_ok-ok.ensures.value)) c.eat.ensures.calls c.eat.ensures.fits c.eat.ensures.marks

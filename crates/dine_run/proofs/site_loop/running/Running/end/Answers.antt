@@ -1,0 +1,22 @@
+use Rattle.std.proofs.Common.{◌≡◌, true, ◌+◌, ◌<◌, ◌^◌, ℕ, List, length, set, Option, Some, None, refl, sym, ◌∙◌, ap, subst, arith}
+use Rattle.std.proofs.lemmas.List.{length-map}
+use Rattle.std.specs.List.{slice_get}
+use Rattle.dine_rules.specs.declared.letters.Letter.{Letter}
+use Rattle.dine_rules.specs.declared.letters.Letter.TheVariants as letter
+use Rattle.dine_run.specs.declared.site_loop.running.Stop.{Stop}
+use Rattle.dine_run.specs.declared.site_end.SiteFault.TheVariants as fault
+use Rattle.dine_run.specs.Ports.{SeenPort, seen_port, seen_ports, put_on, closed_on, taken_on}
+use Rattle.dine_run.specs.Running.{SeenRun, IsRunning, IsStopped, GoesOn, seen_run}
+use Rattle.dine_run.proofs.Seen.{seen_at, seen_set, seen_same, there_is, if_there, of_there}
+use Rattle.dine_run.specs.SiteEnds.{IsSiteEnd}
+use Rattle.dine_run.proofs.Ends.{site_end}
+use Rattle.dine_run.proofs.site_loop.running.Running.end.Goals as goal
+
+pub returns-clause-end : goal.returns-clause-end
+returns-clause-end g c plan given may =
+    let run : SeenRun g.L.Lane.Identity = seen_run g.L.Lane.seen_tx g.L.Lane.seen_closed g.L.Lane.seen_rx c.args.self in
+    let forks = c.into_parts-parts.result.forks.items in
+    let tokens = c.into_parts-parts.result.tokens.items in
+    let ended = site_end plan given run forks tokens c.into_parts-parts.ensures.forks_by_lists c.into_parts-parts.ensures.tokens_by_lists c.args.stray c.args.fault may in
+    let sited = subst (λ (n : ℕ). IsSiteEnd plan run.core.site given (record { site = n; ate = run.core.ate; forks = forks; tokens = tokens; ports = run.ports; stray = c.args.stray; fault = c.args.fault })) (sym c.site-site.ensures) ended in
+    subst (λ (n : ℕ). IsSiteEnd plan run.core.site given (record { site = c.site-site.result; ate = n; forks = forks; tokens = tokens; ports = run.ports; stray = c.args.stray; fault = c.args.fault })) (sym c.ate-ate.ensures) sited

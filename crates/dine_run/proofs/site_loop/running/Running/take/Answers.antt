@@ -1,0 +1,70 @@
+use Rattle.std.proofs.Common.{◌≡◌, true, ◌+◌, ◌<◌, ◌^◌, ℕ, List, length, set, Option, Some, None, refl, sym, ◌∙◌, ap, subst, arith}
+use Rattle.std.proofs.lemmas.List.{length-map}
+use Rattle.std.specs.List.{slice_get}
+use Rattle.dine_rules.specs.declared.letters.Letter.{Letter}
+use Rattle.dine_rules.specs.declared.letters.Letter.TheVariants as letter
+use Rattle.dine_run.specs.declared.site_loop.running.Stop.{Stop}
+use Rattle.dine_run.specs.declared.site_end.SiteFault.TheVariants as fault
+use Rattle.dine_run.specs.Ports.{SeenPort, seen_port, seen_ports, put_on, closed_on, taken_on}
+use Rattle.dine_run.specs.Running.{SeenRun, IsRunning, IsStopped, GoesOn, seen_run}
+use Rattle.dine_rules.specs.Letters.{has_close}
+use Rattle.dine_run.proofs.Seen.{seen_at, seen_set, seen_same, there_is, if_there, of_there}
+use Rattle.dine_core.specs.Core.{SeenCore}
+use Rattle.dine_run.proofs.Stops.{bare_stop, breach_stops}
+use Rattle.dine_run.proofs.Ways.{take_runs, take_room, place_within}
+use Rattle.dine_run.proofs.site_loop.running.Running.take.Goals as goal
+
+pub take-requires-clause-open : goal.take-requires-clause-open
+take-requires-clause-open g c κs ls =
+    let f = seen_port g.L.Lane.seen_tx g.L.Lane.seen_closed g.L.Lane.seen_rx in
+    let items = c.args.self.now.ports.items in
+    let run : SeenRun g.L.Lane.Identity = seen_run g.L.Lane.seen_tx g.L.Lane.seen_closed g.L.Lane.seen_rx c.args.self.now in
+    let p = c.requires.running in
+    let within : c.args.i < length items = omega (arith, c.requires.place, p.2.has.places, length-map items f) in
+    let at = seen_at f items c.args.i c.index_mut.result.now within c.index_mut.ensures.value in
+    ap (λ (xs : List Letter). has_close xs) (p.2.lists c.args.i (f c.index_mut.result.now) at).takes ∙ c.requires.not_closed p.0 p.2.state p.2.has.keeps p.2.has.stands
+
+pub take-requires-clause-room : goal.take-requires-clause-room
+take-requires-clause-room g c κs ls =
+    let f = seen_port g.L.Lane.seen_tx g.L.Lane.seen_closed g.L.Lane.seen_rx in
+    let items = c.args.self.now.ports.items in
+    let run : SeenRun g.L.Lane.Identity = seen_run g.L.Lane.seen_tx g.L.Lane.seen_closed g.L.Lane.seen_rx c.args.self.now in
+    let p = c.requires.running in
+    let within : c.args.i < length items = omega (arith, c.requires.place, p.2.has.places, length-map items f) in
+    let at = seen_at f items c.args.i c.index_mut.result.now within c.index_mut.ensures.value in
+    take_room p.0 p.1 run c.few_letters_are_taken.ensures.letters p.2 c.args.i c.requires.place (f c.index_mut.result.now) at
+
+pub returns-in-Ok-take-clause-way : goal.returns-in-Ok-take-clause-way
+returns-in-Ok-take-clause-way g c plan given running =
+    let f = seen_port g.L.Lane.seen_tx g.L.Lane.seen_closed g.L.Lane.seen_rx in
+    let items = c.args.self.now.ports.items in
+    let run : SeenRun g.L.Lane.Identity = seen_run g.L.Lane.seen_tx g.L.Lane.seen_closed g.L.Lane.seen_rx c.args.self.now in
+    let within : c.args.i < length items = omega (arith, c.requires.place, running.has.places, length-map items f) in
+    let at = seen_at f items c.args.i c.index_mut.result.now within c.index_mut.ensures.value in
+    let ports = seen_set f items c.args.i c.take.new.self (taken_on c.in-Ok.letter (f c.index_mut.result.now)) c.in-Ok.ensures in
+    let runs = take_runs plan given run c.args.i c.in-Ok.letter c.take-in-Ok.new.self c.requires.place c.in-Ok-take.ensures.step running (f c.index_mut.result.now) at in
+    subst (λ (ps : List (SeenPort g.L.Lane.Identity)). IsRunning plan given (record { core = c.take-in-Ok.new.self; ports = ps })) (sym ports) runs
+
+pub returns-in-Err-take-clause-way : goal.returns-in-Err-take-clause-way
+returns-in-Err-take-clause-way g c plan given running =
+    let f = seen_port g.L.Lane.seen_tx g.L.Lane.seen_closed g.L.Lane.seen_rx in
+    let items = c.args.self.now.ports.items in
+    let run : SeenRun g.L.Lane.Identity = seen_run g.L.Lane.seen_tx g.L.Lane.seen_closed g.L.Lane.seen_rx c.args.self.now in
+    let within : c.args.i < length items = omega (arith, c.requires.place, running.has.places, length-map items f) in
+    let at = seen_at f items c.args.i c.index_mut.result.now within c.index_mut.ensures.value in
+    let ports = seen_set f items c.args.i c.take.new.self (taken_on c.in-Ok.letter (f c.index_mut.result.now)) c.in-Ok.ensures in
+    let told = c.in-Err-take.ensures in
+    let stops = breach_stops plan given run c.args.i c.in-Ok.letter c.in-Err-take.breach c.requires.place told.taken running (f c.index_mut.result.now) at in
+    let new = subst (λ (ps : List (SeenPort g.L.Lane.Identity)). IsStopped (Some (record { link = c.args.i; letter = c.in-Ok.letter })) (fault.Breach c.args.i c.in-Err-take.breach) plan given (record { core = run.core; ports = ps })) (sym ports) stops in
+    let core = subst (λ (k : SeenCore). IsStopped (Some (record { link = c.args.i; letter = c.in-Ok.letter })) (fault.Breach c.args.i c.in-Err-take.breach) plan given (record { core = k; ports = seen_ports g.L.Lane.seen_tx g.L.Lane.seen_closed g.L.Lane.seen_rx (set items c.args.i c.take.new.self) })) (sym told.core.0) new in
+    subst (λ (l : Letter). IsStopped (Some (record { link = c.args.i; letter = l })) (fault.Breach c.args.i c.in-Err-take.breach) plan given (record { core = c.take-in-Ok.new.self; ports = seen_ports g.L.Lane.seen_tx g.L.Lane.seen_closed g.L.Lane.seen_rx (set items c.args.i c.take.new.self) })) (sym told.core.1) core
+
+pub returns-in-Err-clause-way : goal.returns-in-Err-clause-way
+returns-in-Err-clause-way g c plan given running =
+    let f = seen_port g.L.Lane.seen_tx g.L.Lane.seen_closed g.L.Lane.seen_rx in
+    let items = c.args.self.now.ports.items in
+    let run : SeenRun g.L.Lane.Identity = seen_run g.L.Lane.seen_tx g.L.Lane.seen_closed g.L.Lane.seen_rx c.args.self.now in
+    let within : c.args.i < length items = omega (arith, c.requires.place, running.has.places, length-map items f) in
+    let at = seen_at f items c.args.i c.index_mut.result.now within c.index_mut.ensures.value in
+    let ports = seen_same f items c.args.i c.index_mut.result.now c.take.new.self c.index_mut.ensures.value c.in-Err.ensures in
+    subst (λ (ps : List (SeenPort g.L.Lane.Identity)). IsStopped None (fault.Lost c.args.i) plan given (record { core = run.core; ports = ps })) (sym ports) (bare_stop plan given run c.args.i running)
