@@ -3,14 +3,12 @@
 
 mod call_log;
 mod diner;
-mod gathered;
 mod port;
 mod site_end;
 mod site_loop;
 
 pub use call_log::CallLog;
 pub use diner::{Call, Diner, JobFault};
-pub use gathered::{Gathered, Joined, RunFault, SiteOut};
 pub use port::Port;
 pub use site_end::{SiteEnd, SiteFault, Stray};
 pub use site_loop::run_site;
