@@ -6,6 +6,8 @@ mod diner;
 mod port;
 mod site_end;
 mod site_loop;
+#[cfg(test)]
+mod tests;
 
 pub use call_log::CallLog;
 pub use diner::{Call, Diner, JobFault};

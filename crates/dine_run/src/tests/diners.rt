@@ -1,0 +1,40 @@
+// A diner for tests.
+ghost use Rattle.std.specs.Prelude.{◌≡◌, ◌==◌, ℕ, Bool, List, [], true, not, slice_index_or, IfOk};
+
+use crate::{Call, CallLog, Diner, JobFault};
+use dine_token::Meal;
+use std::alloc::{AllocError, Global};
+
+// Every job goes well, and nothing is promised of them.
+#[derive(Drop)]
+pub struct Fixed {
+    pub log: CallLog,
+}
+
+impl Diner for Fixed {
+    ghost calls = { λ diner. diner.log.calls };
+
+    ghost marks = { λ diner. [] };
+
+    ghost fits = { λ marks k ok. true };
+
+    ghost room_left = { λ diner. diner.log.room };
+
+    fn room(&self) -> u32 {
+        self.log.room()
+    }
+
+    fn eat(&mut self, k: u32, _meal: &Meal) -> Result<(), JobFault> {
+        self.log.note(k, true);
+        Ok(())
+    }
+}
+
+impl Fixed {
+    pub fn open(alloc: Global, jobs: u32) -> Result<Fixed, AllocError>
+        ensures { IfOk result (λ diner. diner.log.room ≡ jobs) }
+    {
+        let log = CallLog::open(alloc, jobs)?;
+        Ok(Fixed { log })
+    }
+}
