@@ -11,7 +11,7 @@ use dine_core::site::{fresh_forks, fresh_tokens};
 use dine_link::{Bell, ChannelLane, ChannelRx, ChannelTx, Lane, Ringer, TxEnd};
 use dine_plan::{Plan, read_plan};
 use dine_rules::{Breach, Kind4, Letter};
-use dine_token::Token;
+use dine_token::{Entry, Fork, Token};
 use diners::Fixed;
 use std::alloc::{AllocError, Global};
 use std::process::Abort;
@@ -35,13 +35,14 @@ fn run_alone<R: Wait + Abort>(
     site: u32,
     ports: Vec<Port<ChannelLane>>,
     bell: Bell,
+    fails_at: u32,
 ) -> Result<SiteEnd<ChannelLane, Fixed>, Fail>
     requires degree { bell.degree ≡ vec_len ports }
     requires unused { All IsFreshPort (seen_ports channels.seen_tx channels.seen_closed channels.seen_rx ports.items) }
 {
     assert!(rt; site < plan.sites());
     assert!(rt; plan.jobs(site) <= 2);
-    let diner = Fixed::open(alloc, 2)?;
+    let diner = Fixed::open(alloc, 2, fails_at)?;
     let forks = fresh_forks(alloc, plan, site)?;
     let tokens = fresh_tokens(alloc, plan, site)?;
     let core = SiteCore::open(alloc, plan, site, forks, tokens)?;
@@ -59,21 +60,14 @@ fn bell_of(alloc: Global, degree: u32) -> Result<(Vec<Ringer>, Bell), Fail>
     Ok(opened)
 }
 
-#[test]
-fn site_alone_eats_all_its_meals(rt: HostRuntime) -> Result<(), Fail> {
-    let alloc = rt.alloc();
-    let plan = read_plan(alloc, ALONE).expect(&rt, "a plan");
-    let (_ringers, bell) = bell_of(alloc, 0)?;
-    let ports = Vec::new(alloc);
-    let end = run_alone(&rt, alloc, &plan, 0, ports, bell)?;
-    assert_eq!(rt; (end.site, end.ate, end.failed), (0, 2, 0));
-    assert_eq!(rt;
-        (end.forks.len(), end.tokens.len(), end.ports.len()),
-        (0, 0, 0)
-    );
-    assert!(rt; end.stray.is_none() && end.fault.is_none());
-    assert_eq!(rt; end.diner.log.calls().len(), 2);
-    Ok(())
+// A link of edge 0 from that end, in which nothing lies.
+fn link_from(alloc: Global, from: u32) -> Result<(ChannelTx, ChannelRx), Fail>
+    ensures { IfOk result (λ ends. ((channels.seen_tx ends.0).letters ≡ []) × ((channels.seen_rx ends.1).letters ≡ [])) }
+{
+    let Ok(ends) = ChannelLane::pair(alloc, 0, from) else {
+        return Err(Fail::from("no memory for a link"));
+    };
+    Ok(ends)
 }
 
 // The one port of a site with one edge.
@@ -97,28 +91,77 @@ fn one_port(
     Ok(ports)
 }
 
-// The higher site asks and closes at once. The lower one eats, says Done, gives its fork, finds the early Close, and closes.
+// Row 30, and the same with a job that fails.
+fn eats_alone<R: Wait + Abort>(
+    rt: &R,
+    alloc: Global,
+    fails_at: u32,
+) -> Result<SiteEnd<ChannelLane, Fixed>, Fail> {
+    let plan = read_plan(alloc, ALONE).expect(rt, "a plan");
+    let (_ringers, bell) = bell_of(alloc, 0)?;
+    let ports = Vec::new(alloc);
+    run_alone(rt, alloc, &plan, 0, ports, bell, fails_at)
+}
+
 #[test]
-fn early_close_is_a_breach(rt: HostRuntime) -> Result<(), Fail> {
-    let alloc = rt.alloc();
-    let plan = read_plan(alloc, PAIR).expect(&rt, "a plan");
+fn site_alone_eats_all_its_meals(rt: HostRuntime) -> Result<(), Fail> {
+    let end = eats_alone(&rt, rt.alloc(), 0)?;
+    assert_eq!(rt; (end.site, end.ate, end.failed), (0, 2, 0));
+    assert_eq!(rt;
+        (end.forks.len(), end.tokens.len(), end.ports.len()),
+        (0, 0, 0)
+    );
+    assert!(rt; end.stray.is_none() && end.fault.is_none());
+    assert_eq!(rt;
+        end.diner.log.calls(),
+        [Call { k: 1, ok: true }, Call { k: 2, ok: true }].as_slice()
+    );
+    Ok(())
+}
+
+#[test]
+fn failed_job_is_counted_and_the_site_goes_on(rt: HostRuntime) -> Result<(), Fail> {
+    let end = eats_alone(&rt, rt.alloc(), 1)?;
+    assert_eq!(rt; (end.site, end.ate, end.failed), (0, 2, 1));
+    assert!(rt; end.stray.is_none() && end.fault.is_none());
+    assert_eq!(rt;
+        end.diner.log.calls(),
+        [Call { k: 1, ok: false }, Call { k: 2, ok: true }].as_slice()
+    );
+    Ok(())
+}
+
+// What is left of the lower site of the pair, where the higher one asked and closed at once: its end, the link to the higher
+// site with all that it put, and the bell that it rang.
+fn early_closed<R: Wait + Abort>(
+    rt: &R,
+    alloc: Global,
+    plan: &Plan,
+) -> Result<(SiteEnd<ChannelLane, Fixed>, ChannelRx, Bell), Fail>
+    ensures untaken { IfOk result (λ it. (channels.seen_rx it.1).letters ≡ []) }
+    ensures bell { IfOk result (λ it. it.2.degree ≡ 1) }
+{
     let (mut ringers, bell) = bell_of(alloc, 1)?;
-    let (mut far_ringers, mut far_bell) = bell_of(alloc, 1)?;
+    let (mut far_ringers, far_bell) = bell_of(alloc, 1)?;
     let (Some(mut ringer), Some(far_ringer)) = (ringers.pop(), far_ringers.pop()) else {
         return Err(Fail::from("no ringer"));
     };
-    let (Ok((tx, _far_rx)), Ok((mut far_tx, rx))) = (
-        ChannelLane::pair(alloc, 0, 0),
-        ChannelLane::pair(alloc, 0, 1),
-    ) else {
-        return Err(Fail::from("no memory for a link"));
-    };
-    assert!(rt; ChannelLane::put(&rt, &mut far_tx, Letter::Request(Token::open(0))).is_ok());
-    assert_eq!(rt; ringer.ring(&rt), Ok(()));
-    assert!(rt; ChannelLane::close(&rt, far_tx).is_ok());
-    assert_eq!(rt; ringer.ring(&rt), Ok(()));
+    let (tx, far_rx) = link_from(alloc, 0)?;
+    let (mut far_tx, rx) = link_from(alloc, 1)?;
+    assert!(rt; ChannelLane::put(rt, &mut far_tx, Letter::Request(Token::open(0))).is_ok());
+    assert_eq!(rt; ringer.ring(rt), Ok(()));
+    assert!(rt; ChannelLane::close(rt, far_tx).is_ok());
+    assert_eq!(rt; ringer.ring(rt), Ok(()));
     let ports = one_port(alloc, tx, rx, far_ringer)?;
-    let end = run_alone(&rt, alloc, &plan, 0, ports, bell)?;
+    let end = run_alone(rt, alloc, plan, 0, ports, bell, 0)?;
+    Ok((end, far_rx, far_bell))
+}
+
+// Row 19: the lower site eats, says Done, gives its fork, finds the early Close, and closes.
+#[test]
+fn early_close_is_a_breach(rt: HostRuntime) -> Result<(), Fail> {
+    let plan = read_plan(rt.alloc(), PAIR).expect(&rt, "a plan");
+    let (end, _rx, mut bell) = early_closed(&rt, rt.alloc(), &plan)?;
     let SiteEnd {
         site,
         ate,
@@ -138,7 +181,89 @@ fn early_close_is_a_breach(rt: HostRuntime) -> Result<(), Fail> {
     };
     assert_eq!(rt; (stray.link, stray.letter.kind()), (0, Kind4::Close));
     for _ in 0..3 {
-        assert_eq!(rt; far_bell.wait(&rt), Ok(0));
+        assert_eq!(rt; bell.wait(&rt), Ok(0));
     }
+    Ok(())
+}
+
+// Row 19: what it put is Done, the fork with its log, and Close.
+#[test]
+fn site_of_an_early_close_puts_done_fork_close(rt: HostRuntime) -> Result<(), Fail> {
+    let plan = read_plan(rt.alloc(), PAIR).expect(&rt, "a plan");
+    let (_end, mut rx, _bell) = early_closed(&rt, rt.alloc(), &plan)?;
+    let Ok(Letter::Done) = ChannelLane::take(&rt, &mut rx) else {
+        return Err(Fail::from("no Done"));
+    };
+    let Ok(Letter::Fork(fork)) = ChannelLane::take(&rt, &mut rx) else {
+        return Err(Fail::from("no fork"));
+    };
+    has_log(
+        &rt,
+        &fork,
+        &[Entry::Meal { site: 0, k: 1 }, Entry::Move { to: 1 }],
+    );
+    let Ok(Letter::Close) = ChannelLane::take(&rt, &mut rx) else {
+        return Err(Fail::from("no Close"));
+    };
+    Ok(())
+}
+
+// The fork of edge 0 has exactly this log.
+fn has_log(rt: &impl Abort, fork: &Fork, log: &[Entry]) {
+    assert_eq!(rt; fork.edge(), 0);
+    assert_eq!(rt; fork.len() as usize, log.len());
+    for i in 0..fork.len() {
+        assert_eq!(rt; fork.entry(i), log[i as usize]);
+    }
+}
+
+// Row 29: the higher site, over the link that row 19 left.
+#[test]
+fn higher_site_eats_with_the_fork_that_it_was_given(rt: HostRuntime) -> Result<(), Fail> {
+    let alloc = rt.alloc();
+    let plan = read_plan(alloc, PAIR).expect(&rt, "a plan");
+    let (_end, rx, bell) = early_closed(&rt, rt.alloc(), &plan)?;
+    let (tx, mut far_rx) = link_from(alloc, 1)?;
+    let (mut ringers, _far_bell) = bell_of(alloc, 1)?;
+    let Some(ringer) = ringers.pop() else {
+        return Err(Fail::from("no ringer"));
+    };
+    let ports = one_port(alloc, tx, rx, ringer)?;
+    let SiteEnd {
+        site,
+        ate,
+        failed,
+        diner: _,
+        mut forks,
+        tokens,
+        ports,
+        stray,
+        fault,
+    } = run_alone(&rt, alloc, &plan, 1, ports, bell, 0)?;
+    assert_eq!(rt; (site, ate, failed), (1, 1, 0));
+    assert_eq!(rt; (tokens.len(), ports.len()), (0, 1));
+    assert!(rt; stray.is_none() && fault.is_none());
+    let Some(fork) = forks.pop() else {
+        return Err(Fail::from("no fork"));
+    };
+    assert!(rt; forks.is_empty());
+    has_log(
+        &rt,
+        &fork,
+        &[
+            Entry::Meal { site: 0, k: 1 },
+            Entry::Move { to: 1 },
+            Entry::Meal { site: 1, k: 1 },
+        ],
+    );
+    let Ok(Letter::Request(_)) = ChannelLane::take(&rt, &mut far_rx) else {
+        return Err(Fail::from("no request"));
+    };
+    let Ok(Letter::Done) = ChannelLane::take(&rt, &mut far_rx) else {
+        return Err(Fail::from("no Done"));
+    };
+    let Ok(Letter::Close) = ChannelLane::take(&rt, &mut far_rx) else {
+        return Err(Fail::from("no Close"));
+    };
     Ok(())
 }

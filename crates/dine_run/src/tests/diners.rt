@@ -5,10 +5,11 @@ use crate::{Call, CallLog, Diner, JobFault};
 use dine_token::Meal;
 use std::alloc::{AllocError, Global};
 
-// Every job goes well, and nothing is promised of them.
+// The job of one meal fails, or of none where its number is 0. Nothing is promised of the answers.
 #[derive(Drop)]
 pub struct Fixed {
     pub log: CallLog,
+    pub fails_at: u32,
 }
 
 impl Diner for Fixed {
@@ -25,16 +26,20 @@ impl Diner for Fixed {
     }
 
     fn eat(&mut self, k: u32, _meal: &Meal) -> Result<(), JobFault> {
+        if k == self.fails_at {
+            self.log.note(k, false);
+            return Err(JobFault);
+        }
         self.log.note(k, true);
         Ok(())
     }
 }
 
 impl Fixed {
-    pub fn open(alloc: Global, jobs: u32) -> Result<Fixed, AllocError>
+    pub fn open(alloc: Global, jobs: u32, fails_at: u32) -> Result<Fixed, AllocError>
         ensures { IfOk result (λ diner. diner.log.room ≡ jobs) }
     {
         let log = CallLog::open(alloc, jobs)?;
-        Ok(Fixed { log })
+        Ok(Fixed { log, fails_at })
     }
 }
