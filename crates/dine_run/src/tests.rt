@@ -4,6 +4,7 @@ ghost use Rattle.dine_link.specs.Channels as channels;
 ghost use Rattle.dine_run.specs.Ports.{IsFreshPort, seen_ports};
 
 mod diners;
+mod star;
 
 use super::*;
 use dine_core::SiteCore;
@@ -60,11 +61,11 @@ fn bell_of(alloc: Global, degree: u32) -> Result<(Vec<Ringer>, Bell), Fail>
     Ok(opened)
 }
 
-// A link of edge 0 from that end, in which nothing lies.
-fn link_from(alloc: Global, from: u32) -> Result<(ChannelTx, ChannelRx), Fail>
+// A link of an edge from that end, in which nothing lies.
+fn link_from(alloc: Global, edge: u32, from: u32) -> Result<(ChannelTx, ChannelRx), Fail>
     ensures { IfOk result (λ ends. ((channels.seen_tx ends.0).letters ≡ []) × ((channels.seen_rx ends.1).letters ≡ [])) }
 {
-    let Ok(ends) = ChannelLane::pair(alloc, 0, from) else {
+    let Ok(ends) = ChannelLane::pair(alloc, edge, from) else {
         return Err(Fail::from("no memory for a link"));
     };
     Ok(ends)
@@ -121,12 +122,12 @@ fn site_alone_eats_all_its_meals(rt: HostRuntime) -> Result<(), Fail> {
 
 #[test]
 fn failed_job_is_counted_and_the_site_goes_on(rt: HostRuntime) -> Result<(), Fail> {
-    let end = eats_alone(&rt, rt.alloc(), 1)?;
+    let end = eats_alone(&rt, rt.alloc(), 2)?;
     assert_eq!(rt; (end.site, end.ate, end.failed), (0, 2, 1));
     assert!(rt; end.stray.is_none() && end.fault.is_none());
     assert_eq!(rt;
         end.diner.log.calls(),
-        [Call { k: 1, ok: false }, Call { k: 2, ok: true }].as_slice()
+        [Call { k: 1, ok: true }, Call { k: 2, ok: false }].as_slice()
     );
     Ok(())
 }
@@ -146,8 +147,8 @@ fn early_closed<R: Wait + Abort>(
     let (Some(mut ringer), Some(far_ringer)) = (ringers.pop(), far_ringers.pop()) else {
         return Err(Fail::from("no ringer"));
     };
-    let (tx, far_rx) = link_from(alloc, 0)?;
-    let (mut far_tx, rx) = link_from(alloc, 1)?;
+    let (tx, far_rx) = link_from(alloc, 0, 0)?;
+    let (mut far_tx, rx) = link_from(alloc, 0, 1)?;
     assert!(rt; ChannelLane::put(rt, &mut far_tx, Letter::Request(Token::open(0))).is_ok());
     assert_eq!(rt; ringer.ring(rt), Ok(()));
     assert!(rt; ChannelLane::close(rt, far_tx).is_ok());
@@ -208,9 +209,8 @@ fn site_of_an_early_close_puts_done_fork_close(rt: HostRuntime) -> Result<(), Fa
     Ok(())
 }
 
-// The fork of edge 0 has exactly this log.
+// The fork has exactly this log.
 fn has_log(rt: &impl Abort, fork: &Fork, log: &[Entry]) {
-    assert_eq!(rt; fork.edge(), 0);
     assert_eq!(rt; fork.len() as usize, log.len());
     for i in 0..fork.len() {
         assert_eq!(rt; fork.entry(i), log[i as usize]);
@@ -223,7 +223,7 @@ fn higher_site_eats_with_the_fork_that_it_was_given(rt: HostRuntime) -> Result<(
     let alloc = rt.alloc();
     let plan = read_plan(alloc, PAIR).expect(&rt, "a plan");
     let (_end, rx, bell) = early_closed(&rt, rt.alloc(), &plan)?;
-    let (tx, mut far_rx) = link_from(alloc, 1)?;
+    let (tx, mut far_rx) = link_from(alloc, 0, 1)?;
     let (mut ringers, _far_bell) = bell_of(alloc, 1)?;
     let Some(ringer) = ringers.pop() else {
         return Err(Fail::from("no ringer"));
@@ -261,6 +261,75 @@ fn higher_site_eats_with_the_fork_that_it_was_given(rt: HostRuntime) -> Result<(
     };
     let Ok(Letter::Done) = ChannelLane::take(&rt, &mut far_rx) else {
         return Err(Fail::from("no Done"));
+    };
+    let Ok(Letter::Close) = ChannelLane::take(&rt, &mut far_rx) else {
+        return Err(Fail::from("no Close"));
+    };
+    Ok(())
+}
+
+// The end of a link that nobody takes from.
+fn dead_end(alloc: Global) -> Result<ChannelTx, Fail>
+    ensures { IfOk result (λ tx. (channels.seen_tx tx).letters ≡ []) }
+{
+    let (tx, _rx) = link_from(alloc, 0, 0)?;
+    Ok(tx)
+}
+
+#[test]
+fn refused_put_is_a_fault(rt: HostRuntime) -> Result<(), Fail> {
+    let alloc = rt.alloc();
+    let plan = read_plan(alloc, PAIR).expect(&rt, "a plan");
+    let (_ringers, bell) = bell_of(alloc, 1)?;
+    let (mut far_ringers, _far_bell) = bell_of(alloc, 1)?;
+    let Some(ringer) = far_ringers.pop() else {
+        return Err(Fail::from("no ringer"));
+    };
+    let tx = dead_end(alloc)?;
+    let (_far_tx, rx) = link_from(alloc, 0, 1)?;
+    let ports = one_port(alloc, tx, rx, ringer)?;
+    let end = run_alone(&rt, alloc, &plan, 0, ports, bell, 0)?;
+    assert_eq!(rt;
+        (end.ate, end.failed, end.forks.len(), end.ports.len()),
+        (1, 0, 1, 1)
+    );
+    assert_eq!(rt; end.fault, Some(SiteFault::Lost(0)));
+    let Some(stray) = &end.stray else {
+        return Err(Fail::from("no stray"));
+    };
+    assert_eq!(rt; (stray.link, stray.letter.kind()), (0, Kind4::Done));
+    Ok(())
+}
+
+// A bell that nobody can ring any more.
+fn still_bell(alloc: Global) -> Result<Bell, Fail>
+    ensures { IfOk result (λ bell. bell.degree ≡ 1) }
+{
+    let (_ringers, bell) = bell_of(alloc, 1)?;
+    Ok(bell)
+}
+
+#[test]
+fn bell_that_nobody_rings_is_a_fault(rt: HostRuntime) -> Result<(), Fail> {
+    let alloc = rt.alloc();
+    let plan = read_plan(alloc, PAIR).expect(&rt, "a plan");
+    let bell = still_bell(alloc)?;
+    let (mut far_ringers, _far_bell) = bell_of(alloc, 1)?;
+    let Some(ringer) = far_ringers.pop() else {
+        return Err(Fail::from("no ringer"));
+    };
+    let (tx, mut far_rx) = link_from(alloc, 0, 1)?;
+    let (_far_tx, rx) = link_from(alloc, 0, 0)?;
+    let ports = one_port(alloc, tx, rx, ringer)?;
+    let end = run_alone(&rt, alloc, &plan, 1, ports, bell, 0)?;
+    assert_eq!(rt;
+        (end.ate, end.failed, end.tokens.len(), end.ports.len()),
+        (0, 0, 0, 1)
+    );
+    assert_eq!(rt; end.fault, Some(SiteFault::Lost(1)));
+    assert!(rt; end.stray.is_none());
+    let Ok(Letter::Request(_)) = ChannelLane::take(&rt, &mut far_rx) else {
+        return Err(Fail::from("no request"));
     };
     let Ok(Letter::Close) = ChannelLane::take(&rt, &mut far_rx) else {
         return Err(Fail::from("no Close"));

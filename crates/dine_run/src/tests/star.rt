@@ -1,0 +1,197 @@
+// A site with three edges, whose letters all lie there before it starts.
+ghost use Rattle.std.specs.Prelude.{◌≡◌, ◌<◌, [], false, All, IfOk, vec_len};
+ghost use Rattle.dine_link.specs.Channels as channels;
+ghost use Rattle.dine_link.specs.Closing.{is_close};
+ghost use Rattle.dine_run.specs.Ports.{IsFreshPort, seen_port, seen_ports};
+
+use super::*;
+use dine_token::Held;
+
+// Three sites without jobs, and a fourth that has one job and an edge with each of them.
+const STAR: &str = "version = 1\n\
+    [[site]]\nname = \"a\"\njobs = []\n[[site]]\nname = \"b\"\njobs = []\n[[site]]\nname = \"c\"\njobs = []\n\
+    [[site]]\nname = \"d\"\njobs = [{ name = \"x\" }]\n\
+    [[edge]]\nends = [\"a\", \"d\"]\n[[edge]]\nends = [\"b\", \"d\"]\n[[edge]]\nends = [\"c\", \"d\"]\n";
+
+fn port_of(tx: ChannelTx, rx: ChannelRx, ringer: Ringer) -> Port<ChannelLane>
+    requires nothing_put { (channels.seen_tx tx).letters ≡ [] }
+    requires nothing_taken { (channels.seen_rx rx).letters ≡ [] }
+    ensures { IsFreshPort (seen_port channels.seen_tx channels.seen_closed channels.seen_rx result) }
+{
+    Port::<ChannelLane> {
+        tx: TxEnd::Live(tx),
+        rx,
+        ringer,
+    }
+}
+
+fn three(
+    alloc: Global,
+    a: Port<ChannelLane>,
+    b: Port<ChannelLane>,
+    c: Port<ChannelLane>,
+) -> Result<Vec<Port<ChannelLane>>, AllocError>
+    requires a { IsFreshPort (seen_port channels.seen_tx channels.seen_closed channels.seen_rx a) }
+    requires b { IsFreshPort (seen_port channels.seen_tx channels.seen_closed channels.seen_rx b) }
+    requires c { IsFreshPort (seen_port channels.seen_tx channels.seen_closed channels.seen_rx c) }
+    ensures count { IfOk result (λ ports. vec_len ports ≡ 3) }
+    ensures unused { IfOk result (λ ports. All IsFreshPort (seen_ports channels.seen_tx channels.seen_closed channels.seen_rx ports.items)) }
+{
+    let mut ports = Vec::with_capacity(alloc, 3)?;
+    ports.push_reserved(a);
+    ports.push_reserved(b);
+    ports.push_reserved(c);
+    Ok(ports)
+}
+
+// What the fourth site leaves, and the links from it.
+struct Left {
+    end: SiteEnd<ChannelLane, Fixed>,
+    _outs: (ChannelRx, ChannelRx, ChannelRx),
+}
+
+// Runs the fourth site over these links to it, with its bell rung in this order.
+fn runs<R: Wait + Abort>(
+    rt: &R,
+    alloc: Global,
+    ins: (ChannelRx, ChannelRx, ChannelRx),
+    order: &[u32],
+) -> Result<Left, Fail>
+    requires a { (channels.seen_rx ins.0).letters ≡ [] }
+    requires b { (channels.seen_rx ins.1).letters ≡ [] }
+    requires c { (channels.seen_rx ins.2).letters ≡ [] }
+{
+    let plan = read_plan(alloc, STAR).expect(rt, "a plan");
+    let (mut ringers, bell) = bell_of(alloc, 3)?;
+    for i in order {
+        let Some(ringer) = ringers.get_mut(*i as usize) else {
+            return Err(Fail::from("no ringer"));
+        };
+        assert_eq!(rt; ringer.ring(rt), Ok(()));
+    }
+    let (mut far, _far_bell) = bell_of(alloc, 3)?;
+    let (Some(of_c), Some(of_b), Some(of_a)) = (far.pop(), far.pop(), far.pop()) else {
+        return Err(Fail::from("no ringer"));
+    };
+    let (tx_a, out_a) = link_from(alloc, 0, 3)?;
+    let (tx_b, out_b) = link_from(alloc, 1, 3)?;
+    let (tx_c, out_c) = link_from(alloc, 2, 3)?;
+    let (a, b, c) = ins;
+    let ports = three(
+        alloc,
+        port_of(tx_a, a, of_a),
+        port_of(tx_b, b, of_b),
+        port_of(tx_c, c, of_c),
+    )?;
+    let end = run_alone(rt, alloc, &plan, 3, ports, bell, 0)?;
+    Ok(Left {
+        end,
+        _outs: (out_a, out_b, out_c),
+    })
+}
+
+// The fork of an edge, sent to the fourth site.
+fn sent(alloc: Global, edge: u32) -> Result<Letter, AllocError>
+    requires { edge < 3 }
+    ensures { IfOk result (λ letter. is_close letter ≡ false) }
+{
+    let fork = Fork::open(alloc, edge, edge, 3, 0, 1)?;
+    Ok(Letter::Fork(Held::take(fork).give(3)))
+}
+
+// A link with Done, the fork and Close.
+fn whole<R: Wait + Abort>(rt: &R, alloc: Global, edge: u32) -> Result<ChannelRx, Fail>
+    requires { edge < 3 }
+    ensures { IfOk result (λ rx. (channels.seen_rx rx).letters ≡ []) }
+{
+    let (mut tx, rx) = link_from(alloc, edge, edge)?;
+    let fork = sent(alloc, edge)?;
+    assert!(rt; ChannelLane::put(rt, &mut tx, Letter::Done).is_ok());
+    assert!(rt; ChannelLane::put(rt, &mut tx, fork).is_ok());
+    assert!(rt; ChannelLane::close(rt, tx).is_ok());
+    Ok(rx)
+}
+
+#[test]
+fn letters_of_three_links_are_taken_as_the_bell_rang(rt: HostRuntime) -> Result<(), Fail> {
+    let alloc = rt.alloc();
+    let ins = (
+        whole(&rt, alloc, 0)?,
+        whole(&rt, alloc, 1)?,
+        whole(&rt, alloc, 2)?,
+    );
+    let Left { end, _outs } = runs(&rt, alloc, ins, &[2, 2, 0, 1, 0, 1, 2, 0, 1])?;
+    assert_eq!(rt; (end.site, end.ate, end.failed), (3, 1, 0));
+    assert_eq!(rt;
+        (end.tokens.len(), end.ports.len(), end.forks.len()),
+        (0, 3, 3)
+    );
+    assert!(rt; end.stray.is_none() && end.fault.is_none());
+    for fork in &end.forks {
+        has_log(
+            &rt,
+            fork,
+            &[Entry::Move { to: 3 }, Entry::Meal { site: 3, k: 1 }],
+        );
+    }
+    Ok(())
+}
+
+// A link to the second place with these two letters.
+fn two_letters<R: Wait + Abort>(
+    rt: &R,
+    alloc: Global,
+    first: Letter,
+    second: Letter,
+) -> Result<ChannelRx, Fail>
+    requires first { is_close first ≡ false }
+    requires second { is_close second ≡ false }
+    ensures { IfOk result (λ rx. (channels.seen_rx rx).letters ≡ []) }
+{
+    let (mut tx, rx) = link_from(alloc, 1, 1)?;
+    assert!(rt; ChannelLane::put(rt, &mut tx, first).is_ok());
+    assert!(rt; ChannelLane::put(rt, &mut tx, second).is_ok());
+    Ok(rx)
+}
+
+// The fourth site finds this breach at its second place.
+fn breaks<R: Wait + Abort>(
+    rt: &R,
+    alloc: Global,
+    first: Letter,
+    second: Letter,
+    breach: Breach,
+) -> Result<(), Fail>
+    requires first { is_close first ≡ false }
+    requires second { is_close second ≡ false }
+{
+    let (_tx_a, a) = link_from(alloc, 0, 0)?;
+    let (_tx_c, c) = link_from(alloc, 2, 2)?;
+    let b = two_letters(rt, alloc, first, second)?;
+    let Left { end, _outs } = runs(rt, alloc, (a, b, c), &[1, 1])?;
+    assert_eq!(rt; (end.site, end.ate), (3, 0));
+    assert_eq!(rt; end.fault, Some(SiteFault::Breach(1, breach)));
+    let Some(stray) = &end.stray else {
+        return Err(Fail::from("no stray"));
+    };
+    assert_eq!(rt; stray.link, 1);
+    Ok(())
+}
+
+#[test]
+fn breaches_are_told_of_their_place(rt: HostRuntime) -> Result<(), Fail> {
+    let alloc = rt.alloc();
+    let early = Letter::Request(Token::open(1));
+    breaks(&rt, alloc, Letter::Done, early, Breach::RequestOutOfTurn)?;
+    let (fork, again) = (sent(alloc, 1)?, sent(alloc, 1)?);
+    breaks(&rt, alloc, fork, again, Breach::ForkOutOfTurn)?;
+    let other = sent(alloc, 0)?;
+    breaks(&rt, alloc, Letter::Done, other, Breach::StrangeFork)?;
+    breaks(
+        &rt,
+        alloc,
+        Letter::Done,
+        Letter::Done,
+        Breach::DoneOutOfTurn,
+    )
+}
