@@ -13,7 +13,7 @@ use dine_link::{Bell, ChannelLane, ChannelRx, ChannelTx, Lane, Ringer, TxEnd};
 use dine_plan::{Plan, read_plan};
 use dine_rules::{Breach, Kind4, Letter};
 use dine_token::{Entry, Fork, Token};
-use diners::Fixed;
+use diners::{Fixed, Marked};
 use std::alloc::{AllocError, Global};
 use std::process::Abort;
 use std::sync::Wait;
@@ -334,5 +334,27 @@ fn bell_that_nobody_rings_is_a_fault(rt: HostRuntime) -> Result<(), Fail> {
     let Ok(Letter::Close) = ChannelLane::take(&rt, &mut far_rx) else {
         return Err(Fail::from("no Close"));
     };
+    Ok(())
+}
+
+#[test]
+fn answers_of_a_marked_diner_fit_its_marks(rt: HostRuntime) -> Result<(), Fail> {
+    let alloc = rt.alloc();
+    let plan = read_plan(alloc, ALONE).expect(&rt, "a plan");
+    assert!(rt; plan.sites() > 0);
+    assert!(rt; plan.jobs(0) <= 2);
+    let (_ringers, bell) = bell_of(alloc, 0)?;
+    let log = CallLog::open(alloc, 2)?;
+    let diner = Marked {
+        log,
+        goes_well: false,
+    };
+    let forks = fresh_forks(alloc, &plan, 0)?;
+    let tokens = fresh_tokens(alloc, &plan, 0)?;
+    let core = SiteCore::open(alloc, &plan, 0, forks, tokens)?;
+    assert!(rt; core.degree() == 0);
+    let end = run_site::<HostRuntime, ChannelLane, Marked>(&rt, core, Vec::new(alloc), bell, diner);
+    assert_eq!(rt; (end.ate, end.failed), (2, 2));
+    assert!(rt; !end.diner.goes_well && end.fault.is_none());
     Ok(())
 }

@@ -1,5 +1,6 @@
 // A diner for tests.
-ghost use Rattle.std.specs.Prelude.{◌≡◌, ◌==◌, ℕ, Bool, List, [], true, not, slice_index_or, IfOk};
+ghost use Rattle.std.specs.Prelude.{◌≡◌, ◌∷◌, [], true, slice_index_or, IfOk};
+ghost use Rattle.std.proofs.Math.Bool.{beq};
 
 use crate::{Call, CallLog, Diner, JobFault};
 use dine_token::Meal;
@@ -41,5 +42,35 @@ impl Fixed {
     {
         let log = CallLog::open(alloc, jobs)?;
         Ok(Fixed { log, fails_at })
+    }
+}
+
+// All jobs go as one mark says.
+#[derive(Drop)]
+pub struct Marked {
+    pub log: CallLog,
+    pub goes_well: bool,
+}
+
+impl Diner for Marked {
+    ghost calls = { λ diner. diner.log.calls };
+
+    ghost marks = { λ diner. diner.goes_well ∷ [] };
+
+    ghost fits = { λ marks k ok. beq ok (slice_index_or marks 0 true) };
+
+    ghost room_left = { λ diner. diner.log.room };
+
+    fn room(&self) -> u32 {
+        self.log.room()
+    }
+
+    fn eat(&mut self, k: u32, _meal: &Meal) -> Result<(), JobFault> {
+        self.log.note(k, self.goes_well);
+        if self.goes_well {
+            Ok(())
+        } else {
+            Err(JobFault)
+        }
     }
 }
