@@ -154,21 +154,28 @@ fn two_letters<R: Wait + Abort>(
     Ok(rx)
 }
 
-// The fourth site finds this breach at its second place.
+// A link to the second place with Close alone.
+fn closed<R: Wait + Abort>(rt: &R, alloc: Global) -> Result<ChannelRx, Fail>
+    ensures { IfOk result (λ rx. (channels.seen_rx rx).letters ≡ []) }
+{
+    let (tx, rx) = link_from(alloc, 1, 1)?;
+    assert!(rt; ChannelLane::close(rt, tx).is_ok());
+    Ok(rx)
+}
+
+// The fourth site finds this breach in the letters of its second place.
 fn breaks<R: Wait + Abort>(
     rt: &R,
     alloc: Global,
-    first: Letter,
-    second: Letter,
+    b: ChannelRx,
+    order: &[u32],
     breach: Breach,
 ) -> Result<(), Fail>
-    requires first { is_close first ≡ false }
-    requires second { is_close second ≡ false }
+    requires { (channels.seen_rx b).letters ≡ [] }
 {
     let (_tx_a, a) = link_from(alloc, 0, 0)?;
     let (_tx_c, c) = link_from(alloc, 2, 2)?;
-    let b = two_letters(rt, alloc, first, second)?;
-    let Left { end, _outs } = runs(rt, alloc, (a, b, c), &[1, 1])?;
+    let Left { end, _outs } = runs(rt, alloc, (a, b, c), order)?;
     assert_eq!(rt; (end.site, end.ate), (3, 0));
     assert_eq!(rt; end.fault, Some(SiteFault::Breach(1, breach)));
     let Some(stray) = &end.stray else {
@@ -178,20 +185,18 @@ fn breaks<R: Wait + Abort>(
     Ok(())
 }
 
+// Each breach but that of a letter behind Close: a place where Close was taken is passed over.
 #[test]
 fn breaches_are_told_of_their_place(rt: HostRuntime) -> Result<(), Fail> {
     let alloc = rt.alloc();
-    let early = Letter::Request(Token::open(1));
-    breaks(&rt, alloc, Letter::Done, early, Breach::RequestOutOfTurn)?;
-    let (fork, again) = (sent(alloc, 1)?, sent(alloc, 1)?);
-    breaks(&rt, alloc, fork, again, Breach::ForkOutOfTurn)?;
-    let other = sent(alloc, 0)?;
-    breaks(&rt, alloc, Letter::Done, other, Breach::StrangeFork)?;
-    breaks(
-        &rt,
-        alloc,
-        Letter::Done,
-        Letter::Done,
-        Breach::DoneOutOfTurn,
-    )
+    let early = two_letters(&rt, alloc, Letter::Done, Letter::Request(Token::open(1)))?;
+    breaks(&rt, alloc, early, &[1, 1], Breach::RequestOutOfTurn)?;
+    let forks = two_letters(&rt, alloc, sent(alloc, 1)?, sent(alloc, 1)?)?;
+    breaks(&rt, alloc, forks, &[1, 1], Breach::ForkOutOfTurn)?;
+    let strange = two_letters(&rt, alloc, Letter::Done, sent(alloc, 0)?)?;
+    breaks(&rt, alloc, strange, &[1, 1], Breach::StrangeFork)?;
+    let twice = two_letters(&rt, alloc, Letter::Done, Letter::Done)?;
+    breaks(&rt, alloc, twice, &[1, 1], Breach::DoneOutOfTurn)?;
+    let close = closed(&rt, alloc)?;
+    breaks(&rt, alloc, close, &[1], Breach::ClosedEarly)
 }
