@@ -92,7 +92,7 @@ fn one_port(
     Ok(ports)
 }
 
-// Row 30, and the same with a job that fails.
+// The site without edges; the job of one of its meals may fail.
 fn eats_alone<R: Wait + Abort>(
     rt: &R,
     alloc: Global,
@@ -158,7 +158,7 @@ fn early_closed<R: Wait + Abort>(
     Ok((end, far_rx, far_bell))
 }
 
-// Row 19: the lower site eats, says Done, gives its fork, finds the early Close, and closes.
+// The lower site eats, says Done, gives its fork, finds the early Close, and closes.
 #[test]
 fn early_close_is_a_breach(rt: HostRuntime) -> Result<(), Fail> {
     let plan = read_plan(rt.alloc(), PAIR).expect(&rt, "a plan");
@@ -187,7 +187,7 @@ fn early_close_is_a_breach(rt: HostRuntime) -> Result<(), Fail> {
     Ok(())
 }
 
-// Row 19: what it put is Done, the fork with its log, and Close.
+// What it put is Done, the fork with its log, and Close.
 #[test]
 fn site_of_an_early_close_puts_done_fork_close(rt: HostRuntime) -> Result<(), Fail> {
     let plan = read_plan(rt.alloc(), PAIR).expect(&rt, "a plan");
@@ -217,7 +217,7 @@ fn has_log(rt: &impl Abort, fork: &Fork, log: &[Entry]) {
     }
 }
 
-// Row 29: the higher site, over the link that row 19 left.
+// The higher site, over the link that the lower one left after the early Close.
 #[test]
 fn higher_site_eats_with_the_fork_that_it_was_given(rt: HostRuntime) -> Result<(), Fail> {
     let alloc = rt.alloc();
