@@ -45,10 +45,10 @@ pub record SeenSiteEnd (Identity : Type 0) : Type 0 where
   pub stray : Option Stray
   pub fault : Option SiteFault
 
--- The site went from its start by local steps to a state that keeps the streams, in which it does not eat, and closed every place.
--- Its hands are those of this state, and so are its links, but for the letter of a breach, a letter that a link refused, and a
--- Close that a link refused. Where there is no fault it did all, and its links have exactly what it put. A breach that is told is
--- the one that the stray has at its place.
+-- There is a state of whole lists that keeps the streams, in which the site does not eat and has put Close at every place. Its
+-- hands are those of this state, and so are its links, but for the letter of a breach, a letter that a link refused, and a Close
+-- that a link refused. Where there is no fault it did all, and its links have exactly what it put. A breach that is told is the one
+-- that the stray has at its place.
 pub record IsSiteEnd {Identity : Type 0} (plan : SeenPlan) (s : ℕ) (given : List (SeenPort Identity)) (end : SeenSiteEnd Identity) : Type 0 where
   pub state : LocalState
   pub keeps : KeepsStreams plan s state
