@@ -1,7 +1,6 @@
 -- What holds at each place, and of the state as a whole, when a letter is put or taken at one place.
-use Rattle.std.proofs.Common.{◌≡◌, ◌≢◌, ℕ, ◌<◌, ◌&&◌, nat_lt, Bool, true, false, not, List, [], ◌∷◌, ◌++◌, length, set, get_or, Option, Some, refl, sym, ◌∙◌, ap, subst, inl, inr, arith, length-set}
+use Rattle.std.proofs.Common.{◌≡◌, ℕ, ◌<◌, true, false, List, length, set, get_or, Some, sym, ◌∙◌, ap, subst, inl, inr, length-set}
 use Rattle.std.specs.List.{slice_get}
-use Rattle.std.proofs.lemmas.Option.{same_Some}
 use Rattle.std.proofs.lemmas.List.{get_or-set_same, get_or-set_other, set-get_or}
 use Rattle.std.proofs.lemmas.Bool.{and_parts, not-true, ltb-true}
 use Rattle.dine_plan.specs.Plan.{SeenPlan, edges_of}
@@ -13,7 +12,7 @@ use Rattle.dine_rules.specs.Streams.{KeepsStreams}
 use Rattle.dine_core.specs.Core.{SeenCore, StandsFor}
 use Rattle.dine_core.specs.Standing.{CoreStep, CorePuts}
 use Rattle.dine_run.specs.Ports.{SeenPort, SameLinks}
-use Rattle.dine_run.specs.Running.{SeenRun, AtEach, RunsAt, HasState, IsRunning, IsPutting}
+use Rattle.dine_run.specs.Running.{SeenRun, AtEach, HasState, IsRunning, IsPutting}
 use Rattle.dine_run.proofs.Lists.{get-set, set-get}
 
 along : {A B C : Type 0} (Q : A → B → C → Type 0) (a a' : A) (b b' : B) (c c' : C) → a ≡ a' → b ≡ b' → c ≡ c' → Q a' b' c' → Q a b c

@@ -1,12 +1,11 @@
 -- What a site leaves when it ends.
-use Rattle.std.proofs.Common.{◌≡◌, ℕ, ◌+◌, ◌<◌, ◌==◌, ◌&&◌, Bool, true, false, List, [], ◌∷◌, ◌++◌, length, set, get_or, Option, Some, None, refl, sym, ◌∙◌, ap, subst, inl, inr, arith, append-nil}
-use Rattle.std.specs.List.{slice_get, list_all}
+use Rattle.std.proofs.Common.{◌≡◌, ℕ, ◌+◌, ◌<◌, true, List, length, Option, Some, None, refl, sym, ◌∙◌, ap, inl, inr, arith, append-nil}
 use Rattle.std.proofs.lemmas.List.{get_or-set_same, get_or-set_other}
 use Rattle.std.proofs.lemmas.Bool.{and_parts, cases_eq}
 use Rattle.dine_token.specs.Fork.{SeenFork}
-use Rattle.dine_plan.specs.Plan.{SeenPlan, job_count}
-use Rattle.dine_rules.specs.Letters.{has_close, has_done}
-use Rattle.dine_rules.specs.Local.{LocalState, traffic_at, is_thinking}
+use Rattle.dine_plan.specs.Plan.{SeenPlan}
+use Rattle.dine_rules.specs.Letters.{has_close}
+use Rattle.dine_rules.specs.Local.{LocalState, traffic_at}
 use Rattle.dine_core.specs.declared.site.places.Place.{Place}
 use Rattle.dine_core.specs.Core.{SeenCore, StandsFor}
 use Rattle.dine_core.specs.Places.{closed, no_place, place_at}
@@ -15,7 +14,7 @@ use Rattle.dine_run.specs.declared.site_end.SiteFault.{SiteFault}
 use Rattle.dine_run.specs.declared.site_end.Stray.{Stray}
 use Rattle.dine_run.specs.Ports.{SeenPort}
 use Rattle.dine_run.specs.SiteEnds.{IsSiteEnd}
-use Rattle.dine_run.specs.Running.{SeenRun, ClosedBelow, IsRunning, IsStopped, IsFinished, MayEnd}
+use Rattle.dine_run.specs.Running.{SeenRun, ClosedBelow, MayEnd}
 use Rattle.dine_run.proofs.Lists.{list_all-weaker, list_all-each}
 use Rattle.dine_run.proofs.Letters.{puts_fit-same}
 
@@ -52,40 +51,44 @@ module _ {Identity : Type 0} (plan : SeenPlan) (given : List (SeenPort Identity)
       let running = h.0 in
       let finished = h.1 plan running.state running.has.keeps running.has.stands in
       record {
-        state = running.state;
-        keeps = running.has.keeps;
-        rests = running.has.rests;
-        site = refl;
-        ate = running.has.stands.ate;
-        forks = are_forks plan running.state running.has.keeps running.has.stands;
-        tokens = are_tokens plan running.state running.has.keeps running.has.stands;
-        count = running.has.count;
-        same_links = running.has.same_links;
-        puts = λ i port at. puts_fit-same (traffic_at running.state i).put port.tx.letters (running.lists i port at).puts;
-        takes = λ i port at. (running.lists i port at).takes ∙ sym (append-nil (traffic_at running.state i).taken);
+        left = record {
+          state = running.state;
+          keeps = running.has.keeps;
+          rests = running.has.rests;
+          site = refl;
+          ate = running.has.stands.ate;
+          forks = are_forks plan running.state running.has.keeps running.has.stands;
+          tokens = are_tokens plan running.state running.has.keeps running.has.stands;
+          count = running.has.count;
+          same_links = running.has.same_links;
+          puts = λ i port at. puts_fit-same (traffic_at running.state i).put port.tx.letters (running.lists i port at).puts;
+          takes = λ i port at. (running.lists i port at).takes ∙ sym (append-nil (traffic_at running.state i).taken);
+          finished = λ e. finished;
+          whole = λ e i port at. (running.lists i port at).puts;
+          no_stray = λ e. h.2;
+          breach = λ link breach e. absurd (cc);
+        };
         closed = finished_is_closed plan run.core.site running.state finished;
-        finished = λ e. finished;
-        whole = λ e i port at. (running.lists i port at).puts;
-        no_stray = λ e. h.2;
-        breach = λ link breach e. absurd (cc);
       }
   site_end stray (Some cause) h =
       let stopped = h.0 in
       record {
-        state = stopped.state;
-        keeps = stopped.has.keeps;
-        rests = stopped.has.rests;
-        site = refl;
-        ate = stopped.has.stands.ate;
-        forks = are_forks plan stopped.state stopped.has.keeps stopped.has.stands;
-        tokens = are_tokens plan stopped.state stopped.has.keeps stopped.has.stands;
-        count = stopped.has.count;
-        same_links = stopped.has.same_links;
-        puts = λ i port at. (stopped.lists i port at).puts;
-        takes = λ i port at. (stopped.lists i port at).takes;
+        left = record {
+          state = stopped.state;
+          keeps = stopped.has.keeps;
+          rests = stopped.has.rests;
+          site = refl;
+          ate = stopped.has.stands.ate;
+          forks = are_forks plan stopped.state stopped.has.keeps stopped.has.stands;
+          tokens = are_tokens plan stopped.state stopped.has.keeps stopped.has.stands;
+          count = stopped.has.count;
+          same_links = stopped.has.same_links;
+          puts = λ i port at. (stopped.lists i port at).puts;
+          takes = λ i port at. (stopped.lists i port at).takes;
+          finished = λ e. absurd (cc);
+          whole = λ e. absurd (cc);
+          no_stray = λ e. absurd (cc);
+          breach = λ link breach e. stopped.breach link breach (cc);
+        };
         closed = closed_everywhere plan stopped.state run.core stopped.has.stands h.1;
-        finished = λ e. absurd (cc);
-        whole = λ e. absurd (cc);
-        no_stray = λ e. absurd (cc);
-        breach = λ link breach e. stopped.breach link breach (cc);
       }

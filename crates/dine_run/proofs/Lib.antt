@@ -7,3 +7,15 @@ pub mod Stops
 pub mod Seen
 pub mod Meals
 pub mod Ends
+pub mod Writes
+pub mod Edges
+pub mod Leaving
+pub mod Zips
+pub mod Pairs
+pub mod Gatherings
+pub mod Collected
+pub mod Laying
+pub mod Laid
+pub mod Headlines
+pub mod Rows
+pub mod Brokens

@@ -1,7 +1,6 @@
 -- A site stops: each fault leaves it with what a stop says, and breaking off keeps that.
-use Rattle.std.proofs.Common.{◌≡◌, ℕ, ◌+◌, ◌<◌, ◌≤◌, ◌^◌, ◌==◌, ◌||◌, not, Bool, true, false, cond, if◌then◌else◌, List, [], ◌∷◌, ◌++◌, length, set, get_or, Option, Some, None, refl, sym, ◌∙◌, ap, subst, inl, inr, arith, length-append, length-set}
+use Rattle.std.proofs.Common.{◌≡◌, ℕ, ◌<◌, ◌≤◌, ◌^◌, ◌==◌, Bool, true, false, cond, if◌then◌else◌, List, [], ◌∷◌, ◌++◌, length, set, Option, Some, None, refl, sym, ◌∙◌, ap, subst, inl, inr, arith, length-set}
 use Rattle.std.specs.List.{slice_get}
-use Rattle.std.proofs.lemmas.Option.{slice_get_within, same_Some}
 use Rattle.std.proofs.lemmas.List.{get_or-set_same, get_or-set_other}
 use Rattle.std.proofs.lemmas.Bool.{cases_eq, eq-eqb, ne_eqb}
 use Rattle.dine_plan.specs.Plan.{SeenPlan, IsPlan, site_count}
@@ -10,7 +9,7 @@ use Rattle.dine_rules.specs.declared.letters.Letter.{Letter}
 use Rattle.dine_rules.specs.declared.letters.Letter.TheVariants as letter
 use Rattle.dine_rules.specs.Letters.{has_close, has_done, forks_in, requests_in}
 use Rattle.dine_rules.specs.Breach.{first_breach}
-use Rattle.dine_rules.specs.Local.{LocalState, Traffic, no_traffic, traffic_at, edge_at}
+use Rattle.dine_rules.specs.Local.{LocalState, Traffic, no_traffic, traffic_at}
 use Rattle.dine_rules.specs.Steps.{Break, with_put}
 use Rattle.dine_rules.specs.Streams.{KeepsStreams}
 use Rattle.dine_core.specs.Core.{SeenCore}
@@ -20,7 +19,7 @@ use Rattle.dine_run.specs.declared.site_end.SiteFault.TheVariants as fault
 use Rattle.dine_run.specs.declared.site_end.Stray.{Stray}
 use Rattle.dine_run.specs.Ports.{SeenPort, closed_on, taken_on}
 use Rattle.dine_run.specs.SiteEnds.{IsBreached, breached_at, refused_at}
-use Rattle.dine_run.specs.Running.{SeenRun, RunsAt, StopsAt, HasState, IsRunning, IsPutting, IsStopped}
+use Rattle.dine_run.specs.Running.{SeenRun, RunsAt, StopsAt, IsRunning, IsPutting, IsStopped}
 use Rattle.dine_run.proofs.Letters.{puts_fit-shorter, stops-as_it_was, stops-refused, stops-unclosed, stops-breached, stops-closed, stops-close_refused, forks_in-closed, requests_in-closed, has_done-closed}
 use Rattle.dine_run.proofs.AtPlaces.{at-keep, at-set, at-port, has-port, has-put, opens-break}
 

@@ -1,12 +1,11 @@
 -- A site goes on its way: each event leaves it running.
-use Rattle.std.proofs.Common.{◌≡◌, ℕ, zero, suc, ◌+◌, ◌<◌, ◌≤◌, ◌^◌, Bool, true, false, List, [], ◌∷◌, ◌++◌, length, map, set, get_or, Option, Some, None, refl, sym, ◌∙◌, ap, subst, arith, length-append, length-set}
+use Rattle.std.proofs.Common.{◌≡◌, ℕ, zero, suc, ◌+◌, ◌<◌, ◌≤◌, ◌^◌, true, false, List, [], ◌∷◌, ◌++◌, length, map, set, get_or, Option, Some, refl, sym, ◌∙◌, ap, subst, arith, length-append, length-set}
 use Rattle.std.specs.List.{slice_get, All}
-use Rattle.std.proofs.lemmas.Option.{slice_get-get_or, slice_get_within}
+use Rattle.std.proofs.lemmas.Option.{slice_get_within}
 use Rattle.std.proofs.lemmas.List.{get_or-set_same}
 use Rattle.dine_plan.specs.Plan.{SeenPlan, IsPlan, site_count, edges_of}
 use Rattle.dine_rules.specs.declared.letters.Letter.{Letter}
 use Rattle.dine_rules.specs.declared.letters.Letter.TheVariants as letter
-use Rattle.dine_rules.specs.Letters.{has_close}
 use Rattle.dine_rules.specs.Local.{LocalState, Traffic, no_traffic, traffic_at, start_of}
 use Rattle.dine_rules.specs.Steps.{Hungry, Begin, End, Take, after, with_put, with_taken}
 use Rattle.dine_rules.specs.Streams.{KeepsStreams}
@@ -15,7 +14,7 @@ use Rattle.dine_token.specs.Fork.{SeenFork}
 use Rattle.dine_core.specs.Core.{SeenCore, forks_in_hand}
 use Rattle.dine_core.specs.Standing.{CoreStep, CoreSteps, ForEachState, IsFreshFor, all_places}
 use Rattle.dine_run.specs.Ports.{SeenPort, SameLinks, IsFreshPort, put_on, closed_on, taken_on}
-use Rattle.dine_run.specs.Running.{SeenRun, RunsAt, HasState, IsRunning, IsPutting}
+use Rattle.dine_run.specs.Running.{SeenRun, RunsAt, IsRunning, IsPutting}
 use Rattle.dine_run.proofs.Lists.{all_at}
 use Rattle.dine_run.proofs.Letters.{runs-put, runs-closed, runs-taken, live_where_open}
 use Rattle.dine_run.proofs.AtPlaces.{at-set, has-core, has-step, has-port}

@@ -4,3 +4,13 @@ pub mod CallLogFields
 pub mod Ports
 pub mod SiteEnds
 pub mod Running
+pub mod Spots
+pub mod Gathered
+pub mod Brokens
+pub mod Headline
+pub mod Seats
+pub mod Collecting
+pub mod Openings
+pub mod Wirings
+pub mod Setups
+pub mod Tables

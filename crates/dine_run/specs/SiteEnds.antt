@@ -45,11 +45,11 @@ pub record SeenSiteEnd (Identity : Type 0) : Type 0 where
   pub stray : Option Stray
   pub fault : Option SiteFault
 
--- There is a state of whole lists that keeps the streams, in which the site does not eat and has put Close at every place. Its
+-- What a site leaves, started or not. There is a state of whole lists that keeps the streams, in which the site does not eat. Its
 -- hands are those of this state, and so are its links, but for the letter of a breach, a letter that a link refused, and a Close
 -- that a link refused. Where there is no fault it did all, and its links have exactly what it put. A breach that is told is the one
 -- that the stray has at its place.
-pub record IsSiteEnd {Identity : Type 0} (plan : SeenPlan) (s : ℕ) (given : List (SeenPort Identity)) (end : SeenSiteEnd Identity) : Type 0 where
+pub record IsLeft {Identity : Type 0} (plan : SeenPlan) (s : ℕ) (given : List (SeenPort Identity)) (end : SeenSiteEnd Identity) : Type 0 where
   pub state : LocalState
   pub keeps : KeepsStreams plan s state
   pub rests : is_eating state.phase ≡ false
@@ -61,8 +61,12 @@ pub record IsSiteEnd {Identity : Type 0} (plan : SeenPlan) (s : ℕ) (given : Li
   pub same_links : (i : ℕ) (old new : SeenPort Identity) → slice_get given i ≡ Some old → slice_get end.ports i ≡ Some new → SameLinks old new
   pub puts : (i : ℕ) (port : SeenPort Identity) → slice_get end.ports i ≡ Some port → PutsFit (refused_at i end.fault end.stray) (traffic_at state i).put port.tx.letters
   pub takes : (i : ℕ) (port : SeenPort Identity) → slice_get end.ports i ≡ Some port → port.rx.letters ≡ (traffic_at state i).taken ++ option_to_list (breached_at i end.fault end.stray)
-  pub closed : has_closed state ≡ true
   pub finished : end.fault ≡ None → has_finished plan s state ≡ true
   pub whole : end.fault ≡ None → (i : ℕ) (port : SeenPort Identity) → slice_get end.ports i ≡ Some port → port.tx.letters ≡ (traffic_at state i).put
   pub no_stray : end.fault ≡ None → end.stray ≡ None
   pub breach : (link : ℕ) (breach : Breach) → end.fault ≡ Some (fault.Breach link breach) → IsBreached plan s state end.stray link breach
+
+-- What a site leaves that was started: it has put Close at every place too.
+pub record IsSiteEnd {Identity : Type 0} (plan : SeenPlan) (s : ℕ) (given : List (SeenPort Identity)) (end : SeenSiteEnd Identity) : Type 0 where
+  pub left : IsLeft plan s given end
+  pub closed : has_closed left.state ≡ true

@@ -4,7 +4,11 @@ ghost use Rattle.dine_link.specs.Channels as channels;
 ghost use Rattle.dine_run.specs.Ports.{IsFreshPort, seen_ports};
 
 mod diners;
+mod graphs;
+mod runs;
 mod star;
+mod tables;
+mod threads;
 
 use super::*;
 use dine_core::SiteCore;

@@ -1,13 +1,7 @@
-use Rattle.std.proofs.Common.{◌≡◌, true, ◌+◌, ◌<◌, ◌^◌, ℕ, List, length, set, Option, Some, None, refl, sym, ◌∙◌, ap, subst, arith}
+use Rattle.std.proofs.Common.{◌≡◌, ℕ, length, refl, sym, ◌∙◌, ap, subst, arith}
 use Rattle.std.proofs.lemmas.List.{length-map}
-use Rattle.std.specs.List.{slice_get}
-use Rattle.dine_rules.specs.declared.letters.Letter.{Letter}
-use Rattle.dine_rules.specs.declared.letters.Letter.TheVariants as letter
-use Rattle.dine_run.specs.declared.site_loop.running.Stop.{Stop}
-use Rattle.dine_run.specs.declared.site_end.SiteFault.TheVariants as fault
-use Rattle.dine_run.specs.Ports.{SeenPort, seen_port, seen_ports, put_on, closed_on, taken_on}
-use Rattle.dine_run.specs.Running.{SeenRun, IsRunning, IsStopped, GoesOn, seen_run}
-use Rattle.dine_run.proofs.Seen.{seen_at, seen_set, seen_same, there_is, if_there, of_there}
+use Rattle.dine_run.specs.Ports.{seen_port, seen_ports}
+use Rattle.dine_run.specs.Running.{IsRunning, seen_run}
 use Rattle.dine_run.specs.declared.site_loop.running.Running.{Running}
 use Rattle.dine_run.specs.SiteEnds.{IsSiteEnd}
 use Rattle.dine_run.proofs.Meals.{eaten_nothing, eaten_same}

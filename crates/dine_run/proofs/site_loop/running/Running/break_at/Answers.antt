@@ -1,18 +1,15 @@
-use Rattle.std.proofs.Common.{◌≡◌, true, ◌+◌, ◌<◌, ◌^◌, ℕ, List, length, set, Option, Some, None, refl, sym, ◌∙◌, ap, subst, arith}
-use Rattle.std.proofs.lemmas.List.{length-map}
+use Rattle.std.proofs.Common.{◌≡◌, true, ◌+◌, ◌<◌, ◌^◌, List, length, set, sym, ap, subst, arith}
 use Rattle.std.specs.List.{slice_get}
 use Rattle.dine_rules.specs.declared.letters.Letter.{Letter}
 use Rattle.dine_rules.specs.declared.letters.Letter.TheVariants as letter
-use Rattle.dine_run.specs.declared.site_loop.running.Stop.{Stop}
-use Rattle.dine_run.specs.declared.site_end.SiteFault.TheVariants as fault
-use Rattle.dine_run.specs.Ports.{SeenPort, seen_port, seen_ports, put_on, closed_on, taken_on}
-use Rattle.dine_run.specs.Running.{SeenRun, ClosedBelow, IsRunning, IsStopped, GoesOn, seen_run}
-use Rattle.dine_run.proofs.Seen.{seen_at, seen_set, seen_same, there_is, if_there, of_there}
+use Rattle.dine_run.specs.Ports.{SeenPort, seen_ports, closed_on}
+use Rattle.dine_run.specs.Running.{SeenRun, ClosedBelow, IsStopped, seen_run}
+use Rattle.dine_run.proofs.Seen.{there_is, if_there, of_there}
 use Rattle.dine_rules.specs.Steps.{Break}
 use Rattle.dine_core.specs.Core.{SeenCore}
 use Rattle.dine_core.specs.Standing.{CorePuts}
 use Rattle.dine_run.proofs.Stops.{break_live, break_room, break_closes, break_lost}
-use Rattle.dine_run.proofs.Ends.{closed_more, closed_already}
+use Rattle.dine_run.proofs.Ends.{closed_more}
 use Rattle.dine_run.proofs.site_loop.running.Running.break_at.Goals as goal
 
 pub close_at-requires-clause-live : goal.close_at-requires-clause-live

@@ -1,13 +1,10 @@
-use Rattle.std.proofs.Common.{◌≡◌, true, ◌+◌, ◌<◌, ◌^◌, ℕ, List, length, set, Option, Some, None, refl, sym, ◌∙◌, ap, subst, arith}
-use Rattle.std.proofs.lemmas.List.{length-map}
+use Rattle.std.proofs.Common.{◌≡◌, true, ◌<◌, ◌^◌, List, length, set, None, sym, subst}
 use Rattle.std.specs.List.{slice_get}
-use Rattle.dine_rules.specs.declared.letters.Letter.{Letter}
 use Rattle.dine_rules.specs.declared.letters.Letter.TheVariants as letter
-use Rattle.dine_run.specs.declared.site_loop.running.Stop.{Stop}
 use Rattle.dine_run.specs.declared.site_end.SiteFault.TheVariants as fault
-use Rattle.dine_run.specs.Ports.{SeenPort, seen_port, seen_ports, put_on, closed_on, taken_on}
-use Rattle.dine_run.specs.Running.{SeenRun, IsRunning, IsStopped, GoesOn, seen_run}
-use Rattle.dine_run.proofs.Seen.{seen_at, seen_set, seen_same, there_is, if_there, of_there}
+use Rattle.dine_run.specs.Ports.{SeenPort, seen_ports, closed_on}
+use Rattle.dine_run.specs.Running.{SeenRun, IsRunning, IsStopped, seen_run}
+use Rattle.dine_run.proofs.Seen.{there_is, if_there, of_there}
 use Rattle.dine_run.proofs.Stops.{close_stops}
 use Rattle.dine_run.proofs.Ways.{close_runs, putting_within, put_live, put_room}
 use Rattle.dine_run.proofs.site_loop.running.Running.close.Goals as goal

@@ -1,15 +1,10 @@
-use Rattle.std.proofs.Common.{◌≡◌, ◌+◌, ◌<◌, ◌^◌, ℕ, List, length, set, Option, Some, None, refl, sym, ◌∙◌, ap, subst, arith}
-use Rattle.std.proofs.lemmas.List.{length-map}
-use Rattle.std.specs.List.{slice_get}
-use Rattle.dine_rules.specs.declared.letters.Letter.{Letter}
-use Rattle.dine_rules.specs.declared.letters.Letter.TheVariants as letter
+use Rattle.std.proofs.Common.{List, length, set, None, sym, ap, subst}
 use Rattle.dine_run.specs.declared.site_loop.running.Stop.{Stop}
 use Rattle.dine_run.specs.declared.site_end.SiteFault.TheVariants as fault
-use Rattle.dine_run.specs.Ports.{SeenPort, seen_port, seen_ports, put_on, closed_on, taken_on}
-use Rattle.dine_run.specs.Running.{SeenRun, IsRunning, IsStopped, GoesOn, seen_run}
-use Rattle.dine_run.proofs.Seen.{seen_at, seen_set, seen_same}
+use Rattle.dine_run.specs.Ports.{SeenPort, seen_port, seen_ports}
+use Rattle.dine_run.specs.Running.{SeenRun, IsRunning, IsStopped, seen_run}
+use Rattle.dine_run.proofs.Seen.{seen_same}
 use Rattle.dine_run.proofs.Stops.{bare_stop}
-use Rattle.dine_run.proofs.Ways.{put_runs}
 use Rattle.dine_run.proofs.site_loop.running.Running.ring.Goals as goal
 
 pub returns-in-Ok-clause-ends : goal.returns-in-Ok-clause-ends

@@ -1,17 +1,14 @@
-use Rattle.std.proofs.Common.{◌≡◌, true, ◌+◌, ◌<◌, ◌^◌, ℕ, List, length, set, Option, Some, None, refl, sym, ◌∙◌, ap, subst, arith}
+use Rattle.std.proofs.Common.{◌<◌, List, length, set, Some, None, sym, ◌∙◌, ap, subst, arith}
 use Rattle.std.proofs.lemmas.List.{length-map}
-use Rattle.std.specs.List.{slice_get}
 use Rattle.dine_rules.specs.declared.letters.Letter.{Letter}
-use Rattle.dine_rules.specs.declared.letters.Letter.TheVariants as letter
-use Rattle.dine_run.specs.declared.site_loop.running.Stop.{Stop}
 use Rattle.dine_run.specs.declared.site_end.SiteFault.TheVariants as fault
-use Rattle.dine_run.specs.Ports.{SeenPort, seen_port, seen_ports, put_on, closed_on, taken_on}
-use Rattle.dine_run.specs.Running.{SeenRun, IsRunning, IsStopped, GoesOn, seen_run}
+use Rattle.dine_run.specs.Ports.{SeenPort, seen_port, seen_ports, taken_on}
+use Rattle.dine_run.specs.Running.{SeenRun, IsRunning, IsStopped, seen_run}
 use Rattle.dine_rules.specs.Letters.{has_close}
-use Rattle.dine_run.proofs.Seen.{seen_at, seen_set, seen_same, there_is, if_there, of_there}
+use Rattle.dine_run.proofs.Seen.{seen_at, seen_set, seen_same}
 use Rattle.dine_core.specs.Core.{SeenCore}
 use Rattle.dine_run.proofs.Stops.{bare_stop, breach_stops}
-use Rattle.dine_run.proofs.Ways.{take_runs, take_room, place_within}
+use Rattle.dine_run.proofs.Ways.{take_runs, take_room}
 use Rattle.dine_run.proofs.site_loop.running.Running.take.Goals as goal
 
 pub take-requires-clause-open : goal.take-requires-clause-open

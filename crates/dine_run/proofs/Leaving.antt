@@ -1,0 +1,65 @@
+-- What a site leaves that was not started.
+use Rattle.std.proofs.Common.{◌≡◌, ℕ, zero, suc, ◌++◌, Bool, Some, None, List, [], ◌∷◌, All, map, get_or, slice_get, refl, sym, ap, ◌∙◌, subst, inl, arith}
+use Rattle.std.proofs.lemmas.List.{append-nil}
+use Rattle.std.proofs.lemmas.Option.{same_Some, none-some, slice_get_within, get_or_from_slice_get}
+use Rattle.dine_token.specs.Fork.{SeenFork}
+use Rattle.dine_plan.specs.Plan.{SeenPlan, edges_of}
+use Rattle.dine_rules.specs.Local.{Traffic, no_traffic, start_of}
+use Rattle.dine_rules.specs.Streams.{KeepsStreams}
+use Rattle.dine_core.specs.Core.{forks_in_hand, tokens_in_hand}
+use Rattle.dine_core.specs.Standing.{all_places}
+use Rattle.dine_run.specs.declared.diner.Call.{Call}
+use Rattle.dine_run.specs.declared.site_end.SiteFault.TheVariants as fault
+use Rattle.dine_run.specs.Diners.{HasEaten}
+use Rattle.dine_run.specs.Ports.{SeenPort, IsFreshPort}
+use Rattle.dine_run.specs.SiteEnds.{IsLeft}
+
+-- at the start nothing was put or taken at any place
+no_letters : (edges : List ℕ) (i : ℕ) → get_or (map (λ (edge : ℕ). no_traffic) edges) i no_traffic ≡ no_traffic
+no_letters [] zero = refl
+no_letters [] (suc i) = refl
+no_letters (edge ∷ edges) zero = refl
+no_letters (edge ∷ edges) (suc i) = no_letters edges i
+
+-- an element of a list whose elements all have P
+all_at : {X : Type 0} (P : X → Type 0) (xs : List X) (i : ℕ) (x : X) → All P xs → slice_get xs i ≡ Some x → P x
+all_at P xs i x all at = subst P (get_or_from_slice_get xs i x x at) (all i x (slice_get_within xs i x at))
+
+-- a site that was not started left its start
+pub left_unstarted : {Identity : Type 0} (plan : SeenPlan) (s : ℕ) (given : List (SeenPort Identity)) (site : ℕ) (forks : List SeenFork) (tokens : List ℕ) → site ≡ s → KeepsStreams plan s (start_of plan s)
+    → forks ≡ forks_in_hand plan s (start_of plan s) (all_places (start_of plan s)) → tokens ≡ tokens_in_hand plan s (start_of plan s) (all_places (start_of plan s)) → All IsFreshPort given
+    → IsLeft plan s given (record { site = site; ate = 0; forks = forks; tokens = tokens; ports = given; stray = None; fault = Some fault.NotStarted })
+left_unstarted {Identity} plan s given site forks tokens is_site keeps hold_forks hold_tokens unused = record {
+  state = start_of plan s;
+  keeps = keeps;
+  rests = refl;
+  site = is_site;
+  ate = refl;
+  forks = hold_forks;
+  tokens = hold_tokens;
+  count = refl;
+  same_links = λ i old new at_old at_new. (let same : old ≡ new = same_Some old new (sym at_old ∙ at_new) in record { tx = ap (λ (p : SeenPort Identity). p.tx.link) (sym same); rx = ap (λ (p : SeenPort Identity). p.rx.link) (sym same) });
+  puts = λ i port at. (let fresh = all_at IsFreshPort given i port unused at in record {
+    front = [];
+    closing = [];
+    closes = inl refl;
+    core = ap (λ (t : Traffic). t.put) (no_letters (edges_of plan s) i);
+    link = inl fresh.nothing_put;
+  });
+  takes = λ i port at. (let fresh = all_at IsFreshPort given i port unused at in fresh.nothing_taken ∙ sym (ap (λ (t : Traffic). t.taken ++ []) (no_letters (edges_of plan s) i)));
+  finished = λ none. absurd (none-some fault.NotStarted (sym none));
+  whole = λ none. absurd (none-some fault.NotStarted (sym none));
+  no_stray = λ none. refl;
+  breach = λ link breach told. absurd cc;
+}
+
+-- a diner that was not called has eaten nothing
+pub not_called : {D : Type 0} (calls : D → List Call) (marks : D → List Bool) (fits : List Bool → ℕ → Bool → Bool) (diner : D) → HasEaten calls marks fits 0 0 diner diner
+not_called calls marks fits diner = record {
+  added = [];
+  called = sym (append-nil (calls diner));
+  in_order = refl;
+  answers = λ k d within. absurd (omega (arith, within));
+  failures = refl;
+  marked = refl;
+}

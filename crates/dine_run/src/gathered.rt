@@ -1,0 +1,49 @@
+//! What is gathered when all sites have joined, and why there may be nothing to gather.
+use crate::diner::Diner;
+use crate::site_end::{SiteFault, Stray};
+use dine_link::LinkEnd;
+use dine_token::{Fork, Token};
+
+/// What a site left: how many meals it began and how many of their jobs failed, its diner, the tokens in its hands in edge order,
+/// and, where it ended before it did all, the first cause with the letter that was handed back.
+#[derive(Drop)]
+pub struct SiteOut<D: Diner> {
+    pub site: u32,
+    pub ate: u32,
+    pub failed: u32,
+    pub diner: D,
+    pub tokens: Vec<Token>,
+    pub stray: Option<Stray>,
+    pub fault: Option<SiteFault>,
+}
+
+/// All that is gathered where every site did all: the forks by edge, the sites by number, and the links by edge, that from the
+/// lower end first.
+#[derive(Drop)]
+pub struct Gathered<D: Diner> {
+    pub forks: Vec<Fork>,
+    pub sites: Vec<SiteOut<D>>,
+    pub links: Vec<LinkEnd>,
+}
+
+/// The same where some site ended with a fault. The forks are those that were found in the sites' hands, by edge.
+#[derive(Drop)]
+pub struct Joined<D: Diner> {
+    pub forks: Vec<Fork>,
+    pub sites: Vec<SiteOut<D>>,
+    pub links: Vec<LinkEnd>,
+}
+
+/// Why a run gathers nothing, or not all.
+#[derive(Drop)]
+pub enum RunFault<D: Diner> {
+    /// There are not as many diners as sites. Nothing was started, and these are the diners.
+    DinersDiffer { given: usize, diners: Vec<D> },
+    /// Memory was refused before any thread started. The diners are dropped.
+    Memory,
+    /// The thread of this site was refused, for want of memory or another cause. Those that were started before it have ended, no
+    /// letter moved, and the diners are dropped.
+    Thread(u32),
+    /// All sites have joined, and this is the lowest one with a fault.
+    Broken { site: u32, joined: Joined<D> },
+}
