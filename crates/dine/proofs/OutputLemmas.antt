@@ -28,6 +28,17 @@ pub WritesPrefix-rest : (a b c : Option (List ℕ)) (front rest : List ℕ) → 
 WritesPrefix-rest a b c front rest whole p =
     (length front + p.0, subst (Appends a c) (sym (take-append-add front rest p.0)) (Appends-trans a b c _ _ whole p.1))
 
+-- a text of two parts: what went out of the first, or the first and what went out of the second
+pub WritesPrefix-begun : (a b : Option (List ℕ)) (text front rest : List ℕ) → text ≡ front ++ rest → WritesPrefix a b front → WritesPrefix a b text
+WritesPrefix-begun a b text front rest is p = subst (WritesPrefix a b) (sym is) (WritesPrefix-front a b front rest p)
+
+pub WritesPrefix-more : (a b c : Option (List ℕ)) (text front rest : List ℕ) → text ≡ front ++ rest → Appends a b front → WritesPrefix b c rest → WritesPrefix a c text
+WritesPrefix-more a b c text front rest is whole p = subst (WritesPrefix a c) (sym is) (WritesPrefix-rest a b c front rest whole p)
+
+pub Appends-more : {T E : Type 0} (r : Result T E) (a b c : Option (List ℕ)) (text front rest : List ℕ) → text ≡ front ++ rest → Appends a b front → OnOk r (Appends b c rest) → OnOk r (Appends a c text)
+Appends-more (Ok x) a b c text front rest is whole more = subst (Appends a c) (sym is) (Appends-trans a b c front rest whole more)
+Appends-more (Err e) a b c text front rest is whole more = tt
+
 -- what holds at `Ok` holds of a result that is `Ok`
 pub when_ok : {T E : Type 0} (r : Result T E) (P : Type 0) → true ≡ is_ok r → OnOk r P → P
 when_ok (Ok x) P is h = h

@@ -6,15 +6,19 @@ use Rattle.dine_plan.specs.declared.faults.PlanFault.{PlanFault}
 use Rattle.dine.specs.declared.faults.Fault.{Fault}
 use Rattle.dine.specs.declared.faults.Fault.TheVariants as fault
 use Rattle.dine.specs.declared.status.Status.{Status}
+use Rattle.dine.specs.declared.status.Status.TheVariants as status
 use Rattle.dine.specs.Input.{input_limit}
 use Rattle.dine.specs.Faults.{TellsLine, line_of, status_of}
 use Rattle.dine.specs.Check.{check_text}
 use Rattle.dine.specs.PlanBytes.{IsPlanBytes, fault_of_bytes}
 use Rattle.dine.specs.Replay.{replay_text}
-use Rattle.dine.specs.Words.{Asked, Replays, Checks}
+use Rattle.dine.specs.Run.{NamesSite, run_text}
+use Rattle.dine.specs.Words.{Asked, Runs, Replays, Checks}
+use Rattle.dine.specs.declared.words.Table.{Table}
 
 -- the text that is made of a plan, by what is asked for
 abbrev pub text_of : Asked → SeenPlan → List ℕ
+text_of (Runs table) = run_text table
 text_of (Replays choices) = replay_text choices
 text_of Checks = check_text
 
@@ -52,9 +56,23 @@ IsPlanLeft left = (bytes : List ℕ) × (left ≡ Some bytes) × (fault_of_bytes
 abbrev pub TellsCause : Fault → Option (List ℕ) → Type 0
 TellsCause told left = (cause : PlanFault) → told ≡ fault.NoPlan cause → IfSome left (λ bytes. fault_of_bytes bytes ≡ Some cause)
 
+-- a run was asked for, and the fault tells at which site of the plan it failed
+pub record FailsRun (asked : Asked) (plan : SeenPlan) (told : Fault) : Type 0 where
+  pub table : Table
+  pub asks : asked ≡ Runs table
+  pub names : NamesSite plan told
+
+-- a run was asked for and a plan was read, and the fault tells at which site of the plan the run failed
+pub record IsFailedRun (command : Option Asked) (told : Fault) (left : Option (List ℕ)) : Type 0 where
+  pub table : Table
+  pub asks : command ≡ Some (Runs table)
+  pub plan : SeenPlan
+  pub reads : IfSome left (λ bytes. IsPlanBytes bytes plan)
+  pub names : NamesSite plan told
+
 -- How a fault ended the program: its cause has the status, and what was written of its line is a beginning of it. The output
--- holds what it held, but where writing failed. A refused plan is told with its own cause, and input was too long only where
--- it has more bytes than the limit.
+-- holds what it held, but where writing failed. A refused plan is told with its own cause, a run fails only where one
+-- was asked for and at a site of the plan that was read, and input was too long only where it has more bytes than the limit.
 pub record EndsByFault (command : Option Asked) (ended : Status) (left before after told_before told_after : Option (List ℕ)) : Type 0 where
   pub cause : Fault
   pub ends_so : status_of cause ≡ ended
@@ -62,4 +80,5 @@ pub record EndsByFault (command : Option Asked) (ended : Status) (left before af
   pub unwritten : cause ≢ fault.WritingFailed → Keeps before after
   pub part_written : cause ≡ fault.WritingFailed → IsPartDone command left before after
   pub cause_told : TellsCause cause left
+  pub failed_run : status_of cause ≡ status.RunFailed → IsFailedRun command cause left
   pub too_long : cause ≡ fault.InputTooLong → IfSome left (λ bytes. input_limit < length bytes)

@@ -1,9 +1,14 @@
 -- What ends a command before its end.
 use Rattle.std.specs.Prelude.{ℕ, List, [], ◌∷◌, ◌++◌, Option, Some, None, IfSome, codes}
+use Rattle.std.specs.Fmt.{decimal}
 use Rattle.std.specs.declared.io.ErrorKind.{ErrorKind}
 use Rattle.std.specs.declared.io.ErrorKind.TheVariants as kind
 use Rattle.dine_plan.specs.declared.faults.PlanFault.{PlanFault}
 use Rattle.dine_plan.specs.declared.faults.PlanFault.TheVariants as text
+use Rattle.dine_rules.specs.declared.breach.Breach.{Breach}
+use Rattle.dine_rules.specs.Breach.{number_of}
+use Rattle.dine_run.specs.declared.site_end.SiteFault.{SiteFault}
+use Rattle.dine_run.specs.declared.site_end.SiteFault.TheVariants as site_fault
 use Rattle.dine.specs.Output.{WritesPrefix}
 use Rattle.dine.specs.declared.faults.Fault.{Fault}
 use Rattle.dine.specs.declared.faults.Fault.TheVariants as fault
@@ -18,6 +23,9 @@ use Rattle.dine.specs.declared.input.InputFault.TheVariants as input
 abbrev pub status_of : Fault → Status
 status_of fault.Usage = status.Usage
 status_of (fault.NoPlan cause) = status.PlanRefused
+status_of (fault.ThreadRefused site) = status.RunFailed
+status_of fault.DinersDiffer = status.RunFailed
+status_of (fault.RunBroken site cause) = status.RunFailed
 status_of fault.OutOfMemory = status.OutOfMemory
 status_of fault.ReadingFailed = status.InputOutput
 status_of fault.InputTooLong = status.InputOutput
@@ -43,10 +51,36 @@ abbrev pub fault_of_text : PlanFault → Fault
 fault_of_text text.Memory = fault.OutOfMemory
 fault_of_text cause = fault.NoPlan cause
 
+-- words, and behind them a number in decimal digits
+abbrev pub numbered : List ℕ → ℕ → List ℕ
+numbered words n = words ++ decimal n
+
+-- how the fault of a site is told: a breach by its number, and where it was by the number of the place
+abbrev pub breach_words : ℕ → Breach → List ℕ
+breach_words link breach = numbered (codes ": Breach ") (number_of breach) ++ numbered (codes " on link ") link
+
+abbrev pub lost_words : ℕ → List ℕ
+lost_words link = numbered (codes ": Lost on link ") link
+
+abbrev pub site_fault_words : SiteFault → List ℕ
+site_fault_words (site_fault.Breach link breach) = breach_words link breach
+site_fault_words (site_fault.Lost link) = lost_words link
+site_fault_words site_fault.NotStarted = codes ": NotStarted"
+
+-- the lines of a run that was refused a thread, and of one that ended early, without their line feeds
+abbrev pub refused_thread_line : ℕ → List ℕ
+refused_thread_line site = numbered (codes "dine: run refused: thread of site ") site
+
+abbrev pub broken_run_line : ℕ → SiteFault → List ℕ
+broken_run_line site cause = numbered (codes "dine: run broken at site ") site ++ site_fault_words cause
+
 -- the line that tells of a fault, without its line feed; that of a plan ends in its cause, as the plan's fault prints it
 abbrev pub line_of : Fault → Option (List ℕ)
 line_of fault.Usage = Some (codes "dine: usage: dine [run [--table edges|sites] | replay [--choices LIST] | check]")
 line_of (fault.NoPlan cause) = None
+line_of (fault.ThreadRefused site) = Some (refused_thread_line site)
+line_of fault.DinersDiffer = Some (codes "dine: run refused: diners differ")
+line_of (fault.RunBroken site cause) = Some (broken_run_line site cause)
 line_of fault.OutOfMemory = Some (codes "dine: out of memory")
 line_of fault.ReadingFailed = Some (codes "dine: reading failed")
 line_of fault.InputTooLong = Some (codes "dine: input too long")

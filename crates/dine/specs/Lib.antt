@@ -6,6 +6,10 @@ pub mod Input
 pub mod Logs
 pub mod Output
 pub mod PlanBytes
+pub mod PlanDiners
+pub mod Records
 pub mod Replay
+pub mod Run
 pub mod Status
+pub mod Tables
 pub mod Words

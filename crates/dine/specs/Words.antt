@@ -1,5 +1,5 @@
 -- The commands of the program, as `clap` finds them in the words of the command line.
-use Rattle.std.specs.Prelude.{◌≡◌, ◌⊎◌, ◌&&◌, ℕ, Bool, List, [], Option, Some, None, codes, if◌then◌else◌, is_some, option_and_then, option_map, true}
+use Rattle.std.specs.Prelude.{◌≡◌, ◌⊎◌, ◌&&◌, ℕ, Bool, List, [], Option, Some, None, codes, if◌then◌else◌, is_some, option_map, true}
 use Rattle.std.specs.Option.{option_map_or}
 use Rattle.std.specs.Str.{bytes_eq}
 use Rattle.clap.specs.Words.{App, Row, Rule, Text, fault_of, first_of, new_app, new_rule, subcommand_of, takes, with_rule, with_subcommand}
@@ -9,17 +9,25 @@ use Rattle.clap.specs.declared.error.kind.ErrorKind.{ErrorKind}
 use Rattle.clap.specs.declared.error.kind.ErrorKind.TheVariants.{OutOfMemory}
 use Rattle.dine.specs.Choices.{choices_of}
 use Rattle.dine.specs.declared.words.Command.{Command}
-use Rattle.dine.specs.declared.words.Command.TheVariants.{Check, Replay}
+use Rattle.dine.specs.declared.words.Command.TheVariants.{Check, Replay, Run}
+use Rattle.dine.specs.declared.words.Table.{Table}
+use Rattle.dine.specs.declared.words.Table.TheVariants.{Edges, Sites}
 use Rattle.dine.specs.declared.words.WordsFault.{WordsFault}
 use Rattle.dine.specs.declared.words.WordsFault.TheVariants.{Usage, Memory}
 
--- `dine`, which wants a subcommand and has no help of its own
+-- `dine`, which wants no subcommand and has no help of its own
 abbrev pub program_alone : App
 program_alone = on_top (λ s. record s {
-  subcommand_required = true;
   disable_help_flag = true;
   disable_help_subcommand = true;
 }) (new_app (codes "dine"))
+
+-- the option `--table` of `run`, which takes a text
+abbrev pub table_rule : Rule
+table_rule = record (new_rule (codes "table")) { long = Some (codes "table"); action = Some Set }
+
+abbrev pub run_app : App
+run_app = with_rule (new_app (codes "run")) table_rule
 
 -- the option `--choices` of `replay`, which takes a text
 abbrev pub choices_rule : Rule
@@ -30,16 +38,29 @@ replay_app = with_rule (new_app (codes "replay")) choices_rule
 
 -- `dine` with its subcommands, as `clap` sees it
 abbrev pub dine_app : App
-dine_app = with_subcommand (with_subcommand program_alone replay_app.top) (new_app (codes "check")).top
+dine_app = with_subcommand (with_subcommand (with_subcommand program_alone run_app.top) replay_app.top) (new_app (codes "check")).top
 
--- what is asked for: a replay of these choices, or the plan's size
+-- what is asked for: a run with this table, a replay of these choices, or the plan's size
 pub data Asked : Type 0 where
+  Runs : Table → Asked
   Replays : List ℕ → Asked
   Checks : Asked
 
 abbrev pub asked_of : Command → Asked
+asked_of (Run table) = Runs table
 asked_of (Replay choices) = Replays choices.items
 asked_of Check = Checks
+
+-- the table of a name
+abbrev pub table_of : Text → Option Table
+table_of name =
+    if bytes_eq name (codes "edges") then Some Edges
+    else (if bytes_eq name (codes "sites") then Some Sites else None)
+
+-- the table in what `clap` finds behind `run`: that of edges where the option is not there, and else the one of its text, if
+-- a table has that name
+abbrev pub table_in : List Row → Option Table
+table_in found = option_map_or table_of (first_of (codes "table") found) (Some Edges)
 
 -- the choices in what `clap` finds behind `replay`: an empty list where the option is not there, and else those of its text,
 -- if it has them
@@ -48,29 +69,27 @@ choices_in found = option_map_or choices_of (first_of (codes "choices") found) (
 
 -- a name of a command
 abbrev pub IsCommandName : Text → Type 0
-IsCommandName name = (name ≡ codes "replay") ⊎ (name ≡ codes "check")
+IsCommandName name = (name ≡ codes "run") ⊎ ((name ≡ codes "replay") ⊎ (name ≡ codes "check"))
 
 -- what is asked for by a command of this name, and by what `clap` finds behind the name
 abbrev pub asked_by : Text × List Row → Option Asked
 asked_by found =
-    if bytes_eq found.0 (codes "replay") then option_map Replays (choices_in found.1)
-    else (if bytes_eq found.0 (codes "check") then Some Checks else None)
+    if bytes_eq found.0 (codes "run") then option_map Runs (table_in found.1)
+    else (if bytes_eq found.0 (codes "replay") then option_map Replays (choices_in found.1)
+    else (if bytes_eq found.0 (codes "check") then Some Checks else None))
 
--- what the words ask for, as `clap` finds it
+-- what the words ask for, as `clap` finds it: a run with the table of edges where they name no command
 abbrev pub command_in : App → List Text → Option Asked
-command_in app words = option_and_then asked_by (subcommand_of app words)
+command_in app words = option_map_or asked_by (subcommand_of app words) (Some (Runs Edges))
 
 -- `clap` finds no fault in the words
 abbrev pub HasNoFault : App → List Text → Type 0
 HasNoFault app words = fault_of app words ≡ []
 
--- the text of `--choices`, where `clap` finds one, has choices
-abbrev pub has_choices : App → List Text → Bool
-has_choices app words = option_map_or (λ found. is_some (choices_in found.1)) (subcommand_of app words) true
-
--- `clap` takes the words, and the text of `--choices`, where there is one, has choices
+-- `clap` takes the words, and they ask for something: the text of `--table`, where there is one, names a table, and that of
+-- `--choices` has choices
 abbrev pub are_taken : App → List Text → Bool
-are_taken app words = takes app words && has_choices app words
+are_taken app words = takes app words && is_some (command_in app words)
 
 -- `clap` finds no fault in the words, and they ask for something
 abbrev pub AreRight : App → List Text → Type 0

@@ -1,10 +1,10 @@
 //! From words and input to bytes and status.
 ghost use Rattle.std.specs.Prelude.{◌≡◌, ◌≢◌, ◌<◌, ◌≤◌, IfErr, IfOk, IfSome, IsErrOf, None, OnErr, OnOk, Some, false, length, map, true, string_bytes};
 ghost use Rattle.std.specs.Io.KnownBytes.{IsAtEnd};
-ghost use Rattle.dine.specs.Commands.{EndsByFault, IsDone, IsPartDone, IsPlanLeft, IsRefused, TellsCause, Writes, WritesPart, text_of};
+ghost use Rattle.dine.specs.Commands.{EndsByFault, FailsRun, IsDone, IsFailedRun, IsPartDone, IsPlanLeft, IsRefused, TellsCause, Writes, WritesPart, text_of};
 ghost use Rattle.dine.specs.Faults.{status_of};
 ghost use Rattle.dine.specs.Input.{input_limit};
-ghost use Rattle.dine.specs.Words.{AreRight, HasNoFault, are_taken, asked_of, command_in, dine_app, has_choices};
+ghost use Rattle.dine.specs.Words.{AreRight, HasNoFault, are_taken, asked_of, command_in, dine_app};
 
 use crate::check::check_text;
 use crate::faults::Fault;
@@ -12,10 +12,11 @@ use crate::input::read_input;
 use crate::output::write_out;
 use crate::plan_bytes::plan_of_bytes;
 use crate::replay::replay_text;
+use crate::run_text::run_text;
 use crate::status::Status;
 use crate::words::{Command, command_of};
 use dine_plan::Plan;
-use std::alloc::{AllocError, Global};
+use std::alloc::Global;
 use std::io::{Read, Write};
 use std::sync::Wait;
 use std::thread::Threads;
@@ -23,11 +24,12 @@ use std::thread::Threads;
 /// Does what the words say with the input, and writes the text that it makes to `output`. The first word is the
 /// program's own name.
 ///
-/// The first fault ends it, and one line to `faults` tells of it: words that `clap` refuses or a bad LIST (nothing is read), an input
-/// that can't be read or is too long, a text that is no plan, want of memory, an output that can't be written. That the
-/// line can't be printed is told to nobody. It may wait.
-pub fn run_cmd<H: Threads + Wait, R: Read, W: Write, F: Write>(
-    _rt: &H,
+/// The first fault ends it, and one line to `faults` tells of it: words that `clap` refuses, a bad LIST or a table that there
+/// is not (nothing is read), an input that can't be read or is too long, a text that is no plan, a run that is refused a thread
+/// or in which a site ends with a fault, want of memory, an output that can't be written. That the line can't be printed is told
+/// to nobody. It may wait.
+pub fn run_cmd<H: Threads + Wait + Copy + Send + 'static, R: Read, W: Write, F: Write>(
+    rt: &H,
     alloc: Global,
     words: &[String],
     input: &mut R,
@@ -45,12 +47,11 @@ pub fn run_cmd<H: Threads + Wait, R: Read, W: Write, F: Write>(
 
     // When a fault may come.
     ensures usage { result ≡ Status.Usage → are_taken dine_app (map string_bytes words.now) ≡ false }
-    ensures bad_list { result ≡ Status.Usage → HasNoFault dine_app (map string_bytes words.now) → has_choices dine_app (map string_bytes words.now) ≡ false }
+    ensures asks_nothing { result ≡ Status.Usage → HasNoFault dine_app (map string_bytes words.now) → command_in dine_app (map string_bytes words.now) ≡ None }
     ensures plan_refused { result ≡ Status.PlanRefused → IfSome (R.remaining input.old) IsRefused }
     ensures refused_at_end { result ≡ Status.PlanRefused → IsAtEnd (R.remaining input.new) }
     ensures refused_within { result ≡ Status.PlanRefused → IfSome (R.remaining input.old) (λ bytes. length bytes ≤ input_limit) }
     ensures plan_taken { IsPlanLeft (R.remaining input.old) → result ≢ Status.PlanRefused }
-    ensures no_threads { result ≢ Status.RunFailed }
 
     // What a fault leaves.
     ensures unread { result ≡ Status.Usage → input.new ≡ input.old }
@@ -58,14 +59,15 @@ pub fn run_cmd<H: Threads + Wait, R: Read, W: Write, F: Write>(
     ensures ended { result ≢ Status.Success → EndsByFault (command_in dine_app (map string_bytes words.now)) result
         (R.remaining input.old) (W.contents output.old) (W.contents output.new) (F.contents faults.old) (F.contents faults.new) }
 {
-    match command(alloc, words, input, output) {
+    match command(rt, alloc, words, input, output) {
         Ok(()) => Status::Success,
         Err(fault) => fault.end(faults),
     }
 }
 
 // Does the command that the words name.
-fn command<R: Read, W: Write>(
+fn command<H: Threads + Wait + Copy + Send + 'static, R: Read, W: Write>(
+    rt: &H,
     alloc: Global,
     words: &[String],
     input: &mut R,
@@ -77,21 +79,23 @@ fn command<R: Read, W: Write>(
     ensures within { OnOk result (IfSome (R.remaining input.old) (λ bytes. length bytes ≤ input_limit)) }
     ensures too_long { IsErrOf result Fault.InputTooLong → IfSome (R.remaining input.old) (λ bytes. input_limit < length bytes) }
     ensures usage { IsErrOf result Fault.Usage → are_taken dine_app (map string_bytes words.now) ≡ false }
-    ensures bad_list { IsErrOf result Fault.Usage → HasNoFault dine_app (map string_bytes words.now) → has_choices dine_app (map string_bytes words.now) ≡ false }
+    ensures asks_nothing { IsErrOf result Fault.Usage → HasNoFault dine_app (map string_bytes words.now) → command_in dine_app (map string_bytes words.now) ≡ None }
     ensures unread { IsErrOf result Fault.Usage → input.new ≡ input.old }
     ensures refused { IfErr result (λ fault. status_of fault ≡ Status.PlanRefused → IfSome (R.remaining input.old) IsRefused) }
     ensures cause { IfErr result (λ fault. TellsCause fault (R.remaining input.old)) }
     ensures refused_end { IfErr result (λ fault. status_of fault ≡ Status.PlanRefused → IsAtEnd (R.remaining input.new)) }
+    ensures failed_run { IfErr result (λ fault. status_of fault ≡ Status.RunFailed → IsFailedRun (command_in dine_app (map string_bytes words.now)) fault (R.remaining input.old)) }
     ensures refused_within { IfErr result (λ fault. status_of fault ≡ Status.PlanRefused → IfSome (R.remaining input.old) (λ bytes. length bytes ≤ input_limit)) }
     ensures unwritten { result ≢ Err Fault.WritingFailed → OnErr result (output.new ≡ output.old) }
     ensures part { IsErrOf result Fault.WritingFailed → IsPartDone (command_in dine_app (map string_bytes words.now)) (R.remaining input.old) (W.contents output.old) (W.contents output.new) }
 {
     let command = command_of(alloc, words)?;
-    apply(alloc, command, input, output)
+    apply(rt, alloc, command, input, output)
 }
 
 // Reads a plan, and writes the text that the command makes of it.
-fn apply<R: Read, W: Write>(
+fn apply<H: Threads + Wait + Copy + Send + 'static, R: Read, W: Write>(
+    rt: &H,
     alloc: Global,
     command: Command,
     input: &mut R,
@@ -105,6 +109,7 @@ fn apply<R: Read, W: Write>(
     ensures refused { IfErr result (λ fault. status_of fault ≡ Status.PlanRefused → IfSome (R.remaining input.old) IsRefused) }
     ensures cause { IfErr result (λ fault. TellsCause fault (R.remaining input.old)) }
     ensures refused_end { IfErr result (λ fault. status_of fault ≡ Status.PlanRefused → IsAtEnd (R.remaining input.new)) }
+    ensures failed_run { IfErr result (λ fault. status_of fault ≡ Status.RunFailed → IsFailedRun (Some (asked_of command)) fault (R.remaining input.old)) }
     ensures refused_within { IfErr result (λ fault. status_of fault ≡ Status.PlanRefused → IfSome (R.remaining input.old) (λ bytes. length bytes ≤ input_limit)) }
     ensures unwritten { result ≢ Err Fault.WritingFailed → OnErr result (output.new ≡ output.old) }
     ensures part { IsErrOf result Fault.WritingFailed → WritesPart (text_of (asked_of command)) (R.remaining input.old) (W.contents output.old) (W.contents output.new) }
@@ -114,16 +119,23 @@ fn apply<R: Read, W: Write>(
         Ok(plan) => plan,
         Err(fault) => return Err(Fault::from(fault)),
     };
-    let text = text_of(alloc, command, &plan)?;
+    let text = text_of(rt, alloc, command, &plan)?;
     Ok(write_out(output, text.as_slice())?)
 }
 
 // The text that the command makes of the plan.
-fn text_of(alloc: Global, command: Command, plan: &Plan) -> Result<Vec<u8>, AllocError>
-    ensures { IfOk result (λ text. text.items ≡ text_of (asked_of command) plan.now) }
+fn text_of<H: Threads + Wait + Copy + Send + 'static>(
+    rt: &H,
+    alloc: Global,
+    command: Command,
+    plan: &Plan,
+) -> Result<Vec<u8>, Fault>
+    ensures text { IfOk result (λ text. text.items ≡ text_of (asked_of command) plan.now) }
+    ensures fault { result ≢ Err Fault.OutOfMemory → IfErr result (FailsRun (asked_of command) plan.now) }
 {
     match command {
-        Command::Replay(choices) => replay_text(alloc, plan, choices.as_slice()),
+        Command::Run(table) => run_text(rt, alloc, plan, table),
+        Command::Replay(choices) => Ok(replay_text(alloc, plan, choices.as_slice())?),
         Command::Check => Ok(check_text(alloc, plan)?.into_bytes()),
     }
 }

@@ -1,12 +1,16 @@
 //! What ends a command before its end, and the line that tells of it.
 ghost use Rattle.std.specs.Prelude.{◌≡◌, IfSome, OnOk};
 ghost use Rattle.std.specs.Io.KnownBytes.{Appends};
+ghost use Rattle.dine.specs.Faults.{breach_words, broken_run_line, lost_words, refused_thread_line, site_fault_words, whole_line};
+ghost use Rattle.dine.specs.Output.{WritesPrefix};
 
 use crate::input::InputFault;
-use crate::output::{WriteFault, write_line};
+use crate::output::{WriteFault, write_line, write_numbered};
 use crate::status::Status;
 use crate::words::WordsFault;
 use dine_plan::PlanFault;
+use dine_rules::Breach;
+use dine_run::SiteFault;
 use std::alloc::AllocError;
 use std::io::Write;
 
@@ -20,6 +24,12 @@ pub enum Fault {
     Usage,
     /// The input is no plan, for this cause.
     NoPlan(PlanFault),
+    /// The run did not begin: the thread of this site was refused.
+    ThreadRefused(u32),
+    /// The run did not begin: there were not as many diners as sites.
+    DinersDiffer,
+    /// The run ended early: this is the lowest site with a fault, and its fault.
+    RunBroken(u32, SiteFault),
     /// Memory was refused.
     OutOfMemory,
     /// A read failed.
@@ -31,7 +41,7 @@ pub enum Fault {
 }
 
 impl Fault {
-    ghost use Rattle.dine.specs.Faults.{TellsLine, line_of, status_of, whole_line};
+    ghost use Rattle.dine.specs.Faults.{TellsLine, line_of, status_of};
 
     /// Prints the line that tells of it to `faults`, and answers the status that it ends the program with.
     ///
@@ -51,6 +61,9 @@ impl Fault {
         match self {
             Fault::Usage => Status::Usage,
             Fault::NoPlan(_) => Status::PlanRefused,
+            Fault::ThreadRefused(_) | Fault::DinersDiffer | Fault::RunBroken(..) => {
+                Status::RunFailed
+            }
             Fault::OutOfMemory => Status::OutOfMemory,
             Fault::ReadingFailed | Fault::InputTooLong | Fault::WritingFailed => {
                 Status::InputOutput
@@ -69,6 +82,9 @@ impl Fault {
                 "dine: usage: dine [run [--table edges|sites] | replay [--choices LIST] | check]",
             ),
             Fault::NoPlan(cause) => tell_cause(cause, faults),
+            Fault::ThreadRefused(site) => tell_refused_thread(site, faults),
+            Fault::DinersDiffer => write_line(faults, "dine: run refused: diners differ"),
+            Fault::RunBroken(site, fault) => tell_broken_run(site, fault, faults),
             Fault::OutOfMemory => write_line(faults, "dine: out of memory"),
             Fault::ReadingFailed => write_line(faults, "dine: reading failed"),
             Fault::InputTooLong => write_line(faults, "dine: input too long"),
@@ -80,6 +96,55 @@ impl Fault {
 // Writes the line of a plan that is refused for this cause, and flushes.
 fn tell_cause<F: Write>(cause: PlanFault, faults: &mut F) -> Result<(), WriteFault> {
     write!(faults, "dine: plan refused: {cause}").map_err(|_| WriteFault)?;
+    write_line(faults, "")
+}
+
+// Writes the line of a run in which the thread of this site was refused, and flushes.
+fn tell_refused_thread<F: Write>(site: u32, faults: &mut F) -> Result<(), WriteFault>
+    ensures whole { OnOk result (Appends (F.contents faults.old) (F.contents faults.new) (whole_line (refused_thread_line site))) }
+    ensures begun { WritesPrefix (F.contents faults.old) (F.contents faults.new) (whole_line (refused_thread_line site)) }
+{
+    write_numbered(faults, "dine: run refused: thread of site ", site)?;
+    write_line(faults, "")
+}
+
+// Writes the line of a run in which this site ended with this fault, and flushes.
+fn tell_broken_run<F: Write>(site: u32, fault: SiteFault, faults: &mut F) -> Result<(), WriteFault>
+    ensures whole { OnOk result (Appends (F.contents faults.old) (F.contents faults.new) (whole_line (broken_run_line site fault))) }
+    ensures begun { WritesPrefix (F.contents faults.old) (F.contents faults.new) (whole_line (broken_run_line site fault)) }
+{
+    write_numbered(faults, "dine: run broken at site ", site)?;
+    tell_site_fault(fault, faults)
+}
+
+// Writes the end of that line, which tells of the fault, and flushes.
+fn tell_site_fault<F: Write>(fault: SiteFault, faults: &mut F) -> Result<(), WriteFault>
+    ensures whole { OnOk result (Appends (F.contents faults.old) (F.contents faults.new) (whole_line (site_fault_words fault))) }
+    ensures begun { WritesPrefix (F.contents faults.old) (F.contents faults.new) (whole_line (site_fault_words fault)) }
+{
+    match fault {
+        SiteFault::Breach(link, breach) => tell_breach(link, breach, faults),
+        SiteFault::Lost(link) => tell_lost(link, faults),
+        SiteFault::NotStarted => write_line(faults, ": NotStarted"),
+    }
+}
+
+// Writes the end of the line of a breach, and flushes.
+fn tell_breach<F: Write>(link: u32, breach: Breach, faults: &mut F) -> Result<(), WriteFault>
+    ensures whole { OnOk result (Appends (F.contents faults.old) (F.contents faults.new) (whole_line (breach_words link breach))) }
+    ensures begun { WritesPrefix (F.contents faults.old) (F.contents faults.new) (whole_line (breach_words link breach)) }
+{
+    write_numbered(faults, ": Breach ", breach.number().into())?;
+    write_numbered(faults, " on link ", link)?;
+    write_line(faults, "")
+}
+
+// Writes the end of the line of a lost link, and flushes.
+fn tell_lost<F: Write>(link: u32, faults: &mut F) -> Result<(), WriteFault>
+    ensures whole { OnOk result (Appends (F.contents faults.old) (F.contents faults.new) (whole_line (lost_words link))) }
+    ensures begun { WritesPrefix (F.contents faults.old) (F.contents faults.new) (whole_line (lost_words link)) }
+{
+    write_numbered(faults, ": Lost on link ", link)?;
     write_line(faults, "")
 }
 

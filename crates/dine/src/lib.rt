@@ -10,8 +10,11 @@ mod input;
 mod logs;
 mod output;
 mod plan_bytes;
+mod plan_diner;
 mod replay;
+mod run_text;
 mod status;
+mod tables;
 #[cfg(test)]
 mod tests;
 mod words;
@@ -20,4 +23,6 @@ pub use arguments::words_of;
 pub use commands::run_cmd;
 pub use faults::Fault;
 pub use logs::world_text;
+pub use plan_diner::PlanDiner;
 pub use status::{Status, exit_of};
+pub use tables::{write_edges, write_sites};

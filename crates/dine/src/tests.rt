@@ -115,7 +115,7 @@ fn takes(alloc: Global, room: usize) -> Limited {
 }
 
 // The number of the status of a run with the words of the line.
-fn run_into<H: Threads + Wait + AllocGlobal, R: Read, W: Write, F: Write>(
+fn run_into<H: Threads + Wait + AllocGlobal + Copy + Send + 'static, R: Read, W: Write, F: Write>(
     rt: &H,
     line: &str,
     input: &mut R,
@@ -130,7 +130,7 @@ fn run_into<H: Threads + Wait + AllocGlobal, R: Read, W: Write, F: Write>(
 }
 
 // Runs the words of the line, and compares all that this leaves.
-fn leaves<H: Threads + Wait + AllocGlobal + Abort, R: Read>(
+fn leaves<H: Threads + Wait + AllocGlobal + Abort + Copy + Send + 'static, R: Read>(
     rt: &H,
     line: &str,
     input: &mut R,
@@ -167,6 +167,105 @@ fn plan_text(alloc: Global, lower: (&str, u32), higher: (&str, u32)) -> Result<S
     let higher_site = site_text(alloc, higher.0, higher.1)?;
     let (a, b) = (lower.0, higher.0);
     format!(in alloc; "version = 1\n{lower_site}{higher_site}[[edge]]\nends = [\"{b}\", \"{a}\"]\n")
+}
+
+// A plan in which a site has a failing job among good ones.
+const FAILING: &str = "version = 1
+[[site]]
+name = \"a\"
+jobs = [{ name = \"x\" }, { name = \"y\", fails = true }, { name = \"z\" }]
+[[site]]
+name = \"b\"
+jobs = [{ name = \"y\" }]
+[[edge]]
+ends = [\"a\", \"b\"]
+";
+
+const EDGES_HEADER: &str = "edge,lo,hi,lo_meals,hi_meals\n";
+
+// The text of a ring of five sites, each with two jobs, the first of which is longer.
+fn ring_text(alloc: Global) -> Result<String, AllocError> {
+    let mut text = String::from_str(alloc, "version = 1\n")?;
+    for name in ["a", "b", "c", "d", "e"] {
+        write!(
+            &mut text,
+            "[[site]]\nname = \"{name}\"\njobs = [{{ name = \"x\", turns = 1000 }}, {{ name = \"y\", turns = 10 }}]\n"
+        )?;
+    }
+    for (one, other) in [("a", "b"), ("b", "c"), ("c", "d"), ("d", "e"), ("e", "a")] {
+        write!(&mut text, "[[edge]]\nends = [\"{one}\", \"{other}\"]\n")?;
+    }
+    Ok(text)
+}
+
+#[test]
+fn a_ring_is_run(rt: HostRuntime) -> Result<(), Fail> {
+    let plan = ring_text(rt.alloc())?;
+    let edges = format!(in rt.alloc();
+        "{EDGES_HEADER}0,a,b,2,2\n1,b,c,2,2\n2,c,d,2,2\n3,d,e,2,2\n4,a,e,2,2\n"
+    )?;
+    let sites = "site,meals,failed\na,2,0\nb,2,0\nc,2,0\nd,2,0\ne,2,0\n";
+    let cases = [
+        ("dine", edges.as_str()),
+        ("dine run", edges.as_str()),
+        ("dine run --table edges", edges.as_str()),
+        ("dine run --table sites", sites),
+    ];
+    for (line, text) in cases {
+        let mut input = plan.as_bytes();
+        leaves(&rt, line, &mut input, 0, text, "")?;
+    }
+    Ok(())
+}
+
+#[test]
+fn a_job_that_fails_is_counted(rt: HostRuntime) -> Result<(), Fail> {
+    let edges = format!(in rt.alloc(); "{EDGES_HEADER}0,a,b,3,1\n")?;
+    let sites = "site,meals,failed\na,3,1\nb,1,0\n";
+    for (line, text) in [("dine", edges.as_str()), ("dine run --table sites", sites)] {
+        let mut input = FAILING.as_bytes();
+        leaves(&rt, line, &mut input, 0, text, "")?;
+    }
+    Ok(())
+}
+
+#[test]
+fn a_site_without_edges_is_run(rt: HostRuntime) -> Result<(), Fail> {
+    let alone = graph_text(rt.alloc(), &["a"], 2, &[])?;
+    let cases = [
+        ("dine", EDGES_HEADER),
+        ("dine run --table sites", "site,meals,failed\na,2,0\n"),
+    ];
+    for (line, text) in cases {
+        let mut input = alone.as_bytes();
+        leaves(&rt, line, &mut input, 0, text, "")?;
+    }
+    Ok(())
+}
+
+#[test]
+fn a_run_reads_and_writes_as_the_other_commands(rt: HostRuntime) -> Result<(), Fail> {
+    for line in ["dine", "dine run", "dine run --table sites"] {
+        let mut failing = fails_at(1);
+        leaves(&rt, line, &mut failing, 6, "", "dine: reading failed\n")?;
+        let mut no_plan = "".as_bytes();
+        leaves(
+            &rt,
+            line,
+            &mut no_plan,
+            3,
+            "",
+            "dine: plan refused: 2 Version\n",
+        )?;
+        let mut input = PAIR.as_bytes();
+        let mut output = takes(rt.alloc(), 0);
+        let mut faults = Vec::new(rt.alloc());
+        let status = run_into(&rt, line, &mut input, &mut output, &mut faults)?;
+        assert_eq!(rt; output.held.len(), 0, "at {line}");
+        assert_eq!(rt; faults.as_slice(), b"dine: writing failed\n".as_slice());
+        assert_eq!(rt; status, 6, "at {line}");
+    }
+    Ok(())
 }
 
 #[test]
@@ -243,12 +342,11 @@ fn a_thousand_jobs_at_each_site_are_replayed(rt: HostRuntime) -> Result<(), Fail
 #[test]
 fn refused_words_leave_the_input_unread(rt: HostRuntime) -> Result<(), Fail> {
     for line in [
-        "",
-        "dine",
         "dine --help",
         "dine eat",
-        "dine run",
+        "dine run --table",
         "dine run --table cups",
+        "dine --table edges",
         "dine replay replay",
         "dine replay --choices",
         "dine replay --choices 1,x",
@@ -336,12 +434,13 @@ fn plans_of_any_graph_are_replayed(rt: HostRuntime) -> Result<(), Fail> {
 }
 
 #[test]
-fn a_star_of_64_sites_is_replayed(rt: HostRuntime) -> Result<(), Fail> {
+fn a_star_of_64_sites_is_replayed_and_run(rt: HostRuntime) -> Result<(), Fail> {
     let mut plan = format!(in rt.alloc();
         "version = 1\n[[site]]\nname = \"h\"\njobs = [{{ name = \"x\" }}]\n"
     )?;
     let mut edges = String::new(rt.alloc());
     let mut wanted = String::new(rt.alloc());
+    let mut table = String::from_str(rt.alloc(), EDGES_HEADER)?;
     for j in 1..64u32 {
         let name = format!(in rt.alloc(); "l{j}")?;
         let site = site_text(rt.alloc(), name.as_str(), 1)?;
@@ -349,11 +448,18 @@ fn a_star_of_64_sites_is_replayed(rt: HostRuntime) -> Result<(), Fail> {
         write!(&mut edges, "[[edge]]\nends = [\"h\", \"l{j}\"]\n")?;
         let edge = j - 1;
         write!(&mut wanted, "edge {edge} h l{j}: h#1, to l{j}, l{j}#1\n")?;
+        write!(&mut table, "{edge},h,l{j},1,1\n")?;
     }
     plan.push_str(edges.as_str())?;
     wanted.push_str("events 948 of 1200\n")?;
-    let mut input = plan.as_bytes();
-    leaves(&rt, "dine replay", &mut input, 0, wanted.as_str(), "")
+    for (line, text) in [
+        ("dine replay", wanted.as_str()),
+        ("dine run", table.as_str()),
+    ] {
+        let mut input = plan.as_bytes();
+        leaves(&rt, line, &mut input, 0, text, "")?;
+    }
+    Ok(())
 }
 
 #[test]
@@ -408,7 +514,7 @@ fn an_output_that_fails_is_told(rt: HostRuntime) -> Result<(), Fail> {
 #[test]
 fn a_fault_that_can_not_be_told_changes_no_status(rt: HostRuntime) -> Result<(), Fail> {
     for (line, text, room, number) in [
-        ("dine", PAIR, 100, 2),
+        ("dine eat", PAIR, 100, 2),
         ("dine replay", "", 100, 3),
         ("dine replay", PAIR, 0, 6),
         ("dine replay", PAIR, 100, 0),

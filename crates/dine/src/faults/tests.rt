@@ -1,8 +1,12 @@
 use super::Fault;
 use crate::status::Status;
 use dine_plan::PlanFault;
+use dine_rules::Breach;
+use dine_run::SiteFault;
+use std::alloc::Global;
 use std::io;
 use std::io::Write;
+use std::process::Abort;
 use std::test::Fail;
 
 // Takes all bytes, and counts the flushes behind the last of them.
@@ -25,53 +29,121 @@ impl Write for Flushed {
     }
 }
 
+// The fault ends with this status. Its line went out whole, and was flushed.
+fn ends<R: Abort>(
+    rt: &R,
+    alloc: Global,
+    fault: Fault,
+    status: Status,
+    line: &str,
+) -> Result<(), Fail> {
+    let mut faults = Flushed {
+        held: Vec::new(alloc),
+        flushes: 0,
+    };
+    assert_eq!(rt; fault.end(&mut faults), status);
+    assert_eq!(rt; std::str::from_utf8(faults.held.as_slice())?, line);
+    assert_eq!(rt; faults.flushes, 1, "at {line}");
+    Ok(())
+}
+
 #[test]
 fn each_fault_ends_with_its_status_and_its_line_flushed(rt: HostRuntime) -> Result<(), Fail> {
-    let cases = [
-        (
-            Fault::Usage,
-            Status::Usage,
-            "dine: usage: dine [run [--table edges|sites] | replay [--choices LIST] | check]\n",
-        ),
-        (
-            Fault::NoPlan(PlanFault::NotToml),
-            Status::PlanRefused,
-            "dine: plan refused: 1 NotToml\n",
-        ),
-        (
-            Fault::NoPlan(PlanFault::EdgeTwice(511)),
-            Status::PlanRefused,
-            "dine: plan refused: 14 EdgeTwice at edge 511\n",
-        ),
-        (
-            Fault::OutOfMemory,
-            Status::OutOfMemory,
-            "dine: out of memory\n",
-        ),
-        (
-            Fault::ReadingFailed,
-            Status::InputOutput,
-            "dine: reading failed\n",
-        ),
-        (
-            Fault::InputTooLong,
-            Status::InputOutput,
-            "dine: input too long\n",
-        ),
-        (
-            Fault::WritingFailed,
-            Status::InputOutput,
-            "dine: writing failed\n",
-        ),
-    ];
-    for (fault, status, line) in cases {
-        let mut faults = Flushed {
-            held: Vec::new(rt.alloc()),
-            flushes: 0,
-        };
-        assert_eq!(rt; fault.end(&mut faults), status);
-        assert_eq!(rt; std::str::from_utf8(faults.held.as_slice())?, line);
-        assert_eq!(rt; faults.flushes, 1, "at {line}");
-    }
-    Ok(())
+    let alloc = rt.alloc();
+    ends(
+        &rt,
+        alloc,
+        Fault::Usage,
+        Status::Usage,
+        "dine: usage: dine [run [--table edges|sites] | replay [--choices LIST] | check]\n",
+    )?;
+    ends(
+        &rt,
+        alloc,
+        Fault::NoPlan(PlanFault::NotToml),
+        Status::PlanRefused,
+        "dine: plan refused: 1 NotToml\n",
+    )?;
+    ends(
+        &rt,
+        alloc,
+        Fault::NoPlan(PlanFault::EdgeTwice(511)),
+        Status::PlanRefused,
+        "dine: plan refused: 14 EdgeTwice at edge 511\n",
+    )?;
+    ends(
+        &rt,
+        alloc,
+        Fault::OutOfMemory,
+        Status::OutOfMemory,
+        "dine: out of memory\n",
+    )?;
+    ends(
+        &rt,
+        alloc,
+        Fault::ReadingFailed,
+        Status::InputOutput,
+        "dine: reading failed\n",
+    )?;
+    ends(
+        &rt,
+        alloc,
+        Fault::InputTooLong,
+        Status::InputOutput,
+        "dine: input too long\n",
+    )?;
+    ends(
+        &rt,
+        alloc,
+        Fault::WritingFailed,
+        Status::InputOutput,
+        "dine: writing failed\n",
+    )
+}
+
+#[test]
+fn each_fault_of_a_run_names_its_site(rt: HostRuntime) -> Result<(), Fail> {
+    let alloc = rt.alloc();
+    ends(
+        &rt,
+        alloc,
+        Fault::ThreadRefused(0),
+        Status::RunFailed,
+        "dine: run refused: thread of site 0\n",
+    )?;
+    ends(
+        &rt,
+        alloc,
+        Fault::ThreadRefused(63),
+        Status::RunFailed,
+        "dine: run refused: thread of site 63\n",
+    )?;
+    ends(
+        &rt,
+        alloc,
+        Fault::DinersDiffer,
+        Status::RunFailed,
+        "dine: run refused: diners differ\n",
+    )?;
+    ends(
+        &rt,
+        alloc,
+        Fault::RunBroken(10, SiteFault::Breach(0, Breach::ClosedEarly)),
+        Status::RunFailed,
+        "dine: run broken at site 10: Breach 6 on link 0\n",
+    )?;
+    ends(
+        &rt,
+        alloc,
+        Fault::RunBroken(7, SiteFault::Lost(4_294_967_295)),
+        Status::RunFailed,
+        "dine: run broken at site 7: Lost on link 4294967295\n",
+    )?;
+    ends(
+        &rt,
+        alloc,
+        Fault::RunBroken(1, SiteFault::NotStarted),
+        Status::RunFailed,
+        "dine: run broken at site 1: NotStarted\n",
+    )
 }

@@ -1,4 +1,4 @@
-use super::{Command, WordsFault, command_of};
+use super::{Command, Table, WordsFault, command_of};
 use std::alloc::{AllocError, Global};
 use std::process::Abort;
 use std::test::Fail;
@@ -12,12 +12,46 @@ fn words_of(alloc: Global, line: &str) -> Result<Vec<String>, AllocError> {
     Ok(words)
 }
 
+// The line is taken as a run with the table.
+fn runs<R: Abort + AllocGlobal>(rt: &R, line: &str, table: Table) -> Result<(), Fail> {
+    let words = words_of(rt.alloc(), line)?;
+    let command = command_of(rt.alloc(), words.as_slice());
+    assert_eq!(rt; command, Ok(Command::Run(table)), "at {line}");
+    Ok(())
+}
+
 // The line is taken as a replay of the choices.
 fn replays<R: Abort + AllocGlobal>(rt: &R, line: &str, wanted: &[u32]) -> Result<(), Fail> {
     let words = words_of(rt.alloc(), line)?;
     match command_of(rt.alloc(), words.as_slice()) {
         Ok(Command::Replay(choices)) => assert_eq!(rt; choices.as_slice(), wanted, "at {line}"),
         other => assert!(rt; false, "at {line}: {other:?}"),
+    }
+    Ok(())
+}
+
+#[test]
+fn run_is_the_command_where_none_is_named(rt: HostRuntime) -> Result<(), Fail> {
+    for line in [
+        "",
+        "dine",
+        "dine --",
+        "/usr/bin/eat",
+        "dine run",
+        "dine run --",
+    ] {
+        runs(&rt, line, Table::Edges)?;
+    }
+    Ok(())
+}
+
+#[test]
+fn run_takes_a_table(rt: HostRuntime) -> Result<(), Fail> {
+    for line in ["dine run --table edges", "dine run --table=edges"] {
+        runs(&rt, line, Table::Edges)?;
+    }
+    for line in ["dine run --table sites", "dine run --table=sites"] {
+        runs(&rt, line, Table::Sites)?;
     }
     Ok(())
 }
@@ -51,8 +85,6 @@ fn replay_takes_choices(rt: HostRuntime) -> Result<(), Fail> {
 #[test]
 fn other_words_are_refused(rt: HostRuntime) -> Result<(), Fail> {
     let lines = [
-        "",
-        "dine",
         "dine cups",
         "dine Replay",
         "dine repla",
@@ -92,8 +124,25 @@ fn other_words_are_refused(rt: HostRuntime) -> Result<(), Fail> {
         "dine replay --choices 1 2",
         "dine -- replay",
         "dine - replay",
-        "dine run",
-        "dine run --table edges",
+        "dine run replay",
+        "dine run x",
+        "dine run --help",
+        "dine run --table",
+        "dine run --table=",
+        "dine run --table cups",
+        "dine run --table Edges",
+        "dine run --table edge",
+        "dine run --table edges,sites",
+        "dine run --table edges sites",
+        "dine run --table edges --table sites",
+        "dine run --table edges --table edges",
+        "dine run --tables edges",
+        "dine run -t edges",
+        "dine run --choices 1",
+        "dine --table edges",
+        "dine --table edges run",
+        "dine replay --table edges",
+        "dine check --table sites",
         "dine check x",
     ];
     for line in lines {

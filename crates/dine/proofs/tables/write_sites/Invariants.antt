@@ -1,0 +1,12 @@
+use Rattle.std.proofs.Common.{◌≡◌, ◌++◌, take}
+use Rattle.std.specs.List.{flat_map}
+use Rattle.dine.specs.Records.{IsBetweenRecords, text_so_far}
+use Rattle.dine.specs.Tables.{site_record, sites_header}
+use Rattle.dine.proofs.tables.write_sites.Given as goal
+
+-- the header and the records so far
+abbrev pub invariant-loop-row : goal.invariant-loop-row
+invariant-loop-row l = record {
+  between : IsBetweenRecords l.table;
+  text : text_so_far l.table ≡ sites_header ++ flat_map (site_record l.plan) (take l.row-index l.rows);
+}

@@ -1,0 +1,22 @@
+-- The diner of a plan, as contracts see it.
+use Rattle.std.specs.Prelude.{ℕ, Bool, false, not, List, ◌∷◌, map, slice_index_or, if◌then◌else◌}
+use Rattle.dine_plan.specs.Plan.{SeenPlan, SeenJob, jobs_of}
+use Rattle.dine_run.specs.declared.diner.Call.{Call}
+
+-- the calls so far, in order, for each job of the site whether it fails, and for how many more calls there is room
+pub record SeenPlanDiner : Type 0 where
+  pub calls : List Call
+  pub marks : List Bool
+  pub room : ℕ
+
+-- whether each job of a site fails, in order
+abbrev pub fails_of : SeenPlan → ℕ → List Bool
+fails_of plan s = map (λ (job : SeenJob). job.fails) (jobs_of plan s)
+
+-- the mark of meal k, from 1: whether its job fails. A meal without a job does not fail.
+abbrev pub mark_of : List Bool → ℕ → Bool
+mark_of marks k = slice_index_or (false ∷ marks) k false
+
+-- the answer of meal k fits the marks: its job went well exactly where its mark is not set
+abbrev pub fits_marks : List Bool → ℕ → Bool → Bool
+fits_marks marks k ok = if mark_of marks k then not ok else ok

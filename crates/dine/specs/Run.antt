@@ -1,0 +1,51 @@
+-- What the command `run` writes.
+use Rattle.std.specs.Prelude.{◌≡◌, ◌<◌, ℕ, List, [], map, count_by, length, slice_get, Some}
+use Rattle.std.specs.List.{range_with_len}
+use Rattle.dine_plan.specs.Plan.{SeenPlan, SeenJob, IsPlan, site_count, job_count, jobs_of}
+use Rattle.dine_token.specs.Fork.{SeenFork}
+use Rattle.dine_run.specs.declared.gathered.SiteOut.{SiteOut}
+use Rattle.dine_run.specs.declared.site_end.SiteFault.{SiteFault}
+use Rattle.dine_run.specs.Tables.{IsGatheredOf, edge_rows, site_rows, due_edge_rows, due_site_rows}
+use Rattle.dine.specs.PlanDiners.{SeenPlanDiner, fails_of}
+use Rattle.dine.specs.Tables.{edges_table, sites_table}
+use Rattle.dine.specs.declared.words.Table.{Table}
+use Rattle.dine.specs.declared.words.Table.TheVariants.{Edges, Sites}
+use Rattle.dine.specs.declared.faults.Fault.{Fault}
+use Rattle.dine.specs.declared.faults.Fault.TheVariants as fault
+
+-- how many jobs of a site fail, and so for each site in order
+abbrev pub failing_jobs : SeenPlan → ℕ → ℕ
+failing_jobs plan s = count_by (λ (job : SeenJob). job.fails) (jobs_of plan s)
+
+abbrev pub failing_by_site : SeenPlan → List ℕ
+failing_by_site plan = map (failing_jobs plan) (range_with_len 0 (site_count plan))
+
+-- the table of a run, which the plan alone gives: for each edge the jobs of its two ends, or for each site its jobs and how
+-- many of them fail
+abbrev pub run_text : Table → SeenPlan → List ℕ
+run_text Edges plan = edges_table plan (due_edge_rows plan)
+run_text Sites plan = sites_table plan (due_site_rows plan (failing_by_site plan))
+
+-- the diner of a site before its first meal, and those of all sites in order
+abbrev pub diner_of : SeenPlan → ℕ → SeenPlanDiner
+diner_of plan s = record { calls = []; marks = fails_of plan s; room = job_count plan s }
+
+abbrev pub diners_of : SeenPlan → List SeenPlanDiner
+diners_of plan = map (diner_of plan) (range_with_len 0 (site_count plan))
+
+-- What was gathered is of the plan, and its rows are those that the plan alone gives.
+pub record HasDueRows (plan : SeenPlan) (forks : List SeenFork) (outs : List (SiteOut SeenPlanDiner)) : Type 0 where
+  pub is_plan : IsPlan plan
+  pub gathered : IsGatheredOf plan forks outs
+  pub edges : edge_rows plan forks ≡ due_edge_rows plan
+  pub sites : site_rows outs ≡ due_site_rows plan (failing_by_site plan)
+
+-- the fault tells of a run that failed at a site of the plan
+abbrev pub NamesSite : SeenPlan → Fault → Type 0
+NamesSite plan (fault.ThreadRefused site) = site < site_count plan
+NamesSite plan (fault.RunBroken site cause) = site < site_count plan
+NamesSite plan _ = ⊥
+
+-- a site ended with this fault
+abbrev pub EndedWith : ℕ → List (SiteOut SeenPlanDiner) → SiteFault → Type 0
+EndedWith site outs told = (out : SiteOut SeenPlanDiner) → slice_get outs site ≡ Some out → out.fault ≡ Some told

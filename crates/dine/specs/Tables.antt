@@ -1,0 +1,45 @@
+-- The tables of a run, as text.
+use Rattle.std.specs.Prelude.{ℕ, ◌<◌, List, [], ◌∷◌, ◌++◌, codes}
+use Rattle.std.specs.Fmt.{decimal}
+use Rattle.std.specs.List.{flat_map, join_with_byte}
+use Rattle.dine_plan.specs.Plan.{SeenPlan, site_count, edge_count, name_of}
+use Rattle.dine_run.specs.declared.tables.EdgeRow.{EdgeRow}
+use Rattle.dine_run.specs.declared.tables.SiteRow.{SiteRow}
+
+-- the fields with a comma between each two, and a line feed
+abbrev pub record_text : List (List ℕ) → List ℕ
+record_text fields = join_with_byte 44 fields ++ codes "\n"
+
+-- the numbers in a row are those of an edge and of two sites of the plan
+pub record IsEdgeRowOf (plan : SeenPlan) (row : EdgeRow) : Type 0 where
+  pub edge_in : row.edge < edge_count plan
+  pub lo_in : row.lo < site_count plan
+  pub hi_in : row.hi < site_count plan
+
+-- the number in a row is that of a site of the plan
+abbrev pub IsSiteRowOf : SeenPlan → SiteRow → Type 0
+IsSiteRowOf plan row = row.site < site_count plan
+
+-- the first record of the table of edges
+abbrev pub edges_header : List ℕ
+edges_header = record_text (codes "edge" ∷ codes "lo" ∷ codes "hi" ∷ codes "lo_meals" ∷ codes "hi_meals" ∷ [])
+
+-- the record of an edge: its number, the names of its ends, and how many meals each of them ate
+abbrev pub edge_record : SeenPlan → EdgeRow → List ℕ
+edge_record plan row = record_text (decimal row.edge ∷ name_of plan row.lo ∷ name_of plan row.hi ∷ decimal row.lo_meals ∷ decimal row.hi_meals ∷ [])
+
+-- the table of edges
+abbrev pub edges_table : SeenPlan → List EdgeRow → List ℕ
+edges_table plan rows = edges_header ++ flat_map (edge_record plan) rows
+
+-- the first record of the table of sites
+abbrev pub sites_header : List ℕ
+sites_header = record_text (codes "site" ∷ codes "meals" ∷ codes "failed" ∷ [])
+
+-- the record of a site: its name, how many meals it ate, and in how many of them its job failed
+abbrev pub site_record : SeenPlan → SiteRow → List ℕ
+site_record plan row = record_text (name_of plan row.site ∷ decimal row.meals ∷ decimal row.failed ∷ [])
+
+-- the table of sites
+abbrev pub sites_table : SeenPlan → List SiteRow → List ℕ
+sites_table plan rows = sites_header ++ flat_map (site_record plan) rows

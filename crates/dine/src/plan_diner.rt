@@ -1,0 +1,137 @@
+//! The diner that does the jobs of a site as its plan tells them.
+ghost use Rattle.std.specs.Prelude.{◌≡◌, ◌<◌, [], IfOk};
+ghost use Rattle.dine_plan.specs.Plan.{site_count, job_count};
+ghost use Rattle.dine.specs.PlanDiners.{fails_of, fits_marks, mark_of};
+
+use dine_plan::Plan;
+use dine_run::{Call, CallLog, Diner, JobFault};
+use dine_token::Meal;
+use std::alloc::{AllocError, Global};
+use std::marker::Model;
+
+#[cfg(test)]
+mod tests;
+
+// The word that the turns begin with. Turns never lead from a word other than 0 to 0.
+const FIRST_WORD: u32 = 2_463_534_242;
+
+// What is kept of a job: how many turns it takes, and whether it fails.
+#[derive(Clone, Copy)]
+struct Chore {
+    turns: u32,
+    fails: bool,
+}
+
+// What a meal without a job asks for.
+const NO_CHORE: Chore = Chore {
+    turns: 0,
+    fails: false,
+};
+
+/// The diner of one site of a plan. In meal `k`, from 1, it does job `k` of the site: it takes the job's turns, and answers
+/// `JobFault` exactly where the job fails. A meal without a job takes no turn and goes well.
+///
+/// A turn is one step of xorshift on a word of 32 bits that the diner keeps from meal to meal. Each step needs the one before
+/// it, so a compiler has no shorter way to the word, as it has for a loop that only counts. A job takes at most 1,000,000
+/// turns. All memory is taken by `open`; a meal takes none.
+#[derive(Drop)]
+pub struct PlanDiner {
+    log: CallLog,
+    chores: Vec<Chore>,
+    word: u32,
+}
+
+impl Model for PlanDiner {
+    ghost use Rattle.std.specs.Prelude.{map};
+    ghost use Rattle.dine.specs.PlanDiners.{SeenPlanDiner};
+
+    ghost Value = { SeenPlanDiner };
+
+    ghost view = { λ diner. record { calls = diner.log.calls; marks = map (λ chore. chore.fails) diner.chores.items; room = diner.log.room } };
+}
+
+impl PlanDiner {
+    /// A diner for the jobs of the site, whose number is below `sites` of the plan. It has made no call, and has room for one
+    /// call for each job, 0 to 1,000.
+    ///
+    /// It takes memory for the calls and the jobs, and answers `AllocError` where that is refused.
+    pub fn open(alloc: Global, plan: &Plan, site: u32) -> Result<PlanDiner, AllocError>
+        requires { site < site_count plan.now }
+        ensures calls { IfOk result (λ diner. diner.calls ≡ []) }
+        ensures marks { IfOk result (λ diner. diner.marks ≡ fails_of plan.now site) }
+        ensures room { IfOk result (λ diner. diner.room ≡ job_count plan.now site) }
+    {
+        let jobs = plan.jobs(site);
+        let log = CallLog::open(alloc, jobs)?;
+        let mut chores = Vec::with_capacity(alloc, jobs as usize)?;
+        for done in 0..jobs {
+            let job = plan.job(site, done + 1);
+            chores.push_reserved(Chore {
+                turns: job.turns,
+                fails: job.fails,
+            });
+        }
+        Ok(PlanDiner {
+            log,
+            chores,
+            word: FIRST_WORD,
+        })
+    }
+
+    /// All calls so far, in order.
+    pub fn calls(&self) -> &[Call]
+        ensures { result.now ≡ self.now.calls }
+    {
+        self.log.calls()
+    }
+
+    // What meal `k` asks for.
+    fn chore(&self, k: u32) -> Chore
+        ensures { result.fails ≡ mark_of self.now.marks k }
+    {
+        if k == 0 {
+            return NO_CHORE;
+        }
+        match self.chores.get((k - 1) as usize) {
+            Some(chore) => *chore,
+            None => NO_CHORE,
+        }
+    }
+}
+
+impl Diner for PlanDiner {
+    ghost calls = { λ diner. diner.calls };
+
+    ghost marks = { λ diner. diner.marks };
+
+    ghost fits = { fits_marks };
+
+    ghost room_left = { λ diner. diner.room };
+
+    fn room(&self) -> u32 {
+        self.log.room()
+    }
+
+    fn eat(&mut self, k: u32, _meal: &Meal) -> Result<(), JobFault> {
+        let chore = self.chore(k);
+        self.word = turned(self.word, chore.turns);
+        self.log.note(k, !chore.fails);
+        if chore.fails { Err(JobFault) } else { Ok(()) }
+    }
+}
+
+// The word after so many turns.
+fn turned(word: u32, turns: u32) -> u32 {
+    let mut word = word;
+    for _ in 0..turns {
+        word = turned_once(word);
+    }
+    word
+}
+
+// The word after one turn: one step of xorshift with the shifts 13, 17 and 5.
+fn turned_once(word: u32) -> u32 {
+    let word = word ^ (word << 13);
+    let word = word ^ (word >> 17);
+    word ^ (word << 5)
+}

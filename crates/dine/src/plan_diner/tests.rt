@@ -1,0 +1,84 @@
+ghost use Rattle.std.specs.Prelude.{◌≡◌, ◌+◌, ◌<◌, IfOk};
+
+use super::*;
+use dine_plan::read_plan;
+use std::process::Abort;
+use std::test::Fail;
+
+// Two sites: of the three jobs of one the middle one fails, and the only job of the other takes many turns.
+const JOBS: &str = "version = 1
+[[site]]
+name = \"a\"
+jobs = [{ name = \"x\" }, { name = \"y\", fails = true }, { name = \"z\", turns = 1 }]
+[[site]]
+name = \"b\"
+jobs = [{ name = \"x\", turns = 1000000 }]
+";
+
+// The diner of a site that has so many jobs.
+fn diner_of<R: Abort>(rt: &R, alloc: Global, site: u32, jobs: u32) -> Result<PlanDiner, Fail>
+    ensures { IfOk result (λ diner. diner.room ≡ jobs) }
+{
+    let plan = read_plan(alloc, JOBS).expect(rt, "a plan");
+    assert!(rt; site < plan.sites());
+    let diner = PlanDiner::open(alloc, &plan, site)?;
+    assert!(rt; diner.room() == jobs);
+    Ok(diner)
+}
+
+// Eats meal `k`, and says whether its job went well.
+fn eats(diner: &mut PlanDiner, alloc: Global, k: u32) -> bool
+    requires { 0 < diner.old.room }
+    ensures { diner.new.room + 1 ≡ diner.old.room }
+{
+    let meal = Meal::begin(0, k, Vec::new(alloc));
+    let answer = diner.eat(k, &meal);
+    meal.end().destroy_empty();
+    answer.is_ok()
+}
+
+#[test]
+fn middle_job_fails(rt: HostRuntime) -> Result<(), Fail> {
+    let alloc = rt.alloc();
+    let mut diner = diner_of(&rt, alloc, 0, 3)?;
+    assert_eq!(rt; diner.calls(), [].as_slice());
+    assert!(rt; eats(&mut diner, alloc, 1));
+    assert!(rt; !eats(&mut diner, alloc, 2));
+    assert!(rt; eats(&mut diner, alloc, 3));
+    assert_eq!(rt; diner.room(), 0);
+    assert_eq!(rt;
+        diner.calls(),
+        [
+            Call { k: 1, ok: true },
+            Call { k: 2, ok: false },
+            Call { k: 3, ok: true },
+        ]
+        .as_slice()
+    );
+    Ok(())
+}
+
+#[test]
+fn meal_without_a_job_goes_well(rt: HostRuntime) -> Result<(), Fail> {
+    let mut diner = diner_of(&rt, rt.alloc(), 0, 3)?;
+    assert!(rt; eats(&mut diner, rt.alloc(), 0));
+    assert!(rt; eats(&mut diner, rt.alloc(), 4));
+    Ok(())
+}
+
+#[test]
+fn turns_change_the_word(rt: HostRuntime) -> Result<(), Fail> {
+    let mut diner = diner_of(&rt, rt.alloc(), 1, 1)?;
+    assert!(rt; eats(&mut diner, rt.alloc(), 1));
+    assert_ne!(rt; diner.word, FIRST_WORD);
+    Ok(())
+}
+
+// The first words of xorshift with these shifts, as its tables have them.
+#[test]
+fn turns_are_steps_of_xorshift(rt: HostRuntime) {
+    assert_eq!(rt; turned(FIRST_WORD, 0), FIRST_WORD);
+    assert_eq!(rt; turned(FIRST_WORD, 1), 723_471_715);
+    assert_eq!(rt; turned(FIRST_WORD, 2), 2_497_366_906);
+    assert_eq!(rt; turned(FIRST_WORD, 3), 2_064_144_800);
+}

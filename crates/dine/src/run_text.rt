@@ -1,0 +1,87 @@
+//! The command `run`.
+ghost use Rattle.std.specs.Prelude.{◌≡◌, ◌≢◌, IfErr, IfOk};
+ghost use Rattle.dine_plan.specs.Plan.{IsPlan};
+ghost use Rattle.dine_run.specs.Gathered.{IsLowestFault};
+ghost use Rattle.dine.specs.Run.{EndedWith, HasDueRows, NamesSite, diners_of, run_text};
+
+use crate::faults::Fault;
+use crate::plan_diner::PlanDiner;
+use crate::tables::{write_edges, write_sites};
+use crate::words::Table;
+use dine_link::ChannelLane;
+use dine_plan::Plan;
+use dine_run::{Gathered, RunFault, SiteFault, SiteOut, edge_table, run, site_table};
+use std::alloc::{AllocError, Global};
+use std::sync::Wait;
+use std::thread::Threads;
+
+/// The table of a run of the plan: every site does its jobs on a thread of its own, over links that are channels. It may wait.
+///
+/// Fails where memory or a thread is refused, and where a site ended with a fault, which names the lowest such site. All
+/// threads that were started have ended then.
+pub fn run_text<H: Threads + Wait + Copy + Send + 'static>(
+    rt: &H,
+    alloc: Global,
+    plan: &Plan,
+    table: Table,
+) -> Result<Vec<u8>, Fault>
+    ensures text { IfOk result (λ text. text.items ≡ run_text table plan.now) }
+    ensures fault { result ≢ Err Fault.OutOfMemory → IfErr result (NamesSite plan.now) }
+{
+    let diners = open_diners(alloc, plan)?;
+    match run::<ChannelLane, PlanDiner, H>(rt, alloc, plan, diners) {
+        Ok(gathered) => Ok(table_text(alloc, plan, &gathered, table)?),
+        Err(RunFault::DinersDiffer { .. }) => Err(Fault::DinersDiffer),
+        Err(RunFault::Memory) => Err(Fault::OutOfMemory),
+        Err(RunFault::Thread(site)) => Err(Fault::ThreadRefused(site)),
+        Err(RunFault::Broken { site, joined }) => {
+            let cause = fault_at(joined.sites.as_slice(), site);
+            Err(Fault::RunBroken(site, cause))
+        }
+    }
+}
+
+// A diner for each site, in order.
+fn open_diners(alloc: Global, plan: &Plan) -> Result<Vec<PlanDiner>, AllocError>
+    ensures plan { IsPlan plan.now }
+    ensures diners { IfOk result (λ diners. diners.items ≡ diners_of plan.now) }
+{
+    let mut diners = Vec::with_capacity(alloc, plan.sites() as usize)?;
+    for site in 0..plan.sites() {
+        diners.push_reserved(PlanDiner::open(alloc, plan, site)?);
+    }
+    Ok(diners)
+}
+
+// The table of what a run gathered.
+fn table_text(
+    alloc: Global,
+    plan: &Plan,
+    gathered: &Gathered<PlanDiner>,
+    table: Table,
+) -> Result<Vec<u8>, AllocError>
+    requires { HasDueRows plan.now gathered.now.forks.items gathered.now.sites.items }
+    ensures { IfOk result (λ text. text.items ≡ run_text table plan.now) }
+{
+    match table {
+        Table::Edges => {
+            let rows = edge_table(alloc, plan, gathered)?;
+            write_edges(alloc, plan, rows.as_slice())
+        }
+        Table::Sites => {
+            let rows = site_table(alloc, plan, gathered)?;
+            write_sites(alloc, plan, rows.as_slice())
+        }
+    }
+}
+
+// The fault with which the lowest site that has one ended.
+fn fault_at(outs: &[SiteOut<PlanDiner>], site: u32) -> SiteFault
+    requires { IsLowestFault site outs.now }
+    ensures { EndedWith site outs.now result }
+{
+    match outs[site as usize].fault {
+        Some(fault) => fault,
+        None => unreachable!(),
+    }
+}

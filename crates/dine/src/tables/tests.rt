@@ -1,0 +1,99 @@
+ghost use Rattle.std.specs.Prelude.{◌≡◌, IfOk};
+ghost use Rattle.dine_plan.specs.Plan.{edge_count, site_count};
+
+use super::*;
+use dine_plan::read_plan;
+use std::process::Abort;
+use std::test::Fail;
+
+// A path of three sites. The name of the middle one has each kind of byte that a name may have.
+const PATH: &str = "version = 1
+[[site]]
+name = \"a\"
+[[site]]
+name = \"B-2_\"
+[[site]]
+name = \"c\"
+[[edge]]
+ends = [\"a\", \"B-2_\"]
+[[edge]]
+ends = [\"B-2_\", \"c\"]
+";
+
+fn path<R: Abort>(rt: &R, alloc: Global) -> Plan
+    ensures sites { site_count result ≡ 3 }
+    ensures edges { edge_count result ≡ 2 }
+{
+    let plan = read_plan(alloc, PATH).expect(rt, "a plan");
+    assert!(rt; plan.sites() == 3);
+    assert!(rt; plan.edges() == 2);
+    plan
+}
+
+#[test]
+fn edges_are_told_by_the_names_of_their_ends(rt: HostRuntime) -> Result<(), Fail> {
+    let plan = path(&rt, rt.alloc());
+    let rows = [
+        EdgeRow {
+            edge: 0,
+            lo: 0,
+            hi: 1,
+            lo_meals: 0,
+            hi_meals: 1000,
+        },
+        EdgeRow {
+            edge: 1,
+            lo: 1,
+            hi: 2,
+            lo_meals: 12,
+            hi_meals: 4_294_967_295,
+        },
+    ];
+    let table = write_edges(rt.alloc(), &plan, &rows)?;
+    assert_eq!(rt;
+        table.as_slice(),
+        b"edge,lo,hi,lo_meals,hi_meals\n0,a,B-2_,0,1000\n1,B-2_,c,12,4294967295\n".as_slice()
+    );
+    Ok(())
+}
+
+#[test]
+fn sites_are_told_by_name(rt: HostRuntime) -> Result<(), Fail> {
+    let plan = path(&rt, rt.alloc());
+    let rows = [
+        SiteRow {
+            site: 0,
+            meals: 3,
+            failed: 1,
+        },
+        SiteRow {
+            site: 1,
+            meals: 1000,
+            failed: 0,
+        },
+        SiteRow {
+            site: 2,
+            meals: 0,
+            failed: 0,
+        },
+    ];
+    let table = write_sites(rt.alloc(), &plan, &rows)?;
+    assert_eq!(rt;
+        table.as_slice(),
+        b"site,meals,failed\na,3,1\nB-2_,1000,0\nc,0,0\n".as_slice()
+    );
+    Ok(())
+}
+
+#[test]
+fn tables_without_rows_are_their_headers(rt: HostRuntime) -> Result<(), Fail> {
+    let plan = path(&rt, rt.alloc());
+    let edges = write_edges(rt.alloc(), &plan, &[])?;
+    assert_eq!(rt;
+        edges.as_slice(),
+        b"edge,lo,hi,lo_meals,hi_meals\n".as_slice()
+    );
+    let sites = write_sites(rt.alloc(), &plan, &[])?;
+    assert_eq!(rt; sites.as_slice(), b"site,meals,failed\n".as_slice());
+    Ok(())
+}
