@@ -1,0 +1,34 @@
+-- How many units each teller sent, from what the run promises of its calls.
+use Rattle.std.proofs.Common.{◌≡◌, ℕ, zero, suc, ◌+◌, ◌<◌, ◌++◌, List, [], ◌∷◌, Bool, Some, length, slice_get, refl, sym, ap, ◌∙◌, arith}
+use Rattle.std.proofs.lemmas.List.{length-map}
+use Rattle.std.proofs.lemmas.Option.{slice_get_within}
+use Rattle.dine_token.specs.Lawful.{count_from}
+use Rattle.dine_plan.specs.Plan.{SeenPlan}
+use Rattle.dine_run.specs.CallLogs.{SeenCallLog}
+use Rattle.dine_run.specs.Diners.{HasEaten}
+use Rattle.dine_run.specs.Gathered.{AreFinishedOuts, AreOutsOf}
+use Rattle.dine_run.specs.declared.diner.Call.{Call}
+use Rattle.dine_run.specs.declared.gathered.SiteOut.{SiteOut}
+use Rattle.dine_example.specs.Tellers.{AreFresh, HaveSent}
+use Rattle.dine_example.specs.declared.teller.Teller.{Teller}
+
+there_is : {A : Type 0} (xs : List A) (i : ℕ) → i < length xs → (x : A) × (slice_get xs i ≡ Some x)
+there_is [] i h = absurd (omega (arith, h))
+there_is (x ∷ xs) zero h = (x, refl)
+there_is (x ∷ xs) (suc i) h = there_is xs i (omega (arith, h))
+
+length-count_from : (n first : ℕ) → length (count_from first n) ≡ n
+length-count_from zero first = refl
+length-count_from (suc n) first = ap suc (length-count_from n (first + 1))
+
+-- as many calls as meals, where there were none before
+calls_for : (calls : Teller → List Call) (marks : Teller → List Bool) (fits : List Bool → ℕ → Bool → Bool) (ate failed : ℕ) (old new : Teller) → calls old ≡ [] → HasEaten calls marks fits ate failed old new → length (calls new) ≡ ate
+calls_for calls marks fits ate failed old new none eaten =
+    ap length (eaten.called ∙ ap (λ (before : List Call). before ++ eaten.added) none) ∙ sym (length-map eaten.added (λ (call : Call). call.k)) ∙ ap length eaten.in_order ∙ length-count_from ate 1
+
+pub have_sent : (marks : Teller → List Bool) (fits : List Bool → ℕ → Bool → Bool) (plan : SeenPlan) (given : List Teller) (outs : List (SiteOut Teller)) → AreFresh plan given → AreOutsOf (λ (teller : Teller). teller.log.calls) marks fits plan given outs → AreFinishedOuts plan outs → HaveSent plan outs
+have_sent marks fits plan given outs fresh out_of finished s out at =
+    let within : s < length given = omega (arith, slice_get_within outs s out at, out_of.count, fresh.count) in
+    let old = there_is given s within in
+    let none = ap (λ (log : SeenCallLog). log.calls) (fresh.each s old.0 old.1) in
+    out.diner.one_each ∙ calls_for (λ (teller : Teller). teller.log.calls) marks fits out.ate out.failed old.0 out.diner none (out_of.each s old.0 out old.1 at).eaten ∙ (finished s out at).ate_all
