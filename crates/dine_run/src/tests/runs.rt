@@ -43,26 +43,26 @@ fn runs_once<R: Threads + Wait + Abort + Copy + Send + 'static>(
 #[test]
 fn rings_eat_all_their_meals(rt: HostRuntime) -> Result<(), Fail> {
     let alloc = rt.alloc();
-    runs_once(&rt, alloc, ring(alloc, 5, 100), 0)?;
-    runs_once(&rt, alloc, ring(alloc, 64, 10), 0)
+    runs_once(&rt, alloc, ring(alloc, 5, 1000), 0)?;
+    runs_once(&rt, alloc, ring(alloc, 64, 1000), 0)
 }
 
 #[test]
 fn stars_eat_all_their_meals(rt: HostRuntime) -> Result<(), Fail> {
     let alloc = rt.alloc();
-    runs_once(&rt, alloc, star(alloc, 64, 10), 0)
+    runs_once(&rt, alloc, star(alloc, 64, 1000), 0)
 }
 
 #[test]
 fn sites_that_are_all_neighbours_eat_all_their_meals(rt: HostRuntime) -> Result<(), Fail> {
     let alloc = rt.alloc();
-    runs_once(&rt, alloc, complete(alloc, 10), 0)
+    runs_once(&rt, alloc, complete(alloc, 1000), 0)
 }
 
 #[test]
 fn grids_eat_all_their_meals(rt: HostRuntime) -> Result<(), Fail> {
     let alloc = rt.alloc();
-    runs_once(&rt, alloc, grid(alloc, 10), 7)
+    runs_once(&rt, alloc, grid(alloc, 1000), 7)
 }
 
 #[test]
