@@ -11,6 +11,8 @@ use std::sync::Wait;
 use std::test::Fail;
 use std::thread::Threads;
 
+mod random;
+
 const USAGE: &str =
     "dine: usage: dine [run [--table edges|sites] | replay [--choices LIST] | check]\n";
 
