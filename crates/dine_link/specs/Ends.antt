@@ -4,8 +4,9 @@ use mathlib.Core.List.{IsPrefix}
 use Rattle.crossbeam_channel.specs.Claims.{view}
 use Rattle.dine_rules.specs.declared.letters.Letter.{Letter}
 use Rattle.dine_rules.specs.Streams.{is_close_last}
+use Rattle.rtrb.specs.Ring.{sent, received}
 use Rattle.dine_link.specs.declared.link_end.BothEnds.{BothEnds}
-use Rattle.dine_link.specs.declared.link_end.BothEnds.TheVariants.{Channel}
+use Rattle.dine_link.specs.declared.link_end.BothEnds.TheVariants.{Channel, Ring}
 use Rattle.dine_link.specs.declared.link_end.LinkEnd.TheInside.{Inside}
 use Rattle.dine_link.specs.Closing.{ends_in_close}
 use Rattle.dine_link.specs.Links.{SeenLink}
@@ -13,9 +14,11 @@ use Rattle.dine_link.specs.Links.{SeenLink}
 -- all that was put, and all that was taken
 abbrev pub put_in : BothEnds → List Letter
 put_in (Channel ends) = (view ends.pass).put
+put_in (Ring ends) = sent ends.producer
 
 abbrev pub taken_from : BothEnds → List Letter
 taken_from (Channel ends) = (view ends.pass).taken
+taken_from (Ring ends) = received ends.consumer
 
 -- what the fields of a LinkEnd stand for
 abbrev pub seen_link : Inside → SeenLink

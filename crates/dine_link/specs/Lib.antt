@@ -7,3 +7,4 @@ pub mod Ends
 pub mod BellRule
 pub mod Bells
 pub mod BellFields
+pub mod Rings

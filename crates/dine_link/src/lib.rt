@@ -8,6 +8,8 @@ mod closing;
 mod faults;
 mod lane;
 mod link_end;
+mod pausing;
+mod ring;
 mod rule;
 #[cfg(test)]
 mod tests;
@@ -18,3 +20,4 @@ pub use channel::{ChannelClosedTx, ChannelLane, ChannelRx, ChannelTx};
 pub use faults::{LinkFault, Lost};
 pub use lane::{Lane, TxEnd};
 pub use link_end::LinkEnd;
+pub use ring::{RingClosedTx, RingLane, RingRx, RingTx};

@@ -6,12 +6,14 @@ ghost use Rattle.dine_link.specs.Links.{SeenLink, IsLink};
 ghost use mathlib.Core.List.{IsPrefix};
 
 use crate::channel::ChannelEnds;
+use crate::ring::RingEnds;
 use std::marker::Model;
 
 // The two ends of a link, of whichever lane. Their passes and all letters that were not taken are in them.
 #[derive(Drop)]
 pub enum BothEnds {
     Channel(ChannelEnds),
+    Ring(RingEnds),
 }
 
 /// Both ends of a link after its use, of any lane. Only [`crate::Lane::reconcile`] makes one. It keeps the ends, so

@@ -1,0 +1,7 @@
+use Rattle.std.proofs.Common.{ap, ◌∙◌}
+use Rattle.rtrb.specs.Ring.{sent}
+use Rattle.dine_link.proofs.Endings.{has_close-added}
+use Rattle.dine_link.proofs.ring.RingLaneLane.put.Goals as goal
+
+pub invariant_of-tx : goal.invariant_of-tx
+invariant_of-tx g c = record { unclosed = rw (ap (λ end. end.letters) c.push.ensures) (has_close-added (sent c.args.tx.now.pushing.producer) c.args.letter c.args.tx.now.unclosed ∙ c.requires.letter) }

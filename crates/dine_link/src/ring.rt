@@ -1,0 +1,215 @@
+// Links over rings.
+ghost use Rattle.std.specs.Prelude.{◌≡◌, ◌<◌, ◌^◌, true, false, length, IfOk, IsOk};
+ghost use Rattle.rtrb.specs.Ring.{sent, received};
+ghost use Rattle.dine_rules.specs.declared.letters.Letter.TheVariants.{Close};
+ghost use Rattle.dine_rules.specs.Letters.{has_close};
+ghost use Rattle.dine_rules.specs.Streams.{is_close_last};
+ghost use Rattle.dine_link.specs.Closing.{is_close, ends_in_close};
+
+use crate::closing::is_close;
+use crate::faults::{LinkFault, Lost};
+use crate::lane::{Lane, TxEnd};
+use crate::link_end::{BothEnds, LinkEnd};
+use crate::pausing::Pauses;
+use dine_rules::Letter;
+use rtrb::{Consumer, Producer, PushError, RingBuffer};
+use std::alloc::Global;
+use std::sync::Wait;
+
+// How many letters a link holds that were put and not yet taken.
+const CAPACITY: usize = 4;
+
+// The end of a ring that letters are put in.
+#[derive(Drop)]
+pub struct Pushing {
+    edge: u32,
+    from: u32,
+    put: u64,
+    producer: Producer<Letter>,
+    pub ghost counted: { put ≡ length (sent producer) },
+}
+
+/// The end of a link over a ring that letters are put in.
+#[derive(Drop)]
+pub struct RingTx {
+    pushing: Pushing,
+    pub ghost unclosed: { has_close (sent pushing.producer) ≡ false },
+}
+
+/// That end after Close was put.
+#[derive(Drop)]
+pub struct RingClosedTx {
+    pushing: Pushing,
+    pub ghost ended: { ends_in_close (sent pushing.producer) ≡ true },
+    pub ghost close_last: { is_close_last (sent pushing.producer) ≡ true },
+}
+
+/// The end of a link over a ring that letters are taken from.
+#[derive(Drop)]
+pub struct RingRx {
+    edge: u32,
+    from: u32,
+    taken: u64,
+    closed: bool,
+    consumer: Consumer<Letter>,
+    pub ghost counted: { taken ≡ length (received consumer) },
+    pub ghost told: { closed ≡ has_close (received consumer) },
+}
+
+// Both ends of a ring.
+#[derive(Drop)]
+pub struct RingEnds {
+    producer: Producer<Letter>,
+    consumer: Consumer<Letter>,
+}
+
+impl Pushing {
+    ghost use Rattle.dine_link.specs.Rings.{seen_pushing, seen_rx};
+    ghost use Rattle.dine_link.specs.Links.{IsLink, with_letter, link_of};
+
+    // Puts the letter last. It waits while the ring is full.
+    fn push<R: Wait>(&mut self, rt: &R, letter: Letter)
+        requires room { length (seen_pushing self.old).letters < 2 ^ 61 }
+        ensures { seen_pushing self.new ≡ with_letter letter (seen_pushing self.old) }
+    {
+        let mut letter = letter;
+        let mut pauses = Pauses::new();
+        for _ in rt.forever() {
+            match self.producer.push(letter) {
+                Ok(()) => {
+                    self.put += 1;
+                    return;
+                }
+                Err(PushError::Full(back)) => letter = back,
+            }
+            pauses.pause(rt);
+        }
+        unreachable!()
+    }
+
+    // Brings both ends together.
+    fn join(self, rx: RingRx, shut: bool) -> LinkEnd
+        requires pair { (seen_rx rx).link ≡ (seen_pushing self).link }
+        requires shut { shut ≡ ends_in_close (seen_pushing self).letters }
+        requires close_last { is_close_last (seen_pushing self).letters ≡ true }
+        ensures lists { result ≡ link_of (seen_pushing self) (seen_rx rx) }
+        ensures prefix { IsLink result }
+        ensures whole { has_close (seen_rx rx).letters ≡ true → result.taken ≡ result.put }
+        ensures close_last { is_close_last result.put ≡ true }
+    {
+        let Pushing {
+            edge,
+            from,
+            put,
+            mut producer,
+        } = self;
+        let RingRx {
+            edge: _,
+            from: _,
+            taken,
+            closed: _,
+            mut consumer,
+        } = rx;
+        consumer.slots_beside(&mut producer);
+        let ends = RingEnds { producer, consumer };
+        LinkEnd::keep(edge, from, put, taken, shut, BothEnds::Ring(ends))
+    }
+}
+
+/// Links over rings. No step is ever refused.
+pub struct RingLane;
+
+impl Lane for RingLane {
+    type Tx = RingTx;
+
+    type ClosedTx = RingClosedTx;
+
+    type Rx = RingRx;
+
+    ghost use Rattle.dine_link.specs.Rings as rings;
+    ghost use Rattle.dine_link.specs.Lanes.{seen_end};
+    ghost use Rattle.dine_link.specs.Links.{IsLink, with_letter, link_of};
+
+    ghost Identity = { rings.Ring };
+
+    ghost seen_tx = { rings.seen_tx };
+
+    ghost seen_closed = { rings.seen_closed };
+
+    ghost seen_rx = { rings.seen_rx };
+
+    fn pair(alloc: Global, edge: u32, from: u32) -> Result<(RingTx, RingRx), LinkFault> {
+        let Ok((producer, consumer)) = RingBuffer::new(alloc, CAPACITY) else {
+            return Err(LinkFault::Memory);
+        };
+        let tx = Pushing {
+            edge,
+            from,
+            put: 0,
+            producer,
+        };
+        let rx = RingRx {
+            edge,
+            from,
+            taken: 0,
+            closed: false,
+            consumer,
+        };
+        Ok((RingTx { pushing: tx }, rx))
+    }
+
+    fn put<R: Wait>(rt: &R, tx: &mut RingTx, letter: Letter) -> Result<(), (Letter, Lost)>
+        requires letter { is_close letter ≡ false }
+        requires room { length (rings.seen_tx tx.old).letters < 2 ^ 61 }
+        ensures put { rings.seen_tx tx.new ≡ with_letter letter (rings.seen_tx tx.old) }
+        ensures never_lost { IsOk result }
+    {
+        tx.pushing.push(rt, letter);
+        Ok(())
+    }
+
+    fn close<R: Wait>(rt: &R, tx: RingTx) -> Result<RingClosedTx, (RingTx, Lost)>
+        requires room { length (rings.seen_tx tx).letters < 2 ^ 61 }
+        ensures closed { IfOk result (λ closed. rings.seen_closed closed ≡ with_letter Close (rings.seen_tx tx)) }
+        ensures never_lost { IsOk result }
+    {
+        let RingTx { mut pushing } = tx;
+        pushing.push(rt, Letter::Close);
+        Ok(RingClosedTx { pushing })
+    }
+
+    fn take<R: Wait>(rt: &R, rx: &mut RingRx) -> Result<Letter, Lost>
+        requires open { has_close (rings.seen_rx rx.old).letters ≡ false }
+        requires room { length (rings.seen_rx rx.old).letters < 2 ^ 61 }
+        ensures taken { IfOk result (λ letter. rings.seen_rx rx.new ≡ with_letter letter (rings.seen_rx rx.old)) }
+        ensures never_lost { IsOk result }
+    {
+        let mut pauses = Pauses::new();
+        for _ in rt.forever() {
+            if let Ok(letter) = rx.consumer.pop() {
+                rx.taken += 1;
+                rx.closed = is_close(&letter);
+                return Ok(letter);
+            }
+            pauses.pause(rt);
+        }
+        unreachable!()
+    }
+
+    fn is_closed(rx: &RingRx) -> bool {
+        rx.closed
+    }
+
+    fn reconcile(tx: TxEnd<RingLane>, rx: RingRx) -> LinkEnd
+        requires pair { (rings.seen_rx rx).link ≡ (seen_end rings.seen_tx rings.seen_closed tx).link }
+        ensures lists { result ≡ link_of (seen_end rings.seen_tx rings.seen_closed tx) (rings.seen_rx rx) }
+        ensures prefix { IsLink result }
+        ensures whole { has_close (rings.seen_rx rx).letters ≡ true → result.taken ≡ result.put }
+        ensures close_last { is_close_last result.put ≡ true }
+    {
+        match tx {
+            TxEnd::Live(RingTx { pushing }) => pushing.join(rx, false),
+            TxEnd::Shut(RingClosedTx { pushing }) => pushing.join(rx, true),
+        }
+    }
+}
