@@ -12,6 +12,7 @@ use std::alloc::{AllocError, Global};
 use std::process::Abort;
 use std::sync::Wait;
 use std::test::Fail;
+use std::thread::Threads;
 
 // Done and Close go over a link in this order, and then its ends are brought together.
 fn done_and_close<L: Lane, R: Wait + Abort>(rt: &R, alloc: Global) -> Result<(), LinkFault> {
@@ -39,8 +40,9 @@ fn done_and_close<L: Lane, R: Wait + Abort>(rt: &R, alloc: Global) -> Result<(),
 }
 
 #[test]
-fn done_and_close_go_over_a_channel(rt: HostRuntime) -> Result<(), Fail> {
+fn done_and_close_go_over_a_link(rt: HostRuntime) -> Result<(), Fail> {
     done_and_close::<ChannelLane, HostRuntime>(&rt, rt.alloc())?;
+    done_and_close::<RingLane, HostRuntime>(&rt, rt.alloc())?;
     Ok(())
 }
 
@@ -55,10 +57,17 @@ fn requests(alloc: Global, count: u32) -> Result<Vec<Letter>, AllocError>
     Ok(letters)
 }
 
-#[test]
-fn two_threads_pass_requests_in_order(rt: HostRuntime) -> Result<(), Fail> {
-    let letters = requests(rt.alloc(), 2000)?;
-    let (end, taken) = exchange::<ChannelLane, HostRuntime>(rt, rt.alloc(), letters, false, 2000)?;
+// 2,000 Requests from one thread to another come as they were put, over links of a lane.
+fn pass_requests<L, R>(rt: R, alloc: Global) -> Result<(), Fail>
+where
+    R: Threads + Wait + Abort + Copy + Send + 'static,
+    L: Lane + 'static,
+    L::Tx: 'static,
+    L::ClosedTx: 'static,
+    L::Rx: 'static,
+{
+    let letters = requests(alloc, 2000)?;
+    let (end, taken) = exchange::<L, R>(rt, alloc, letters, false, 2000)?;
     assert_eq!(rt; taken.len(), 2000);
     for (edge, letter) in (0..2000).zip(taken) {
         let Letter::Request(token) = letter else {
@@ -67,6 +76,13 @@ fn two_threads_pass_requests_in_order(rt: HostRuntime) -> Result<(), Fail> {
         assert_eq!(rt; token.edge(), edge);
     }
     assert_eq!(rt; (end.put(), end.taken(), end.shut()), (2000, 2000, false));
+    Ok(())
+}
+
+#[test]
+fn two_threads_pass_requests_in_order(rt: HostRuntime) -> Result<(), Fail> {
+    pass_requests::<ChannelLane, HostRuntime>(rt, rt.alloc())?;
+    pass_requests::<RingLane, HostRuntime>(rt, rt.alloc())?;
     Ok(())
 }
 
@@ -97,10 +113,17 @@ fn sent_forks(alloc: Global, count: u32) -> Result<Vec<Letter>, AllocError>
     Ok(letters)
 }
 
-#[test]
-fn two_threads_pass_forks_with_their_logs(rt: HostRuntime) -> Result<(), Fail> {
-    let letters = sent_forks(rt.alloc(), 200)?;
-    let (end, taken) = exchange::<ChannelLane, HostRuntime>(rt, rt.alloc(), letters, false, 200)?;
+// 200 forks from one thread to another come with their logs, over links of a lane.
+fn pass_forks<L, R>(rt: R, alloc: Global) -> Result<(), Fail>
+where
+    R: Threads + Wait + Abort + Copy + Send + 'static,
+    L: Lane + 'static,
+    L::Tx: 'static,
+    L::ClosedTx: 'static,
+    L::Rx: 'static,
+{
+    let letters = sent_forks(alloc, 200)?;
+    let (end, taken) = exchange::<L, R>(rt, alloc, letters, false, 200)?;
     assert_eq!(rt; taken.len(), 200);
     for (edge, letter) in (0..200).zip(taken) {
         let Letter::Fork(fork) = letter else {
@@ -114,24 +137,38 @@ fn two_threads_pass_forks_with_their_logs(rt: HostRuntime) -> Result<(), Fail> {
 }
 
 #[test]
-fn two_threads_close_a_link(rt: HostRuntime) -> Result<(), Fail> {
-    let letters = requests(rt.alloc(), 20)?;
-    let (end, taken) = exchange::<ChannelLane, HostRuntime>(rt, rt.alloc(), letters, true, 21)?;
-    let last = taken.last().map(|letter| letter.kind());
-    assert_eq!(rt; last, Some(Kind4::Close));
-    assert_eq!(rt; (end.put(), end.taken(), end.shut()), (21, 21, true));
+fn two_threads_pass_forks_with_their_logs(rt: HostRuntime) -> Result<(), Fail> {
+    pass_forks::<ChannelLane, HostRuntime>(rt, rt.alloc())?;
+    pass_forks::<RingLane, HostRuntime>(rt, rt.alloc())?;
     Ok(())
 }
 
-// What is left in a link is dropped with its LinkEnd, and counts as put alone.
-#[test]
-fn letters_left_are_not_taken(rt: HostRuntime) -> Result<(), Fail> {
-    let letters = requests(rt.alloc(), 3)?;
-    let (end, taken) = exchange::<ChannelLane, HostRuntime>(rt, rt.alloc(), letters, false, 1)?;
+// 20 Requests and Close, all taken; and three Requests, of which one is taken. What is left in a link is dropped with its
+// LinkEnd, and counts as put alone.
+fn close_and_leave<L, R>(rt: R, alloc: Global) -> Result<(), Fail>
+where
+    R: Threads + Wait + Abort + Copy + Send + 'static,
+    L: Lane + 'static,
+    L::Tx: 'static,
+    L::ClosedTx: 'static,
+    L::Rx: 'static,
+{
+    let (end, taken) = exchange::<L, R>(rt, alloc, requests(alloc, 20)?, true, 21)?;
+    let last = taken.last().map(|letter| letter.kind());
+    assert_eq!(rt; last, Some(Kind4::Close));
+    assert_eq!(rt; (end.put(), end.taken(), end.shut()), (21, 21, true));
+    let (end, taken) = exchange::<L, R>(rt, alloc, requests(alloc, 3)?, false, 1)?;
     assert_eq!(rt;
         (taken.len(), end.put(), end.taken(), end.shut()),
         (1, 3, 1, false)
     );
+    Ok(())
+}
+
+#[test]
+fn two_threads_close_a_link_or_leave_letters(rt: HostRuntime) -> Result<(), Fail> {
+    close_and_leave::<ChannelLane, HostRuntime>(rt, rt.alloc())?;
+    close_and_leave::<RingLane, HostRuntime>(rt, rt.alloc())?;
     Ok(())
 }
 

@@ -1,14 +1,16 @@
 // A full link makes the one who puts wait.
 ghost use Rattle.std.specs.Prelude.{◌≡◌, []};
-ghost use Rattle.dine_link.specs.Channels as channels;
 
-use crate::{ChannelLane, ChannelTx, Lane};
+use crate::{ChannelLane, Lane, RingLane};
 use dine_rules::Letter;
 use dine_token::Token;
+use std::alloc::Global;
+use std::process::Abort;
 use std::sync::atomic::{AtomicU64, Ordering};
 use std::sync::{Arc, Wait};
 use std::test::Fail;
 use std::thread;
+use std::thread::Threads;
 
 // Puts five letters, and counts each that was put.
 fn put_five<L: Lane, R: Wait>(rt: &R, mut tx: L::Tx, count: &AtomicU64) -> L::Tx
@@ -22,16 +24,22 @@ fn put_five<L: Lane, R: Wait>(rt: &R, mut tx: L::Tx, count: &AtomicU64) -> L::Tx
     tx
 }
 
-#[test]
-fn fifth_letter_waits_until_one_is_taken(rt: HostRuntime) -> Result<(), Fail> {
-    let (tx, mut rx) = ChannelLane::pair(rt.alloc(), 0, 0)?;
-    let count = Arc::new(rt.alloc(), AtomicU64::new(0))?;
+// Over a link of a lane the fifth letter waits until one is taken.
+fn fifth_waits<L, R>(rt: R, alloc: Global) -> Result<(), Fail>
+where
+    R: Threads + Wait + Abort + Copy + Send + 'static,
+    L: Lane + 'static,
+    L::Tx: 'static,
+    L::Rx: 'static,
+{
+    let (tx, mut rx) = L::pair(alloc, 0, 0)?;
+    let count = Arc::new(alloc, AtomicU64::new(0))?;
     let theirs = Arc::try_clone(&count)?;
     let child = thread::spawn(
         &rt,
-        move || -> ChannelTx
-            requires { (channels.seen_tx tx).letters ≡ [] }
-        { put_five::<ChannelLane, HostRuntime>(&rt, tx, &theirs) },
+        move || -> L::Tx
+            requires { (L.seen_tx tx).letters ≡ [] }
+        { put_five::<L, R>(&rt, tx, &theirs) },
     )?;
     for _ in rt.forever() {
         if count.load(Ordering::SeqCst) == 4 {
@@ -43,8 +51,15 @@ fn fifth_letter_waits_until_one_is_taken(rt: HostRuntime) -> Result<(), Fail> {
         thread::yield_now();
     }
     assert_eq!(rt; count.load(Ordering::SeqCst), 4);
-    assert!(rt; ChannelLane::take(&rt, &mut rx).is_ok());
+    assert!(rt; L::take(&rt, &mut rx).is_ok());
     child.join(&rt);
     assert_eq!(rt; count.load(Ordering::SeqCst), 5);
+    Ok(())
+}
+
+#[test]
+fn fifth_letter_waits_until_one_is_taken(rt: HostRuntime) -> Result<(), Fail> {
+    fifth_waits::<ChannelLane, HostRuntime>(rt, rt.alloc())?;
+    fifth_waits::<RingLane, HostRuntime>(rt, rt.alloc())?;
     Ok(())
 }
