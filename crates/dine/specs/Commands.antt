@@ -14,11 +14,12 @@ use Rattle.dine.specs.PlanBytes.{IsPlanBytes, fault_of_bytes}
 use Rattle.dine.specs.Replay.{replay_text}
 use Rattle.dine.specs.Run.{NamesSite, run_text}
 use Rattle.dine.specs.Words.{Asked, Runs, Replays, Checks}
+use Rattle.dine.specs.declared.words.Links.{Links}
 use Rattle.dine.specs.declared.words.Table.{Table}
 
--- the text that is made of a plan, by what is asked for
+-- the text that is made of a plan, by what is asked for; that of a run is the same over links of any kind
 abbrev pub text_of : Asked → SeenPlan → List ℕ
-text_of (Runs table) = run_text table
+text_of (Runs table links) = run_text table
 text_of (Replays choices) = replay_text choices
 text_of Checks = check_text
 
@@ -59,13 +60,15 @@ TellsCause told left = (cause : PlanFault) → told ≡ fault.NoPlan cause → I
 -- a run was asked for, and the fault tells at which site of the plan it failed
 pub record FailsRun (asked : Asked) (plan : SeenPlan) (told : Fault) : Type 0 where
   pub table : Table
-  pub asks : asked ≡ Runs table
+  pub links : Links
+  pub asks : asked ≡ Runs table links
   pub names : NamesSite plan told
 
 -- a run was asked for and a plan was read, and the fault tells at which site of the plan the run failed
 pub record IsFailedRun (command : Option Asked) (told : Fault) (left : Option (List ℕ)) : Type 0 where
   pub table : Table
-  pub asks : command ≡ Some (Runs table)
+  pub links : Links
+  pub asks : command ≡ Some (Runs table links)
   pub plan : SeenPlan
   pub reads : IfSome left (λ bytes. IsPlanBytes bytes plan)
   pub names : NamesSite plan told

@@ -76,7 +76,7 @@ broken_run_line site cause = numbered (codes "dine: run broken at site ") site +
 
 -- the line that tells of a fault, without its line feed; that of a plan ends in its cause, as the plan's fault prints it
 abbrev pub line_of : Fault → Option (List ℕ)
-line_of fault.Usage = Some (codes "dine: usage: dine [run [--table edges|sites] | replay [--choices LIST] | check]")
+line_of fault.Usage = Some (codes "dine: usage: dine [run [--table edges|sites] [--links channel|ring] | replay [--choices LIST] | check]")
 line_of (fault.NoPlan cause) = None
 line_of (fault.ThreadRefused site) = Some (refused_thread_line site)
 line_of fault.DinersDiffer = Some (codes "dine: run refused: diners differ")

@@ -10,6 +10,8 @@ use Rattle.clap.specs.declared.error.kind.ErrorKind.TheVariants.{OutOfMemory}
 use Rattle.dine.specs.Choices.{choices_of}
 use Rattle.dine.specs.declared.words.Command.{Command}
 use Rattle.dine.specs.declared.words.Command.TheVariants.{Check, Replay, Run}
+use Rattle.dine.specs.declared.words.Links.{Links}
+use Rattle.dine.specs.declared.words.Links.TheVariants.{Channel, Ring}
 use Rattle.dine.specs.declared.words.Table.{Table}
 use Rattle.dine.specs.declared.words.Table.TheVariants.{Edges, Sites}
 use Rattle.dine.specs.declared.words.WordsFault.{WordsFault}
@@ -26,8 +28,12 @@ program_alone = on_top (λ s. record s {
 abbrev pub table_rule : Rule
 table_rule = record (new_rule (codes "table")) { long = Some (codes "table"); action = Some Set }
 
+-- the option `--links` of `run`, which takes a text
+abbrev pub links_rule : Rule
+links_rule = record (new_rule (codes "links")) { long = Some (codes "links"); action = Some Set }
+
 abbrev pub run_app : App
-run_app = with_rule (new_app (codes "run")) table_rule
+run_app = with_rule (with_rule (new_app (codes "run")) table_rule) links_rule
 
 -- the option `--choices` of `replay`, which takes a text
 abbrev pub choices_rule : Rule
@@ -40,14 +46,14 @@ replay_app = with_rule (new_app (codes "replay")) choices_rule
 abbrev pub dine_app : App
 dine_app = with_subcommand (with_subcommand (with_subcommand program_alone run_app.top) replay_app.top) (new_app (codes "check")).top
 
--- what is asked for: a run with this table, a replay of these choices, or the plan's size
+-- what is asked for: a run with this table over links of this kind, a replay of these choices, or the plan's size
 pub data Asked : Type 0 where
-  Runs : Table → Asked
+  Runs : Table → Links → Asked
   Replays : List ℕ → Asked
   Checks : Asked
 
 abbrev pub asked_of : Command → Asked
-asked_of (Run table) = Runs table
+asked_of (Run table links) = Runs table links
 asked_of (Replay choices) = Replays choices.items
 asked_of Check = Checks
 
@@ -62,6 +68,25 @@ table_of name =
 abbrev pub table_in : List Row → Option Table
 table_in found = option_map_or table_of (first_of (codes "table") found) (Some Edges)
 
+-- the kind of links of a name
+abbrev pub links_of : Text → Option Links
+links_of name =
+    if bytes_eq name (codes "channel") then Some Channel
+    else (if bytes_eq name (codes "ring") then Some Ring else None)
+
+-- the kind of links in what `clap` finds behind `run`: rings where the option is not there, and else that of its text, if a
+-- kind has that name
+abbrev pub links_in : List Row → Option Links
+links_in found = option_map_or links_of (first_of (codes "links") found) (Some Ring)
+
+-- a run, where there is a table and a kind of links; and the run in what `clap` finds behind `run`
+abbrev pub runs_with : Option Table → Option Links → Option Asked
+runs_with (Some table) (Some links) = Some (Runs table links)
+runs_with _ _ = None
+
+abbrev pub run_in : List Row → Option Asked
+run_in found = runs_with (table_in found) (links_in found)
+
 -- the choices in what `clap` finds behind `replay`: an empty list where the option is not there, and else those of its text,
 -- if it has them
 abbrev pub choices_in : List Row → Option (List ℕ)
@@ -74,20 +99,20 @@ IsCommandName name = (name ≡ codes "run") ⊎ ((name ≡ codes "replay") ⊎ (
 -- what is asked for by a command of this name, and by what `clap` finds behind the name
 abbrev pub asked_by : Text × List Row → Option Asked
 asked_by found =
-    if bytes_eq found.0 (codes "run") then option_map Runs (table_in found.1)
+    if bytes_eq found.0 (codes "run") then run_in found.1
     else (if bytes_eq found.0 (codes "replay") then option_map Replays (choices_in found.1)
     else (if bytes_eq found.0 (codes "check") then Some Checks else None))
 
--- what the words ask for, as `clap` finds it: a run with the table of edges where they name no command
+-- what the words ask for, as `clap` finds it: a run with the table of edges, over rings, where they name no command
 abbrev pub command_in : App → List Text → Option Asked
-command_in app words = option_map_or asked_by (subcommand_of app words) (Some (Runs Edges))
+command_in app words = option_map_or asked_by (subcommand_of app words) (Some (Runs Edges Ring))
 
 -- `clap` finds no fault in the words
 abbrev pub HasNoFault : App → List Text → Type 0
 HasNoFault app words = fault_of app words ≡ []
 
--- `clap` takes the words, and they ask for something: the text of `--table`, where there is one, names a table, and that of
--- `--choices` has choices
+-- `clap` takes the words, and they ask for something: the text of `--table`, where there is one, names a table, that of
+-- `--links` a kind of links, and that of `--choices` has choices
 abbrev pub are_taken : App → List Text → Bool
 are_taken app words = takes app words && is_some (command_in app words)
 

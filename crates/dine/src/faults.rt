@@ -79,7 +79,7 @@ impl Fault {
         match self {
             Fault::Usage => write_line(
                 faults,
-                "dine: usage: dine [run [--table edges|sites] | replay [--choices LIST] | check]",
+                "dine: usage: dine [run [--table edges|sites] [--links channel|ring] | replay [--choices LIST] | check]",
             ),
             Fault::NoPlan(cause) => tell_cause(cause, faults),
             Fault::ThreadRefused(site) => tell_refused_thread(site, faults),

@@ -7,15 +7,15 @@ ghost use Rattle.dine.specs.Run.{EndedWith, HasDueRows, NamesSite, diners_of, ru
 use crate::faults::Fault;
 use crate::plan_diner::PlanDiner;
 use crate::tables::{write_edges, write_sites};
-use crate::words::Table;
-use dine_link::ChannelLane;
+use crate::words::{Links, Table};
+use dine_link::{ChannelLane, Lane, RingLane};
 use dine_plan::Plan;
 use dine_run::{Gathered, RunFault, SiteFault, SiteOut, edge_table, run, site_table};
 use std::alloc::{AllocError, Global};
 use std::sync::Wait;
 use std::thread::Threads;
 
-/// The table of a run of the plan: every site does its jobs on a thread of its own, over links that are channels. It may wait.
+/// The table of a run of the plan: every site does its jobs on a thread of its own, over links of this kind. It may wait.
 ///
 /// Fails where memory or a thread is refused, and where a site ended with a fault, which names the lowest such site. All
 /// threads that were started have ended then.
@@ -24,12 +24,33 @@ pub fn run_text<H: Threads + Wait + Copy + Send + 'static>(
     alloc: Global,
     plan: &Plan,
     table: Table,
+    links: Links,
 ) -> Result<Vec<u8>, Fault>
     ensures text { IfOk result (λ text. text.items ≡ run_text table plan.now) }
     ensures fault { result ≢ Err Fault.OutOfMemory → IfErr result (NamesSite plan.now) }
 {
+    match links {
+        Links::Channel => run_over::<ChannelLane, H>(rt, alloc, plan, table),
+        Links::Ring => run_over::<RingLane, H>(rt, alloc, plan, table),
+    }
+}
+
+// The table of a run over links of a lane.
+fn run_over<L: Lane + 'static, H: Threads + Wait + Copy + Send + 'static>(
+    rt: &H,
+    alloc: Global,
+    plan: &Plan,
+    table: Table,
+) -> Result<Vec<u8>, Fault>
+where
+    L::Tx: 'static,
+    L::ClosedTx: 'static,
+    L::Rx: 'static,
+    ensures text { IfOk result (λ text. text.items ≡ run_text table plan.now) }
+    ensures fault { result ≢ Err Fault.OutOfMemory → IfErr result (NamesSite plan.now) }
+{
     let diners = open_diners(alloc, plan)?;
-    match run::<ChannelLane, PlanDiner, H>(rt, alloc, plan, diners) {
+    match run::<L, PlanDiner, H>(rt, alloc, plan, diners) {
         Ok(gathered) => Ok(table_text(alloc, plan, &gathered, table)?),
         Err(RunFault::DinersDiffer { .. }) => Err(Fault::DinersDiffer),
         Err(RunFault::Memory) => Err(Fault::OutOfMemory),

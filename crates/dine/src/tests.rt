@@ -14,7 +14,7 @@ use std::thread::Threads;
 mod random;
 
 const USAGE: &str =
-    "dine: usage: dine [run [--table edges|sites] | replay [--choices LIST] | check]\n";
+    "dine: usage: dine [run [--table edges|sites] [--links channel|ring] | replay [--choices LIST] | check]\n";
 
 const PAIR: &str = "version = 1
 [[site]]
@@ -212,6 +212,10 @@ fn a_ring_is_run(rt: HostRuntime) -> Result<(), Fail> {
         ("dine run", edges.as_str()),
         ("dine run --table edges", edges.as_str()),
         ("dine run --table sites", sites),
+        ("dine run --links ring", edges.as_str()),
+        ("dine run --table sites --links ring", sites),
+        ("dine run --links channel", edges.as_str()),
+        ("dine run --table sites --links channel", sites),
     ];
     for (line, text) in cases {
         let mut input = plan.as_bytes();
@@ -224,7 +228,11 @@ fn a_ring_is_run(rt: HostRuntime) -> Result<(), Fail> {
 fn a_job_that_fails_is_counted(rt: HostRuntime) -> Result<(), Fail> {
     let edges = format!(in rt.alloc(); "{EDGES_HEADER}0,a,b,3,1\n")?;
     let sites = "site,meals,failed\na,3,1\nb,1,0\n";
-    for (line, text) in [("dine", edges.as_str()), ("dine run --table sites", sites)] {
+    for (line, text) in [
+        ("dine", edges.as_str()),
+        ("dine run --table sites", sites),
+        ("dine run --links channel --table sites", sites),
+    ] {
         let mut input = FAILING.as_bytes();
         leaves(&rt, line, &mut input, 0, text, "")?;
     }
@@ -237,6 +245,7 @@ fn a_site_without_edges_is_run(rt: HostRuntime) -> Result<(), Fail> {
     let cases = [
         ("dine", EDGES_HEADER),
         ("dine run --table sites", "site,meals,failed\na,2,0\n"),
+        ("dine run --links channel", EDGES_HEADER),
     ];
     for (line, text) in cases {
         let mut input = alone.as_bytes();
@@ -247,7 +256,7 @@ fn a_site_without_edges_is_run(rt: HostRuntime) -> Result<(), Fail> {
 
 #[test]
 fn a_run_reads_and_writes_as_the_other_commands(rt: HostRuntime) -> Result<(), Fail> {
-    for line in ["dine", "dine run", "dine run --table sites"] {
+    for line in ["dine", "dine run", "dine run --links channel"] {
         let mut failing = fails_at(1);
         leaves(&rt, line, &mut failing, 6, "", "dine: reading failed\n")?;
         let mut no_plan = "".as_bytes();
@@ -348,6 +357,7 @@ fn refused_words_leave_the_input_unread(rt: HostRuntime) -> Result<(), Fail> {
         "dine eat",
         "dine run --table",
         "dine run --table cups",
+        "dine run --links cups",
         "dine --table edges",
         "dine replay replay",
         "dine replay --choices",
@@ -457,6 +467,7 @@ fn a_star_of_64_sites_is_replayed_and_run(rt: HostRuntime) -> Result<(), Fail> {
     for (line, text) in [
         ("dine replay", wanted.as_str()),
         ("dine run", table.as_str()),
+        ("dine run --links channel", table.as_str()),
     ] {
         let mut input = plan.as_bytes();
         leaves(&rt, line, &mut input, 0, text, "")?;

@@ -1,7 +1,7 @@
 //! The words of the command line, read by `clap`.
 ghost use Rattle.std.specs.Prelude.{◌≡◌, IfOk, IsErrOf, None, OnOk, Some, false, is_some, map, string_bytes};
-ghost use Rattle.clap.specs.Words.{app_of, found_of, kind_of, rows_of};
-ghost use Rattle.dine.specs.Words.{AreRight, HasNoFault, IsCommandName, are_taken, asked_by, asked_of, choices_in, command_in, dine_app, fault_of_kind, table_in, table_of};
+ghost use Rattle.clap.specs.Words.{app_of, found_of, kind_of, rows_of, with_subcommand};
+ghost use Rattle.dine.specs.Words.{AreRight, HasNoFault, IsCommandName, are_taken, asked_by, asked_of, choices_in, command_in, dine_app, fault_of_kind, links_in, links_of, run_app, run_in, table_in, table_of};
 ghost use Rattle.dine.specs.declared.words.WordsFault.TheVariants.{Memory};
 
 use crate::choices::choices_of;
@@ -24,6 +24,12 @@ const EDGES: &str = "edges";
 
 const SITES: &str = "sites";
 
+const LINKS: &str = "links";
+
+const CHANNEL: &str = "channel";
+
+const RING: &str = "ring";
+
 /// Which table of a run is printed.
 #[derive(Clone, Copy, Debug, PartialEq, Eq)]
 pub enum Table {
@@ -33,11 +39,20 @@ pub enum Table {
     Sites,
 }
 
+/// What carries the letters of a run from site to site. The table is the same with either.
+#[derive(Clone, Copy, Debug, PartialEq, Eq)]
+pub enum Links {
+    /// A channel for each link.
+    Channel,
+    /// A ring for each link.
+    Ring,
+}
+
 /// What the program is asked to do.
 #[derive(Debug, Drop, PartialEq, Eq)]
 pub enum Command {
-    /// Run every site of the plan on a thread of its own, and print this table.
-    Run(Table),
+    /// Run every site of the plan on a thread of its own, over links of this kind, and print this table.
+    Run(Table, Links),
     /// Go through the plan's events one by one, those of the choices first, and print the logs.
     Replay(Vec<u32>),
     /// Read the plan, and say how large it is.
@@ -47,8 +62,8 @@ pub enum Command {
 /// Why the words name no command.
 #[derive(Clone, Copy, Debug, PartialEq, Eq)]
 pub enum WordsFault {
-    /// `clap` refuses the words, LIST is no list of choices, or no table has the name. A question for help or the version is
-    /// refused too.
+    /// `clap` refuses the words, LIST is no list of choices, or no table or no kind of links has the name. A question for
+    /// help or the version is refused too.
     Usage,
     /// There was no memory to read them.
     Memory,
@@ -74,7 +89,7 @@ impl From<AllocError> for WordsFault {
 }
 
 /// The command that the words name, of which the first is the program's own name. Where they name none it is `run` with the
-/// table of edges.
+/// table of edges, over rings.
 ///
 /// It answers `Usage` where the words are refused, and `Memory` where memory is.
 pub fn command_of(alloc: Global, words: &[String]) -> Result<Command, WordsFault>
@@ -86,7 +101,7 @@ pub fn command_of(alloc: Global, words: &[String]) -> Result<Command, WordsFault
     let matches = program(alloc)?.try_get_matches_from(words)?;
     match matches.subcommand() {
         Some((name, found)) => command_named(alloc, name, found),
-        None => Ok(Command::Run(Table::Edges)),
+        None => Ok(Command::Run(Table::Edges, Links::Ring)),
     }
 }
 
@@ -101,10 +116,7 @@ fn command_named(
     ensures refused { IsErrOf result WordsFault.Usage → asked_by (name.now, rows_of (found_of found.now)) ≡ None }
 {
     match name {
-        RUN => match table_met(found) {
-            Some(table) => Ok(Command::Run(table)),
-            None => Err(WordsFault::Usage),
-        },
+        RUN => run_met(found),
         REPLAY => Ok(Command::Replay(choices_met(alloc, found)?)),
         CHECK => Ok(Command::Check),
         _ => unreachable!(),
@@ -115,20 +127,41 @@ fn command_named(
 fn program<'a>(alloc: Global) -> Result<clap::Command<'a>, AllocError>
     ensures { IfOk result (λ program. app_of program ≡ dine_app) }
 {
-    let table = clap::Arg::new(alloc, TABLE)
-        .long(TABLE)
-        .action(clap::ArgAction::Set);
-    let run = clap::Command::new(alloc, RUN).arg(table)?;
+    let alone = clap::Command::new(alloc, "dine")
+        .disable_help_flag(true)
+        .disable_help_subcommand(true);
     let choices = clap::Arg::new(alloc, CHOICES)
         .long(CHOICES)
         .action(clap::ArgAction::Set);
     let replay = clap::Command::new(alloc, REPLAY).arg(choices)?;
-    clap::Command::new(alloc, "dine")
-        .disable_help_flag(true)
-        .disable_help_subcommand(true)
-        .subcommand(run)?
+    with_run(alloc, alone)?
         .subcommand(replay)?
         .subcommand(clap::Command::new(alloc, CHECK))
+}
+
+// Adds the subcommand `run`, with its two options.
+fn with_run<'a>(alloc: Global, program: clap::Command<'a>) -> Result<clap::Command<'a>, AllocError>
+    ensures { IfOk result (λ more. app_of more ≡ with_subcommand (app_of program.entry) run_app.top) }
+{
+    let table = clap::Arg::new(alloc, TABLE)
+        .long(TABLE)
+        .action(clap::ArgAction::Set);
+    let links = clap::Arg::new(alloc, LINKS)
+        .long(LINKS)
+        .action(clap::ArgAction::Set);
+    let run = clap::Command::new(alloc, RUN).arg(table)?.arg(links)?;
+    program.subcommand(run)
+}
+
+// The run that the parse met.
+fn run_met(matches: &clap::ArgMatches<'_>) -> Result<Command, WordsFault>
+    ensures run { IfOk result (λ command. run_in (rows_of (found_of matches.now)) ≡ Some (asked_of command)) }
+    ensures refused { IsErrOf result WordsFault.Usage → run_in (rows_of (found_of matches.now)) ≡ None }
+{
+    match (table_met(matches), links_met(matches)) {
+        (Some(table), Some(links)) => Ok(Command::Run(table, links)),
+        _ => Err(WordsFault::Usage),
+    }
 }
 
 // The table whose name the parse met. Where it met none it is that of edges.
@@ -148,6 +181,27 @@ fn table_of(name: &str) -> Option<Table>
     match name {
         EDGES => Some(Table::Edges),
         SITES => Some(Table::Sites),
+        _ => None,
+    }
+}
+
+// The kind of links whose name the parse met. Where it met none they are rings.
+fn links_met(matches: &clap::ArgMatches<'_>) -> Option<Links>
+    ensures { result ≡ links_in (rows_of (found_of matches.now)) }
+{
+    match matches.get_str(LINKS) {
+        Some(name) => links_of(name),
+        None => Some(Links::Ring),
+    }
+}
+
+// The kind of links of the name.
+fn links_of(name: &str) -> Option<Links>
+    ensures { result ≡ links_of name.now }
+{
+    match name {
+        CHANNEL => Some(Links::Channel),
+        RING => Some(Links::Ring),
         _ => None,
     }
 }

@@ -55,7 +55,7 @@ fn each_fault_ends_with_its_status_and_its_line_flushed(rt: HostRuntime) -> Resu
         alloc,
         Fault::Usage,
         Status::Usage,
-        "dine: usage: dine [run [--table edges|sites] | replay [--choices LIST] | check]\n",
+        "dine: usage: dine [run [--table edges|sites] [--links channel|ring] | replay [--choices LIST] | check]\n",
     )?;
     ends(
         &rt,

@@ -1,4 +1,4 @@
-use super::{Command, Table, WordsFault, command_of};
+use super::{Command, Links, Table, WordsFault, command_of};
 use std::alloc::{AllocError, Global};
 use std::process::Abort;
 use std::test::Fail;
@@ -12,12 +12,22 @@ fn words_of(alloc: Global, line: &str) -> Result<Vec<String>, AllocError> {
     Ok(words)
 }
 
-// The line is taken as a run with the table.
-fn runs<R: Abort + AllocGlobal>(rt: &R, line: &str, table: Table) -> Result<(), Fail> {
+// The line is taken as a run with the table, over links of this kind.
+fn runs_over<R: Abort + AllocGlobal>(
+    rt: &R,
+    line: &str,
+    table: Table,
+    links: Links,
+) -> Result<(), Fail> {
     let words = words_of(rt.alloc(), line)?;
     let command = command_of(rt.alloc(), words.as_slice());
-    assert_eq!(rt; command, Ok(Command::Run(table)), "at {line}");
+    assert_eq!(rt; command, Ok(Command::Run(table, links)), "at {line}");
     Ok(())
+}
+
+// The line is taken as a run with the table, over rings.
+fn runs<R: Abort + AllocGlobal>(rt: &R, line: &str, table: Table) -> Result<(), Fail> {
+    runs_over(rt, line, table, Links::Ring)
 }
 
 // The line is taken as a replay of the choices.
@@ -52,6 +62,22 @@ fn run_takes_a_table(rt: HostRuntime) -> Result<(), Fail> {
     }
     for line in ["dine run --table sites", "dine run --table=sites"] {
         runs(&rt, line, Table::Sites)?;
+    }
+    Ok(())
+}
+
+#[test]
+fn run_takes_a_kind_of_links(rt: HostRuntime) -> Result<(), Fail> {
+    runs(&rt, "dine run --links ring", Table::Edges)?;
+    runs(&rt, "dine run --table sites --links=ring", Table::Sites)?;
+    for line in ["dine run --links channel", "dine run --links=channel"] {
+        runs_over(&rt, line, Table::Edges, Links::Channel)?;
+    }
+    for line in [
+        "dine run --table sites --links channel",
+        "dine run --links channel --table sites",
+    ] {
+        runs_over(&rt, line, Table::Sites, Links::Channel)?;
     }
     Ok(())
 }
@@ -144,6 +170,17 @@ fn other_words_are_refused(rt: HostRuntime) -> Result<(), Fail> {
         "dine replay --table edges",
         "dine check --table sites",
         "dine check x",
+        "dine run --links",
+        "dine run --links=",
+        "dine run --links cups",
+        "dine run --links Ring",
+        "dine run --links rings",
+        "dine run --links ring,channel",
+        "dine run --links ring --links ring",
+        "dine run --link ring",
+        "dine --links ring",
+        "dine replay --links ring",
+        "dine check --links channel",
     ];
     for line in lines {
         let words = words_of(rt.alloc(), line)?;

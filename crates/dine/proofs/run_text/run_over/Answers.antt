@@ -2,7 +2,7 @@
 use Rattle.std.proofs.Common.{◌≡◌, length, vec_items, vec_len, ap, arith}
 use Rattle.dine_plan.specs.Plan.{site_count}
 use Rattle.dine.proofs.RunLemmas.{diner_count, diner_has_room, due_rows}
-use Rattle.dine.proofs.run_text.run_text.Goals as goal
+use Rattle.dine.proofs.run_text.run_over.Goals as goal
 
 pub run-requires-clause-room : goal.run-requires-clause-room
 run-requires-clause-room g c κs within many s diner at = diner_has_room c.args.plan.now c.in_ok-diners.diners.items c.in_ok-diners.ensures.diners s diner at
