@@ -25,3 +25,6 @@ pub mod EnabledEvents
 pub mod ForksOut
 pub mod Woken
 pub mod NextEvents
+pub mod FirstEvents
+pub mod Awake
+pub mod AwakeSearch

@@ -17,14 +17,14 @@ use Rattle.dine_core.proofs.Ranges.{begin_by}
 
 -- ---- finding
 
-find-map : {X Y : Type 0} (f : X → Y) (p : Y → Bool) (xs : List X) → find p (map f xs) ≡ option_map f (find (λ x. p (f x)) xs)
+pub find-map : {X Y : Type 0} (f : X → Y) (p : Y → Bool) (xs : List X) → find p (map f xs) ≡ option_map f (find (λ x. p (f x)) xs)
 find-map f p [] = refl
 find-map f p (x ∷ xs) = elim (p (f x)) as (λ b. cond b (Some (f x)) (find p (map f xs)) ≡ option_map f (cond b (Some x) (find (λ y. p (f y)) xs))) [
   | true ↦ refl
   | false ↦ find-map f p xs
 ]
 
-find_same : {X : Type 0} (p q : X → Bool) → ((x : X) → p x ≡ q x) → (xs : List X) → find p xs ≡ find q xs
+pub find_same : {X : Type 0} (p q : X → Bool) → ((x : X) → p x ≡ q x) → (xs : List X) → find p xs ≡ find q xs
 find_same p q same [] = refl
 find_same p q same (x ∷ xs) = ap₂ (λ b rest. cond b (Some x) rest) (same x) (find_same p q same xs)
 
@@ -34,7 +34,7 @@ find_agree p q first (suc n) agree = ap₂ (λ (b : Bool) (rest : Option ℕ). c
     (find_agree p q (first + 1) n (λ i within. agree i (omega arith)))
 
 -- a test of places, with the bound that the places have anyway
-bounded : (n : ℕ) (p : ℕ → Bool) → find (λ i. nat_lt i n && p i) (range_with_len 0 n) ≡ find p (range_with_len 0 n)
+pub bounded : (n : ℕ) (p : ℕ → Bool) → find (λ i. nat_lt i n && p i) (range_with_len 0 n) ≡ find p (range_with_len 0 n)
 bounded n p = find_agree (λ i. nat_lt i n && p i) p 0 n (λ i within. ap (λ (b : Bool). b && p i) (lt-ltb i n (omega arith)))
 
 -- ---- the next event, as the code looks for it

@@ -6,13 +6,13 @@ use Rattle.dine_rules.specs.declared.letters.Letter.{Letter}
 use Rattle.dine_rules.specs.declared.events.Event.{Event}
 use Rattle.dine_core.specs.declared.world.sites.WorldSite.{WorldSite}
 use Rattle.dine_rules.specs.World.{WorldState, state_of, world_after}
-use Rattle.dine_rules.specs.Steps.{shape_of}
-use Rattle.dine_core.specs.WorldSites.{SiteSteps, HasOwnMeal, HasRoomFor, TakesAllowed, can_do}
+use Rattle.dine_rules.specs.Steps.{Step, shape_of}
+use Rattle.dine_core.specs.WorldSites.{SiteSteps, HasOwnMeal, HasRoomFor, MovesLetters, TakesAllowed, can_do}
 use Rattle.dine_core.specs.Worlds.{WorldStep, IsWorldOf, SeenWorld, can_happen}
 use Rattle.dine_rules.proofs.WorldStreams.{some_of}
 use Rattle.dine_core.proofs.CanHappen.{can_happen_is}
 use Rattle.dine_core.proofs.MealFits.{has_own_meal}
-use Rattle.dine_core.proofs.WorldSteps.{eats_here, has_room, is_plan, takes_allowed, keeps_here, world_site_there, world_next}
+use Rattle.dine_core.proofs.WorldSteps.{eats_here, has_room, is_plan, letters_moved, takes_allowed, keeps_here, world_site_there, world_next}
 
 module _ (seen : SeenWorld) (e : Event) (can : can_happen seen e ≡ true) where
   -- the site is there
@@ -47,6 +47,11 @@ module _ (seen : SeenWorld) (e : Event) (can : can_happen seen e ≡ true) where
     -- there is room for what it puts
     pub site_room : HasRoomFor seen.links world_site.core (shape_of e.kind)
     site_room = subst (λ (x : WorldSite). HasRoomFor seen.links x.core (shape_of e.kind)) (sym is) (has_room plan world seen stands e.site is_site world_site e.kind happens.0 happens.1 can_there)
+
+    -- where its letter goes
+    pub site_moved : (changed : WorldSite) (links : List (List Letter)) → SiteSteps e.kind world_site changed seen.links links
+        → (one : Step) × MovesLetters plan (state_of world e.site) (get_or seen.sites e.site world_site).core (shape_of e.kind) one seen.links links
+    site_moved changed links does = letters_moved plan world seen stands e.site is_site world_site e.kind happens.0 happens.1 changed links can_there (subst (λ (x : WorldSite). SiteSteps e.kind x changed seen.links links) is does)
 
     -- and the world stands for the state after it
     pub site_done : (changed : WorldSite) (links : List (List Letter)) → SiteSteps e.kind world_site changed seen.links links

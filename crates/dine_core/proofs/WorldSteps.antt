@@ -209,6 +209,13 @@ module _ (plan : SeenPlan) (world : WorldState) (seen : SeenWorld) (stands : IsW
       pub takes_allowed : can_do seen.links core kind ≡ true → TakesAllowed seen.links core (shape_of kind)
       takes_allowed can = in_turn (shape_of kind) done.step (and_parts _ _ can).0 did
 
+      -- where the letters went
+      pub letters_moved : (changed : WorldSite) (links : List (List Letter)) → can_do seen.links core kind ≡ true → SiteSteps kind world_site changed seen.links links
+          → (one : Step) × MovesLetters plan (state_of world s) core (shape_of kind) one seen.links links
+      letters_moved changed links can site_does =
+          let done_here = site_does plan state done.step keeps_here eats_here core_stands (step_is kind can ∙ done.step_is) in
+          (done.step, done_here.letters)
+
       -- the world stands for the new state, with the site and the links that the step leaves
       pub world_next : (changed : WorldSite) (links : List (List Letter)) → can_do seen.links core kind ≡ true → SiteSteps kind world_site changed seen.links links
           → IsWorldOf plan new (record { sites = slice_set seen.sites s changed; links = links; edges = seen.edges; bound = seen.bound })

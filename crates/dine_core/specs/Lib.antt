@@ -21,5 +21,6 @@ pub mod WorldSites
 pub mod Forks
 pub mod EventSearch
 pub mod Worlds
+pub mod Awake
 pub mod WorldFields
 pub mod NextEvent

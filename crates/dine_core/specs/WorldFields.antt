@@ -4,14 +4,17 @@ use Rattle.dine_plan.specs.Plan.{SeenPlan}
 use Rattle.dine_core.specs.declared.world.World.TheInside.{Inside}
 use Rattle.dine_rules.specs.World.{WorldState}
 use Rattle.dine_core.specs.Worlds.{SeenWorld, IsWorldOf}
+use Rattle.dine_core.specs.Awake.{HasAllAwake}
 
 abbrev pub seen_world : Inside → SeenWorld
 seen_world world = record { sites = world.sites.items; links = world.links.items; edges = world.edges.items; bound = world.bound }
 
--- The world stands for some state that events reach from the start, and there is room for the forks of all edges.
+-- The world stands for some state that events reach from the start, there is room for the forks of all edges, and the
+-- sites with enabled events are known.
 pub record IsKeptWorld (world : Inside) : Type 0 where
   pub plan : SeenPlan
   pub state : WorldState
   pub stands : IsWorldOf plan state (seen_world world)
   pub no_forks : world.forks.items ≡ []
   pub room : length world.edges.items ≤ vec_capacity world.forks
+  pub awake : HasAllAwake (seen_world world) world.awake

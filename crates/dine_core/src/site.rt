@@ -196,6 +196,14 @@ impl SiteCore {
         2 * (place.edge as usize) + usize::from(place.ends.0 != self.site)
     }
 
+    /// The site at the other end of place `i`.
+    pub(crate) fn neighbour(&self, i: u32) -> u32
+        requires { i < length self.now.places }
+        ensures { result ≡ neighbour_of self.now.site (place_at self.now i) }
+    {
+        self.places[i as usize].neighbour(self.site)
+    }
+
     /// Where the fork of place `i` is.
     pub(crate) fn slot(&self, i: u32) -> &ForkSlot
         requires { i < length self.now.places }

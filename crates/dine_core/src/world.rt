@@ -3,6 +3,7 @@
 ghost use Rattle.std.specs.Prelude.{◌≡◌, IfOk, MatchOption, MatchResult, None, Some, is_ok, option_map, slice_get, true};
 
 mod acts;
+mod awake;
 mod enabled;
 mod forks;
 mod opening;
@@ -16,6 +17,7 @@ use crate::site::SiteCore;
 use dine_plan::Plan;
 use dine_rules::Phase;
 pub use dine_rules::{Event, EventKind};
+use dine_set::WordSet;
 use dine_token::Fork;
 use queue::Queue;
 use sites::WorldSite;
@@ -45,6 +47,8 @@ pub struct World {
     bound: u64,
     // Empty, with room for the forks of all edges.
     forks: Vec<Fork>,
+    // Each site that has an enabled event is in it, and others may be.
+    awake: WordSet,
 }
 
 impl Model for World {
@@ -80,6 +84,7 @@ impl World {
             edges,
             bound,
             forks,
+            awake: WordSet::full(),
         })
     }
 
@@ -133,6 +138,7 @@ impl World {
         ensures { WorldSteps event self.old self.new }
     {
         let world_site = &mut self.sites[event.site as usize];
+        self.awake = acts::with_receiver(self.awake, &world_site.core, event.kind);
         acts::act(world_site, self.links.as_mut_slice(), event.kind);
     }
 

@@ -1,8 +1,10 @@
 // What a site of the world may do, and does.
-ghost use Rattle.std.specs.Prelude.{◌≡◌, ℕ, ◌<◌, ◌+◌, IfSome, List, MatchOption, None, Some, length, is_some, option_and_then, option_map, slice_get, true};
+ghost use Rattle.std.specs.Prelude.{◌≡◌, ℕ, ◌<◌, ◌+◌, IfSome, List, MatchOption, None, Some, find, length, is_some, option_and_then, option_map, slice_get, true};
+ghost use Rattle.std.specs.List.{range_with_len};
 ghost use Rattle.dine_rules.specs.declared.letters.Letter.{Letter};
 ghost use Rattle.dine_rules.specs.Local.{is_eating};
 ghost use Rattle.dine_core.specs.Forks.{woken};
+ghost use Rattle.dine_core.specs.Awake.{HasReceiver, first_kind, with_receiver};
 ghost use Rattle.dine_core.specs.LinkNumbers.{link_to};
 ghost use Rattle.dine_rules.specs.Steps.{Begin, End, Puts, Step, Take, after, shape_of, step_by};
 ghost use Rattle.dine_core.specs.Core.{forks_in_hand};
@@ -14,6 +16,7 @@ use super::queue::Queue;
 use super::sites::WorldSite;
 use crate::site::SiteCore;
 use dine_rules::{EventKind, Letter};
+use dine_set::WordSet;
 use std::mem;
 
 /// Does that, where it may be done.
@@ -122,6 +125,38 @@ fn end(world_site: &mut WorldSite)
         Some(meal) => world_site.core.end(meal),
         None => unreachable!(),
     }
+}
+
+/// The set with the site that gets the letter of the event, where it puts one.
+pub(crate) fn with_receiver(awake: WordSet, core: &SiteCore, kind: EventKind) -> WordSet
+    requires { HasReceiver core.now (shape_of kind) }
+    ensures { result ≡ with_receiver core.now (shape_of kind) awake }
+{
+    match kind {
+        EventKind::Give(i) | EventKind::Ask(i) | EventKind::Done(i) | EventKind::Close(i) => {
+            let mut woken = awake;
+            woken.insert(core.neighbour(i));
+            woken
+        }
+        EventKind::Take(_) | EventKind::End | EventKind::Begin | EventKind::Hungry => awake,
+    }
+}
+
+/// The first event that the site may do now, in the fixed order, with these letters in the links.
+pub(crate) fn first_kind(links: &[Queue], core: &SiteCore) -> Option<EventKind>
+    ensures { result ≡ first_kind links.now core.now }
+{
+    match first_take(links, core) {
+        Some(i) => Some(EventKind::Take(i)),
+        None => core.next_event(),
+    }
+}
+
+// The first place with a letter in the link to the site.
+fn first_take(links: &[Queue], core: &SiteCore) -> Option<u32>
+    ensures { result ≡ find (λ i. is_some (next_in links.now core.now i)) (range_with_len 0 (length core.now.places)) }
+{
+    (0..core.degree()).find(|i| can_take(links, core, *i))
 }
 
 /// Whether the site may do that now, with these letters in the links.

@@ -36,6 +36,7 @@ impl World {
             edges,
             bound: _,
             mut forks,
+            awake: _,
         } = self;
         wake_all(sites.as_mut_slice());
         collect(

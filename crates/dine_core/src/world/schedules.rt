@@ -33,7 +33,7 @@ impl World {
     {
         let bound = self.bound;
         let mut left = bound;
-        while let Some(event) = self.enabled(0) {
+        while let Some(event) = self.first() {
             self.happen(event);
             left -= 1;
         }

@@ -1,10 +1,15 @@
-use Rattle.std.proofs.Common.{arith, ap, length}
+use Rattle.std.proofs.Common.{arith, ap, length, subst, sym}
 use Rattle.std.proofs.lemmas.List.FromFn.{length-map-range_with_len}
 use Rattle.dine_plan.specs.Plan.{edge_count}
 use Rattle.dine_rules.specs.World.{start}
+use Rattle.dine_core.specs.Awake.{HasAllAwake}
 use Rattle.dine_core.specs.Worlds.{ends_seen}
+use Rattle.dine_core.proofs.AwakeSearch.{full_has_all}
 use Rattle.dine_core.proofs.WorldOpened.{opened}
 use Rattle.dine_core.proofs.world.World.open.Goals as goal
+
+pub returns : goal.returns
+returns c = opened _ _ c.edges.ensures.plan c.in_ok-sites.ensures c.in_ok-links.ensures.count c.in_ok-links.ensures.empty c.in_ok-edges.ensures c.bound_of-bound.ensures
 
 pub invariant_of-result : goal.invariant_of-result
 invariant_of-result c = record {
@@ -13,7 +18,5 @@ invariant_of-result c = record {
   stands = opened _ _ c.edges.ensures.plan c.in_ok-sites.ensures c.in_ok-links.ensures.count c.in_ok-links.ensures.empty c.in_ok-edges.ensures c.bound_of-bound.ensures;
   no_forks = c.in_ok-forks.ensures.items;
   room = omega (arith, ap length c.in_ok-edges.ensures, length-map-range_with_len (ends_seen c.args.plan.now) 0 (edge_count c.args.plan.now), c.in_ok-forks.ensures.capacity, c.edges.ensures.count);
+  awake = subst (HasAllAwake _) (sym c.full.ensures) (full_has_all _ (omega (arith, (returns c).sites.count, c.edges.ensures.plan.few_sites)));
 }
-
-pub returns : goal.returns
-returns c = opened _ _ c.edges.ensures.plan c.in_ok-sites.ensures c.in_ok-links.ensures.count c.in_ok-links.ensures.empty c.in_ok-edges.ensures c.bound_of-bound.ensures

@@ -1,0 +1,186 @@
+-- Which sites have no enabled event after an event: all that had none, but for the site that does it and the one that gets its letter.
+use Rattle.std.proofs.Common.{◌≡◌, ◌≢◌, ℕ, zero, suc, ◌<◌, ◌&&◌, Bool, true, false, List, [], ◌∷◌, length, drop, get_or, slice_get, slice_set, Option, Some, None, is_some, option_and_then, refl, sym, ◌∙◌, ap, subst, inl, inr, arith}
+use Rattle.std.proofs.lemmas.Bool.{and_parts, cases_eq, cases_lt, false≢true, le-ltb, lt-ltb, ltb-true}
+use Rattle.std.proofs.lemmas.List.{get_or-set_same, get_or-set_other, length-set}
+use Rattle.std.proofs.lemmas.Option.{get_or_from_slice_get, slice_get_within}
+use Rattle.dine_plan.specs.Plan.{SeenPlan, edges_of, site_count}
+use Rattle.dine_rules.specs.declared.events.Event.{Event}
+use Rattle.dine_rules.specs.declared.events.EventKind.{EventKind}
+use Rattle.dine_rules.specs.declared.events.EventKind.TheVariants as event
+use Rattle.dine_rules.specs.declared.letters.Letter.{Letter}
+use Rattle.dine_rules.specs.Local.{edge_at, neighbour_at}
+use Rattle.dine_rules.specs.Steps.{Shape, Step, Takes, Puts, Alone, shape_of}
+use Rattle.dine_rules.specs.World.{WorldState, place_of, state_of}
+use Rattle.dine_core.specs.declared.world.sites.WorldSite.{WorldSite}
+use Rattle.dine_core.specs.Awake.{HasAllAwake, HasReceiver, IsStill, with_receiver}
+use Rattle.dine_core.specs.Core.{SeenCore}
+use Rattle.dine_core.specs.LinkNumbers.{link_from, link_to}
+use Rattle.dine_core.specs.Places.{neighbour_of, place_at}
+use Rattle.dine_core.specs.WorldSites.{MovesLetters, can_do, has_place, next_in, without_next}
+use Rattle.dine_core.specs.Worlds.{IsWorldOf, SeenWorld, can_at, can_happen, number_to}
+use Rattle.dine_rules.proofs.Across.{across}
+use Rattle.dine_core.proofs.LinkNumbers.{from_is_to, same_place}
+use Rattle.dine_core.proofs.Stands.{place_is}
+use Rattle.dine_core.proofs.WorldSteps.{as_many_places, from_is, to_is, world_site_there}
+
+-- ---- the set with the receiver
+
+-- the site does not get the letter of an event of this shape
+abbrev IsNoReceiver : SeenCore → Shape → ℕ → Type 0
+IsNoReceiver core (Takes i) s = Unit {0}
+IsNoReceiver core (Puts i) s = s ≢ neighbour_of core.site (place_at core i)
+IsNoReceiver core Alone s = Unit {0}
+
+not_in : (awake : List Bool) (n s : ℕ) → n < length awake → get_or (slice_set awake n true) s false ≡ false → (get_or awake s false ≡ false) × (s ≢ n)
+not_in awake n s within out = elim (cases_eq s n) [
+  | inl same ↦ absurd (false≢true (sym out ∙ ap (λ (k : ℕ). get_or (slice_set awake n true) k false) same ∙ get_or-set_same awake n true false within))
+  | inr other ↦ (sym (get_or-set_other awake n s true false other) ∙ out, other)
+]
+
+left_out : (core : SeenCore) (shape : Shape) (awake : List Bool) (s : ℕ) → length awake ≡ 64 → HasReceiver core shape → get_or (with_receiver core shape awake) s false ≡ false
+    → (get_or awake s false ≡ false) × IsNoReceiver core shape s
+left_out core (Takes i) awake s size fits out = (out, tt)
+left_out core (Puts i) awake s size fits out = not_in awake (neighbour_of core.site (place_at core i)) s (omega (arith, size, fits.1)) out
+left_out core Alone awake s size fits out = (out, tt)
+
+as_long : (core : SeenCore) (shape : Shape) (awake : List Bool) → length (with_receiver core shape awake) ≡ length awake
+as_long core (Takes i) awake = refl
+as_long core (Puts i) awake = length-set awake (neighbour_of core.site (place_at core i)) true
+as_long core Alone awake = refl
+
+-- ---- the links
+
+get_other : {X : Type 0} (xs : List X) (i j : ℕ) (x : X) → j ≢ i → slice_get (slice_set xs i x) j ≡ slice_get xs j
+get_other [] i j x other = refl
+get_other (y ∷ xs) zero zero x other = absurd (other refl)
+get_other (y ∷ xs) zero (suc j) x other = refl
+get_other (y ∷ xs) (suc i) zero x other = refl
+get_other (y ∷ xs) (suc i) (suc j) x other = get_other xs i j x (λ same. other (ap suc same))
+
+-- whether the link has a letter
+abbrev has_letter : List (List Letter) → ℕ → Bool
+has_letter links n = is_some (option_and_then (λ (letters : List Letter). slice_get letters 0) (slice_get links n))
+
+drop_none : (letters : List Letter) → is_some (slice_get letters 0) ≡ false → is_some (slice_get (drop 1 letters) 0) ≡ false
+drop_none [] h = refl
+drop_none (l ∷ letters) h = absurd (false≢true (sym h))
+
+-- no letter comes by a take
+taken_none : (links : List (List Letter)) (m n : ℕ) → has_letter links n ≡ false → has_letter (without_next links m) n ≡ false
+taken_none [] m n h = h
+taken_none (letters ∷ links) zero zero h = drop_none letters h
+taken_none (letters ∷ links) zero (suc n) h = h
+taken_none (letters ∷ links) (suc m) zero h = h
+taken_none (letters ∷ links) (suc m) (suc n) h = taken_none links m n h
+
+-- ---- what another site may do
+
+module _ (plan : SeenPlan) (world : WorldState) (seen : SeenWorld) (stands : IsWorldOf plan world seen) (s : ℕ) (is_s : s < site_count plan) (past : WorldSite) where
+  abbrev core : SeenCore
+  core = (get_or seen.sites s past).core
+
+  -- the other end of a place
+  receiver_is : (i : ℕ) → i < length core.places → neighbour_of core.site (place_at core i) ≡ neighbour_at plan s i
+  receiver_is i h =
+      ap (neighbour_of core.site) (place_is plan (state_of world s) core (stands.sites.stands s past is_s).core i h)
+      ∙ ap (λ (x : ℕ). neighbour_at plan x i) (stands.sites.site s past is_s)
+
+  at_s : (i : ℕ) → i < length core.places → i < length (edges_of plan s)
+  at_s i h = omega (arith, h, as_many_places plan world seen stands s is_s past)
+
+  fits : (shape : Shape) → has_place core shape ≡ true → HasReceiver core shape
+  fits (Takes i) there = tt
+  fits (Puts i) there =
+      let h : i < length core.places = ltb-true i (length core.places) there in
+      (h, omega (arith, receiver_is i h, (across plan s i stands.reached.is_plan (at_s i h)).is_site, stands.reached.is_plan.few_sites))
+  fits Alone there = tt
+
+  module _ (t : ℕ) (is_t : t < site_count plan) where
+    abbrev other : SeenCore
+    other = (get_or seen.sites t past).core
+
+    -- a letter to another site lies in none of the links to this one
+    elsewhere : (i j : ℕ) → i < length core.places → j < length other.places → t ≢ neighbour_of core.site (place_at core i)
+        → link_to other.site (place_at other j) ≢ link_from core.site (place_at core i)
+    elsewhere i j h k apart same =
+        let n : ℕ = neighbour_at plan s i in
+        let m : ℕ = place_of plan n (edge_at plan s i) in
+        let over = across plan s i stands.reached.is_plan (at_s i h) in
+        let at_t : j < length (edges_of plan t) = omega (arith, k, as_many_places plan world seen stands t is_t past) in
+        let numbers : number_to plan t j ≡ number_to plan n m = sym (to_is plan world seen stands t is_t past j k) ∙ same ∙ from_is plan world seen stands s is_s past i h ∙ from_is_to plan s i n m over in
+        apart ((same_place plan t j n m stands.reached.is_plan at_t over.within numbers).0 ∙ sym (receiver_is i h))
+
+    letters_still : (shape : Shape) (one : Step) (links : List (List Letter)) → has_place core shape ≡ true → IsNoReceiver core shape t → MovesLetters plan (state_of world s) core shape one seen.links links
+        → (j : ℕ) → j < length other.places → is_some (next_in seen.links other j) ≡ false → is_some (next_in links other j) ≡ false
+    letters_still (Takes i) one links there apart moved j k none = subst (λ (l : List (List Letter)). has_letter l (link_to other.site (place_at other j)) ≡ false) (sym moved)
+        (taken_none seen.links (link_to core.site (place_at core i)) (link_to other.site (place_at other j)) none)
+    letters_still (Puts i) one links there apart (l, is, moved) j k none = subst (λ (l : List (List Letter)). has_letter l (link_to other.site (place_at other j)) ≡ false) (sym moved)
+        (ap (λ (o : Option (List Letter)). is_some (option_and_then (λ (letters : List Letter). slice_get letters 0) o))
+        (get_other seen.links (link_from core.site (place_at core i)) (link_to other.site (place_at other j)) _ (elsewhere i j (ltb-true i (length core.places) there) k apart)) ∙ none)
+    letters_still Alone one links there apart moved j k none = subst (λ (l : List (List Letter)). has_letter l (link_to other.site (place_at other j)) ≡ false) (sym moved) none
+
+    module _ (shape : Shape) (one : Step) (links : List (List Letter)) (there : has_place core shape ≡ true) (apart : IsNoReceiver core shape t) (moved : MovesLetters plan (state_of world s) core shape one seen.links links) where
+      still_can_not : (kind : EventKind) → can_do seen.links other kind ≡ false → can_do links other kind ≡ false
+      still_can_not (event.Take j) h = elim (cases_lt j (length other.places)) [
+        | inl k ↦
+            let before : is_some (next_in seen.links other j) ≡ false = sym (ap (λ (b : Bool). b && is_some (next_in seen.links other j)) (lt-ltb j (length other.places) k)) ∙ h in
+            ap (λ (b : Bool). b && is_some (next_in links other j)) (lt-ltb j (length other.places) k) ∙ letters_still shape one links there apart moved j k before
+        | inr beyond ↦ ap (λ (b : Bool). b && is_some (next_in links other j)) (le-ltb j (length other.places) beyond)
+      ]
+      still_can_not (event.Give j) h = h
+      still_can_not event.End h = h
+      still_can_not event.Begin h = h
+      still_can_not event.Hungry h = h
+      still_can_not (event.Ask j) h = h
+      still_can_not (event.Done j) h = h
+      still_can_not (event.Close j) h = h
+
+-- ---- the set after an event
+
+module _ (seen : SeenWorld) (e : Event) (can : can_happen seen e ≡ true) (plan : SeenPlan) (world : WorldState) (stands : IsWorldOf plan world seen)
+    (world_site : WorldSite) (is : world_site ≡ get_or seen.sites e.site world_site) where
+  there_is : (found : WorldSite) × (slice_get seen.sites e.site ≡ Some found) × (can_do seen.links found.core e.kind ≡ true)
+  there_is = world_site_there seen.links e.kind (slice_get seen.sites e.site) can
+
+  is_site : e.site < site_count plan
+  is_site = omega (arith, slice_get_within seen.sites e.site there_is.0 there_is.1, stands.sites.count)
+
+  abbrev here : WorldSite
+  here = get_or seen.sites e.site world_site
+
+  has_its_place : has_place here.core (shape_of e.kind) ≡ true
+  has_its_place = (and_parts _ _ (subst (λ (x : WorldSite). can_do seen.links x.core e.kind ≡ true) (sym (get_or_from_slice_get seen.sites e.site there_is.0 world_site there_is.1)) there_is.2)).0
+
+  -- the receiver is a site
+  pub receiver_fits : HasReceiver world_site.core (shape_of e.kind)
+  receiver_fits = subst (λ (x : WorldSite). HasReceiver x.core (shape_of e.kind)) (sym is) (fits plan world seen stands e.site is_site world_site (shape_of e.kind) has_its_place)
+
+  module _ (one : Step) (changed : WorldSite) (links : List (List Letter)) (awake : List Bool) (moved : MovesLetters plan (state_of world e.site) here.core (shape_of e.kind) one seen.links links)
+      (before : HasAllAwake seen awake) where
+    abbrev after : SeenWorld
+    after = record { sites = slice_set seen.sites e.site changed; links = links; edges = seen.edges; bound = seen.bound }
+
+    can_not_there : (t : ℕ) (o : Option WorldSite) → slice_get seen.sites t ≡ o → IsNoReceiver here.core (shape_of e.kind) t → (kind : EventKind) → can_at seen.links kind o ≡ false → can_at links kind o ≡ false
+    can_not_there t None found apart kind h = refl
+    can_not_there t (Some there) found apart kind h =
+        let same : get_or seen.sites t world_site ≡ there = get_or_from_slice_get seen.sites t there world_site found in
+        let is_t : t < site_count plan = omega (arith, slice_get_within seen.sites t there found, stands.sites.count) in
+        subst (λ (x : WorldSite). can_do links x.core kind ≡ false) same
+        (still_can_not plan world seen stands e.site is_site world_site t is_t (shape_of e.kind) one links has_its_place apart moved kind
+        (subst (λ (x : WorldSite). can_do seen.links x.core kind ≡ false) (sym same) h))
+
+    still_after : (t : ℕ) → t ≢ e.site → IsNoReceiver here.core (shape_of e.kind) t → IsStill seen t → IsStill after t
+    still_after t other apart still kind =
+        ap (can_at links kind) (get_other seen.sites e.site t changed other) ∙ can_not_there t (slice_get seen.sites t) refl apart kind (still kind)
+
+    -- all sites outside the set with the receiver have no enabled event
+    pub awake_after : HasAllAwake after (with_receiver world_site.core (shape_of e.kind) awake)
+    awake_after = subst (λ (x : WorldSite). HasAllAwake after (with_receiver x.core (shape_of e.kind) awake)) (sym is) (record {
+      size = as_long here.core (shape_of e.kind) awake ∙ before.size;
+      others = λ t out.
+          let w = left_out here.core (shape_of e.kind) awake t before.size (fits plan world seen stands e.site is_site world_site (shape_of e.kind) has_its_place) out in
+          elim (cases_eq t e.site) [
+            | inl same ↦ absurd (false≢true (sym (before.others t w.0 e.kind) ∙ ap (λ (k : ℕ). can_happen seen (record { site = k; kind = e.kind })) same ∙ can))
+            | inr other ↦ still_after t other w.1 (before.others t w.0)
+          ];
+    })

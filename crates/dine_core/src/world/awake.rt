@@ -1,0 +1,47 @@
+// The first enabled event, which is looked for at those sites alone that may have one.
+ghost use Rattle.std.specs.Prelude.{◌≡◌, slice_get};
+ghost use Rattle.dine_core.specs.Awake.{HasAllAwake, first_kind_at};
+
+use super::{World, acts};
+use dine_rules::{Event, EventKind};
+use dine_set::WordSet;
+
+impl World {
+    ghost use Rattle.dine_rules.specs.World.{enabled_events};
+    ghost use Rattle.dine_core.specs.Worlds.{ForEachWorld};
+
+    /// The first enabled event, and from then on the world knows which sites before it have none.
+    pub(crate) fn first(&mut self) -> Option<Event>
+        ensures same { self.new ≡ self.old }
+        ensures first { ForEachWorld self.new (λ plan world. result ≡ slice_get (enabled_events plan world) 0) }
+    {
+        let (awake, event) = self.search();
+        self.awake = awake;
+        event
+    }
+
+    // The sites that may have an enabled event, without those that were found to have none, and the first enabled event.
+    fn search(&self) -> (WordSet, Option<Event>)
+        ensures awake { HasAllAwake self.now result.0 }
+        ensures first { ForEachWorld self.now (λ plan world. result.1 ≡ slice_get (enabled_events plan world) 0) }
+    {
+        let mut awake = self.awake;
+        while let Some(site) = awake.first() {
+            if let Some(kind) = self.first_at(site) {
+                return (awake, Some(Event { site, kind }));
+            }
+            awake.remove(site);
+        }
+        (awake, None)
+    }
+
+    // The first enabled event of the site. None where there is no such site.
+    fn first_at(&self, site: u32) -> Option<EventKind>
+        ensures { result ≡ first_kind_at self.now site }
+    {
+        match self.sites.get(site as usize) {
+            Some(world_site) => acts::first_kind(self.links.as_slice(), &world_site.core),
+            None => None,
+        }
+    }
+}
