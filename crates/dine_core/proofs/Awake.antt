@@ -12,7 +12,7 @@ use Rattle.dine_rules.specs.Local.{edge_at, neighbour_at}
 use Rattle.dine_rules.specs.Steps.{Shape, Step, Takes, Puts, Alone, shape_of}
 use Rattle.dine_rules.specs.World.{WorldState, place_of, state_of}
 use Rattle.dine_core.specs.declared.world.sites.WorldSite.{WorldSite}
-use Rattle.dine_core.specs.Awake.{HasAllAwake, HasReceiver, IsStill, with_receiver}
+use Rattle.dine_core.specs.Awake.{HasAllAwake, HasAllMail, HasReceiver, IsStill, with_receiver}
 use Rattle.dine_core.specs.Core.{SeenCore}
 use Rattle.dine_core.specs.LinkNumbers.{link_from, link_to}
 use Rattle.dine_core.specs.Places.{neighbour_of, place_at}
@@ -56,6 +56,11 @@ get_other (y ∷ xs) zero zero x other = absurd (other refl)
 get_other (y ∷ xs) zero (suc j) x other = refl
 get_other (y ∷ xs) (suc i) zero x other = refl
 get_other (y ∷ xs) (suc i) (suc j) x other = get_other xs i j x (λ same. other (ap suc same))
+
+get_same : {X : Type 0} (xs : List X) (i : ℕ) (x : X) → i < length xs → slice_get (slice_set xs i x) i ≡ Some x
+get_same [] i x h = absurd (omega arith)
+get_same (y ∷ xs) zero x h = refl
+get_same (y ∷ xs) (suc i) x h = get_same xs i x (omega arith)
 
 -- whether the link has a letter
 abbrev has_letter : List (List Letter) → ℕ → Bool
@@ -155,8 +160,7 @@ module _ (seen : SeenWorld) (e : Event) (can : can_happen seen e ≡ true) (plan
   pub receiver_fits : HasReceiver world_site.core (shape_of e.kind)
   receiver_fits = subst (λ (x : WorldSite). HasReceiver x.core (shape_of e.kind)) (sym is) (fits plan world seen stands e.site is_site world_site (shape_of e.kind) has_its_place)
 
-  module _ (one : Step) (changed : WorldSite) (links : List (List Letter)) (awake : List Bool) (moved : MovesLetters plan (state_of world e.site) here.core (shape_of e.kind) one seen.links links)
-      (before : HasAllAwake seen awake) where
+  module _ (one : Step) (changed : WorldSite) (links : List (List Letter)) (awake : List Bool) (moved : MovesLetters plan (state_of world e.site) here.core (shape_of e.kind) one seen.links links) where
     abbrev after : SeenWorld
     after = record { sites = slice_set seen.sites e.site changed; links = links; edges = seen.edges; bound = seen.bound }
 
@@ -174,8 +178,8 @@ module _ (seen : SeenWorld) (e : Event) (can : can_happen seen e ≡ true) (plan
         ap (can_at links kind) (get_other seen.sites e.site t changed other) ∙ can_not_there t (slice_get seen.sites t) refl apart kind (still kind)
 
     -- all sites outside the set with the receiver have no enabled event
-    pub awake_after : HasAllAwake after (with_receiver world_site.core (shape_of e.kind) awake)
-    awake_after = subst (λ (x : WorldSite). HasAllAwake after (with_receiver x.core (shape_of e.kind) awake)) (sym is) (record {
+    pub awake_after : HasAllAwake seen awake → HasAllAwake after (with_receiver world_site.core (shape_of e.kind) awake)
+    awake_after before = subst (λ (x : WorldSite). HasAllAwake after (with_receiver x.core (shape_of e.kind) awake)) (sym is) (record {
       size = as_long here.core (shape_of e.kind) awake ∙ before.size;
       others = λ t out.
           let w = left_out here.core (shape_of e.kind) awake t before.size (fits plan world seen stands e.site is_site world_site (shape_of e.kind) has_its_place) out in
@@ -184,3 +188,48 @@ module _ (seen : SeenWorld) (e : Event) (can : can_happen seen e ≡ true) (plan
             | inr other ↦ still_after t other w.1 (before.others t w.0)
           ];
     })
+
+    -- the site itself, in the world that it leaves
+    module _ (next : WorldState) (next_stands : IsWorldOf plan next after) (has : HasAllMail seen awake) where
+      own_link : (i : ℕ) → i < length changed.core.places → (i < length here.core.places) × (link_to changed.core.site (place_at changed.core i) ≡ link_to here.core.site (place_at here.core i))
+      own_link i h =
+          let same : get_or after.sites e.site world_site ≡ changed = get_or-set_same seen.sites e.site changed world_site (omega (arith, is_site, stands.sites.count)) in
+          let places : length changed.core.places ≡ length (edges_of plan e.site) = ap (λ (x : WorldSite). length x.core.places) (sym same) ∙ as_many_places plan next after next_stands e.site is_site world_site in
+          let old : length here.core.places ≡ length (edges_of plan e.site) = as_many_places plan world seen stands e.site is_site world_site in
+          let within : i < length (get_or after.sites e.site world_site).core.places = omega (arith, h, ap (λ (x : WorldSite). length x.core.places) same) in
+          let within_old : i < length here.core.places = omega (arith, h, places, old) in (
+            within_old,
+            ap (λ (x : WorldSite). link_to x.core.site (place_at x.core i)) (sym same) ∙ to_is plan next after next_stands e.site is_site world_site i within
+                ∙ sym (to_is plan world seen stands e.site is_site world_site i within_old),
+          )
+
+      -- no letter comes to it
+      own_none : IsNoReceiver here.core (shape_of e.kind) e.site → ((i : ℕ) → can_do seen.links here.core (event.Take i) ≡ false) → (i : ℕ) → can_do links changed.core (event.Take i) ≡ false
+      own_none apart none i = elim (cases_lt i (length changed.core.places)) [
+        | inl h ↦
+            let w = own_link i h in
+            let before : is_some (next_in seen.links here.core i) ≡ false = sym (ap (λ (b : Bool). b && is_some (next_in seen.links here.core i)) (lt-ltb i (length here.core.places) w.0)) ∙ none i in
+            ap (λ (b : Bool). b && is_some (next_in links changed.core i)) (lt-ltb i (length changed.core.places) h)
+            ∙ ap (has_letter links) w.1
+            ∙ letters_still plan world seen stands e.site is_site world_site e.site is_site (shape_of e.kind) one links has_its_place apart moved i w.0 before
+        | inr beyond ↦ ap (λ (b : Bool). b && is_some (next_in links changed.core i)) (le-ltb i (length changed.core.places) beyond)
+      ]
+
+      found_here : slice_get seen.sites e.site ≡ Some here
+      found_here = there_is.1 ∙ ap (λ (x : WorldSite). Some x) (sym (get_or_from_slice_get seen.sites e.site there_is.0 world_site there_is.1))
+
+      -- no letter is on its way to a site outside the set with the receiver
+      pub mail_after : HasAllMail after (with_receiver world_site.core (shape_of e.kind) awake)
+      mail_after = subst (λ (x : WorldSite). HasAllMail after (with_receiver x.core (shape_of e.kind) awake)) (sym is) (record {
+        size = as_long here.core (shape_of e.kind) awake ∙ has.size;
+        others = λ t out i.
+            let w = left_out here.core (shape_of e.kind) awake t has.size (fits plan world seen stands e.site is_site world_site (shape_of e.kind) has_its_place) out in
+            elim (cases_eq t e.site) [
+              | inl same ↦
+                  let none = λ (k : ℕ). sym (ap (can_at seen.links (event.Take k)) (ap (slice_get seen.sites) same ∙ found_here)) ∙ has.others t w.0 k in
+                  ap (λ (k : ℕ). can_at links (event.Take i) (slice_get (slice_set seen.sites e.site changed) k)) same
+                  ∙ ap (can_at links (event.Take i)) (get_same seen.sites e.site changed (omega (arith, is_site, stands.sites.count)))
+                  ∙ own_none (subst (IsNoReceiver here.core (shape_of e.kind)) same w.1) none i
+              | inr other ↦ ap (can_at links (event.Take i)) (get_other seen.sites e.site t changed other) ∙ can_not_there t (slice_get seen.sites t) refl w.1 (event.Take i) (has.others t w.0 i)
+            ];
+      })

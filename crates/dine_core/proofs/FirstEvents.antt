@@ -2,7 +2,7 @@
 use Rattle.std.proofs.Common.{◌≡◌, ℕ, zero, suc, ◌+◌, ◌<◌, ◌≤◌, ◌&&◌, nat_lt, Bool, true, false, cond, List, [], ◌∷◌, ◌++◌, length, map, slice_get, Option, Some, None, is_some, option_map, option_and_then, refl, sym, ◌∙◌, ap, ap₂, inl, inr, arith, append_assoc}
 use Rattle.std.specs.List.{filter, find, range_with_len}
 use Rattle.std.specs.Option.{option_or}
-use Rattle.std.proofs.lemmas.Bool.{cases_eq, cases_lt, le-ltb}
+use Rattle.std.proofs.lemmas.Bool.{cases_eq, cases_lt, le-ltb, lt-ltb}
 use Rattle.std.proofs.lemmas.List.Folds.{find-append}
 use Rattle.std.proofs.lemmas.Option.{get_or_from_slice_get, slice_get_past, slice_get_within}
 use Rattle.dine_plan.specs.Plan.{SeenPlan, edges_of, site_count}
@@ -12,7 +12,7 @@ use Rattle.dine_rules.specs.declared.events.EventKind.TheVariants as event
 use Rattle.dine_rules.specs.declared.letters.Letter.{Letter}
 use Rattle.dine_rules.specs.World.{WorldState, enabled_events, events_at, is_enabled, kinds_at}
 use Rattle.dine_core.specs.declared.world.sites.WorldSite.{WorldSite}
-use Rattle.dine_core.specs.Awake.{IsStill, first_kind, first_kind_at}
+use Rattle.dine_core.specs.Awake.{HasNoMail, IsStill, first_kind, first_kind_at}
 use Rattle.dine_core.specs.Core.{SeenCore}
 use Rattle.dine_core.specs.NextEvent.{can_by_itself, next_of, own_kinds}
 use Rattle.dine_core.specs.Places.{can_ask, can_close, can_give, can_say_done}
@@ -53,6 +53,10 @@ none_at p f a (suc n) i h low high =
       | inl same ↦ ap (λ (k : ℕ). p (f k)) (sym same) ∙ w.0
       | inr other ↦ none_at p f (a + 1) n i w.1 (omega arith) (omega arith)
     ]
+
+none_of : (p : ℕ → Bool) (a n : ℕ) → ((i : ℕ) → i < a + n → p i ≡ false) → find p (range_with_len a n) ≡ None
+none_of p a zero none = refl
+none_of p a (suc n) none = ap (λ (b : Bool). cond b (Some a) (find p (range_with_len (a + 1) n))) (none a (omega arith)) ∙ none_of p (a + 1) n (λ i h. none i (omega arith))
 
 -- ---- the events of one site
 
@@ -122,6 +126,15 @@ module _ (links : List (List Letter)) (core : SeenCore) where
       let begin = cond_none (p event.Begin) event.Begin (find p (event.Hungry ∷ [])) end.1 in
       let hungry = cond_none (p event.Hungry) event.Hungry None begin.1 in
       each_can_not gives.0 gives.1 end.0 begin.0 hungry.0 asks.1 dones.1 closes.1
+
+  -- no place has a letter where none is found, and the other way round
+  pub no_mail : find (λ i. is_some (next_in links core i)) places ≡ None → HasNoMail links core
+  no_mail none = at event.Take (λ i. is_some (next_in links core i)) (λ i. refl)
+      (find-map event.Take p places ∙ ap (option_map event.Take) (bounded n (λ i. is_some (next_in links core i)) ∙ none))
+
+  pub no_take : HasNoMail links core → find (λ i. is_some (next_in links core i)) places ≡ None
+  no_take none = none_of (λ i. is_some (next_in links core i)) 0 n (λ i within.
+      sym (ap (λ (b : Bool). b && is_some (next_in links core i)) (lt-ltb i n (omega arith))) ∙ none i)
 
 still_here : (links : List (List Letter)) (o : Option WorldSite) → option_and_then (λ (world_site : WorldSite). first_kind links world_site.core) o ≡ None → (kind : EventKind) → can_at links kind o ≡ false
 still_here links None h kind = refl

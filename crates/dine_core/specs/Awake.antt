@@ -1,8 +1,9 @@
 -- Which sites of the world may have an enabled event, and the first event of a site.
-use Rattle.std.specs.Prelude.{◌≡◌, ℕ, ◌<◌, Bool, false, true, List, length, find, slice_get, slice_index_or, slice_set, Option, option_and_then}
+use Rattle.std.specs.Prelude.{◌≡◌, ◌⊎◌, ℕ, ◌<◌, Bool, false, true, List, length, find, slice_get, slice_index_or, slice_set, Option, option_and_then}
 use Rattle.std.specs.List.{range_with_len}
 use Rattle.dine_rules.specs.declared.letters.Letter.{Letter}
 use Rattle.dine_rules.specs.declared.events.EventKind.{EventKind}
+use Rattle.dine_rules.specs.declared.events.EventKind.TheVariants as event
 use Rattle.dine_core.specs.declared.world.sites.WorldSite.{WorldSite}
 use Rattle.dine_rules.specs.Steps.{Shape, Takes, Puts, Alone}
 use Rattle.dine_rules.specs.World.{kinds_at}
@@ -19,6 +20,19 @@ IsStill seen s = (kind : EventKind) → can_happen seen (record { site = s; kind
 pub record HasAllAwake (seen : SeenWorld) (awake : List Bool) : Type 0 where
   pub size : length awake ≡ 64
   pub others : (s : ℕ) → slice_index_or awake s false ≡ false → IsStill seen s
+
+-- no letter is on its way to the site
+abbrev pub HasNoMail : List (List Letter) → SeenCore → Type 0
+HasNoMail links core = (i : ℕ) → can_do links core (event.Take i) ≡ false
+
+-- The set has each site that a letter is on its way to, so that it may take. It may have others.
+pub record HasAllMail (seen : SeenWorld) (mail : List Bool) : Type 0 where
+  pub size : length mail ≡ 64
+  pub others : (s : ℕ) → slice_index_or mail s false ≡ false → (i : ℕ) → can_happen seen (record { site = s; kind = event.Take i }) ≡ false
+
+-- the set is as it was, or lacks the site, to which no letter is on its way
+abbrev pub LeavesMail : List (List Letter) → SeenCore → ℕ → List Bool → List Bool → Type 0
+LeavesMail links core s mail rest = (rest ≡ mail) ⊎ (rest ≡ slice_set mail s false) × HasNoMail links core
 
 -- an event of this shape puts no letter, or one at a place of the site, whose other end has a number below 64
 abbrev pub HasReceiver : SeenCore → Shape → Type 0

@@ -49,6 +49,8 @@ pub struct World {
     forks: Vec<Fork>,
     // Each site that has an enabled event is in it, and others may be.
     awake: WordSet,
+    // Each site that a letter is on its way to is in it, and others may be.
+    mail: WordSet,
 }
 
 impl Model for World {
@@ -85,6 +87,7 @@ impl World {
             bound,
             forks,
             awake: WordSet::full(),
+            mail: WordSet::full(),
         })
     }
 
@@ -139,6 +142,7 @@ impl World {
     {
         let world_site = &mut self.sites[event.site as usize];
         self.awake = acts::with_receiver(self.awake, &world_site.core, event.kind);
+        self.mail = acts::with_receiver(self.mail, &world_site.core, event.kind);
         acts::act(world_site, self.links.as_mut_slice(), event.kind);
     }
 

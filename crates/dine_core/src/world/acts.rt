@@ -1,10 +1,10 @@
 // What a site of the world may do, and does.
-ghost use Rattle.std.specs.Prelude.{◌≡◌, ℕ, ◌<◌, ◌+◌, IfSome, List, MatchOption, None, Some, find, length, is_some, option_and_then, option_map, slice_get, true};
+ghost use Rattle.std.specs.Prelude.{◌≡◌, ℕ, ◌<◌, ◌+◌, IfSome, List, MatchOption, None, Some, find, length, is_some, option_and_then, option_map, slice_get, false, true};
 ghost use Rattle.std.specs.List.{range_with_len};
 ghost use Rattle.dine_rules.specs.declared.letters.Letter.{Letter};
 ghost use Rattle.dine_rules.specs.Local.{is_eating};
 ghost use Rattle.dine_core.specs.Forks.{woken};
-ghost use Rattle.dine_core.specs.Awake.{HasReceiver, first_kind, with_receiver};
+ghost use Rattle.dine_core.specs.Awake.{HasNoMail, HasReceiver, LeavesMail, first_kind, with_receiver};
 ghost use Rattle.dine_core.specs.LinkNumbers.{link_to};
 ghost use Rattle.dine_rules.specs.Steps.{Begin, End, Puts, Step, Take, after, shape_of, step_by};
 ghost use Rattle.dine_core.specs.Core.{forks_in_hand};
@@ -142,14 +142,28 @@ pub(crate) fn with_receiver(awake: WordSet, core: &SiteCore, kind: EventKind) ->
     }
 }
 
-/// The first event that the site may do now, in the fixed order, with these letters in the links.
-pub(crate) fn first_kind(links: &[Queue], core: &SiteCore) -> Option<EventKind>
-    ensures { result ≡ first_kind links.now core.now }
+/// The first event that the site may do now, in the fixed order, with these letters in the links. Where the site is not in
+/// `mail`, no letter is on its way to it; it also answers `mail`, without the site where no letter was found.
+pub(crate) fn first_kind(
+    links: &[Queue],
+    core: &SiteCore,
+    site: u32,
+    mail: WordSet,
+) -> (WordSet, Option<EventKind>)
+    requires within { site < 64 }
+    requires mail { slice_get mail site ≡ Some false → HasNoMail links.now core.now }
+    ensures mail { LeavesMail links.now core.now site mail result.0 }
+    ensures first { result.1 ≡ first_kind links.now core.now }
 {
-    match first_take(links, core) {
-        Some(i) => Some(EventKind::Take(i)),
-        None => core.next_event(),
+    if !mail.has(site) {
+        return (mail, core.next_event());
     }
+    if let Some(i) = first_take(links, core) {
+        return (mail, Some(EventKind::Take(i)));
+    }
+    let mut rest = mail;
+    rest.remove(site);
+    (rest, core.next_event())
 }
 
 // The first place with a letter in the link to the site.

@@ -37,6 +37,7 @@ impl World {
             bound: _,
             mut forks,
             awake: _,
+            mail: _,
         } = self;
         wake_all(sites.as_mut_slice());
         collect(

@@ -5,8 +5,8 @@ use Rattle.dine_rules.specs.Steps.{shape_of}
 use Rattle.dine_core.specs.WorldSites.{SiteSteps, HasRoomFor, TakesAllowed, can_do}
 use Rattle.dine_core.specs.WorldFields.{seen_world}
 use Rattle.dine_core.specs.Worlds.{WorldStep, IsWorldOf, SeenWorld, can_happen}
-use Rattle.dine_core.specs.Awake.{HasAllAwake}
-use Rattle.dine_core.proofs.Awake.{awake_after, receiver_fits}
+use Rattle.dine_core.specs.Awake.{HasAllAwake, HasAllMail}
+use Rattle.dine_core.proofs.Awake.{awake_after, mail_after, receiver_fits}
 use Rattle.dine_core.proofs.WorldStepped.{site_can, site_done, site_fits, site_allowed, site_moved, site_room, site_within}
 use Rattle.dine_core.proofs.world.World.happen.Goals as goal
 
@@ -24,6 +24,13 @@ act-requires-clause-can c =
 
 pub with_receiver-self-inside-requires : goal.with_receiver-self-inside-requires
 with_receiver-self-inside-requires c =
+    let seen = seen_world c.self.inside in
+    let can : can_happen seen c.args.event ≡ true = ap (λ (w : SeenWorld). can_happen w c.args.event) c.self.view_is ∙ c.requires in
+    let kept = c.self.invariant in
+    receiver_fits seen c.args.event can kept.plan kept.state kept.stands c.index_mut-world_site.result.now c.index_mut-world_site.ensures.value
+
+pub with_receiver-self-inside-requires-2 : goal.with_receiver-self-inside-requires-2
+with_receiver-self-inside-requires-2 c =
     let seen = seen_world c.self.inside in
     let can : can_happen seen c.args.event ≡ true = ap (λ (w : SeenWorld). can_happen w c.args.event) c.self.view_is ∙ c.requires in
     let kept = c.self.invariant in
@@ -60,19 +67,23 @@ invariant_of-self c =
     let can : can_happen seen c.args.event ≡ true = ap (λ (w : SeenWorld). can_happen w c.args.event) c.self.view_is ∙ c.requires in
     let kept = c.self.invariant in
     let world_site = c.index_mut-world_site.result.now in
-    let does = subst (λ (links : List (List Letter)). SiteSteps c.args.event.kind world_site c.act.new.world_site links c.act.new.links) c.as_mut_slice.ensures.value c.act.ensures.does in
-    let moved = site_moved seen c.args.event can kept.plan kept.state kept.stands world_site c.index_mut-world_site.ensures.value c.act.new.world_site c.act.new.links does in
-    let awake = awake_after seen c.args.event can kept.plan kept.state kept.stands world_site c.index_mut-world_site.ensures.value moved.0 c.act.new.world_site c.act.new.links c.self.inside.awake moved.1 kept.awake in
-    let next = site_done seen c.args.event can kept.plan kept.state kept.stands world_site c.index_mut-world_site.ensures.value c.act.new.world_site c.act.new.links does in
+    let here = c.index_mut-world_site.ensures.value in
+    let changed = c.act.new.world_site in
+    let does = subst (λ (links : List (List Letter)). SiteSteps c.args.event.kind world_site changed links c.act.new.links) c.as_mut_slice.ensures.value c.act.ensures.does in
+    let moved = site_moved seen c.args.event can kept.plan kept.state kept.stands world_site here changed c.act.new.links does in
+    let next = site_done seen c.args.event can kept.plan kept.state kept.stands world_site here changed c.act.new.links does in
+    let awake = awake_after seen c.args.event can kept.plan kept.state kept.stands world_site here moved.0 changed c.act.new.links c.self.inside.awake moved.1 kept.awake in
+    let mail = mail_after seen c.args.event can kept.plan kept.state kept.stands world_site here moved.0 changed c.act.new.links c.self.inside.mail moved.1 next.after next.stands kept.mail in
     let whole : take c.self.inside.links.len (c.act.new.links ++ drop (length c.act.new.links) c.self.inside.links.items) ≡ c.act.new.links = grind (arith, common_steps) in
+    let new : List (List Letter) → SeenWorld = λ links. record { sites = slice_set c.self.inside.sites.items c.args.event.site changed; links = links; edges = c.self.inside.edges.items; bound = c.self.inside.bound } in
     record {
       plan = kept.plan;
       state = next.after;
-      stands = subst (λ (links : List (List Letter)). IsWorldOf kept.plan next.after (record { sites = slice_set c.self.inside.sites.items c.args.event.site c.act.new.world_site; links = links; edges = c.self.inside.edges.items; bound = c.self.inside.bound })) (sym whole) next.stands;
+      stands = subst (λ (links : List (List Letter)). IsWorldOf kept.plan next.after (new links)) (sym whole) next.stands;
       no_forks = kept.no_forks;
       room = kept.room;
-      awake = subst (λ (links : List (List Letter)). HasAllAwake (record { sites = slice_set c.self.inside.sites.items c.args.event.site c.act.new.world_site; links = links; edges = c.self.inside.edges.items; bound = c.self.inside.bound }) c.with_receiver-self-inside.result) (sym whole)
-          (subst (HasAllAwake (record { sites = slice_set c.self.inside.sites.items c.args.event.site c.act.new.world_site; links = c.act.new.links; edges = c.self.inside.edges.items; bound = c.self.inside.bound })) (sym c.with_receiver-self-inside.ensures) awake);
+      awake = subst (λ (links : List (List Letter)). HasAllAwake (new links) c.with_receiver-self-inside.result) (sym whole) (subst (HasAllAwake (new c.act.new.links)) (sym c.with_receiver-self-inside.ensures) awake);
+      mail = subst (λ (links : List (List Letter)). HasAllMail (new links) c.with_receiver-self-inside-2.result) (sym whole) (subst (HasAllMail (new c.act.new.links)) (sym c.with_receiver-self-inside-2.ensures) mail);
     }
 
 pub returns : goal.returns
