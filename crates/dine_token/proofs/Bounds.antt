@@ -104,3 +104,12 @@ length-lawful ends due log ordered lawful =
       | inl dirty ↦ omega (arith, counted.all, counted.used dirty, lawful.lower_within, lawful.higher_within)
       | inr clean ↦ omega (arith, counted.all, counted.sent, clean_has_left ends due log ordered lawful clean)
     ]
+
+-- and at most as many Moves as meals are due
+pub moves-lawful : (ends due : ℕ × ℕ) (log : List Entry) → ends.0 < ends.1 → IsLawful ends due log → moves_of log ≤ due.0 + due.1
+moves-lawful ends due log ordered lawful =
+    let counted = counted_lawful ends due ordered log lawful in
+    elim (cases_Bool (is_dirty log)) [
+      | inl dirty ↦ omega (arith, counted.used dirty, lawful.lower_within, lawful.higher_within)
+      | inr clean ↦ omega (arith, counted.sent, clean_has_left ends due log ordered lawful clean)
+    ]

@@ -1,13 +1,18 @@
 -- A fork stays a proper fork through what may be done with it.
-use Rattle.std.proofs.Common.{◌≡◌, ℕ, ◌+◌, ◌*◌, ◌<◌, ◌≤◌, eqb, length, sym, ◌∙◌, inl, inr, arith}
+use Rattle.std.proofs.Common.{◌≡◌, ℕ, ◌+◌, ◌*◌, ◌<◌, ◌≤◌, true, false, cond, eqb, List, length, sym, ◌∙◌, ap, subst, inl, inr, arith}
+use Rattle.std.specs.List.{All}
 use Rattle.std.proofs.lemmas.Bool.{eq-eqb, ne_eqb, cond-true, cond-false}
 use Rattle.std.proofs.lemmas.List.{length_push}
-use Rattle.dine_token.specs.declared.entry.Entry.TheVariants.{Meal, Move}
-use Rattle.dine_token.specs.Log.{moves_of}
+use Rattle.dine_token.specs.declared.period.Period.{Period}
+use Rattle.dine_token.specs.Log.{meals_of, moves_of}
+use Rattle.dine_token.specs.Lawful.{due_at}
+use Rattle.dine_token.specs.Periods.{periods_of}
 use Rattle.dine_token.specs.Fork.{SeenFork, IsFork, IsEnd, MayMove, MayEat, location, other_end, moved, eaten}
 use Rattle.dine_token.proofs.Logs.{turn}
 use Rattle.dine_token.proofs.Lawfulness.{at_an_end, IsLawful-push_meal, IsLawful-push_move}
-use Rattle.dine_token.proofs.Bounds.{length-lawful, counted_lawful}
+use Rattle.dine_token.proofs.Bounds.{length-lawful, moves-lawful, counted_lawful}
+use Rattle.dine_token.proofs.Periods.{period, periods_of-push_move, length-periods_of}
+use Rattle.dine_token.proofs.Told.{IsPlaced, IsTold, told_lawful, periods-small}
 
 -- a fork is at one of its ends
 pub IsEnd-location : (fork : SeenFork) → IsFork fork → IsEnd fork (location fork)
@@ -40,12 +45,37 @@ IsFork-eaten fork site k proper may = record {
 pub length-fork : (fork : SeenFork) → IsFork fork → length fork.log ≤ 2 * (fork.due.0 + fork.due.1)
 length-fork fork proper = length-lawful fork.ends fork.due fork.log proper.ordered proper.lawful
 
--- so where an entry may be added, there is room for it
-pub room_to_move : (fork : SeenFork) (to : ℕ) → IsFork fork → MayMove to fork → length fork.log < 2 * (fork.due.0 + fork.due.1)
-room_to_move fork to proper may = omega (arith, length-fork (moved to fork) (IsFork-moved fork to proper may), length_push fork.log (Move to))
+-- its periods are one more than its Moves, at most one more than the meals that are due
+pub length-periods : (fork : SeenFork) → IsFork fork → length (periods_of fork.ends.0 fork.log) ≤ fork.due.0 + fork.due.1 + 1
+length-periods fork proper = omega (arith, length-periods_of fork.ends.0 fork.log, moves-lawful fork.ends fork.due fork.log proper.ordered proper.lawful)
 
-pub room_to_eat : (fork : SeenFork) (site k : ℕ) → IsFork fork → MayEat site k fork → length fork.log < 2 * (fork.due.0 + fork.due.1)
-room_to_eat fork site k proper may = omega (arith, length-fork (eaten site k fork) (IsFork-eaten fork site k proper may), length_push fork.log (Meal site k))
+-- so where a Move may be made, there is room for the period that it opens
+pub room_to_move : (fork : SeenFork) (to : ℕ) → IsFork fork → MayMove to fork → length (periods_of fork.ends.0 fork.log) < fork.due.0 + fork.due.1 + 1
+room_to_move fork to proper may =
+    omega (arith, length-periods (moved to fork) (IsFork-moved fork to proper may), ap length (periods_of-push_move fork.ends.0 fork.log to), length_push (periods_of fork.ends.0 fork.log) (period to (meals_of to fork.log + 1) 0))
+
+-- what its periods are
+pub told_fork : (fork : SeenFork) → IsFork fork → IsTold fork.ends.0 1000 fork.log
+told_fork fork proper = told_lawful fork.ends fork.due 1000 proper.ordered proper.lower_due proper.higher_due fork.log proper.lawful
+
+pub periods_small : (fork : SeenFork) → IsFork fork → All (λ (p : Period). p.first + p.count ≤ 1001) (periods_of fork.ends.0 fork.log)
+periods_small fork proper =
+    let told = told_fork fork proper in
+    let at : (end : ℕ) → told.last.site ≡ end → meals_of told.last.site fork.log ≡ meals_of end fork.log = λ end same. ap (λ (e : ℕ). meals_of e fork.log) same in
+    periods-small fork.ends.0 1000 fork.log told (elim (IsEnd-location fork proper) [
+      | inl w ↦ omega (arith, at fork.ends.0 (told.here ∙ w), proper.lawful.lower_within, proper.lower_due)
+      | inr w ↦ omega (arith, at fork.ends.1 (told.here ∙ w), proper.lawful.higher_within, proper.higher_due)
+    ])
+
+pub placed_fork : (fork : SeenFork) → IsFork fork → IsPlaced (periods_of fork.ends.0 fork.log)
+placed_fork fork proper =
+    let told = told_fork fork proper in
+    let P : List Period → Type 0 = λ l. IsPlaced l in
+    subst P (sym told.is) told.placed
+
+-- no end has more than 1,000 meals due
+pub due_small : (fork : SeenFork) (end : ℕ) → IsFork fork → due_at fork.ends fork.due end ≤ 1000
+due_small fork end proper = elim (eqb end fork.ends.0) as (λ b. cond b fork.due.0 fork.due.1 ≤ 1000) [ true ↦ proper.lower_due | false ↦ proper.higher_due ]
 
 -- the log has at most 4,000 entries, and at most as many Moves
 pub moves-fork : (fork : SeenFork) → IsFork fork → moves_of fork.log ≤ 4000

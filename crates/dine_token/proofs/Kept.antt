@@ -1,49 +1,96 @@
--- The counts that a Fork keeps stay those of its log.
-use Rattle.std.proofs.Common.{◌≡◌, ◌⊎◌, ℕ, ◌+◌, true, false, List, [], ◌∷◌, ◌++◌, length, sym, ◌∙◌, ap, subst, inl, inr, arith, vec_capacity}
-use Rattle.std.proofs.lemmas.List.{length_push}
+-- The periods and the counts that a Fork keeps stay those of its log.
+use Rattle.std.proofs.Common.{◌≡◌, ◌⊎◌, ℕ, ◌+◌, ◌<◌, ◌≤◌, true, false, List, [], ◌∷◌, ◌++◌, length, get_or, set, sym, ◌∙◌, ap, subst, inl, inr, arith, vec_capacity}
 use Rattle.dine_token.specs.declared.entry.Entry.{Entry}
 use Rattle.dine_token.specs.declared.entry.Entry.TheVariants.{Meal, Move}
 use Rattle.dine_token.specs.declared.fork.Fork.TheInside.{Inside}
-use Rattle.dine_token.specs.Log.{is_dirty, location_of, meals_of, moves_of, destinations_of}
+use Rattle.dine_token.specs.declared.period.Period.{Period}
+use Rattle.dine_token.specs.Log.{is_dirty, location_of, meals_of}
+use Rattle.dine_token.specs.Lawful.{IsLawful}
+use Rattle.dine_token.specs.Periods.{periods_of, entries_of}
 use Rattle.dine_token.specs.Fork.{SeenFork, IsFork, MayMove, MayEat, moved, eaten}
 use Rattle.dine_token.specs.Fields.{seen, IsKept}
-use Rattle.dine_token.proofs.Logs.{is_dirty-push_meal, is_dirty-push_move, location_of-push_meal, location_of-push_move, meals_of-push_own, meals_of-push_other, meals_of-push_move, destinations_of-push_meal, destinations_of-append}
-use Rattle.dine_token.proofs.Forks.{IsFork-moved, IsFork-eaten, IsEnd-location}
+use Rattle.dine_token.proofs.Logs.{is_dirty-push_meal, is_dirty-push_move, location_of-push_meal, location_of-push_move, meals_of-push_own, meals_of-push_other, meals_of-push_move}
+use Rattle.dine_token.proofs.Lawfulness.{IsLawful-none}
+use Rattle.dine_token.proofs.Periods.{period, one_more, last_one_more, last_one_more-append, set-last, periods_of-push_move, periods_of-push_meal, entries_of-opened, entries_of-one_more}
+use Rattle.dine_token.proofs.Forks.{IsFork-moved, IsFork-eaten, IsEnd-location, told_fork}
+
+-- a fork that was just opened
+pub kept_opened : (fork : Inside) → fork.periods.items ≡ period fork.lower 1 0 ∷ [] → fork.lower < fork.higher → fork.lower_due ≤ 1000 → fork.higher_due ≤ 1000
+    → fork.location ≡ fork.lower → fork.dirty ≡ true → fork.lower_meals ≡ 0 → fork.higher_meals ≡ 0 → fork.lower_due + fork.higher_due + 1 ≤ vec_capacity fork.periods
+    → IsKept fork
+kept_opened fork is ordered lower_due higher_due there dirty lower_none higher_none room =
+    let none : [] ≡ entries_of fork.periods.items = sym (ap entries_of is) in
+    let ends = (seen fork).ends in
+    let due = (seen fork).due in
+    let P : List Entry → Type 0 = λ l. IsLawful ends due l in
+    record {
+      proper = record { ordered = ordered; lower_due = lower_due; higher_due = higher_due; lawful = subst P none (IsLawful-none ends due) };
+      periods = is ∙ ap (periods_of fork.lower) none;
+      location = there ∙ ap (location_of fork.lower) none;
+      dirty = dirty ∙ ap is_dirty none;
+      lower_meals = lower_none ∙ ap (meals_of fork.lower) none;
+      higher_meals = higher_none ∙ ap (meals_of fork.higher) none;
+      room = room;
+    }
+
+-- a period that a Move opens adds the Move to the log
+pub log_moved : (fork : Inside) (to first : ℕ) → IsKept fork → entries_of (fork.periods.items ++ period to first 0 ∷ []) ≡ entries_of fork.periods.items ++ Move to ∷ []
+log_moved fork to first kept =
+    let told = told_fork (seen fork) kept.proper in
+    let is = kept.periods ∙ told.is in
+    ap (λ (l : List Period). entries_of (l ++ period to first 0 ∷ [])) is ∙ entries_of-opened told.front told.last to first
+    ∙ ap (λ (l : List Period). entries_of l ++ Move to ∷ []) (sym is)
+
+-- the last period got one more
+pub more_items : (items old : List Period) (n : ℕ) (last : Period) → items ≡ old → last ≡ get_or items n last → n + 1 ≡ length old → set items n (one_more last) ≡ last_one_more old
+more_items items old n last same is at =
+    ap (λ (p : Period). set items n (one_more p)) is ∙ set-last items n last (at ∙ ap length (sym same)) ∙ ap last_one_more same
+
+-- one more in the last period adds the meal to the log
+pub log_eaten : (fork : Inside) (site k : ℕ) → IsKept fork → MayEat site k (seen fork) → entries_of (last_one_more fork.periods.items) ≡ entries_of fork.periods.items ++ Meal site k ∷ []
+log_eaten fork site k kept may =
+    let told = told_fork (seen fork) kept.proper in
+    let is = kept.periods ∙ told.is in
+    let eater : told.last.site ≡ site = told.here ∙ may.held in
+    let number : told.last.first + told.last.count ≡ k = told.next ∙ ap (λ (e : ℕ). meals_of e (seen fork).log + 1) eater ∙ may.next in
+    ap (λ (l : List Period). entries_of (last_one_more l)) is ∙ ap entries_of (last_one_more-append told.front told.last) ∙ entries_of-one_more told.front told.last
+    ∙ ap (λ (l : List Period). entries_of l ++ Meal told.last.site (told.last.first + told.last.count) ∷ []) (sym is)
+    ∙ ap (λ (e : ℕ). entries_of fork.periods.items ++ Meal e (told.last.first + told.last.count) ∷ []) eater ∙ ap (λ (j : ℕ). entries_of fork.periods.items ++ Meal site j ∷ []) number
 
 -- the fork moved
 pub kept_moved : (old new : Inside) (to : ℕ) → IsKept old → MayMove to (seen old) → seen new ≡ moved to (seen old)
-    → new.location ≡ to → new.dirty ≡ false → new.lower_meals ≡ old.lower_meals → new.higher_meals ≡ old.higher_meals → new.moves ≡ old.moves + 1 → vec_capacity new.log ≡ vec_capacity old.log
+    → new.location ≡ to → new.dirty ≡ false → new.lower_meals ≡ old.lower_meals → new.higher_meals ≡ old.higher_meals → new.periods.items ≡ old.periods.items ++ period to (meals_of to (seen old).log + 1) 0 ∷ [] → vec_capacity new.periods ≡ vec_capacity old.periods
     → IsKept new
-kept_moved old new to kept may change there clean lower_same higher_same more same_room =
-    let log_is : new.log.items ≡ old.log.items ++ Move to ∷ [] = ap (λ (f : SeenFork). f.log) change in
+kept_moved old new to kept may change there clean lower_same higher_same opened same_room =
+    let log_is : entries_of new.periods.items ≡ entries_of old.periods.items ++ Move to ∷ [] = ap (λ (f : SeenFork). f.log) change in
     let lower_is : new.lower ≡ old.lower = ap (λ (f : SeenFork). f.ends.0) change in
     let higher_is : new.higher ≡ old.higher = ap (λ (f : SeenFork). f.ends.1) change in
     let lower_due_is : new.lower_due ≡ old.lower_due = ap (λ (f : SeenFork). f.due.0) change in
     let higher_due_is : new.higher_due ≡ old.higher_due = ap (λ (f : SeenFork). f.due.1) change in
-    let moves_are : moves_of (old.log.items ++ Move to ∷ []) ≡ moves_of old.log.items + 1 = ap length (destinations_of-append old.log.items (Move to ∷ [])) ∙ length_push (destinations_of old.log.items) to in
     record {
       proper = subst IsFork (sym change) (IsFork-moved (seen old) to kept.proper may);
-      location = there ∙ sym (ap (λ (l : List Entry). location_of new.lower l) log_is ∙ location_of-push_move new.lower old.log.items to);
-      dirty = clean ∙ sym (ap is_dirty log_is ∙ is_dirty-push_move old.log.items to);
+      location = there ∙ sym (ap (λ (l : List Entry). location_of new.lower l) log_is ∙ location_of-push_move new.lower (entries_of old.periods.items) to);
+      dirty = clean ∙ sym (ap is_dirty log_is ∙ is_dirty-push_move (entries_of old.periods.items) to);
       lower_meals = lower_same ∙ kept.lower_meals ∙ sym (at new.lower old.lower lower_is log_is);
       higher_meals = higher_same ∙ kept.higher_meals ∙ sym (at new.higher old.higher higher_is log_is);
-      moves = more ∙ ap (λ (n : ℕ). n + 1) kept.moves ∙ sym (ap moves_of log_is ∙ moves_are);
+      periods = opened ∙ ap (λ (l : List Period). l ++ period to (meals_of to (entries_of old.periods.items) + 1) 0 ∷ []) kept.periods ∙ sym (periods_of-push_move old.lower (entries_of old.periods.items) to)
+          ∙ ap (λ (e : ℕ). periods_of e (entries_of old.periods.items ++ Move to ∷ [])) (sym lower_is) ∙ ap (periods_of new.lower) (sym log_is);
       room = omega (arith, kept.room);
     }
   where
-    at : (new_end old_end : ℕ) → new_end ≡ old_end → new.log.items ≡ old.log.items ++ Move to ∷ [] → meals_of new_end new.log.items ≡ meals_of old_end old.log.items
-    at new_end old_end end_is log_is = ap (λ (l : List Entry). meals_of new_end l) log_is ∙ ap (λ (e : ℕ). meals_of e (old.log.items ++ Move to ∷ [])) end_is ∙ meals_of-push_move old_end old.log.items to
+    at : (new_end old_end : ℕ) → new_end ≡ old_end → entries_of new.periods.items ≡ entries_of old.periods.items ++ Move to ∷ [] → meals_of new_end (entries_of new.periods.items) ≡ meals_of old_end (entries_of old.periods.items)
+    at new_end old_end end_is log_is = ap (λ (l : List Entry). meals_of new_end l) log_is ∙ ap (λ (e : ℕ). meals_of e (entries_of old.periods.items ++ Move to ∷ [])) end_is ∙ meals_of-push_move old_end (entries_of old.periods.items) to
 
 -- the fork was eaten with, by one end or the other
 pub kept_eaten : (old new : Inside) (site k : ℕ) → IsKept old → MayEat site k (seen old) → seen new ≡ eaten site k (seen old)
-    → new.location ≡ old.location → new.dirty ≡ true → new.moves ≡ old.moves → vec_capacity new.log ≡ vec_capacity old.log
+    → new.location ≡ old.location → new.dirty ≡ true → new.periods.items ≡ last_one_more old.periods.items → vec_capacity new.periods ≡ vec_capacity old.periods
     → ((site ≡ old.lower) × (new.lower_meals ≡ k) × (new.higher_meals ≡ old.higher_meals)) ⊎ ((site ≡ old.lower → ⊥) × (new.lower_meals ≡ old.lower_meals) × (new.higher_meals ≡ k))
     → IsKept new
-kept_eaten old new site k kept may change there dirty same_moves same_room which =
+kept_eaten old new site k kept may change there dirty more same_room which =
     record {
       proper = subst IsFork (sym change) (IsFork-eaten (seen old) site k kept.proper may);
-      location = there ∙ kept.location ∙ sym (ap (λ (l : List Entry). location_of new.lower l) log_is ∙ location_of-push_meal new.lower old.log.items site k ∙ ap (λ (e : ℕ). location_of e old.log.items) lower_is);
-      dirty = dirty ∙ sym (ap is_dirty log_is ∙ is_dirty-push_meal old.log.items site k);
+      location = there ∙ kept.location ∙ sym (ap (λ (l : List Entry). location_of new.lower l) log_is ∙ location_of-push_meal new.lower (entries_of old.periods.items) site k ∙ ap (λ (e : ℕ). location_of e (entries_of old.periods.items)) lower_is);
+      dirty = dirty ∙ sym (ap is_dirty log_is ∙ is_dirty-push_meal (entries_of old.periods.items) site k);
       lower_meals = elim which [
         | inl w ↦ w.1 ∙ own old.lower new.lower lower_is w.0
         | inr w ↦ w.1 ∙ kept.lower_meals ∙ other old.lower new.lower lower_is w.0
@@ -52,11 +99,12 @@ kept_eaten old new site k kept may change there dirty same_moves same_room which
         | inl w ↦ w.2 ∙ kept.higher_meals ∙ other old.higher new.higher higher_is (λ e. omega (arith, kept.proper.ordered))
         | inr w ↦ w.2 ∙ own old.higher new.higher higher_is (at_higher w.0)
       ];
-      moves = same_moves ∙ kept.moves ∙ sym (ap moves_of log_is ∙ ap length (destinations_of-push_meal old.log.items site k));
+      periods = more ∙ ap last_one_more kept.periods ∙ sym (periods_of-push_meal old.lower (entries_of old.periods.items) site k)
+          ∙ ap (λ (e : ℕ). periods_of e (entries_of old.periods.items ++ Meal site k ∷ [])) (sym lower_is) ∙ ap (periods_of new.lower) (sym log_is);
       room = omega (arith, kept.room, lower_due_is, higher_due_is);
     }
   where
-    log_is : new.log.items ≡ old.log.items ++ Meal site k ∷ []
+    log_is : entries_of new.periods.items ≡ entries_of old.periods.items ++ Meal site k ∷ []
     log_is = ap (λ (f : SeenFork). f.log) change
 
     lower_is : new.lower ≡ old.lower
@@ -71,16 +119,16 @@ kept_eaten old new site k kept may change there dirty same_moves same_room which
     higher_due_is : new.higher_due ≡ old.higher_due
     higher_due_is = ap (λ (f : SeenFork). f.due.1) change
 
-    after : (old_end new_end : ℕ) → new_end ≡ old_end → meals_of new_end new.log.items ≡ meals_of old_end (old.log.items ++ Meal site k ∷ [])
-    after old_end new_end end_is = ap (λ (l : List Entry). meals_of new_end l) log_is ∙ ap (λ (e : ℕ). meals_of e (old.log.items ++ Meal site k ∷ [])) end_is
+    after : (old_end new_end : ℕ) → new_end ≡ old_end → meals_of new_end (entries_of new.periods.items) ≡ meals_of old_end (entries_of old.periods.items ++ Meal site k ∷ [])
+    after old_end new_end end_is = ap (λ (l : List Entry). meals_of new_end l) log_is ∙ ap (λ (e : ℕ). meals_of e (entries_of old.periods.items ++ Meal site k ∷ [])) end_is
 
-    own : (old_end new_end : ℕ) → new_end ≡ old_end → site ≡ old_end → k ≡ meals_of new_end new.log.items
+    own : (old_end new_end : ℕ) → new_end ≡ old_end → site ≡ old_end → k ≡ meals_of new_end (entries_of new.periods.items)
     own old_end new_end end_is same =
-        let P : ℕ → Type 0 = λ e. k ≡ meals_of e (old.log.items ++ Meal site k ∷ []) in
-        subst P same (sym may.next ∙ sym (meals_of-push_own site old.log.items k)) ∙ sym (after old_end new_end end_is)
+        let P : ℕ → Type 0 = λ e. k ≡ meals_of e (entries_of old.periods.items ++ Meal site k ∷ []) in
+        subst P same (sym may.next ∙ sym (meals_of-push_own site (entries_of old.periods.items) k)) ∙ sym (after old_end new_end end_is)
 
-    other : (old_end new_end : ℕ) → new_end ≡ old_end → (site ≡ old_end → ⊥) → meals_of old_end old.log.items ≡ meals_of new_end new.log.items
-    other old_end new_end end_is differs = sym (after old_end new_end end_is ∙ meals_of-push_other old_end site old.log.items k differs)
+    other : (old_end new_end : ℕ) → new_end ≡ old_end → (site ≡ old_end → ⊥) → meals_of old_end (entries_of old.periods.items) ≡ meals_of new_end (entries_of new.periods.items)
+    other old_end new_end end_is differs = sym (after old_end new_end end_is ∙ meals_of-push_other old_end site (entries_of old.periods.items) k differs)
 
     at_higher : (site ≡ old.lower → ⊥) → site ≡ old.higher
     at_higher not_lower = elim (IsEnd-location (seen old) kept.proper) [

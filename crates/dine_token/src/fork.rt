@@ -1,9 +1,11 @@
-ghost use Rattle.std.specs.Prelude.{◌≡◌, ◌<◌, ◌≤◌, ◌+◌, [], length, Some, slice_get, IfOk};
+ghost use Rattle.std.specs.Prelude.{◌≡◌, ◌<◌, ◌≤◌, ◌+◌, [], length, take, Some, slice_get, IfOk};
 ghost use Rattle.dine_token.specs.Log.{is_dirty, meals_of, moves_of};
 ghost use Rattle.dine_token.specs.Lawful.{due_at};
+ghost use Rattle.dine_token.specs.Periods.{periods_of, entries_of};
 ghost use Rattle.dine_token.specs.Fork.{SeenFork, IsFork, IsEnd, MayMove, MayEat, location, moved, eaten};
 
 use crate::entry::Entry;
+use crate::period::Period;
 use std::alloc::{AllocError, Global};
 use std::marker::Model;
 
@@ -21,8 +23,7 @@ pub struct Fork {
     dirty: bool,
     lower_meals: u32,
     higher_meals: u32,
-    moves: u32,
-    log: Vec<Entry>,
+    periods: Vec<Period>,
 }
 
 impl Model for Fork {
@@ -41,7 +42,7 @@ impl Fork {
     /// The fork of edge `edge` between the sites `lower` and `higher`, which have so many meals due, each at most 1,000.
     /// It is at the lower end, dirty, and its log is empty.
     ///
-    /// It takes memory for each entry that the log may come to, once. Fails where that is refused.
+    /// It takes memory for each period that the log may come to, once. Fails where that is refused.
     pub fn open(
         alloc: Global,
         edge: u32,
@@ -55,7 +56,13 @@ impl Fork {
         requires higher_due { higher_due ≤ 1000 }
         ensures { IfOk result (λ fork. fork ≡ record { edge = edge; ends = (lower, higher); due = (lower_due, higher_due); log = [] }) }
     {
-        let entries = 2 * (lower_due as usize + higher_due as usize);
+        let room = lower_due as usize + higher_due as usize + 1;
+        let mut periods = Vec::with_capacity(alloc, room)?;
+        periods.push_reserved(Period {
+            site: lower,
+            first: 1,
+            count: 0,
+        });
         Ok(Fork {
             edge,
             lower,
@@ -66,8 +73,7 @@ impl Fork {
             dirty: true,
             lower_meals: 0,
             higher_meals: 0,
-            moves: 0,
-            log: Vec::with_capacity(alloc, entries)?,
+            periods,
         })
     }
 
@@ -132,7 +138,7 @@ impl Fork {
         ensures len { result ≡ length self.now.log }
         ensures proper { IsFork self.now }
     {
-        self.log.len() as u32
+        self.lower_meals + self.higher_meals + self.moves()
     }
 
     /// Entry `i` of the log, from 0.
@@ -140,29 +146,104 @@ impl Fork {
         requires { i < length self.now.log }
         ensures { slice_get self.now.log i ≡ Some result }
     {
-        self.log[i as usize]
+        let place = self.period_with(i);
+        let period = self.period(place);
+        let inside = i - self.entries_before(place);
+        if place == 0 {
+            Entry::Meal {
+                site: period.site,
+                k: period.first + inside,
+            }
+        } else if inside == 0 {
+            Entry::Move { to: period.site }
+        } else {
+            Entry::Meal {
+                site: period.site,
+                k: period.first + (inside - 1),
+            }
+        }
+    }
+
+    // The place of the period that has entry `i`, found by halves.
+    fn period_with(&self, i: u32) -> u32
+        requires { i < length self.now.log }
+        ensures within { result < length (periods_of self.now.ends.0 self.now.log) }
+        ensures start { length (entries_of (take result (periods_of self.now.ends.0 self.now.log))) ≤ i }
+        ensures end { i < length (entries_of (take (result + 1) (periods_of self.now.ends.0 self.now.log))) }
+        ensures proper { IsFork self.now }
+    {
+        let mut low = 0;
+        let mut high = self.periods();
+        while low + 1 < high {
+            let middle = low + (high - low) / 2;
+            if self.entries_before(middle) <= i {
+                low = middle;
+            } else {
+                high = middle;
+            }
+        }
+        low
+    }
+
+    // How many entries of the log stand before those of the period at this place: the Moves before its own, and the
+    // meals of both ends so far, which are one less than the numbers of their next meals.
+    fn entries_before(&self, place: u32) -> u32
+        requires place { place < length (periods_of self.now.ends.0 self.now.log) }
+        requires proper { IsFork self.now }
+        ensures { result ≡ length (entries_of (take place (periods_of self.now.ends.0 self.now.log))) }
+    {
+        if place == 0 {
+            return 0;
+        }
+        let former = self.period(place - 1);
+        let period = self.period(place);
+        place + period.first + former.first + former.count - 3
+    }
+
+    /// How many periods the log has, at least 1: one more than its Moves. They tell the whole log.
+    pub fn periods(&self) -> u32
+        ensures count { result ≡ length (periods_of self.now.ends.0 self.now.log) }
+        ensures some { 1 ≤ result }
+        ensures whole { entries_of (periods_of self.now.ends.0 self.now.log) ≡ self.now.log }
+        ensures proper { IsFork self.now }
+    {
+        self.periods.len() as u32
+    }
+
+    /// Period `i` of the log, from 0. Only the first and the last may be without a meal.
+    pub fn period(&self, i: u32) -> Period
+        requires { i < length (periods_of self.now.ends.0 self.now.log) }
+        ensures period { slice_get (periods_of self.now.ends.0 self.now.log) i ≡ Some result }
+        ensures bound { result.first + result.count ≤ 1001 }
+        ensures used { 0 < i → i + 1 < length (periods_of self.now.ends.0 self.now.log) → 1 ≤ result.count }
+    {
+        self.periods[i as usize]
     }
 
     /// How many Moves the log has.
     pub fn moves(&self) -> u32
         ensures { result ≡ moves_of self.now.log }
     {
-        self.moves
+        self.periods.len() as u32 - 1
     }
 
-    // Writes a Move to the other end. It takes no memory.
+    // Writes a Move to the other end: it opens a period there. It takes no memory.
     pub(crate) fn move_to(&mut self, to: u32)
         requires { MayMove to self.old }
         ensures moved { self.new ≡ moved to self.old }
         ensures proper { IsFork self.new }
     {
+        let first = self.meals_of(to) + 1;
         self.location = to;
         self.dirty = false;
-        self.moves += 1;
-        self.log.push_reserved(Entry::Move { to });
+        self.periods.push_reserved(Period {
+            site: to,
+            first,
+            count: 0,
+        });
     }
 
-    // Writes meal k of the site where the fork is. It takes no memory.
+    // Writes meal k of the site where the fork is: the last period has one more. It takes no memory.
     pub(crate) fn eat(&mut self, site: u32, k: u32)
         requires { MayEat site k self.old }
         ensures eaten { self.new ≡ eaten site k self.old }
@@ -174,6 +255,7 @@ impl Fork {
         } else {
             self.higher_meals = k;
         }
-        self.log.push_reserved(Entry::Meal { site, k });
+        let last = self.periods.len() - 1;
+        self.periods[last].count += 1;
     }
 }

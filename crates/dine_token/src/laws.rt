@@ -5,11 +5,18 @@ ghost use Rattle.dine_token.specs.declared.entry.Entry.{Entry};
 ghost use Rattle.dine_token.specs.declared.entry.Entry.TheVariants.{Meal, Move};
 ghost use Rattle.dine_token.specs.Log.{is_dirty, location_of, meals_of};
 ghost use Rattle.dine_token.specs.Lawful.{IsLawful};
+ghost use Rattle.dine_token.specs.Periods.{periods_of, entries_of};
 ghost use Rattle.dine_token.specs.Fork.{SeenFork, IsFork, IsEnd, MayMove, MayEat, location, moved, eaten};
 
 /// A lawful log has at most twice as many entries as meals are due to both ends.
 pub fn lawful_log_is_bounded()
     ensures { (ends due : ℕ × ℕ) (log : List Entry) → ends.0 < ends.1 → IsLawful ends due log → length log ≤ 2 * (due.0 + due.1) }
+{}
+
+/// The periods of a lawful log tell the whole log, and they are at most one more than the meals that are due to both ends.
+pub fn periods_tell_the_log()
+    ensures whole { (ends due : ℕ × ℕ) (log : List Entry) → ends.0 < ends.1 → IsLawful ends due log → entries_of (periods_of ends.0 log) ≡ log }
+    ensures bounded { (ends due : ℕ × ℕ) (log : List Entry) → ends.0 < ends.1 → IsLawful ends due log → length (periods_of ends.0 log) ≤ due.0 + due.1 + 1 }
 {}
 
 /// A meal at the end of a log leaves the fork dirty and where it is, and is one more meal of its site and of no other.

@@ -7,6 +7,7 @@ mod fork;
 mod held;
 pub mod laws;
 mod meal;
+mod period;
 #[cfg(test)]
 mod tests;
 mod token;
@@ -15,4 +16,5 @@ pub use entry::Entry;
 pub use fork::Fork;
 pub use held::Held;
 pub use meal::Meal;
+pub use period::Period;
 pub use token::Token;

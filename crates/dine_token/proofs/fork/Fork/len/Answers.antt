@@ -1,9 +1,19 @@
-use Rattle.std.proofs.Common.{arith}
+use Rattle.std.proofs.Common.{length, ap, arith}
+use Rattle.dine_token.specs.Fork.{SeenFork}
+use Rattle.dine_token.specs.Log.{moves_of}
 use Rattle.dine_token.specs.Fields.{seen}
+use Rattle.dine_token.proofs.Bounds.{counted_lawful}
 use Rattle.dine_token.proofs.Forks.{length-fork}
 use Rattle.dine_token.proofs.fork.Fork.len.Goals as goal
 
-pub overflow_cast-result : goal.overflow_cast-result
-overflow_cast-result c =
+pub overflow_add-result-2 : goal.overflow_add-result-2
+overflow_add-result-2 c =
     let kept = c.self.invariant in
-    omega (arith, length-fork (seen c.self.inside) kept.proper, kept.proper.lower_due, kept.proper.higher_due, c.self.inside.log.ok.0)
+    let fork = seen c.self.inside in
+    omega (arith, kept.lower_meals, kept.higher_meals, c.moves.ensures, ap (λ (f : SeenFork). moves_of f.log) c.self.view_is, (counted_lawful fork.ends fork.due kept.proper.ordered fork.log kept.proper.lawful).all, length-fork fork kept.proper, kept.proper.lower_due, kept.proper.higher_due)
+
+pub returns-clause-len : goal.returns-clause-len
+returns-clause-len c =
+    let kept = c.self.invariant in
+    let fork = seen c.self.inside in
+    omega (arith, kept.lower_meals, kept.higher_meals, c.moves.ensures, ap (λ (f : SeenFork). moves_of f.log) c.self.view_is, ap (λ (f : SeenFork). length f.log) c.self.view_is, (counted_lawful fork.ends fork.due kept.proper.ordered fork.log kept.proper.lawful).all)

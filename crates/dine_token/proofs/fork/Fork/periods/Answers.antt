@@ -1,0 +1,11 @@
+use Rattle.std.proofs.Common.{ap, arith, length}
+use Rattle.dine_token.specs.Fields.{seen}
+use Rattle.dine_token.proofs.Periods.{length-periods_of}
+use Rattle.dine_token.proofs.Forks.{moves-fork}
+use Rattle.dine_token.proofs.fork.Fork.periods.Goals as goal
+
+pub overflow_cast-result : goal.overflow_cast-result
+overflow_cast-result c =
+    let kept = c.self.invariant in
+    let fork = seen c.self.inside in
+    omega (arith, c.len.ensures, c.self.inside.periods.ok.0, ap length kept.periods, length-periods_of fork.ends.0 fork.log, moves-fork fork kept.proper)
