@@ -1,5 +1,5 @@
 -- The text of `replay`.
-use Rattle.std.specs.Prelude.{ℕ, List, [], ◌∷◌, ◌++◌, codes}
+use Rattle.std.specs.Prelude.{ℕ, Bool, true, false, List, [], ◌∷◌, ◌++◌, codes}
 use Rattle.std.specs.Fmt.{decimal}
 use Rattle.std.specs.List.{flat_map, range_with_len}
 use Rattle.dine_token.specs.declared.entry.Entry.{Entry}
@@ -8,6 +8,11 @@ use Rattle.dine_plan.specs.Plan.{SeenPlan, edge_count, ends_of, name_of}
 use Rattle.dine_core.specs.Bound.{bound_of}
 use Rattle.dine_core.specs.Precedence.{fork_log}
 use Rattle.dine_core.specs.World.{WorldState}
+
+-- what stands before an entry: a space before the first of a line, and a comma and a space before each other
+abbrev pub separator : Bool → List ℕ
+separator true = codes " "
+separator false = codes ", "
 
 module _ (named : ℕ → List ℕ) where
   -- meal k of a site is its name, `#` and k, and a Move is `to` and the name of the site

@@ -1,15 +1,20 @@
 //! The text of a world.
 
-ghost use Rattle.std.specs.Prelude.{◌≡◌, ◌++◌, codes, string_bytes, IfOk, OnOk};
+ghost use Rattle.std.specs.Prelude.{◌≡◌, ◌+◌, ◌≤◌, ◌∷◌, ◌++◌, codes, string_bytes, IfOk, OnOk};
+ghost use Rattle.dine_token.specs.declared.entry.Entry.TheVariants.{Move};
+ghost use Rattle.dine_token.specs.Periods.{meals_in};
 ghost use Rattle.dine_plan.specs.Plan.{name_of};
 ghost use Rattle.dine_core.specs.World.{WorldState};
 ghost use Rattle.dine_core.specs.Worlds.{IsWorldOf, IsOpenedFor};
-ghost use Rattle.dine.specs.Logs.{edge_line, edge_lines, entries_text, entry_text, events_line, world_text};
+ghost use Rattle.dine.specs.Logs.{edge_line, edge_lines, entries_text, entry_text, events_line, separator, world_text};
 
 use dine_core::World;
 use dine_plan::Plan;
-use dine_token::{Entry, Fork};
+use dine_token::{Entry, Fork, Period};
 use std::alloc::{AllocError, Global};
+
+#[cfg(test)]
+mod tests;
 
 /// The text of the world, which was opened for the plan, after so many events: the log of each edge, and the last line.
 pub fn world_text(
@@ -63,14 +68,69 @@ fn push_entry(text: &mut String, plan: &Plan, entry: Entry) -> Result<(), AllocE
     }
 }
 
-// Adds the entries of the fork's log to the text.
+// What stands before an entry.
+fn separator(is_first: bool) -> &'static str
+    ensures { result.now ≡ separator is_first }
+{
+    if is_first { " " } else { ", " }
+}
+
+// Adds the entry to the text, which is the first of its line or not.
+fn push_next(text: &mut String, plan: &Plan, is_first: bool, entry: Entry) -> Result<(), AllocError>
+    ensures { OnOk result (string_bytes text.new ≡ string_bytes text.old ++ (separator is_first ++ entry_text (name_of plan.now) entry)) }
+{
+    text.push_str(separator(is_first))?;
+    push_entry(text, plan, entry)
+}
+
+// Adds the meals of the period to the text.
+fn push_meals(
+    text: &mut String,
+    plan: &Plan,
+    is_first: bool,
+    period: Period,
+) -> Result<(), AllocError>
+    requires { period.first + period.count ≤ 1001 }
+    ensures { OnOk result (string_bytes text.new ≡ string_bytes text.old ++ entries_text (name_of plan.now) (separator is_first) (meals_in period)) }
+{
+    let mut is_first = is_first;
+    for i in 0..period.count {
+        let meal = Entry::Meal {
+            site: period.site,
+            k: period.first + i,
+        };
+        push_next(text, plan, is_first, meal)?;
+        is_first = false;
+    }
+    Ok(())
+}
+
+// Adds a period that a Move opened to the text: the Move, and the meals.
+fn push_moved(
+    text: &mut String,
+    plan: &Plan,
+    is_first: bool,
+    period: Period,
+) -> Result<(), AllocError>
+    requires { period.first + period.count ≤ 1001 }
+    ensures { OnOk result (string_bytes text.new ≡ string_bytes text.old ++ entries_text (name_of plan.now) (separator is_first) (Move period.site ∷ meals_in period)) }
+{
+    let to = period.site;
+    push_next(text, plan, is_first, Entry::Move { to })?;
+    push_meals(text, plan, false, period)
+}
+
+// Adds the entries of the fork's log to the text, as its periods tell them.
 fn push_entries(text: &mut String, plan: &Plan, fork: &Fork) -> Result<(), AllocError>
     ensures { OnOk result (string_bytes text.new ≡ string_bytes text.old ++ entries_text (name_of plan.now) (codes " ") fork.now.log) }
 {
-    for i in 0..fork.len() {
-        let separator = if i == 0 { " " } else { ", " };
-        text.push_str(separator)?;
-        push_entry(text, plan, fork.entry(i))?;
+    let periods = fork.periods();
+    let first = fork.period(0);
+    push_meals(text, plan, true, first)?;
+    let mut is_first = first.count == 0;
+    for i in 1..periods {
+        push_moved(text, plan, is_first, fork.period(i))?;
+        is_first = false;
     }
     Ok(())
 }

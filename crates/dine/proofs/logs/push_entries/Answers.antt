@@ -1,21 +1,25 @@
-use Rattle.std.proofs.Common.{◌≡◌, ◌++◌, ◌+◌, ℕ, List, codes, cond, eqb, drop, string_bytes, sym, ◌∙◌, ap, arith, rules}
-use Rattle.std.proofs.lemmas.Bool.{eq-eqb, ne_eqb, cond-true, cond-false}
-use Rattle.dine.specs.Logs.{entries_text}
+use Rattle.std.proofs.Common.{◌++◌, ◌∙◌, ap, List, ℕ, eqb, drop, codes, string_bytes, append_assoc}
+use Rattle.dine_token.specs.Periods.{periods_of, meals_in, moved_entries}
+use Rattle.dine.specs.Logs.{entries_text, separator}
 use Rattle.dine_plan.specs.Plan.{name_of}
-use Rattle.dine.proofs.EntryTexts.{entries_step}
+use Rattle.dine.proofs.EntryTexts.{periods_step, first_period}
 use Rattle.dine.proofs.logs.push_entries.Goals as goal
-use Rattle.dine.proofs.logs.push_entries.Goals.{then-i-eq0, else-i-eq0}
+
+pub loop-i-init : goal.loop-i-init
+loop-i-init c =
+    let name = name_of c.args.plan.now in
+    let periods = periods_of c.args.fork.now.ends.0 c.args.fork.now.log in
+    let first = c.period-first.result in
+    let before = string_bytes c.args.text.now in
+    let meals = entries_text name (codes " ") (meals_in first) in
+    let rest = entries_text name (separator (eqb first.count 0)) (moved_entries (drop 1 periods)) in
+    ap (λ (l : List ℕ). l ++ rest) c.in_ok-push_meals.ensures ∙ append_assoc before meals rest
+    ∙ ap (λ (l : List ℕ). before ++ l) (first_period name periods first c.period-first.ensures.period ∙ ap (entries_text name (codes " ")) c.periods-periods.ensures.whole)
 
 pub loop-i-preserved : goal.loop-i-preserved
 loop-i-preserved c =
     let name = name_of c.args.plan.now in
-    let i = c.loop-i.i in
-    let separator : c.if-i-eq0.separator.now ≡ cond (eqb i 0) (codes " ") (codes ", ") = elim c.if-i-eq0.branch [
-      | then-i-eq0 w ↦ search rules ∙ sym (cond-true (eqb i 0) (codes " ") (codes ", ") (eq-eqb i 0 w.if-i-eq0.true))
-      | else-i-eq0 w ↦ search rules ∙ sym (cond-false (eqb i 0) (codes " ") (codes ", ") (ne_eqb i 0 w.if-i-eq0.false))
-    ] in
-    let next : cond (eqb (i + 1) 0) (codes " ") (codes ", ") ≡ codes ", " = cond-false (eqb (i + 1) 0) (codes " ") (codes ", ") (ne_eqb (i + 1) 0 (λ e. omega arith)) in
+    let periods = periods_of c.args.fork.now.ends.0 c.args.fork.now.log in
     let whole = string_bytes c.args.text.now ++ entries_text name (codes " ") c.args.fork.now.log in
-    ap (λ (s : List ℕ). string_bytes c.push_entry.new.text ++ entries_text name s (drop (i + 1) c.args.fork.now.log)) next
-    ∙ entries_step name c.args.fork.now.log i c.entry.result (string_bytes c.loop-i.text) (cond (eqb i 0) (codes " ") (codes ", ")) (string_bytes c.push_str.new.self) (string_bytes c.push_entry.new.text) whole
-    c.entry.ensures c.loop-i.invariant (c.in_ok-push_str.ensures.bytes ∙ ap (λ (s : List ℕ). string_bytes c.loop-i.text ++ s) separator) c.in_ok-push_entry.ensures
+    periods_step name periods c.loop-i.i c.period.result (string_bytes c.loop-i.text) (separator c.loop-i.is_first) (string_bytes c.push_moved.new.text) whole
+    c.period.ensures.period c.loop-i.invariant c.in_ok-push_moved.ensures

@@ -1,0 +1,14 @@
+use Rattle.std.proofs.Common.{◌++◌, string_bytes}
+use Rattle.dine_token.specs.Periods.{meals_in}
+use Rattle.dine.specs.Logs.{entries_text, separator}
+use Rattle.dine_plan.specs.Plan.{name_of}
+use Rattle.dine.proofs.EntryTexts.{meals_step}
+use Rattle.dine.proofs.logs.push_meals.Goals as goal
+
+pub loop-i-preserved : goal.loop-i-preserved
+loop-i-preserved c =
+    let name = name_of c.args.plan.now in
+    let period = c.args.period in
+    let whole = string_bytes c.args.text.now ++ entries_text name (separator c.args.is_first) (meals_in period) in
+    meals_step name period.site period.first period.count c.loop-i.i (string_bytes c.loop-i.text) (separator c.loop-i.is_first) (string_bytes c.push_next.new.text) whole
+    c.loop-i-test.true c.loop-i.invariant c.in_ok-push_next.ensures
