@@ -1,6 +1,5 @@
 // One site on one thread: its links and its bell are filled before it starts.
 ghost use Rattle.std.specs.Prelude.{◌≡◌, [], All, IfOk, vec_len};
-ghost use Rattle.dine_link.specs.Channels as channels;
 ghost use Rattle.dine_run.specs.Ports.{IsFreshPort, seen_ports};
 
 mod diners;
@@ -13,7 +12,7 @@ mod threads;
 use super::*;
 use dine_core::SiteCore;
 use dine_core::site::{fresh_forks, fresh_tokens};
-use dine_link::{Bell, ChannelLane, ChannelRx, ChannelTx, Lane, Ringer, TxEnd};
+use dine_link::{Bell, ChannelLane, Lane, RingLane, Ringer, TxEnd};
 use dine_plan::{Plan, read_plan};
 use dine_rules::{Breach, Kind4, Letter};
 use dine_token::{Entry, Fork, Token};
@@ -33,17 +32,17 @@ const ALONE: &str =
     "version = 1\n[[site]]\nname = \"a\"\njobs = [{ name = \"x\" }, { name = \"y\" }]\n";
 
 // A site of the plan runs to its end, with these ports and this bell.
-fn run_alone<R: Wait + Abort>(
+fn run_alone<L: Lane, R: Wait + Abort>(
     rt: &R,
     alloc: Global,
     plan: &Plan,
     site: u32,
-    ports: Vec<Port<ChannelLane>>,
+    ports: Vec<Port<L>>,
     bell: Bell,
     fails_at: u32,
-) -> Result<SiteEnd<ChannelLane, Fixed>, Fail>
+) -> Result<SiteEnd<L, Fixed>, Fail>
     requires degree { bell.degree ≡ vec_len ports }
-    requires unused { All IsFreshPort (seen_ports channels.seen_tx channels.seen_closed channels.seen_rx ports.items) }
+    requires unused { All IsFreshPort (seen_ports L.seen_tx L.seen_closed L.seen_rx ports.items) }
 {
     assert!(rt; site < plan.sites());
     assert!(rt; plan.jobs(site) <= 2);
@@ -52,7 +51,7 @@ fn run_alone<R: Wait + Abort>(
     let tokens = fresh_tokens(alloc, plan, site)?;
     let core = SiteCore::open(alloc, plan, site, forks, tokens)?;
     assert!(rt; core.degree() as usize == ports.len());
-    Ok(run_site::<R, ChannelLane, Fixed>(rt, core, ports, bell, diner))
+    Ok(run_site::<R, L, Fixed>(rt, core, ports, bell, diner))
 }
 
 // The bell of a site of that degree, and its ringers.
@@ -66,29 +65,29 @@ fn bell_of(alloc: Global, degree: u32) -> Result<(Vec<Ringer>, Bell), Fail>
 }
 
 // A link of an edge from that end, in which nothing lies.
-fn link_from(alloc: Global, edge: u32, from: u32) -> Result<(ChannelTx, ChannelRx), Fail>
-    ensures { IfOk result (λ ends. ((channels.seen_tx ends.0).letters ≡ []) × ((channels.seen_rx ends.1).letters ≡ [])) }
+fn link_from<L: Lane>(alloc: Global, edge: u32, from: u32) -> Result<(L::Tx, L::Rx), Fail>
+    ensures { IfOk result (λ ends. ((L.seen_tx ends.0).letters ≡ []) × ((L.seen_rx ends.1).letters ≡ [])) }
 {
-    let Ok(ends) = ChannelLane::pair(alloc, edge, from) else {
+    let Ok(ends) = L::pair(alloc, edge, from) else {
         return Err(Fail::from("no memory for a link"));
     };
     Ok(ends)
 }
 
 // The one port of a site with one edge.
-fn one_port(
+fn one_port<L: Lane>(
     alloc: Global,
-    tx: ChannelTx,
-    rx: ChannelRx,
+    tx: L::Tx,
+    rx: L::Rx,
     ringer: Ringer,
-) -> Result<Vec<Port<ChannelLane>>, AllocError>
-    requires nothing_put { (channels.seen_tx tx).letters ≡ [] }
-    requires nothing_taken { (channels.seen_rx rx).letters ≡ [] }
+) -> Result<Vec<Port<L>>, AllocError>
+    requires nothing_put { (L.seen_tx tx).letters ≡ [] }
+    requires nothing_taken { (L.seen_rx rx).letters ≡ [] }
     ensures count { IfOk result (λ ports. vec_len ports ≡ 1) }
-    ensures unused { IfOk result (λ ports. All IsFreshPort (seen_ports channels.seen_tx channels.seen_closed channels.seen_rx ports.items)) }
+    ensures unused { IfOk result (λ ports. All IsFreshPort (seen_ports L.seen_tx L.seen_closed L.seen_rx ports.items)) }
 {
     let mut ports = Vec::with_capacity(alloc, 1)?;
-    ports.push_reserved(Port::<ChannelLane> {
+    ports.push_reserved(Port::<L> {
         tx: TxEnd::Live(tx),
         rx,
         ringer,
@@ -105,7 +104,7 @@ fn eats_alone<R: Wait + Abort>(
     let plan = read_plan(alloc, ALONE).expect(rt, "a plan");
     let (_ringers, bell) = bell_of(alloc, 0)?;
     let ports = Vec::new(alloc);
-    run_alone(rt, alloc, &plan, 0, ports, bell, fails_at)
+    run_alone::<ChannelLane, R>(rt, alloc, &plan, 0, ports, bell, fails_at)
 }
 
 #[test]
@@ -138,12 +137,12 @@ fn failed_job_is_counted_and_the_site_goes_on(rt: HostRuntime) -> Result<(), Fai
 
 // What is left of the lower site of the pair, where the higher one asked and closed at once: its end, the link to the higher
 // site with all that it put, and the bell that it rang.
-fn early_closed<R: Wait + Abort>(
+fn early_closed<L: Lane, R: Wait + Abort>(
     rt: &R,
     alloc: Global,
     plan: &Plan,
-) -> Result<(SiteEnd<ChannelLane, Fixed>, ChannelRx, Bell), Fail>
-    ensures untaken { IfOk result (λ it. (channels.seen_rx it.1).letters ≡ []) }
+) -> Result<(SiteEnd<L, Fixed>, L::Rx, Bell), Fail>
+    ensures untaken { IfOk result (λ it. (L.seen_rx it.1).letters ≡ []) }
     ensures bell { IfOk result (λ it. it.2.degree ≡ 1) }
 {
     let (mut ringers, bell) = bell_of(alloc, 1)?;
@@ -151,22 +150,21 @@ fn early_closed<R: Wait + Abort>(
     let (Some(mut ringer), Some(far_ringer)) = (ringers.pop(), far_ringers.pop()) else {
         return Err(Fail::from("no ringer"));
     };
-    let (tx, far_rx) = link_from(alloc, 0, 0)?;
-    let (mut far_tx, rx) = link_from(alloc, 0, 1)?;
-    assert!(rt; ChannelLane::put(rt, &mut far_tx, Letter::Request(Token::open(0))).is_ok());
+    let (tx, far_rx) = link_from::<L>(alloc, 0, 0)?;
+    let (mut far_tx, rx) = link_from::<L>(alloc, 0, 1)?;
+    assert!(rt; L::put(rt, &mut far_tx, Letter::Request(Token::open(0))).is_ok());
     assert_eq!(rt; ringer.ring(rt), Ok(()));
-    assert!(rt; ChannelLane::close(rt, far_tx).is_ok());
+    assert!(rt; L::close(rt, far_tx).is_ok());
     assert_eq!(rt; ringer.ring(rt), Ok(()));
-    let ports = one_port(alloc, tx, rx, far_ringer)?;
-    let end = run_alone(rt, alloc, plan, 0, ports, bell, 0)?;
+    let ports = one_port::<L>(alloc, tx, rx, far_ringer)?;
+    let end = run_alone::<L, R>(rt, alloc, plan, 0, ports, bell, 0)?;
     Ok((end, far_rx, far_bell))
 }
 
 // The lower site eats, says Done, gives its fork, finds the early Close, and closes.
-#[test]
-fn early_close_is_a_breach(rt: HostRuntime) -> Result<(), Fail> {
-    let plan = read_plan(rt.alloc(), PAIR).expect(&rt, "a plan");
-    let (end, _rx, mut bell) = early_closed(&rt, rt.alloc(), &plan)?;
+fn finds_early_close<L: Lane, R: Wait + Abort>(rt: &R, alloc: Global) -> Result<(), Fail> {
+    let plan = read_plan(alloc, PAIR).expect(rt, "a plan");
+    let (end, _rx, mut bell) = early_closed::<L, R>(rt, alloc, &plan)?;
     let SiteEnd {
         site,
         ate,
@@ -186,31 +184,42 @@ fn early_close_is_a_breach(rt: HostRuntime) -> Result<(), Fail> {
     };
     assert_eq!(rt; (stray.link, stray.letter.kind()), (0, Kind4::Close));
     for _ in 0..3 {
-        assert_eq!(rt; bell.wait(&rt), Ok(0));
+        assert_eq!(rt; bell.wait(rt), Ok(0));
     }
     Ok(())
 }
 
-// What it put is Done, the fork with its log, and Close.
 #[test]
-fn site_of_an_early_close_puts_done_fork_close(rt: HostRuntime) -> Result<(), Fail> {
-    let plan = read_plan(rt.alloc(), PAIR).expect(&rt, "a plan");
-    let (_end, mut rx, _bell) = early_closed(&rt, rt.alloc(), &plan)?;
-    let Ok(Letter::Done) = ChannelLane::take(&rt, &mut rx) else {
+fn early_close_is_a_breach(rt: HostRuntime) -> Result<(), Fail> {
+    finds_early_close::<ChannelLane, HostRuntime>(&rt, rt.alloc())?;
+    finds_early_close::<RingLane, HostRuntime>(&rt, rt.alloc())
+}
+
+// What it put is Done, the fork with its log, and Close.
+fn puts_done_fork_close<L: Lane, R: Wait + Abort>(rt: &R, alloc: Global) -> Result<(), Fail> {
+    let plan = read_plan(alloc, PAIR).expect(rt, "a plan");
+    let (_end, mut rx, _bell) = early_closed::<L, R>(rt, alloc, &plan)?;
+    let Ok(Letter::Done) = L::take(rt, &mut rx) else {
         return Err(Fail::from("no Done"));
     };
-    let Ok(Letter::Fork(fork)) = ChannelLane::take(&rt, &mut rx) else {
+    let Ok(Letter::Fork(fork)) = L::take(rt, &mut rx) else {
         return Err(Fail::from("no fork"));
     };
     has_log(
-        &rt,
+        rt,
         &fork,
         &[Entry::Meal { site: 0, k: 1 }, Entry::Move { to: 1 }],
     );
-    let Ok(Letter::Close) = ChannelLane::take(&rt, &mut rx) else {
+    let Ok(Letter::Close) = L::take(rt, &mut rx) else {
         return Err(Fail::from("no Close"));
     };
     Ok(())
+}
+
+#[test]
+fn site_of_an_early_close_puts_done_fork_close(rt: HostRuntime) -> Result<(), Fail> {
+    puts_done_fork_close::<ChannelLane, HostRuntime>(&rt, rt.alloc())?;
+    puts_done_fork_close::<RingLane, HostRuntime>(&rt, rt.alloc())
 }
 
 // The fork has exactly this log.
@@ -222,17 +231,15 @@ fn has_log(rt: &impl Abort, fork: &Fork, log: &[Entry]) {
 }
 
 // The higher site, over the link that the lower one left after the early Close.
-#[test]
-fn higher_site_eats_with_the_fork_that_it_was_given(rt: HostRuntime) -> Result<(), Fail> {
-    let alloc = rt.alloc();
-    let plan = read_plan(alloc, PAIR).expect(&rt, "a plan");
-    let (_end, rx, bell) = early_closed(&rt, rt.alloc(), &plan)?;
-    let (tx, mut far_rx) = link_from(alloc, 0, 1)?;
+fn higher_eats<L: Lane, R: Wait + Abort>(rt: &R, alloc: Global) -> Result<(), Fail> {
+    let plan = read_plan(alloc, PAIR).expect(rt, "a plan");
+    let (_end, rx, bell) = early_closed::<L, R>(rt, alloc, &plan)?;
+    let (tx, mut far_rx) = link_from::<L>(alloc, 0, 1)?;
     let (mut ringers, _far_bell) = bell_of(alloc, 1)?;
     let Some(ringer) = ringers.pop() else {
         return Err(Fail::from("no ringer"));
     };
-    let ports = one_port(alloc, tx, rx, ringer)?;
+    let ports = one_port::<L>(alloc, tx, rx, ringer)?;
     let SiteEnd {
         site,
         ate,
@@ -243,7 +250,7 @@ fn higher_site_eats_with_the_fork_that_it_was_given(rt: HostRuntime) -> Result<(
         ports,
         stray,
         fault,
-    } = run_alone(&rt, alloc, &plan, 1, ports, bell, 0)?;
+    } = run_alone::<L, R>(rt, alloc, &plan, 1, ports, bell, 0)?;
     assert_eq!(rt; (site, ate, failed), (1, 1, 0));
     assert_eq!(rt; (tokens.len(), ports.len()), (0, 1));
     assert!(rt; stray.is_none() && fault.is_none());
@@ -252,7 +259,7 @@ fn higher_site_eats_with_the_fork_that_it_was_given(rt: HostRuntime) -> Result<(
     };
     assert!(rt; forks.is_empty());
     has_log(
-        &rt,
+        rt,
         &fork,
         &[
             Entry::Meal { site: 0, k: 1 },
@@ -260,23 +267,29 @@ fn higher_site_eats_with_the_fork_that_it_was_given(rt: HostRuntime) -> Result<(
             Entry::Meal { site: 1, k: 1 },
         ],
     );
-    let Ok(Letter::Request(_)) = ChannelLane::take(&rt, &mut far_rx) else {
+    let Ok(Letter::Request(_)) = L::take(rt, &mut far_rx) else {
         return Err(Fail::from("no request"));
     };
-    let Ok(Letter::Done) = ChannelLane::take(&rt, &mut far_rx) else {
+    let Ok(Letter::Done) = L::take(rt, &mut far_rx) else {
         return Err(Fail::from("no Done"));
     };
-    let Ok(Letter::Close) = ChannelLane::take(&rt, &mut far_rx) else {
+    let Ok(Letter::Close) = L::take(rt, &mut far_rx) else {
         return Err(Fail::from("no Close"));
     };
     Ok(())
 }
 
-// The end of a link that nobody takes from.
-fn dead_end(alloc: Global) -> Result<ChannelTx, Fail>
-    ensures { IfOk result (λ tx. (channels.seen_tx tx).letters ≡ []) }
+#[test]
+fn higher_site_eats_with_the_fork_that_it_was_given(rt: HostRuntime) -> Result<(), Fail> {
+    higher_eats::<ChannelLane, HostRuntime>(&rt, rt.alloc())?;
+    higher_eats::<RingLane, HostRuntime>(&rt, rt.alloc())
+}
+
+// The end of a link that nobody takes from. A channel tells so, and a ring does not.
+fn dead_end<L: Lane>(alloc: Global) -> Result<L::Tx, Fail>
+    ensures { IfOk result (λ tx. (L.seen_tx tx).letters ≡ []) }
 {
-    let (tx, _rx) = link_from(alloc, 0, 0)?;
+    let (tx, _rx) = link_from::<L>(alloc, 0, 0)?;
     Ok(tx)
 }
 
@@ -289,10 +302,10 @@ fn refused_put_is_a_fault(rt: HostRuntime) -> Result<(), Fail> {
     let Some(ringer) = far_ringers.pop() else {
         return Err(Fail::from("no ringer"));
     };
-    let tx = dead_end(alloc)?;
-    let (_far_tx, rx) = link_from(alloc, 0, 1)?;
-    let ports = one_port(alloc, tx, rx, ringer)?;
-    let end = run_alone(&rt, alloc, &plan, 0, ports, bell, 0)?;
+    let tx = dead_end::<ChannelLane>(alloc)?;
+    let (_far_tx, rx) = link_from::<ChannelLane>(alloc, 0, 1)?;
+    let ports = one_port::<ChannelLane>(alloc, tx, rx, ringer)?;
+    let end = run_alone::<ChannelLane, HostRuntime>(&rt, alloc, &plan, 0, ports, bell, 0)?;
     assert_eq!(rt;
         (end.ate, end.failed, end.forks.len(), end.ports.len()),
         (1, 0, 1, 1)
@@ -322,10 +335,10 @@ fn bell_that_nobody_rings_is_a_fault(rt: HostRuntime) -> Result<(), Fail> {
     let Some(ringer) = far_ringers.pop() else {
         return Err(Fail::from("no ringer"));
     };
-    let (tx, mut far_rx) = link_from(alloc, 0, 1)?;
-    let (_far_tx, rx) = link_from(alloc, 0, 0)?;
-    let ports = one_port(alloc, tx, rx, ringer)?;
-    let end = run_alone(&rt, alloc, &plan, 1, ports, bell, 0)?;
+    let (tx, mut far_rx) = link_from::<ChannelLane>(alloc, 0, 1)?;
+    let (_far_tx, rx) = link_from::<ChannelLane>(alloc, 0, 0)?;
+    let ports = one_port::<ChannelLane>(alloc, tx, rx, ringer)?;
+    let end = run_alone::<ChannelLane, HostRuntime>(&rt, alloc, &plan, 1, ports, bell, 0)?;
     assert_eq!(rt;
         (end.ate, end.failed, end.tokens.len(), end.ports.len()),
         (0, 0, 0, 1)
