@@ -166,6 +166,23 @@ fn run_alike(rt: &impl Abort, trial: &Trial, mut chooser: Chooser) {
         let enabled = model.enabled();
         refuse_others(rt, trial.all.as_slice(), enabled.as_slice(), &mut world);
         agree(rt, &model, enabled.as_slice(), &world, events);
+        assert_eq!(rt; world.first(), enabled.first().copied());
+        let Some(event) = world.enabled(chooser.next(world.count())) else {
+            break;
+        };
+        step_both(rt, &mut model, &mut world, event);
+    }
+    end_both(rt, &model, world);
+}
+
+// A run of drawn events to the end, with the enabled events and the first of them compared after every event.
+fn run_far(rt: &impl Abort, trial: &Trial, seed: u32) {
+    let (mut model, mut world) = (model_of(rt, trial), world_of(rt, trial));
+    let mut chooser = Chooser::Drawn(seed);
+    for _ in 0..=trial.graph.bound() {
+        let enabled = model.enabled();
+        same_events(rt, enabled.as_slice(), &world);
+        assert_eq!(rt; world.first(), enabled.first().copied());
         let Some(event) = world.enabled(chooser.next(world.count())) else {
             break;
         };
@@ -382,6 +399,32 @@ fn graphs_of_all_edges_and_of_few_run_alike(rt: HostRuntime) {
     let few = [(3, 0), (1, 3)].as_slice();
     go_alike(&rt, alloc, [1, 2, 1, 1].as_slice(), all);
     go_alike(&rt, alloc, [1, 2, 2, 1, 0].as_slice(), few);
+}
+
+// The edges of a ring, and one from every second site to the fifth from it.
+fn ring_with_chords(rt: &impl Abort, alloc: Global, sites: u32) -> Vec<(u32, u32)> {
+    let mut edges = Vec::new(alloc);
+    for site in 0..sites {
+        edges
+            .push((site, site.saturating_add(1) % sites))
+            .expect(rt, "memory");
+        if site % 2 == 0 {
+            edges
+                .push((site, site.saturating_add(5) % sites))
+                .expect(rt, "memory");
+        }
+    }
+    edges
+}
+
+#[test]
+fn drawn_runs_of_twelve_sites_go_alike(rt: HostRuntime) {
+    let alloc = rt.alloc();
+    let jobs = vec![in alloc; 2; 12].expect(&rt, "memory");
+    let edges = ring_with_chords(&rt, alloc, 12);
+    let trial = trial_of(&rt, alloc, jobs.as_slice(), edges.as_slice());
+    run_far(&rt, &trial, 1);
+    run_far(&rt, &trial, 7);
 }
 
 // Whether the event is among those that the world tells as enabled.
