@@ -15,8 +15,6 @@ mod replay;
 mod run_text;
 mod status;
 mod tables;
-#[cfg(test)]
-mod tests;
 mod words;
 
 pub use arguments::words_of;

@@ -14,8 +14,6 @@ mod site_end;
 mod site_loop;
 mod slots;
 mod tables;
-#[cfg(test)]
-mod tests;
 mod threads;
 
 pub use call_log::CallLog;

@@ -1,14 +1,14 @@
 use Rattle.std.proofs.Common.{◌≡◌, ◌≤◌, length, ap, subst, vec_items, arith}
 use Rattle.dine_plan.specs.Plan.{job_count}
 use Rattle.dine_run.specs.CallLogs.{SeenCallLog}
-use Rattle.dine_run.specs.declared.tests.diners.Taster.{Taster}
+use Rattle.dine_run.specs.declared.tests.diners.Waiter.{Waiter}
 use Rattle.dine_run.proofs.Collected.{each_more, each_of_none}
-use Rattle.dine_run.proofs.tests.diners.tasters.Goals as goal
+use Rattle.dine_tests.proofs.sites.diners.waiters.Goals as goal
 
 pub loop-site-init : goal.loop-site-init
 loop-site-init c = record {
   len = omega (arith, c.new-diners.ensures.len);
-  rooms = each_of_none (λ s (diner : Taster). job_count c.args.plan.now s ≤ diner.log.room) (vec_items c.new-diners.result) c.new-diners.ensures.items;
+  rooms = each_of_none (λ s (diner : Waiter). job_count c.args.plan.now s ≤ diner.log.room) (vec_items c.new-diners.result) c.new-diners.ensures.items;
 }
 
 pub loop-site-preserved : goal.loop-site-preserved
@@ -21,7 +21,7 @@ loop-site-preserved c =
     record {
       len = omega (arith, was.len, c.in_ok-push.ensures.len);
       rooms =
-          each_more (λ s (diner : Taster). job_count plan s ≤ diner.log.room) (vec_items c.loop-site.diners) (vec_items c.push.new.self) _ c.in_ok-push.ensures.items was.rooms
+          each_more (λ s (diner : Waiter). job_count plan s ≤ diner.log.room) (vec_items c.loop-site.diners) (vec_items c.push.new.self) _ c.in_ok-push.ensures.items was.rooms
           (subst (λ s. job_count plan s ≤ c.in_ok-log.log.room) number here);
     }
 

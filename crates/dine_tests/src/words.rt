@@ -2,7 +2,7 @@
 //!
 //! A run that ends well has taken memory in each call that may: for the words, the input, the plan, the world and the
 //! text. So the runs of the first two tests are also these calls with memory left.
-use crate::{Status, exit_of, run_cmd};
+use dine::{Status, exit_of, run_cmd};
 use std::alloc::{AllocError, Global};
 use std::io;
 use std::io::{Read, Write};

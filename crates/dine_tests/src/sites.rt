@@ -9,12 +9,15 @@ mod star;
 mod tables;
 mod threads;
 
-use super::*;
 use dine_core::SiteCore;
 use dine_core::site::{fresh_forks, fresh_tokens};
 use dine_link::{Bell, ChannelLane, Lane, RingLane, Ringer, TxEnd};
 use dine_plan::{Plan, read_plan};
 use dine_rules::{Breach, Kind4, Letter};
+use dine_run::{
+    Call, CallLog, EdgeRow, Gathered, JobFault, Joined, Port, RunFault, SiteEnd, SiteFault,
+    SiteOut, SiteRow, Stray, edge_table, run, run_site, site_table,
+};
 use dine_token::{Entry, Fork, Token};
 use diners::{Fixed, Marked};
 use std::alloc::{AllocError, Global};

@@ -1,0 +1,63 @@
+//! The hygienic solution of the dining philosophers (Chandy and Misra, ACM TOPLAS 6(4), 1984) written by hand in Rust, without
+//! proofs, to measure `run` and `replay` beside it.
+//!
+//!     peer channel|ring|queue GRAPH JOBS RUNS
+//!
+//! channel: a thread a site, over `crossbeam_channel`s of four letters, and such a channel as the bell of each site.
+//! ring: the same over rings of four letters with one producer and one consumer, with such bells.
+//! queue: all sites in one thread.
+//! GRAPH: ring:N star:N complete:N grid:WxH band:N. JOBS: the meals of each site. They have no turns.
+//! After the runs each fork's log was checked. It prints the median, the least and the most of the times in microseconds, in
+//! which the start and the end of the threads are, and not the check, and the events of the last run.
+
+mod nets;
+mod plan;
+mod queues;
+mod site;
+
+use plan::{Fork, Plan};
+use std::process::ExitCode;
+use std::time::Instant;
+
+fn main() -> ExitCode {
+    let words: Vec<String> = std::env::args().skip(1).collect();
+    let Some((kind, plan, runs)) = read(&words) else {
+        eprintln!("usage: peer channel|ring|queue GRAPH JOBS RUNS");
+        return ExitCode::from(2);
+    };
+    let (mut times, mut events) = (Vec::new(), 0);
+    for _ in 0..runs {
+        let start = Instant::now();
+        let (forks, letters) = kind(&plan);
+        times.push(start.elapsed().as_micros());
+        assert_eq!(forks.len(), plan.edges.len());
+        for (fork, &edge) in forks.iter().zip(&plan.edges) {
+            fork.check(edge, plan.jobs);
+        }
+        // A letter is put and taken, and a meal has its hunger, its begin and its end.
+        events = 2 * letters + 3 * plan.jobs * plan.sites as u64;
+    }
+    times.sort_unstable();
+    let (least, most) = (times[0], times[times.len() - 1]);
+    println!(
+        "runs={runs} median={} least={least} most={most} events={events}",
+        times[times.len() / 2]
+    );
+    ExitCode::SUCCESS
+}
+
+type Kind = fn(&Plan) -> (Vec<Fork>, u64);
+
+fn read(words: &[String]) -> Option<(Kind, Plan, usize)> {
+    let [kind, graph, jobs, runs] = words else {
+        return None;
+    };
+    let kind: Kind = match kind.as_str() {
+        "channel" => site::run::<nets::Channels>,
+        "ring" => site::run::<nets::Rings>,
+        "queue" => queues::replay,
+        _ => return None,
+    };
+    let runs = runs.parse().ok().filter(|runs| *runs > 0)?;
+    Some((kind, Plan::of(graph, jobs.parse().ok()?)?, runs))
+}

@@ -1,0 +1,84 @@
+//! Measures `run` alone: reads a plan, runs it so many times over links of one kind, and writes the median, the least and the most
+//! of the wall time of `run`, in microseconds, to standard error. Standard output has the kind of links and the number of runs.
+//!
+//! usage: dine_bench channel|ring RUNS < PLAN
+#![tactic(auto)]
+
+ghost use Rattle.std.specs.Prelude.{◌≡◌, ◌≤◌, Some, slice_get, IfOk};
+ghost use Rattle.dine_plan.specs.Plan.{job_count};
+
+use anyhow::{Context, Result, bail};
+use dine::PlanDiner;
+use dine_link::{ChannelLane, Lane, RingLane};
+use dine_plan::{Plan, read_plan};
+use dine_run::run;
+use std::alloc::{AllocError, Global};
+use std::env;
+use std::io::Read;
+use std::rt::Clock;
+use std::sync::Wait;
+use std::thread::Threads;
+use std::time::Instant;
+
+// How many bytes are taken and given back before the clock runs, so that what an earlier run freed is brought together then.
+const SETTLING: usize = 1 << 22;
+
+// A diner for each site, with room for its jobs.
+fn diners(alloc: Global, plan: &Plan) -> Result<Vec<PlanDiner>, AllocError>
+    ensures { IfOk result (λ diners. (s : _) (diner : _) → slice_get diners.items s ≡ Some diner → job_count plan.now s ≤ diner.room) }
+{
+    let mut diners = Vec::new(alloc);
+    for site in 0..plan.sites() {
+        diners.push(PlanDiner::open(alloc, plan, site)?)?;
+    }
+    Ok(diners)
+}
+
+// The microseconds of one run over links of a lane.
+fn time<L: Lane + 'static, R: Threads + Wait + Clock + Copy + Send + 'static>(
+    rt: &R,
+    alloc: Global,
+    plan: &Plan,
+) -> Result<u64>
+where
+    L::Tx: 'static,
+    L::ClosedTx: 'static,
+    L::Rx: 'static,
+{
+    let diners = diners(alloc, plan)?;
+    let large: Vec<u8> = Vec::with_capacity(alloc, SETTLING)?;
+    drop(large);
+    let start = Instant::now(rt)?;
+    let Ok(gathered) = run::<L, PlanDiner, R>(rt, alloc, plan, diners) else {
+        bail!("the run did not end in order");
+    };
+    let taken = start.elapsed(rt)?;
+    drop(gathered);
+    Ok(taken.as_micros() as u64)
+}
+
+fn main(rt: HostRuntime) -> Result<()> {
+    let mut words = env::args(&rt)?;
+    let _program = words.next();
+    let lane = words.next().context("no kind of links")?;
+    let runs: u32 = words.next().context("no number of runs")?.parse()?;
+    let mut text = String::new(rt.alloc());
+    rt.stdin().read_to_string(&mut text)?;
+    let plan = read_plan(rt.alloc(), text.as_str())?;
+    let mut times = Vec::new(rt.alloc());
+    for _ in 0..runs {
+        let micros = match lane.as_str() {
+            "channel" => time::<ChannelLane, HostRuntime>(&rt, rt.alloc(), &plan)?,
+            "ring" => time::<RingLane, HostRuntime>(&rt, rt.alloc(), &plan)?,
+            _ => bail!("links are channel or ring"),
+        };
+        times.push(micros)?;
+    }
+    times.sort()?;
+    println!(rt; "{lane} runs={runs}")?;
+    if let Some(median) = times.get(times.len() / 2) {
+        let (least, most) = (times[0], times[times.len() - 1]);
+        eprintln!(rt; "median={median} least={least} most={most}")?;
+    }
+    Ok(())
+}
