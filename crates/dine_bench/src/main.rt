@@ -39,7 +39,7 @@ fn time<L: Lane + 'static, R: Threads + Wait + Clock + Copy + Send + 'static>(
     rt: &R,
     alloc: Global,
     plan: &Plan,
-) -> Result<u64>
+) -> Result<u128>
 where
     L::Tx: 'static,
     L::ClosedTx: 'static,
@@ -54,7 +54,7 @@ where
     };
     let taken = start.elapsed(rt)?;
     drop(gathered);
-    Ok(taken.as_micros() as u64)
+    Ok(taken.as_micros())
 }
 
 fn main(rt: HostRuntime) -> Result<()> {

@@ -2,7 +2,7 @@ use Rattle.std.proofs.Common.{◌≡◌, ◌≤◌, length, vec_items, subst, ar
 use Rattle.dine_plan.specs.Plan.{job_count}
 use Rattle.dine.specs.PlanDiners.{SeenPlanDiner}
 use Rattle.dine_run.proofs.Collected.{each_more, each_of_none}
-use Rattle.bench_run.proofs.diners.Goals as goal
+use Rattle.dine_bench.proofs.diners.Goals as goal
 
 pub loop-site-init : goal.loop-site-init
 loop-site-init c = record {
