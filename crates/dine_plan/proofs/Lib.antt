@@ -1,4 +1,5 @@
 pub mod DocumentLemmas
+pub mod Searches
 pub mod NameLemmas
 pub mod ListLemmas
 pub mod PlaceLemmas

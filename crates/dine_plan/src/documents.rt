@@ -8,6 +8,7 @@ ghost use Rattle.dine_plan.specs.Document.{items_at, items_in, text_at, natural,
 use toml::Value;
 
 /// The items of the array at a key; none where no array stands there.
+#[tactic(auto, unfolding(crate::specs::Document::items_at))]
 pub(crate) fn items_at<'a>(table: &'a Value, key: &str) -> &'a [Value]
     ensures { map view result.now ≡ items_at key.now (view table.now) }
 {
@@ -28,6 +29,7 @@ pub(crate) fn items_in(value: &Value) -> &[Value]
 }
 
 /// The text at a key; empty where no text stands there.
+#[tactic(auto, unfolding(crate::specs::Document::text_at))]
 pub(crate) fn text_at<'a>(table: &'a Value, key: &str) -> &'a str
     ensures { result.now ≡ text_at key.now (view table.now) }
 {
@@ -48,6 +50,7 @@ fn text_in(value: &Value) -> &str
 }
 
 /// The turns of a job, 0 where it names none.
+#[tactic(auto, unfolding(crate::specs::Document::turns_in))]
 pub(crate) fn turns_in(job: &Value) -> u64
     ensures { result ≡ turns_in (view job.now) }
 {
@@ -68,6 +71,7 @@ fn natural_in(value: &Value) -> u64
 }
 
 /// Whether a job fails, which it does not where it says nothing.
+#[tactic(auto, unfolding(crate::specs::Document::fails_in))]
 pub(crate) fn fails_in(job: &Value) -> bool
     ensures { result ≡ fails_in (view job.now) }
 {

@@ -30,6 +30,7 @@ pub(crate) fn first_form_fault(document: &Value) -> Option<PlanFault>
 }
 
 // Whether `version` is absent or is not the whole number 1.
+#[tactic(auto, unfolding(crate::specs::Refusals::refuses_version))]
 fn has_other_version(document: &Value) -> bool
     ensures { result ≡ refuses_version (view document.now) }
 {
@@ -169,6 +170,7 @@ fn edge_is_wrong(edge: &Value) -> bool
 }
 
 // Whether something else than a text stands at the key.
+#[tactic(auto, unfolding(crate::specs::Refusals::is_wrong))]
 fn has_no_text(table: &Value, key: &str) -> bool
     ensures { result ≡ is_wrong is_text key.now (view table.now) }
 {
@@ -179,6 +181,7 @@ fn has_no_text(table: &Value, key: &str) -> bool
 }
 
 // Whether something else than an array of tables stands at the key.
+#[tactic(auto, unfolding(crate::specs::Refusals::is_wrong))]
 fn has_no_tables(table: &Value, key: &str) -> bool
     ensures { result ≡ is_wrong is_tables key.now (view table.now) }
 {
@@ -189,6 +192,7 @@ fn has_no_tables(table: &Value, key: &str) -> bool
 }
 
 // Whether there are turns that are no whole number, or one below 0.
+#[tactic(auto, unfolding(crate::specs::Refusals::is_wrong))]
 fn has_no_whole_number(job: &Value) -> bool
     ensures { result ≡ is_wrong is_whole (codes "turns") (view job.now) }
 {
@@ -199,6 +203,7 @@ fn has_no_whole_number(job: &Value) -> bool
 }
 
 // Whether what says that the job fails is no truth value.
+#[tactic(auto, unfolding(crate::specs::Refusals::is_wrong))]
 fn has_no_truth(job: &Value) -> bool
     ensures { result ≡ is_wrong is_truth (codes "fails") (view job.now) }
 {

@@ -6,7 +6,7 @@ mod side_by_side;
 use super::{NotEnabled, World};
 use dine_plan::{Plan, read_plan};
 use dine_rules::{Event, EventKind, Phase};
-use dine_token::{Entry, Fork};
+use dine_token::{Entry, Fork, Period};
 use std::alloc::{AllocError, Global};
 use std::fmt::Write;
 use std::process::Abort;
@@ -50,6 +50,11 @@ fn opened(rt: &impl Abort, alloc: Global, plan: &Plan) -> World {
 fn entry_at(rt: &impl Abort, fork: &Fork, i: u32) -> Entry {
     assert!(rt; i < fork.len());
     fork.entry(i)
+}
+
+fn period_at(rt: &impl Abort, fork: &Fork, i: u32) -> Period {
+    assert!(rt; i < fork.periods());
+    fork.period(i)
 }
 
 // The event is refused, and as many are enabled as before.

@@ -1,7 +1,7 @@
 //! Letters and lists of letters, as the rules look at them.
 
 use dine_rules::Kind4;
-use dine_token::Entry;
+use dine_token::{Entry, Period};
 
 /// A letter. A Fork has its log.
 #[derive(Clone, Drop)]
@@ -61,6 +61,13 @@ pub(super) fn meals_of(site: u32, log: &[Entry]) -> u32 {
         }
     }
     meals
+}
+
+/// The period that begins at the site behind these entries, without a meal as yet.
+pub(super) fn period_behind(log: &[Entry], site: u32) -> Period {
+    let first = meals_of(site, log).saturating_add(1);
+    let count = 0;
+    Period { site, first, count }
 }
 
 /// Whether the log's last entry is not a Move.

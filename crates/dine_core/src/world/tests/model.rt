@@ -1,9 +1,11 @@
 //! The world of a plan by its definitions: all that was put and taken is kept, and everything else is counted from it.
 
 use super::graph::Graph;
-use super::letters::{Letter, count_of, has, is_dirty, last_log, location_of, meals_of};
+use super::letters::{
+    Letter, count_of, has, is_dirty, last_log, location_of, meals_of, period_behind,
+};
 use dine_rules::{Event, EventKind, Kind4, Phase};
-use dine_token::Entry;
+use dine_token::{Entry, Period};
 use std::alloc::Global;
 use std::process::Abort;
 
@@ -201,6 +203,24 @@ impl<'a, R: Abort> Model<'a, R> {
                 Vec::new(self.alloc)
             }
         }
+    }
+
+    /// The periods of a log: one from the start, at the lower end, and one from each Move. A meal is one more of the last.
+    pub(super) fn periods_of(&self, lower: u32, log: &[Entry]) -> Vec<Period> {
+        let mut periods = Vec::new(self.alloc);
+        let first = period_behind([].as_slice(), lower);
+        periods.push(first).expect(self.rt, "memory");
+        for (i, entry) in log.iter().enumerate() {
+            if let Entry::Move { to } = entry {
+                let before = log.get(..i).expect(self.rt, "a part");
+                let next = period_behind(before, *to);
+                periods.push(next).expect(self.rt, "memory");
+            } else {
+                let last = periods.last_mut().expect(self.rt, "a period");
+                last.count = last.count.saturating_add(1);
+            }
+        }
+        periods
     }
 
     /// The kinds of the letters in the link to the site at the place.

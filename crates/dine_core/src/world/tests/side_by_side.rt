@@ -3,11 +3,11 @@
 use super::graph::Graph;
 use super::letters::{is_dirty, location_of};
 use super::model::{Model, events_at};
-use super::{entry_at, opened, plan_with};
+use super::{entry_at, opened, period_at, plan_with};
 use crate::world::{NotEnabled, World};
 use dine_plan::Plan;
 use dine_rules::{Event, EventKind, Kind4};
-use dine_token::Fork;
+use dine_token::{Fork, Period};
 use std::alloc::Global;
 use std::process::Abort;
 
@@ -29,6 +29,14 @@ fn same_sites<R: Abort>(rt: &R, model: &Model<R>, world: &World) {
     assert_eq!(rt; (world.phase(sites), world.ate(sites)), (None, None));
 }
 
+fn same_periods(rt: &impl Abort, periods: &[Period], fork: &Fork) {
+    assert_eq!(rt; fork.periods() as usize, periods.len());
+    for i in 0..fork.periods() {
+        let period = periods.get(i as usize).copied();
+        assert_eq!(rt; Some(period_at(rt, fork, i)), period);
+    }
+}
+
 fn same_fork<R: Abort>(rt: &R, model: &Model<R>, edge: u32, fork: &Fork) {
     let (lower, higher) = model.graph.ends(edge);
     let log = model.fork_log(edge);
@@ -41,6 +49,8 @@ fn same_fork<R: Abort>(rt: &R, model: &Model<R>, edge: u32, fork: &Fork) {
         let entry = log.get(i as usize).copied();
         assert_eq!(rt; Some(entry_at(rt, fork, i)), entry);
     }
+    let periods = model.periods_of(lower, log.as_slice());
+    same_periods(rt, periods.as_slice(), fork);
 }
 
 fn same_forks<R: Abort>(rt: &R, model: &Model<R>, world: &World) {

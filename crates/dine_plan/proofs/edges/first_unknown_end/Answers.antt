@@ -1,12 +1,10 @@
 use Rattle.std.proofs.Common.{map, rules, tests, refl}
-use Rattle.std.proofs.lemmas.Iterator.{YieldsList-from_slice}
-use Rattle.std.proofs.lemmas.Iterator.Search.{position_from_yields_List}
 use Rattle.toml.specs.View.{view}
 use Rattle.dine_plan.specs.Document.{name_in}
 use Rattle.dine_plan.specs.Refusals.{has_unknown_end}
-use Rattle.dine_plan.proofs.DocumentLemmas.{seen_position}
+use Rattle.dine_plan.proofs.Searches.{position_seen}
 use Rattle.dine_plan.proofs.edges.first_unknown_end.Goals as goal
 
 pub returns : goal.returns
 returns c =
-    seen_position (has_unknown_end (map name_in (map view c.args.sites.now))) _ _ _ (position_from_yields_List (λ v. (has_unknown_end (map name_in (map view c.args.sites.now))) (view v)) _ _ c.position.result c.position.ensures.ran (YieldsList-from_slice c.args.edges.now cc) (λ x b q k. search (rules, tests))) refl
+    position_seen (has_unknown_end (map name_in (map view c.args.sites.now))) c.args.edges.now _ c.position.result c.position.ensures.ran (cc) (λ x b q k. search (rules, tests)) refl

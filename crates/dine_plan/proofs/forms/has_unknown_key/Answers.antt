@@ -1,9 +1,6 @@
 use Rattle.std.proofs.Common.{rules, tests, sym, ◌∙◌}
-use Rattle.std.proofs.lemmas.Iterator.{YieldsList-from_slice}
-use Rattle.std.proofs.lemmas.Iterator.Search.{any_from_yields_List}
-use Rattle.toml.specs.View.{view}
 use Rattle.dine_plan.specs.Refusals.{has_other_key, site_has_other_key, refuses_unknown_key, edge_keys}
-use Rattle.dine_plan.proofs.DocumentLemmas.{seen_any}
+use Rattle.dine_plan.proofs.Searches.{any_seen}
 use Rattle.dine_plan.proofs.forms.has_unknown_key.Goals as goal
 
 pub returns-then-has_other_key : goal.returns-then-has_other_key
@@ -14,9 +11,9 @@ returns-then-has_other_key c =
 pub returns-then-any : goal.returns-then-any
 unfolding refuses_unknown_key
 returns-then-any c =
-    rw (sym c.has_other_key.ensures ∙ c.if-has_other_key.false, sym (seen_any (site_has_other_key) _ _ _ (any_from_yields_List (λ v. (site_has_other_key) (view v)) _ _ c.any.result c.any.ensures.ran (YieldsList-from_slice c.items_at-sites.result.now cc) (λ x b q k. search (rules, tests))) c.items_at-sites.ensures) ∙ c.if-any.true)
+    rw (sym c.has_other_key.ensures ∙ c.if-has_other_key.false, sym (any_seen site_has_other_key c.items_at-sites.result.now _ c.any.result c.any.ensures.ran (cc) (λ x b q k. search (rules, tests)) c.items_at-sites.ensures) ∙ c.if-any.true)
 
 pub returns : goal.returns
 unfolding refuses_unknown_key
 returns c =
-    rw (sym c.has_other_key.ensures ∙ c.if-has_other_key.false, sym (seen_any (site_has_other_key) _ _ _ (any_from_yields_List (λ v. (site_has_other_key) (view v)) _ _ c.any.result c.any.ensures.ran (YieldsList-from_slice c.items_at-sites.result.now cc) (λ x b q k. search (rules, tests))) c.items_at-sites.ensures) ∙ c.if-any.false) (seen_any (has_other_key edge_keys) _ _ _ (any_from_yields_List (λ v. (has_other_key edge_keys) (view v)) _ _ c.any-2.result c.any-2.ensures.ran (YieldsList-from_slice c.items_at-edges.result.now cc) (λ x b q k. search (rules, tests))) c.items_at-edges.ensures)
+    rw (sym c.has_other_key.ensures ∙ c.if-has_other_key.false, sym (any_seen site_has_other_key c.items_at-sites.result.now _ c.any.result c.any.ensures.ran (cc) (λ x b q k. search (rules, tests)) c.items_at-sites.ensures) ∙ c.if-any.false) (any_seen (has_other_key edge_keys) c.items_at-edges.result.now _ c.any-2.result c.any-2.ensures.ran (cc) (λ x b q k. search (rules, tests)) c.items_at-edges.ensures)

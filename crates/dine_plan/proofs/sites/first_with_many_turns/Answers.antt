@@ -1,11 +1,8 @@
 use Rattle.std.proofs.Common.{rules, tests, refl}
-use Rattle.std.proofs.lemmas.Iterator.{YieldsList-from_slice}
-use Rattle.std.proofs.lemmas.Iterator.Search.{position_from_yields_List}
-use Rattle.toml.specs.View.{view}
 use Rattle.dine_plan.specs.Refusals.{has_many_turns}
-use Rattle.dine_plan.proofs.DocumentLemmas.{seen_position}
+use Rattle.dine_plan.proofs.Searches.{position_seen}
 use Rattle.dine_plan.proofs.sites.first_with_many_turns.Goals as goal
 
 pub returns : goal.returns
 returns c =
-    seen_position (has_many_turns) _ _ _ (position_from_yields_List (λ v. (has_many_turns) (view v)) _ _ c.position.result c.position.ensures.ran (YieldsList-from_slice c.args.sites.now cc) (λ x b q k. search (rules, tests))) refl
+    position_seen has_many_turns c.args.sites.now _ c.position.result c.position.ensures.ran (cc) (λ x b q k. search (rules, tests)) refl
