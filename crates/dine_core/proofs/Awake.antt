@@ -1,7 +1,10 @@
 -- Which sites have no enabled event after an event: all that had none, but for the site that does it and the one that gets its letter.
-use Rattle.std.proofs.Common.{◌≡◌, ◌≢◌, ℕ, zero, suc, ◌<◌, ◌&&◌, Bool, true, false, List, [], ◌∷◌, length, drop, get_or, slice_get, slice_set, Option, Some, None, is_some, option_and_then, refl, sym, ◌∙◌, ap, subst, inl, inr, arith}
+use Rattle.std.proofs.Common.{◌≡◌, ◌≢◌, ℕ, zero, suc, ◌<◌, ◌&&◌, nat_lt, Bool, true, false, List, [], ◌∷◌, length, drop, get_or, slice_get, slice_set, Option, Some, None, is_some, option_and_then, refl, sym, ◌∙◌, ap, subst, inl, inr, arith}
+use Rattle.std.specs.List.{filter, range_with_len}
+use Rattle.std.specs.Option.{option_map_or}
 use Rattle.std.proofs.lemmas.Bool.{and_parts, cases_eq, cases_lt, false≢true, le-ltb, lt-ltb, ltb-true}
 use Rattle.std.proofs.lemmas.List.{get_or-set_same, get_or-set_other, length-set}
+use Rattle.std.proofs.lemmas.List.Elements.{filter_agree}
 use Rattle.std.proofs.lemmas.Option.{get_or_from_slice_get, slice_get_within}
 use Rattle.dine_plan.specs.Plan.{SeenPlan, edges_of, site_count}
 use Rattle.dine_rules.specs.declared.events.Event.{Event}
@@ -10,10 +13,11 @@ use Rattle.dine_rules.specs.declared.events.EventKind.TheVariants as event
 use Rattle.dine_rules.specs.declared.letters.Letter.{Letter}
 use Rattle.dine_rules.specs.Local.{edge_at, neighbour_at}
 use Rattle.dine_rules.specs.Steps.{Shape, Step, Takes, Puts, Alone, shape_of}
-use Rattle.dine_rules.specs.World.{WorldState, place_of, state_of}
+use Rattle.dine_rules.specs.World.{WorldState, kinds_at, place_of, state_of}
 use Rattle.dine_core.specs.declared.world.sites.WorldSite.{WorldSite}
 use Rattle.dine_core.specs.Awake.{HasAllAwake, HasAllMail, HasReceiver, IsStill, with_receiver}
 use Rattle.dine_core.specs.Core.{SeenCore}
+use Rattle.dine_core.specs.Counts.{HasCounts, kinds_now}
 use Rattle.dine_core.specs.LinkNumbers.{link_from, link_to}
 use Rattle.dine_core.specs.Places.{neighbour_of, place_at}
 use Rattle.dine_core.specs.WorldSites.{MovesLetters, can_do, has_place, next_in, without_next}
@@ -124,6 +128,39 @@ module _ (plan : SeenPlan) (world : WorldState) (seen : SeenWorld) (stands : IsW
         (get_other seen.links (link_from core.site (place_at core i)) (link_to other.site (place_at other j)) _ (elsewhere i j (ltb-true i (length core.places) there) k apart)) ∙ none)
     letters_still Alone one links there apart moved j k none = subst (λ (l : List (List Letter)). has_letter l (link_to other.site (place_at other j)) ≡ false) (sym moved) none
 
+    -- whether a letter lies in a link to another site
+    letters_same : (shape : Shape) (one : Step) (links : List (List Letter)) → has_place core shape ≡ true → t ≢ s → IsNoReceiver core shape t → MovesLetters plan (state_of world s) core shape one seen.links links
+        → (j : ℕ) → j < length other.places → is_some (next_in links other j) ≡ is_some (next_in seen.links other j)
+    letters_same (Takes i) one links there differs apart moved j k =
+        let h : i < length core.places = ltb-true i (length core.places) there in
+        let at_t : j < length (edges_of plan t) = omega (arith, k, as_many_places plan world seen stands t is_t past) in
+        let other_link : link_to other.site (place_at other j) ≢ link_to core.site (place_at core i) = λ same.
+        differs ((same_place plan t j s i stands.reached.is_plan at_t (at_s i h) (sym (to_is plan world seen stands t is_t past j k) ∙ same ∙ to_is plan world seen stands s is_s past i h)).0) in
+        ap (λ (l : List (List Letter)). has_letter l (link_to other.site (place_at other j))) moved
+        ∙ ap (λ (o : Option (List Letter)). is_some (option_and_then (λ (letters : List Letter). slice_get letters 0) o))
+        (get_other seen.links (link_to core.site (place_at core i)) (link_to other.site (place_at other j)) _ other_link)
+    letters_same (Puts i) one links there differs apart (l, is, moved) j k =
+        ap (λ (l : List (List Letter)). has_letter l (link_to other.site (place_at other j))) moved
+        ∙ ap (λ (o : Option (List Letter)). is_some (option_and_then (λ (letters : List Letter). slice_get letters 0) o))
+        (get_other seen.links (link_from core.site (place_at core i)) (link_to other.site (place_at other j)) _ (elsewhere i j (ltb-true i (length core.places) there) k apart))
+    letters_same Alone one links there differs apart moved j k = ap (λ (l : List (List Letter)). has_letter l (link_to other.site (place_at other j))) moved
+
+    module _ (shape : Shape) (one : Step) (links : List (List Letter)) (there : has_place core shape ≡ true) (differs : t ≢ s) (apart : IsNoReceiver core shape t) (moved : MovesLetters plan (state_of world s) core shape one seen.links links) where
+      -- what another site can do is the same
+      same_can : (kind : EventKind) → can_do links other kind ≡ can_do seen.links other kind
+      same_can (event.Take j) = elim (cases_lt j (length other.places)) [
+        | inl k ↦ ap (λ (b : Bool). nat_lt j (length other.places) && b) (letters_same shape one links there differs apart moved j k)
+        | inr beyond ↦ ap (λ (b : Bool). b && is_some (next_in links other j)) (le-ltb j (length other.places) beyond)
+            ∙ sym (ap (λ (b : Bool). b && is_some (next_in seen.links other j)) (le-ltb j (length other.places) beyond))
+      ]
+      same_can (event.Give j) = refl
+      same_can event.End = refl
+      same_can event.Begin = refl
+      same_can event.Hungry = refl
+      same_can (event.Ask j) = refl
+      same_can (event.Done j) = refl
+      same_can (event.Close j) = refl
+
     module _ (shape : Shape) (one : Step) (links : List (List Letter)) (there : has_place core shape ≡ true) (apart : IsNoReceiver core shape t) (moved : MovesLetters plan (state_of world s) core shape one seen.links links) where
       still_can_not : (kind : EventKind) → can_do seen.links other kind ≡ false → can_do links other kind ≡ false
       still_can_not (event.Take j) h = elim (cases_lt j (length other.places)) [
@@ -187,6 +224,31 @@ module _ (seen : SeenWorld) (e : Event) (can : can_happen seen e ≡ true) (plan
             | inl same ↦ absurd (false≢true (sym (before.others t w.0 e.kind) ∙ ap (λ (k : ℕ). can_happen seen (record { site = k; kind = e.kind })) same ∙ can))
             | inr other ↦ still_after t other w.1 (before.others t w.0)
           ];
+    })
+
+    -- the events that another site can do are the same
+    same_kinds : (t : ℕ) (o : Option WorldSite) → slice_get seen.sites t ≡ o → t ≢ e.site → IsNoReceiver here.core (shape_of e.kind) t
+        → option_map_or (λ (x : WorldSite). kinds_now links x.core) o [] ≡ option_map_or (λ (x : WorldSite). kinds_now seen.links x.core) o []
+    same_kinds t None found differs apart = refl
+    same_kinds t (Some there) found differs apart =
+        let same : get_or seen.sites t world_site ≡ there = get_or_from_slice_get seen.sites t there world_site found in
+        let is_t : t < site_count plan = omega (arith, slice_get_within seen.sites t there found, stands.sites.count) in
+        filter_agree (can_do links there.core) (can_do seen.links there.core)
+        (λ kind. subst (λ (x : WorldSite). can_do links x.core kind ≡ can_do seen.links x.core kind) same
+        (same_can plan world seen stands e.site is_site world_site t is_t (shape_of e.kind) one links has_its_place differs apart moved kind))
+        (kinds_at (range_with_len 0 (length there.core.places)))
+
+    -- the counts are right for all sites outside the set with the site itself and the receiver
+    pub counts_after : (counts : List ℕ) → HasCounts seen counts awake → HasCounts after counts (slice_set (with_receiver world_site.core (shape_of e.kind) awake) e.site true)
+    counts_after counts before = subst (λ (x : WorldSite). HasCounts after counts (slice_set (with_receiver x.core (shape_of e.kind) awake) e.site true)) (sym is) (record {
+      every_site = before.every_site ∙ sym (length-set seen.sites e.site changed);
+      size = length-set (with_receiver here.core (shape_of e.kind) awake) e.site true ∙ as_long here.core (shape_of e.kind) awake ∙ before.size;
+      others = λ t out.
+          let within : e.site < length (with_receiver here.core (shape_of e.kind) awake) = omega (arith, as_long here.core (shape_of e.kind) awake, before.size, is_site, stands.reached.is_plan.few_sites) in
+          let w = not_in (with_receiver here.core (shape_of e.kind) awake) e.site t within out in
+          let v = left_out here.core (shape_of e.kind) awake t before.size (fits plan world seen stands e.site is_site world_site (shape_of e.kind) has_its_place) w.0 in
+          before.others t v.0
+          ∙ sym (ap length (ap (λ (o : Option WorldSite). option_map_or (λ (x : WorldSite). kinds_now links x.core) o []) (get_other seen.sites e.site t changed w.1) ∙ same_kinds t (slice_get seen.sites t) refl w.1 v.1));
     })
 
     -- the site itself, in the world that it leaves

@@ -54,7 +54,7 @@ module _ (seen : SeenWorld) (awake : List Bool) (has : HasAllAwake seen awake) w
 
 -- ---- at the start all numbers are in
 
-past_full : (n s : ℕ) → get_or (replicate n true) s false ≡ false → n ≤ s
+pub past_full : (n s : ℕ) → get_or (replicate n true) s false ≡ false → n ≤ s
 past_full zero s h = omega arith
 past_full (suc n) zero h = absurd (let e : true ≡ false = h in cc)
 past_full (suc n) (suc s) h = omega (arith, past_full n s h)

@@ -154,7 +154,7 @@ filter_first p (x ∷ xs) = elim (p x) as (λ b. slice_get (cond b (x ∷ filter
 ]
 
 -- an event of a site
-abbrev event_of : ℕ → EventKind → Event
+abbrev pub event_of : ℕ → EventKind → Event
 event_of s kind = record { site = s; kind = kind }
 
 filter_none : (p : Event → Bool) (s : ℕ) → ((kind : EventKind) → p (event_of s kind) ≡ false) → (kinds : List EventKind) → length (filter p (map (event_of s) kinds)) ≡ 0

@@ -28,3 +28,4 @@ pub mod NextEvents
 pub mod FirstEvents
 pub mod Awake
 pub mod AwakeSearch
+pub mod Counts

@@ -22,5 +22,6 @@ pub mod Forks
 pub mod EventSearch
 pub mod Worlds
 pub mod Awake
+pub mod Counts
 pub mod WorldFields
 pub mod NextEvent

@@ -4,6 +4,7 @@ ghost use Rattle.std.specs.Prelude.{◌≡◌, IfOk, MatchOption, MatchResult, N
 
 mod acts;
 mod awake;
+mod counts;
 mod enabled;
 mod forks;
 mod opening;
@@ -51,6 +52,9 @@ pub struct World {
     awake: WordSet,
     // Each site that a letter is on its way to is in it, and others may be.
     mail: WordSet,
+    // How many events each site has enabled, but for the sites in `stale`, whose counts may be wrong.
+    counts: Vec<u32>,
+    stale: WordSet,
 }
 
 impl Model for World {
@@ -78,6 +82,7 @@ impl World {
         let edges = opening::ends_of(alloc, plan)?;
         let links = opening::links_of(alloc, plan)?;
         let forks = Vec::with_capacity(alloc, plan.edges() as usize)?;
+        let counts = opening::no_counts(alloc, plan)?;
         let sites = opening::sites_of(alloc, plan)?;
         let bound = opening::bound_of(plan);
         Ok(World {
@@ -88,6 +93,8 @@ impl World {
             forks,
             awake: WordSet::full(),
             mail: WordSet::full(),
+            counts,
+            stale: WordSet::full(),
         })
     }
 
@@ -143,6 +150,8 @@ impl World {
         let world_site = &mut self.sites[event.site as usize];
         self.awake = acts::with_receiver(self.awake, &world_site.core, event.kind);
         self.mail = acts::with_receiver(self.mail, &world_site.core, event.kind);
+        self.stale = acts::with_receiver(self.stale, &world_site.core, event.kind);
+        self.stale.insert(event.site);
         acts::act(world_site, self.links.as_mut_slice(), event.kind);
     }
 

@@ -38,6 +38,8 @@ impl World {
             mut forks,
             awake: _,
             mail: _,
+            counts: _,
+            stale: _,
         } = self;
         wake_all(sites.as_mut_slice());
         collect(

@@ -46,6 +46,13 @@ pub(super) fn links_of(alloc: Global, plan: &Plan) -> Result<Vec<Queue>, AllocEr
     Ok(links)
 }
 
+/// A count for each site, of no events.
+pub(super) fn no_counts(alloc: Global, plan: &Plan) -> Result<Vec<u32>, AllocError>
+    ensures { IfOk result (λ counts. length counts.items ≡ site_count plan.now) }
+{
+    vec![in alloc; 0u32; plan.sites() as usize]
+}
+
 /// All sites, each with the forks and tokens that it has at the start.
 pub(super) fn sites_of(alloc: Global, plan: &Plan) -> Result<Vec<WorldSite>, AllocError>
     ensures { IfOk result (λ sites. SitesStand plan.now (start plan.now) sites.items) }

@@ -1,4 +1,4 @@
-use Rattle.std.proofs.Common.{◌≡◌, ◌++◌, true, List, drop, length, slice_set, take, sym, ◌∙◌, ap, subst, arith}
+use Rattle.std.proofs.Common.{◌≡◌, ◌++◌, true, Bool, List, drop, length, slice_set, take, sym, ◌∙◌, ap, subst, arith}
 use Rattle.std.proofs.lemmas.Grind.{common_steps}
 use Rattle.dine_rules.specs.declared.letters.Letter.{Letter}
 use Rattle.dine_rules.specs.Steps.{shape_of}
@@ -6,7 +6,8 @@ use Rattle.dine_core.specs.WorldSites.{SiteSteps, HasRoomFor, TakesAllowed, can_
 use Rattle.dine_core.specs.WorldFields.{seen_world}
 use Rattle.dine_core.specs.Worlds.{WorldStep, IsWorldOf, SeenWorld, can_happen}
 use Rattle.dine_core.specs.Awake.{HasAllAwake, HasAllMail}
-use Rattle.dine_core.proofs.Awake.{awake_after, mail_after, receiver_fits}
+use Rattle.dine_core.specs.Counts.{HasCounts}
+use Rattle.dine_core.proofs.Awake.{awake_after, counts_after, mail_after, receiver_fits}
 use Rattle.dine_core.proofs.WorldStepped.{site_can, site_done, site_fits, site_allowed, site_moved, site_room, site_within}
 use Rattle.dine_core.proofs.world.World.happen.Goals as goal
 
@@ -35,6 +36,20 @@ with_receiver-self-inside-requires-2 c =
     let can : can_happen seen c.args.event ≡ true = ap (λ (w : SeenWorld). can_happen w c.args.event) c.self.view_is ∙ c.requires in
     let kept = c.self.invariant in
     receiver_fits seen c.args.event can kept.plan kept.state kept.stands c.index_mut-world_site.result.now c.index_mut-world_site.ensures.value
+
+pub with_receiver-self-inside-requires-3 : goal.with_receiver-self-inside-requires-3
+with_receiver-self-inside-requires-3 c =
+    let seen = seen_world c.self.inside in
+    let can : can_happen seen c.args.event ≡ true = ap (λ (w : SeenWorld). can_happen w c.args.event) c.self.view_is ∙ c.requires in
+    let kept = c.self.invariant in
+    receiver_fits seen c.args.event can kept.plan kept.state kept.stands c.index_mut-world_site.result.now c.index_mut-world_site.ensures.value
+
+pub insert-requires : goal.insert-requires
+insert-requires c =
+    let seen = seen_world c.self.inside in
+    let can : can_happen seen c.args.event ≡ true = ap (λ (w : SeenWorld). can_happen w c.args.event) c.self.view_is ∙ c.requires in
+    let kept = c.self.invariant in
+    omega (arith, site_within seen c.args.event can, kept.stands.sites.count, kept.stands.reached.is_plan.few_sites)
 
 pub act-requires-clause-meal : goal.act-requires-clause-meal
 act-requires-clause-meal c =
@@ -74,6 +89,8 @@ invariant_of-self c =
     let next = site_done seen c.args.event can kept.plan kept.state kept.stands world_site here changed c.act.new.links does in
     let awake = awake_after seen c.args.event can kept.plan kept.state kept.stands world_site here moved.0 changed c.act.new.links c.self.inside.awake moved.1 kept.awake in
     let mail = mail_after seen c.args.event can kept.plan kept.state kept.stands world_site here moved.0 changed c.act.new.links c.self.inside.mail moved.1 next.after next.stands kept.mail in
+    let counts = counts_after seen c.args.event can kept.plan kept.state kept.stands world_site here moved.0 changed c.act.new.links c.self.inside.stale moved.1 c.self.inside.counts.items kept.counts in
+    let stale = c.insert.ensures ∙ ap (λ (set : List Bool). slice_set set c.args.event.site true) c.with_receiver-self-inside-3.ensures in
     let whole : take c.self.inside.links.len (c.act.new.links ++ drop (length c.act.new.links) c.self.inside.links.items) ≡ c.act.new.links = grind (arith, common_steps) in
     let new : List (List Letter) → SeenWorld = λ links. record { sites = slice_set c.self.inside.sites.items c.args.event.site changed; links = links; edges = c.self.inside.edges.items; bound = c.self.inside.bound } in
     record {
@@ -84,6 +101,7 @@ invariant_of-self c =
       room = kept.room;
       awake = subst (λ (links : List (List Letter)). HasAllAwake (new links) c.with_receiver-self-inside.result) (sym whole) (subst (HasAllAwake (new c.act.new.links)) (sym c.with_receiver-self-inside.ensures) awake);
       mail = subst (λ (links : List (List Letter)). HasAllMail (new links) c.with_receiver-self-inside-2.result) (sym whole) (subst (HasAllMail (new c.act.new.links)) (sym c.with_receiver-self-inside-2.ensures) mail);
+      counts = subst (λ (links : List (List Letter)). HasCounts (new links) c.self.inside.counts.items c.insert.new.self) (sym whole) (subst (HasCounts (new c.act.new.links) c.self.inside.counts.items) (sym stale) counts);
     }
 
 pub returns : goal.returns
