@@ -29,3 +29,6 @@ pub mod FirstEvents
 pub mod Awake
 pub mod AwakeSearch
 pub mod Counts
+pub mod Degrees
+pub mod Heard
+pub mod HeardPlaces

@@ -23,5 +23,6 @@ pub mod EventSearch
 pub mod Worlds
 pub mod Awake
 pub mod Counts
+pub mod Heard
 pub mod WorldFields
 pub mod NextEvent

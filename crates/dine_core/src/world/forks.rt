@@ -37,7 +37,7 @@ impl World {
             bound: _,
             mut forks,
             awake: _,
-            mail: _,
+            heard: _,
             counts: _,
             stale: _,
         } = self;

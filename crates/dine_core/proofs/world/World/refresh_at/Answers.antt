@@ -17,6 +17,6 @@ invariant_of-self c =
       no_forks = kept.no_forks;
       room = kept.room;
       awake = kept.awake;
-      mail = kept.mail;
+      heard = kept.heard;
       counts = subst (HasCounts seen c.self.inside.counts.items) (sym c.remove.ensures) (past_counted seen c.self.inside.counts.items c.self.inside.stale c.args.site past kept.counts);
     }
