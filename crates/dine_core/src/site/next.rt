@@ -6,7 +6,7 @@ ghost use Rattle.dine_core.specs.Places.{can_ask, can_close, can_give, can_say_d
 ghost use Rattle.dine_core.specs.Standing.{ForEachState};
 
 use super::SiteCore;
-use dine_rules::EventKind;
+use dine_rules::{EventKind, Phase};
 
 impl SiteCore {
     /// The first event other than Take that the site may do now, in the fixed order: Give by place, End, Begin, Hungry, Ask by
@@ -58,27 +58,36 @@ impl SiteCore {
     fn first_give(&self) -> Option<u32>
         ensures { result ≡ find (can_give self.now) (range_with_len 0 (length self.now.places)) }
     {
-        (0..self.degree()).find(|i| self.may_give(*i))
+        if self.phase == Phase::Eating {
+            return None;
+        }
+        self.places.gives().first()
     }
 
     // The first place at which it may ask for the fork.
     fn first_ask(&self) -> Option<u32>
         ensures { result ≡ find (can_ask self.now) (range_with_len 0 (length self.now.places)) }
     {
-        (0..self.degree()).find(|i| self.may_ask(*i))
+        if self.phase != Phase::Hungry {
+            return None;
+        }
+        self.places.asks().first()
     }
 
     // The first place at which it may say Done.
     fn first_done(&self) -> Option<u32>
         ensures { result ≡ find (can_say_done self.now) (range_with_len 0 (length self.now.places)) }
     {
-        (0..self.degree()).find(|i| self.may_done(*i))
+        if self.phase != Phase::Thinking || self.ate != self.due {
+            return None;
+        }
+        self.places.dones().first()
     }
 
     // The first place that it may close.
     fn first_close(&self) -> Option<u32>
         ensures { result ≡ find (can_close self.now) (range_with_len 0 (length self.now.places)) }
     {
-        (0..self.degree()).find(|i| self.may_close(*i))
+        self.places.closes().first()
     }
 }
