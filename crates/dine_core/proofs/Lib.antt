@@ -28,6 +28,7 @@ pub mod Woken
 pub mod Marked
 pub mod NextEvents
 pub mod MarkedEvents
+pub mod OwnEvents
 pub mod FirstEvents
 pub mod Awake
 pub mod AwakeSearch

@@ -1,10 +1,10 @@
 -- The places that a test marks are those that the numbers of the places find.
-use Rattle.std.proofs.Common.{◌≡◌, ℕ, zero, suc, ◌+◌, ◌<◌, ◌&&◌, Bool, true, false, cond, position, count_by, List, [], ◌∷◌, length, get_or, slice_get, Option, Some, None, refl, sym, ◌∙◌, ap, arith}
+use Rattle.std.proofs.Common.{◌≤◌, replicate, ◌≡◌, ℕ, zero, suc, ◌+◌, ◌<◌, ◌&&◌, Bool, true, false, cond, position, count_by, List, [], ◌∷◌, length, get_or, slice_get, Option, Some, None, refl, sym, ◌∙◌, ap, arith}
 use Rattle.std.specs.List.{filter, find, range_with_len}
 use Rattle.std.specs.Option.{option_map}
 use Rattle.std.proofs.lemmas.List.Sums.{sum_by-cons}
 use Rattle.dine_set.specs.Marks.{marks_of, nth_position}
-use Rattle.dine_set.proofs.MarksOf.{position-marks_of}
+use Rattle.dine_set.proofs.MarksOf.{marks_of-agree, marks_of-none, position-marks_of}
 use Rattle.dine_set.proofs.NthPosition.{nth_position-zero}
 use Rattle.dine_core.specs.declared.site.places.Place.{Place}
 use Rattle.dine_core.specs.Core.{SeenCore}
@@ -18,7 +18,7 @@ moved_on j (Some i) = ap Some (omega arith)
 
 module _ (test : Place → Bool) where
   -- the numbers that pass q are those of the places that pass the test
-  abbrev Agrees : (ℕ → Bool) → ℕ → List Place → Type 0
+  abbrev pub Agrees : (ℕ → Bool) → ℕ → List Place → Type 0
   Agrees q j places = (i : ℕ) → i < length places → q (j + i) ≡ test (get_or places i no_place)
 
   agrees_behind : (q : ℕ → Bool) (j : ℕ) (place : Place) (places : List Place) → Agrees q j (place ∷ places) → Agrees q (j + 1) places
@@ -55,31 +55,25 @@ module _ (test : Place → Bool) where
       one_more true rest behind = omega (arith, behind)
       one_more false rest behind = omega (arith, behind)
 
--- none passes a test that is never so
-none_passes : (xs : List ℕ) → find (λ i. false) xs ≡ None
-none_passes [] = refl
-none_passes (x ∷ xs) = none_passes xs
-
-as_it_is : (o : Option ℕ) → option_map (λ i. 0 + i) o ≡ o
+pub as_it_is : (o : Option ℕ) → option_map (λ i. 0 + i) o ≡ o
 as_it_is None = refl
 as_it_is (Some i) = ap Some (omega arith)
 
+-- the first place that is marked is the first whose number passes
 module _ (core : SeenCore) (test : Place → Bool) where
-  abbrev places : List ℕ
-  places = range_with_len 0 (length core.places)
+  agree : Agrees test (λ i. test (place_at core i)) 0 core.places
+  agree i within = ap (λ (k : ℕ). test (place_at core k)) (let e : 0 + i ≡ i = omega arith in e)
 
-  zero_first : Agrees test (λ i. test (place_at core i)) 0 core.places
-  zero_first i within = ap (λ (k : ℕ). test (place_at core k)) (let e : 0 + i ≡ i = omega arith in e)
-
-  -- where the core may do the event at all, the first place that is marked is the first at which it may
-  pub first_marked : (allowed : Bool) (marks : List Bool) → allowed ≡ true → marks ≡ marks_of test core.places
-      → position (λ is_in. is_in) marks ≡ find (λ i. allowed && test (place_at core i)) places
-  first_marked allowed marks may are =
+  pub first_marked : (marks : List Bool) → marks ≡ marks_of test core.places → position (λ is_in. is_in) marks ≡ find (λ i. test (place_at core i)) (range_with_len 0 (length core.places))
+  first_marked marks are =
       ap (position (λ is_in. is_in)) are ∙ position-marks_of test core.places ∙ sym (nth_position-zero test core.places)
-      ∙ sym (as_it_is (nth_position test 0 core.places)) ∙ sym (marked_nth test (λ i. test (place_at core i)) core.places 0 0 zero_first)
-      ∙ filter_first (λ i. test (place_at core i)) places
-      ∙ ap (λ (b : Bool). find (λ i. b && test (place_at core i)) places) (sym may)
+      ∙ sym (as_it_is (nth_position test 0 core.places)) ∙ sym (marked_nth test (λ i. test (place_at core i)) core.places 0 0 agree)
+      ∙ filter_first (λ i. test (place_at core i)) (range_with_len 0 (length core.places))
 
-  -- and where it may not, there is none
-  pub none_marked : (allowed : Bool) → allowed ≡ false → None ≡ find (λ i. allowed && test (place_at core i)) places
-  none_marked allowed not_now = sym (none_passes places) ∙ ap (λ (b : Bool). find (λ i. b && test (place_at core i)) places) (sym not_now)
+-- a test of places, under a condition: where that is so it marks the same, and where it is not so none
+module _ (test : Place → Bool) (places : List Place) (now : Bool) (marks : List Bool) where
+  pub marked_now : now ≡ true → marks ≡ marks_of test places → marks ≡ marks_of (λ place. now && test place) places
+  marked_now is are = are ∙ marks_of-agree test (λ place. now && test place) (λ place. ap (λ (b : Bool). b && test place) (sym is)) places
+
+  pub none_now : now ≡ false → length places ≤ 64 → marks ≡ replicate 64 false → marks ≡ marks_of (λ place. now && test place) places
+  none_now is few none = none ∙ sym (marks_of-none (λ place. now && test place) places few (λ i past within. ap (λ (b : Bool). b && test (get_or places i past)) is))

@@ -17,7 +17,7 @@ use Rattle.dine_core.specs.declared.site.places.ForkSlot.TheVariants.{Away, Here
 use Rattle.dine_rules.specs.Local.{is_eating}
 use Rattle.dine_rules.specs.Breach.{was_sent_to}
 use Rattle.dine_core.specs.Core.{SeenCore}
-use Rattle.dine_core.specs.Places.{with_place, with_fork, noted, is_held, is_own_fork, breach_at, FitsPlace, FitsSlot, IsSoundPlace, IsSound, no_place, place_at}
+use Rattle.dine_core.specs.Places.{with_place, with_fork, noted, is_held, is_own_fork, breach_at, FitsPlace, FitsSlot, IsSoundPlace, IsSound}
 
 -- soundness reads the site, its meals, its due and its phase
 pub sound_place_along : (core : SeenCore) (places : List Place) (place : Place) → IsSoundPlace core place → IsSoundPlace (record core { places = places }) place

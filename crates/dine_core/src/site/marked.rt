@@ -116,7 +116,8 @@ impl MarkedPlaces {
 
     /// The places whose fork the release rule would have sent, for a site that does not eat.
     pub(crate) fn gives(&self) -> WordSet
-        ensures { result ≡ marks_of can_give_at self.now }
+        ensures marks { result ≡ marks_of can_give_at self.now }
+        ensures few { length self.now ≤ 64 }
     {
         self.dirty
             .intersection(self.tokens)
@@ -125,7 +126,8 @@ impl MarkedPlaces {
 
     /// The places whose fork a hungry site may ask for.
     pub(crate) fn asks(&self) -> WordSet
-        ensures { result ≡ marks_of can_ask_at self.now }
+        ensures marks { result ≡ marks_of can_ask_at self.now }
+        ensures few { length self.now ≤ 64 }
     {
         self.tokens
             .intersection(self.away)
@@ -134,14 +136,16 @@ impl MarkedPlaces {
 
     /// The places at which Done may be said once all meals are eaten.
     pub(crate) fn dones(&self) -> WordSet
-        ensures { result ≡ marks_of can_say_done_at self.now }
+        ensures marks { result ≡ marks_of can_say_done_at self.now }
+        ensures few { length self.now ≤ 64 }
     {
         self.unclosed.difference(self.said)
     }
 
     /// The places that may be closed in order.
     pub(crate) fn closes(&self) -> WordSet
-        ensures { result ≡ marks_of can_close_at self.now }
+        ensures marks { result ≡ marks_of can_close_at self.now }
+        ensures few { length self.now ≤ 64 }
     {
         self.said
             .intersection(self.heard)
