@@ -21,7 +21,7 @@ use Rattle.dine_core.specs.Worlds.{IsWorldOf, SeenWorld, can_at, can_happen}
 use Rattle.dine_rules.proofs.KindNumbers.{choices, found_at, more_sites, of_sites}
 use Rattle.dine_core.proofs.CanHappen.{can_happen_is}
 use Rattle.dine_core.proofs.EnabledEvents.{degree_is, enabled_at}
-use Rattle.dine_core.proofs.NextEvents.{bounded, find-map, find_same}
+use Rattle.dine_core.proofs.NextEvents.{bounded, filter_first, find-map, find_same}
 
 -- ---- two tests that agree find the same
 
@@ -136,13 +136,6 @@ pub still_at : (seen : SeenWorld) (s : ℕ) → first_kind_at seen s ≡ None �
 still_at seen s h kind = still_here seen.links (slice_get seen.sites s) h kind
 
 -- ---- the events of all sites
-
-pub filter_first : {X : Type 0} (p : X → Bool) (xs : List X) → slice_get (filter p xs) 0 ≡ find p xs
-filter_first p [] = refl
-filter_first p (x ∷ xs) = elim (p x) as (λ b. slice_get (cond b (x ∷ filter p xs) (filter p xs)) 0 ≡ cond b (Some x) (find p xs)) [
-  | true ↦ refl
-  | false ↦ filter_first p xs
-]
 
 -- an event of a site
 abbrev pub event_of : ℕ → EventKind → Event

@@ -22,7 +22,8 @@ use Rattle.dine_core.specs.NextEvent.{next_of}
 use Rattle.dine_core.specs.WorldSites.{can_do, next_in}
 use Rattle.dine_core.specs.Worlds.{IsWorldOf, SeenWorld, can_at}
 use Rattle.dine_core.proofs.Degrees.{degree_few}
-use Rattle.dine_core.proofs.FirstEvents.{filter_first, first_spelled}
+use Rattle.dine_core.proofs.FirstEvents.{first_spelled}
+use Rattle.dine_core.proofs.NextEvents.{filter_first}
 use Rattle.dine_core.proofs.WorldSteps.{as_many_places}
 use Rattle.dine_core.proofs.Heard.{none_in}
 

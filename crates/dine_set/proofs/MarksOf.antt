@@ -91,6 +91,15 @@ pub marks_of-map : {X Y : Type 0} (p : X → Bool) (q : Y → Bool) (f : X → Y
 unfolding marks_of
 marks_of-map p q f same xs = rw (length-map) (ap (λ marks. marks ++ replicate (64 - length xs) false) (map_same p q f same xs))
 
+-- two tests that agree at each element mark the same
+pub marks_of-agree : {X : Type 0} (p q : X → Bool) → ((x : X) → p x ≡ q x) → (xs : List X) → marks_of p xs ≡ marks_of q xs
+unfolding marks_of
+marks_of-agree p q agree xs = ap (λ marks. marks ++ replicate (64 - length xs) false) (map_agree xs)
+  where
+    map_agree : (ys : List _) → map p ys ≡ map q ys
+    map_agree [] = refl
+    map_agree (y ∷ ys) = ap₂ (λ mark marks. mark ∷ marks) (agree y) (map_agree ys)
+
 -- an element is changed, and its mark is not
 map-set_same : {X : Type 0} (p : X → Bool) (xs : List X) (i : ℕ) (y past : X) → p y ≡ p (get_or xs i past) → map p (set xs i y) ≡ map p xs
 map-set_same p [] i y past same = refl

@@ -1,5 +1,5 @@
 -- A word and the 64 truth values that it holds, through each operation on the word.
-use Rattle.std.proofs.Common.{ltb, replicate, ◌≡◌, ◌≢◌, ℕ, zero, suc, ◌+◌, ◌*◌, ◌/◌, ◌%◌, ◌^◌, ◌<◌, ◌==◌, ◌⊎◌, inl, inr, Bool, true, false, cond, Some, None, List, [], ◌∷◌, length, get_or, set, refl, sym, ap, ap₂, ◌∙◌, subst, arith, w64, get_or-set_same, get_or-set_other, slice_get, position, count_by, count_ones, length-set, ◌-◌, ◌&&◌, not, min}
+use Rattle.std.proofs.Common.{ltb, replicate, ◌≡◌, ◌≢◌, ℕ, zero, suc, ◌+◌, ◌*◌, ◌/◌, ◌%◌, ◌^◌, ◌<◌, ◌≤◌, ◌==◌, ◌⊎◌, inl, inr, Bool, true, false, cond, Some, None, List, [], ◌∷◌, length, get_or, set, refl, sym, ap, ap₂, ◌∙◌, subst, arith, w64, get_or-set_same, get_or-set_other, slice_get, position, count_by, count_ones, length-set, ◌-◌, ◌&&◌, not, min}
 use Rattle.std.specs.Int.{bit_at, bit_not, trailing_zeros}
 use Rattle.std.specs.Int.Bits.{bit_and, bit_or}
 use Rattle.std.specs.List.{position_or_len}
@@ -7,6 +7,7 @@ use Rattle.std.proofs.lemmas.Bool.{cases_order, lt-ltb}
 use Rattle.std.proofs.lemmas.Bool.Decides.{eqb_tells}
 use Rattle.std.proofs.lemmas.Grind.{common_steps}
 use Rattle.std.proofs.lemmas.List.{map-id}
+use Rattle.std.proofs.lemmas.List.Sums.{count_by-le-length}
 use Rattle.std.proofs.lemmas.Nat.{and_le_l, and_shr, or_lt}
 use Rattle.std.proofs.lemmas.Nat.Bits.{shr_and_one, bit_at_and, bit_at_lowest, bit_at_set_same, bit_at_set_other, bit_at_clear_same, bit_at_clear_other, same_from_bits_below, bit_at-trailing_zeros}
 use Rattle.std.proofs.lemmas.Option.{slice_get-get_or}
@@ -111,6 +112,9 @@ position-marks w h = rw (← first-marks w h, length-marks_of_word w) (at_zero (
 pub count_by-marks : (w : ℕ) → w < 2 ^ 64 → count_ones w ≡ count_by (λ b. b) (marks_of_word w)
 count_by-marks w h = ap count_ones (sym (ap mask_l (map-id (marks_of_word w)) ∙ word_from_marks w h)) ∙ ones-mask_l (λ b. b) (marks_of_word w)
 
+pub ones_few : (w : ℕ) → w < 2 ^ 64 → count_ones w ≤ 64
+ones_few w h = omega (arith, count_by-marks w h, count_by-le-length (λ b. b) (marks_of_word w), length-marks_of_word w)
+
 -- ---- two words
 -- the test of the lower of two digits
 both_tests : (a b : ℕ) → a < 2 → b < 2 → (min a b == 1) ≡ ((a == 1) && (b == 1))
@@ -157,4 +161,4 @@ marks-without a b h = digits_without 64 a b h
 pub both_lt : (a b : ℕ) → a < 2 ^ 64 → bit_and a b < 2 ^ 64
 both_lt a b h = omega (arith, and_le_l a b)
 
-pub ruleset word_laws = (common_steps, marks-zero, marks-all, slice_get-marks, insert_lt, marks-insert, marks-remove, trailing_lt, position-marks, count_by-marks, marks-both, marks-without, both_lt)
+pub ruleset word_laws = (common_steps, marks-zero, marks-all, slice_get-marks, insert_lt, marks-insert, marks-remove, trailing_lt, position-marks, count_by-marks, ones_few, marks-both, marks-without, both_lt)

@@ -1,6 +1,6 @@
 //! A set in one word.
 
-ghost use Rattle.std.specs.Prelude.{◌≡◌, ◌<◌, true, false, Some, IfSome, is_none, replicate, slice_get, slice_set, position, count_by};
+ghost use Rattle.std.specs.Prelude.{◌≡◌, ◌<◌, ◌≤◌, true, false, Some, IfNone, IfSome, is_none, replicate, slice_get, slice_set, position, count_by};
 ghost use Rattle.dine_set.specs.Marks.{both_marks, marks_without, nth_position};
 
 use std::marker::Model;
@@ -100,7 +100,8 @@ impl WordSet {
 
     /// The `n`-th number in the set, from 0 and from the least on. None where there are not so many.
     pub fn nth(&self, n: u32) -> Option<u32>
-        ensures { result ≡ nth_position (λ is_in. is_in) n self.now }
+        ensures value { result ≡ nth_position (λ is_in. is_in) n self.now }
+        ensures none { IfNone result (count_by (λ is_in. is_in) self.now ≤ n) }
     {
         let mut rest = *self;
         let mut left = n;
@@ -116,7 +117,8 @@ impl WordSet {
 
     /// How many numbers are in the set.
     pub fn len(&self) -> u32
-        ensures { result ≡ count_by (λ is_in. is_in) self.now }
+        ensures value { result ≡ count_by (λ is_in. is_in) self.now }
+        ensures few { result ≤ 64 }
     {
         self.word.count_ones()
     }
