@@ -1,7 +1,10 @@
 -- Which sites have no enabled event after an event: all that had none, but for the site that does it and the one that gets its letter.
-use Rattle.std.proofs.Common.{◌≡◌, ◌≢◌, ℕ, zero, suc, ◌<◌, ◌&&◌, Bool, true, false, List, [], ◌∷◌, length, drop, get_or, slice_get, slice_set, Option, Some, None, is_some, option_and_then, refl, sym, ◌∙◌, ap, subst, inl, inr, arith}
+use Rattle.std.proofs.Common.{◌≡◌, ◌≢◌, ℕ, zero, suc, ◌<◌, ◌&&◌, nat_lt, Bool, true, false, List, [], ◌∷◌, length, drop, get_or, slice_get, slice_set, Option, Some, None, is_some, option_and_then, refl, sym, ◌∙◌, ap, subst, inl, inr, arith}
+use Rattle.std.specs.List.{filter, range_with_len}
+use Rattle.std.specs.Option.{option_map_or}
 use Rattle.std.proofs.lemmas.Bool.{and_parts, cases_eq, cases_lt, false≢true, le-ltb, lt-ltb, ltb-true}
 use Rattle.std.proofs.lemmas.List.{get_or-set_same, get_or-set_other, length-set}
+use Rattle.std.proofs.lemmas.List.Elements.{filter_agree}
 use Rattle.std.proofs.lemmas.Option.{get_or_from_slice_get, slice_get_within}
 use Rattle.dine_plan.specs.Plan.{SeenPlan, edges_of, site_count}
 use Rattle.dine_rules.specs.declared.events.Event.{Event}
@@ -10,10 +13,12 @@ use Rattle.dine_rules.specs.declared.events.EventKind.TheVariants as event
 use Rattle.dine_rules.specs.declared.letters.Letter.{Letter}
 use Rattle.dine_rules.specs.Local.{edge_at, neighbour_at}
 use Rattle.dine_rules.specs.Steps.{Shape, Step, Takes, Puts, Alone, shape_of}
-use Rattle.dine_rules.specs.World.{WorldState, place_of, state_of}
+use Rattle.dine_rules.specs.World.{WorldState, kinds_at, place_of, state_of}
 use Rattle.dine_core.specs.declared.world.sites.WorldSite.{WorldSite}
-use Rattle.dine_core.specs.Awake.{HasAllAwake, HasAllMail, HasReceiver, IsStill, with_receiver}
+use Rattle.dine_core.specs.Awake.{HasAllAwake, HasReceiver, IsStill, with_receiver}
 use Rattle.dine_core.specs.Core.{SeenCore}
+use Rattle.dine_core.specs.Counts.{HasCounts, kinds_now}
+use Rattle.dine_core.specs.Heard.{has_letter}
 use Rattle.dine_core.specs.LinkNumbers.{link_from, link_to}
 use Rattle.dine_core.specs.Places.{neighbour_of, place_at}
 use Rattle.dine_core.specs.WorldSites.{MovesLetters, can_do, has_place, next_in, without_next}
@@ -50,33 +55,12 @@ as_long core Alone awake = refl
 
 -- ---- the links
 
-get_other : {X : Type 0} (xs : List X) (i j : ℕ) (x : X) → j ≢ i → slice_get (slice_set xs i x) j ≡ slice_get xs j
+pub get_other : {X : Type 0} (xs : List X) (i j : ℕ) (x : X) → j ≢ i → slice_get (slice_set xs i x) j ≡ slice_get xs j
 get_other [] i j x other = refl
 get_other (y ∷ xs) zero zero x other = absurd (other refl)
 get_other (y ∷ xs) zero (suc j) x other = refl
 get_other (y ∷ xs) (suc i) zero x other = refl
 get_other (y ∷ xs) (suc i) (suc j) x other = get_other xs i j x (λ same. other (ap suc same))
-
-get_same : {X : Type 0} (xs : List X) (i : ℕ) (x : X) → i < length xs → slice_get (slice_set xs i x) i ≡ Some x
-get_same [] i x h = absurd (omega arith)
-get_same (y ∷ xs) zero x h = refl
-get_same (y ∷ xs) (suc i) x h = get_same xs i x (omega arith)
-
--- whether the link has a letter
-abbrev has_letter : List (List Letter) → ℕ → Bool
-has_letter links n = is_some (option_and_then (λ (letters : List Letter). slice_get letters 0) (slice_get links n))
-
-drop_none : (letters : List Letter) → is_some (slice_get letters 0) ≡ false → is_some (slice_get (drop 1 letters) 0) ≡ false
-drop_none [] h = refl
-drop_none (l ∷ letters) h = absurd (false≢true (sym h))
-
--- no letter comes by a take
-taken_none : (links : List (List Letter)) (m n : ℕ) → has_letter links n ≡ false → has_letter (without_next links m) n ≡ false
-taken_none [] m n h = h
-taken_none (letters ∷ links) zero zero h = drop_none letters h
-taken_none (letters ∷ links) zero (suc n) h = h
-taken_none (letters ∷ links) (suc m) zero h = h
-taken_none (letters ∷ links) (suc m) (suc n) h = taken_none links m n h
 
 -- ---- what another site may do
 
@@ -115,30 +99,38 @@ module _ (plan : SeenPlan) (world : WorldState) (seen : SeenWorld) (stands : IsW
         let numbers : number_to plan t j ≡ number_to plan n m = sym (to_is plan world seen stands t is_t past j k) ∙ same ∙ from_is plan world seen stands s is_s past i h ∙ from_is_to plan s i n m over in
         apart ((same_place plan t j n m stands.reached.is_plan at_t over.within numbers).0 ∙ sym (receiver_is i h))
 
-    letters_still : (shape : Shape) (one : Step) (links : List (List Letter)) → has_place core shape ≡ true → IsNoReceiver core shape t → MovesLetters plan (state_of world s) core shape one seen.links links
-        → (j : ℕ) → j < length other.places → is_some (next_in seen.links other j) ≡ false → is_some (next_in links other j) ≡ false
-    letters_still (Takes i) one links there apart moved j k none = subst (λ (l : List (List Letter)). has_letter l (link_to other.site (place_at other j)) ≡ false) (sym moved)
-        (taken_none seen.links (link_to core.site (place_at core i)) (link_to other.site (place_at other j)) none)
-    letters_still (Puts i) one links there apart (l, is, moved) j k none = subst (λ (l : List (List Letter)). has_letter l (link_to other.site (place_at other j)) ≡ false) (sym moved)
-        (ap (λ (o : Option (List Letter)). is_some (option_and_then (λ (letters : List Letter). slice_get letters 0) o))
-        (get_other seen.links (link_from core.site (place_at core i)) (link_to other.site (place_at other j)) _ (elsewhere i j (ltb-true i (length core.places) there) k apart)) ∙ none)
-    letters_still Alone one links there apart moved j k none = subst (λ (l : List (List Letter)). has_letter l (link_to other.site (place_at other j)) ≡ false) (sym moved) none
+    -- whether a letter lies in a link to another site
+    letters_same : (shape : Shape) (one : Step) (links : List (List Letter)) → has_place core shape ≡ true → t ≢ s → IsNoReceiver core shape t → MovesLetters plan (state_of world s) core shape one seen.links links
+        → (j : ℕ) → j < length other.places → is_some (next_in links other j) ≡ is_some (next_in seen.links other j)
+    letters_same (Takes i) one links there differs apart moved j k =
+        let h : i < length core.places = ltb-true i (length core.places) there in
+        let at_t : j < length (edges_of plan t) = omega (arith, k, as_many_places plan world seen stands t is_t past) in
+        let other_link : link_to other.site (place_at other j) ≢ link_to core.site (place_at core i) = λ same.
+        differs ((same_place plan t j s i stands.reached.is_plan at_t (at_s i h) (sym (to_is plan world seen stands t is_t past j k) ∙ same ∙ to_is plan world seen stands s is_s past i h)).0) in
+        ap (λ (l : List (List Letter)). has_letter l (link_to other.site (place_at other j))) moved
+        ∙ ap (λ (o : Option (List Letter)). is_some (option_and_then (λ (letters : List Letter). slice_get letters 0) o))
+        (get_other seen.links (link_to core.site (place_at core i)) (link_to other.site (place_at other j)) _ other_link)
+    letters_same (Puts i) one links there differs apart (l, is, moved) j k =
+        ap (λ (l : List (List Letter)). has_letter l (link_to other.site (place_at other j))) moved
+        ∙ ap (λ (o : Option (List Letter)). is_some (option_and_then (λ (letters : List Letter). slice_get letters 0) o))
+        (get_other seen.links (link_from core.site (place_at core i)) (link_to other.site (place_at other j)) _ (elsewhere i j (ltb-true i (length core.places) there) k apart))
+    letters_same Alone one links there differs apart moved j k = ap (λ (l : List (List Letter)). has_letter l (link_to other.site (place_at other j))) moved
 
-    module _ (shape : Shape) (one : Step) (links : List (List Letter)) (there : has_place core shape ≡ true) (apart : IsNoReceiver core shape t) (moved : MovesLetters plan (state_of world s) core shape one seen.links links) where
-      still_can_not : (kind : EventKind) → can_do seen.links other kind ≡ false → can_do links other kind ≡ false
-      still_can_not (event.Take j) h = elim (cases_lt j (length other.places)) [
-        | inl k ↦
-            let before : is_some (next_in seen.links other j) ≡ false = sym (ap (λ (b : Bool). b && is_some (next_in seen.links other j)) (lt-ltb j (length other.places) k)) ∙ h in
-            ap (λ (b : Bool). b && is_some (next_in links other j)) (lt-ltb j (length other.places) k) ∙ letters_still shape one links there apart moved j k before
+    module _ (shape : Shape) (one : Step) (links : List (List Letter)) (there : has_place core shape ≡ true) (differs : t ≢ s) (apart : IsNoReceiver core shape t) (moved : MovesLetters plan (state_of world s) core shape one seen.links links) where
+      -- what another site can do is the same
+      same_can : (kind : EventKind) → can_do links other kind ≡ can_do seen.links other kind
+      same_can (event.Take j) = elim (cases_lt j (length other.places)) [
+        | inl k ↦ ap (λ (b : Bool). nat_lt j (length other.places) && b) (letters_same shape one links there differs apart moved j k)
         | inr beyond ↦ ap (λ (b : Bool). b && is_some (next_in links other j)) (le-ltb j (length other.places) beyond)
+            ∙ sym (ap (λ (b : Bool). b && is_some (next_in seen.links other j)) (le-ltb j (length other.places) beyond))
       ]
-      still_can_not (event.Give j) h = h
-      still_can_not event.End h = h
-      still_can_not event.Begin h = h
-      still_can_not event.Hungry h = h
-      still_can_not (event.Ask j) h = h
-      still_can_not (event.Done j) h = h
-      still_can_not (event.Close j) h = h
+      same_can (event.Give j) = refl
+      same_can event.End = refl
+      same_can event.Begin = refl
+      same_can event.Hungry = refl
+      same_can (event.Ask j) = refl
+      same_can (event.Done j) = refl
+      same_can (event.Close j) = refl
 
 -- ---- the set after an event
 
@@ -153,7 +145,7 @@ module _ (seen : SeenWorld) (e : Event) (can : can_happen seen e ≡ true) (plan
   abbrev here : WorldSite
   here = get_or seen.sites e.site world_site
 
-  has_its_place : has_place here.core (shape_of e.kind) ≡ true
+  pub has_its_place : has_place here.core (shape_of e.kind) ≡ true
   has_its_place = (and_parts _ _ (subst (λ (x : WorldSite). can_do seen.links x.core e.kind ≡ true) (sym (get_or_from_slice_get seen.sites e.site there_is.0 world_site there_is.1)) there_is.2)).0
 
   -- the receiver is a site
@@ -164,18 +156,17 @@ module _ (seen : SeenWorld) (e : Event) (can : can_happen seen e ≡ true) (plan
     abbrev after : SeenWorld
     after = record { sites = slice_set seen.sites e.site changed; links = links; edges = seen.edges; bound = seen.bound }
 
-    can_not_there : (t : ℕ) (o : Option WorldSite) → slice_get seen.sites t ≡ o → IsNoReceiver here.core (shape_of e.kind) t → (kind : EventKind) → can_at seen.links kind o ≡ false → can_at links kind o ≡ false
-    can_not_there t None found apart kind h = refl
-    can_not_there t (Some there) found apart kind h =
+    can_not_there : (t : ℕ) (o : Option WorldSite) → slice_get seen.sites t ≡ o → t ≢ e.site → IsNoReceiver here.core (shape_of e.kind) t → (kind : EventKind) → can_at seen.links kind o ≡ false → can_at links kind o ≡ false
+    can_not_there t None found differs apart kind h = refl
+    can_not_there t (Some there) found differs apart kind h =
         let same : get_or seen.sites t world_site ≡ there = get_or_from_slice_get seen.sites t there world_site found in
         let is_t : t < site_count plan = omega (arith, slice_get_within seen.sites t there found, stands.sites.count) in
-        subst (λ (x : WorldSite). can_do links x.core kind ≡ false) same
-        (still_can_not plan world seen stands e.site is_site world_site t is_t (shape_of e.kind) one links has_its_place apart moved kind
-        (subst (λ (x : WorldSite). can_do seen.links x.core kind ≡ false) (sym same) h))
+        subst (λ (x : WorldSite). can_do links x.core kind ≡ can_do seen.links x.core kind) same
+        (same_can plan world seen stands e.site is_site world_site t is_t (shape_of e.kind) one links has_its_place differs apart moved kind) ∙ h
 
     still_after : (t : ℕ) → t ≢ e.site → IsNoReceiver here.core (shape_of e.kind) t → IsStill seen t → IsStill after t
     still_after t other apart still kind =
-        ap (can_at links kind) (get_other seen.sites e.site t changed other) ∙ can_not_there t (slice_get seen.sites t) refl apart kind (still kind)
+        ap (can_at links kind) (get_other seen.sites e.site t changed other) ∙ can_not_there t (slice_get seen.sites t) refl other apart kind (still kind)
 
     -- all sites outside the set with the receiver have no enabled event
     pub awake_after : HasAllAwake seen awake → HasAllAwake after (with_receiver world_site.core (shape_of e.kind) awake)
@@ -189,47 +180,27 @@ module _ (seen : SeenWorld) (e : Event) (can : can_happen seen e ≡ true) (plan
           ];
     })
 
-    -- the site itself, in the world that it leaves
-    module _ (next : WorldState) (next_stands : IsWorldOf plan next after) (has : HasAllMail seen awake) where
-      own_link : (i : ℕ) → i < length changed.core.places → (i < length here.core.places) × (link_to changed.core.site (place_at changed.core i) ≡ link_to here.core.site (place_at here.core i))
-      own_link i h =
-          let same : get_or after.sites e.site world_site ≡ changed = get_or-set_same seen.sites e.site changed world_site (omega (arith, is_site, stands.sites.count)) in
-          let places : length changed.core.places ≡ length (edges_of plan e.site) = ap (λ (x : WorldSite). length x.core.places) (sym same) ∙ as_many_places plan next after next_stands e.site is_site world_site in
-          let old : length here.core.places ≡ length (edges_of plan e.site) = as_many_places plan world seen stands e.site is_site world_site in
-          let within : i < length (get_or after.sites e.site world_site).core.places = omega (arith, h, ap (λ (x : WorldSite). length x.core.places) same) in
-          let within_old : i < length here.core.places = omega (arith, h, places, old) in (
-            within_old,
-            ap (λ (x : WorldSite). link_to x.core.site (place_at x.core i)) (sym same) ∙ to_is plan next after next_stands e.site is_site world_site i within
-                ∙ sym (to_is plan world seen stands e.site is_site world_site i within_old),
-          )
+    -- the events that another site can do are the same
+    same_kinds : (t : ℕ) (o : Option WorldSite) → slice_get seen.sites t ≡ o → t ≢ e.site → IsNoReceiver here.core (shape_of e.kind) t
+        → option_map_or (λ (x : WorldSite). kinds_now links x.core) o [] ≡ option_map_or (λ (x : WorldSite). kinds_now seen.links x.core) o []
+    same_kinds t None found differs apart = refl
+    same_kinds t (Some there) found differs apart =
+        let same : get_or seen.sites t world_site ≡ there = get_or_from_slice_get seen.sites t there world_site found in
+        let is_t : t < site_count plan = omega (arith, slice_get_within seen.sites t there found, stands.sites.count) in
+        filter_agree (can_do links there.core) (can_do seen.links there.core)
+        (λ kind. subst (λ (x : WorldSite). can_do links x.core kind ≡ can_do seen.links x.core kind) same
+        (same_can plan world seen stands e.site is_site world_site t is_t (shape_of e.kind) one links has_its_place differs apart moved kind))
+        (kinds_at (range_with_len 0 (length there.core.places)))
 
-      -- no letter comes to it
-      own_none : IsNoReceiver here.core (shape_of e.kind) e.site → ((i : ℕ) → can_do seen.links here.core (event.Take i) ≡ false) → (i : ℕ) → can_do links changed.core (event.Take i) ≡ false
-      own_none apart none i = elim (cases_lt i (length changed.core.places)) [
-        | inl h ↦
-            let w = own_link i h in
-            let before : is_some (next_in seen.links here.core i) ≡ false = sym (ap (λ (b : Bool). b && is_some (next_in seen.links here.core i)) (lt-ltb i (length here.core.places) w.0)) ∙ none i in
-            ap (λ (b : Bool). b && is_some (next_in links changed.core i)) (lt-ltb i (length changed.core.places) h)
-            ∙ ap (has_letter links) w.1
-            ∙ letters_still plan world seen stands e.site is_site world_site e.site is_site (shape_of e.kind) one links has_its_place apart moved i w.0 before
-        | inr beyond ↦ ap (λ (b : Bool). b && is_some (next_in links changed.core i)) (le-ltb i (length changed.core.places) beyond)
-      ]
-
-      found_here : slice_get seen.sites e.site ≡ Some here
-      found_here = there_is.1 ∙ ap (λ (x : WorldSite). Some x) (sym (get_or_from_slice_get seen.sites e.site there_is.0 world_site there_is.1))
-
-      -- no letter is on its way to a site outside the set with the receiver
-      pub mail_after : HasAllMail after (with_receiver world_site.core (shape_of e.kind) awake)
-      mail_after = subst (λ (x : WorldSite). HasAllMail after (with_receiver x.core (shape_of e.kind) awake)) (sym is) (record {
-        size = as_long here.core (shape_of e.kind) awake ∙ has.size;
-        others = λ t out i.
-            let w = left_out here.core (shape_of e.kind) awake t has.size (fits plan world seen stands e.site is_site world_site (shape_of e.kind) has_its_place) out in
-            elim (cases_eq t e.site) [
-              | inl same ↦
-                  let none = λ (k : ℕ). sym (ap (can_at seen.links (event.Take k)) (ap (slice_get seen.sites) same ∙ found_here)) ∙ has.others t w.0 k in
-                  ap (λ (k : ℕ). can_at links (event.Take i) (slice_get (slice_set seen.sites e.site changed) k)) same
-                  ∙ ap (can_at links (event.Take i)) (get_same seen.sites e.site changed (omega (arith, is_site, stands.sites.count)))
-                  ∙ own_none (subst (IsNoReceiver here.core (shape_of e.kind)) same w.1) none i
-              | inr other ↦ ap (can_at links (event.Take i)) (get_other seen.sites e.site t changed other) ∙ can_not_there t (slice_get seen.sites t) refl w.1 (event.Take i) (has.others t w.0 i)
-            ];
-      })
+    -- the counts are right for all sites outside the set with the site itself and the receiver
+    pub counts_after : (counts : List ℕ) → HasCounts seen counts awake → HasCounts after counts (slice_set (with_receiver world_site.core (shape_of e.kind) awake) e.site true)
+    counts_after counts before = subst (λ (x : WorldSite). HasCounts after counts (slice_set (with_receiver x.core (shape_of e.kind) awake) e.site true)) (sym is) (record {
+      every_site = before.every_site ∙ sym (length-set seen.sites e.site changed);
+      size = length-set (with_receiver here.core (shape_of e.kind) awake) e.site true ∙ as_long here.core (shape_of e.kind) awake ∙ before.size;
+      others = λ t out.
+          let within : e.site < length (with_receiver here.core (shape_of e.kind) awake) = omega (arith, as_long here.core (shape_of e.kind) awake, before.size, is_site, stands.reached.is_plan.few_sites) in
+          let w = not_in (with_receiver here.core (shape_of e.kind) awake) e.site t within out in
+          let v = left_out here.core (shape_of e.kind) awake t before.size (fits plan world seen stands e.site is_site world_site (shape_of e.kind) has_its_place) w.0 in
+          before.others t v.0
+          ∙ sym (ap length (ap (λ (o : Option WorldSite). option_map_or (λ (x : WorldSite). kinds_now links x.core) o []) (get_other seen.sites e.site t changed w.1) ∙ same_kinds t (slice_get seen.sites t) refl w.1 v.1));
+    })

@@ -8,7 +8,7 @@ use Rattle.std.proofs.lemmas.List.Sums.{sum_by-set}
 use Rattle.std.proofs.lemmas.Option.{get_or_from_slice_get, slice_get_past}
 use Rattle.dine_rules.specs.declared.events.EventKind.TheVariants as event
 use Rattle.dine_core.specs.declared.world.sites.WorldSite.{WorldSite}
-use Rattle.dine_core.specs.Awake.{HasAllAwake, HasAllMail, HasNoMail, IsStill, LeavesMail}
+use Rattle.dine_core.specs.Awake.{HasAllAwake, IsStill}
 use Rattle.dine_core.specs.Worlds.{SeenWorld, can_at}
 
 -- ---- a set without numbers
@@ -54,7 +54,7 @@ module _ (seen : SeenWorld) (awake : List Bool) (has : HasAllAwake seen awake) w
 
 -- ---- at the start all numbers are in
 
-past_full : (n s : ℕ) → get_or (replicate n true) s false ≡ false → n ≤ s
+pub past_full : (n s : ℕ) → get_or (replicate n true) s false ≡ false → n ≤ s
 past_full zero s h = omega arith
 past_full (suc n) zero h = absurd (let e : true ≡ false = h in cc)
 past_full (suc n) (suc s) h = omega (arith, past_full n s h)
@@ -64,25 +64,3 @@ full_has_all seen few = record {
   size = refl;
   others = λ s out kind. ap (can_at seen.links kind) (slice_get_past seen.sites s (omega (arith, past_full 64 s out)));
 }
-
-pub full_has_mail : (seen : SeenWorld) → length seen.sites ≤ 64 → HasAllMail seen (replicate 64 true)
-full_has_mail seen few = record {
-  size = refl;
-  others = λ s out i. (full_has_all seen few).others s out (event.Take i);
-}
-
--- a site without letters may be taken out
-pub without_mail : (seen : SeenWorld) (mail : List Bool) (s : ℕ) (world_site : WorldSite) (rest : List Bool) → slice_get seen.sites s ≡ Some world_site → HasAllMail seen mail
-    → LeavesMail seen.links world_site.core s mail rest → HasAllMail seen rest
-without_mail seen mail s world_site rest found has (inl same) = subst (HasAllMail seen) (sym same) has
-without_mail seen mail s world_site rest found has (inr (same, none)) = subst (HasAllMail seen) (sym same) (record {
-  size = length-set mail s false ∙ has.size;
-  others = λ t out. elim (cases_eq t s) [
-    | inl here ↦ λ i. ap (λ (k : ℕ). can_at seen.links (event.Take i) (slice_get seen.sites k)) here ∙ ap (can_at seen.links (event.Take i)) found ∙ none i
-    | inr other ↦ has.others t (sym (get_or-set_other mail s t false false other) ∙ out)
-  ];
-})
-
--- of a site that is not in the set no letter is taken
-pub no_mail_of : (seen : SeenWorld) (mail : List Bool) (s : ℕ) (world_site : WorldSite) → slice_get seen.sites s ≡ Some world_site → HasAllMail seen mail → slice_get mail s ≡ Some false → HasNoMail seen.links world_site.core
-no_mail_of seen mail s world_site found has out i = sym (ap (can_at seen.links (event.Take i)) found) ∙ has.others s (get_or_from_slice_get mail s false false out) i

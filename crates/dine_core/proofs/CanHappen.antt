@@ -85,7 +85,7 @@ is_step plan world s (Some step) = one (may plan s (state_of world s) step) (aft
   one false new = refl
 
 -- the site with a number that is small enough
-site_at : (sites : List WorldSite) (s : ℕ) → s < length sites → (world_site : WorldSite) × (slice_get sites s ≡ Some world_site) × (get_or sites s world_site ≡ world_site)
+pub site_at : (sites : List WorldSite) (s : ℕ) → s < length sites → (world_site : WorldSite) × (slice_get sites s ≡ Some world_site) × (get_or sites s world_site ≡ world_site)
 site_at sites s h = elim (slice_get_cases sites s).1 [
   | inl w ↦ (w.0, w.2, w.3)
   | inr past ↦ absurd (omega (arith, past.0))

@@ -12,7 +12,7 @@ use Rattle.dine_rules.specs.declared.events.EventKind.TheVariants as event
 use Rattle.dine_rules.specs.declared.letters.Letter.{Letter}
 use Rattle.dine_rules.specs.World.{WorldState, enabled_events, events_at, is_enabled, kinds_at}
 use Rattle.dine_core.specs.declared.world.sites.WorldSite.{WorldSite}
-use Rattle.dine_core.specs.Awake.{HasNoMail, IsStill, first_kind, first_kind_at}
+use Rattle.dine_core.specs.Awake.{IsStill, first_kind, first_kind_at}
 use Rattle.dine_core.specs.Core.{SeenCore}
 use Rattle.dine_core.specs.NextEvent.{can_by_itself, next_of, own_kinds}
 use Rattle.dine_core.specs.Places.{can_ask, can_close, can_give, can_say_done}
@@ -21,7 +21,7 @@ use Rattle.dine_core.specs.Worlds.{IsWorldOf, SeenWorld, can_at, can_happen}
 use Rattle.dine_rules.proofs.KindNumbers.{choices, found_at, more_sites, of_sites}
 use Rattle.dine_core.proofs.CanHappen.{can_happen_is}
 use Rattle.dine_core.proofs.EnabledEvents.{degree_is, enabled_at}
-use Rattle.dine_core.proofs.NextEvents.{bounded, find-map, find_same}
+use Rattle.dine_core.proofs.NextEvents.{bounded, filter_first, find-map, find_same}
 
 -- ---- two tests that agree find the same
 
@@ -127,15 +127,6 @@ module _ (links : List (List Letter)) (core : SeenCore) where
       let hungry = cond_none (p event.Hungry) event.Hungry None begin.1 in
       each_can_not gives.0 gives.1 end.0 begin.0 hungry.0 asks.1 dones.1 closes.1
 
-  -- no place has a letter where none is found, and the other way round
-  pub no_mail : find (λ i. is_some (next_in links core i)) places ≡ None → HasNoMail links core
-  no_mail none = at event.Take (λ i. is_some (next_in links core i)) (λ i. refl)
-      (find-map event.Take p places ∙ ap (option_map event.Take) (bounded n (λ i. is_some (next_in links core i)) ∙ none))
-
-  pub no_take : HasNoMail links core → find (λ i. is_some (next_in links core i)) places ≡ None
-  no_take none = none_of (λ i. is_some (next_in links core i)) 0 n (λ i within.
-      sym (ap (λ (b : Bool). b && is_some (next_in links core i)) (lt-ltb i n (omega arith))) ∙ none i)
-
 still_here : (links : List (List Letter)) (o : Option WorldSite) → option_and_then (λ (world_site : WorldSite). first_kind links world_site.core) o ≡ None → (kind : EventKind) → can_at links kind o ≡ false
 still_here links None h kind = refl
 still_here links (Some world_site) h kind = none_can links world_site.core h kind
@@ -146,15 +137,8 @@ still_at seen s h kind = still_here seen.links (slice_get seen.sites s) h kind
 
 -- ---- the events of all sites
 
-filter_first : (p : Event → Bool) (xs : List Event) → slice_get (filter p xs) 0 ≡ find p xs
-filter_first p [] = refl
-filter_first p (x ∷ xs) = elim (p x) as (λ b. slice_get (cond b (x ∷ filter p xs) (filter p xs)) 0 ≡ cond b (Some x) (find p xs)) [
-  | true ↦ refl
-  | false ↦ filter_first p xs
-]
-
 -- an event of a site
-abbrev event_of : ℕ → EventKind → Event
+abbrev pub event_of : ℕ → EventKind → Event
 event_of s kind = record { site = s; kind = kind }
 
 filter_none : (p : Event → Bool) (s : ℕ) → ((kind : EventKind) → p (event_of s kind) ≡ false) → (kinds : List EventKind) → length (filter p (map (event_of s) kinds)) ≡ 0

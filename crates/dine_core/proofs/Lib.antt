@@ -9,6 +9,7 @@ pub mod Options
 pub mod Ranges
 pub mod Eating
 pub mod Ending
+pub mod Degrees
 pub mod Opened
 pub mod OpenedSites
 pub mod Shapes
@@ -24,7 +25,13 @@ pub mod ForkPlaces
 pub mod EnabledEvents
 pub mod ForksOut
 pub mod Woken
+pub mod Marked
 pub mod NextEvents
+pub mod MarkedEvents
+pub mod OwnEvents
 pub mod FirstEvents
 pub mod Awake
 pub mod AwakeSearch
+pub mod Counts
+pub mod Heard
+pub mod HeardPlaces

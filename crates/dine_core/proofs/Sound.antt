@@ -2,7 +2,10 @@
 use Rattle.std.proofs.Common.{◌≡◌, ℕ, ◌<◌, ◌==◌, nat_le, Bool, true, false, not, ◌||◌, List, get_or, set, Option, Some, None, refl, sym, ◌∙◌, ap, ap₂, arith, if◌then◌else◌, length, subst}
 use Rattle.std.proofs.lemmas.Bool.{eqb-true, and_parts, false≢true}
 use Rattle.std.proofs.lemmas.Bool.Decides.{nat_tests}
+use Rattle.std.proofs.lemmas.List.{length-set}
 use Rattle.std.proofs.lemmas.List.Elements.{All-set}
+use Rattle.dine_core.specs.declared.site.SiteCore.TheInside.{Inside}
+use Rattle.dine_core.specs.SiteFields.{seen, HasRoom, IsKept}
 use Rattle.dine_token.specs.Fork.{SeenFork}
 use Rattle.dine_token.specs.Log.{location_of, meals_of}
 use Rattle.dine_rules.specs.declared.letters.Letter.{Letter}
@@ -14,7 +17,7 @@ use Rattle.dine_core.specs.declared.site.places.ForkSlot.TheVariants.{Away, Here
 use Rattle.dine_rules.specs.Local.{is_eating}
 use Rattle.dine_rules.specs.Breach.{was_sent_to}
 use Rattle.dine_core.specs.Core.{SeenCore}
-use Rattle.dine_core.specs.Places.{with_place, with_fork, noted, is_held, is_own_fork, breach_at, FitsPlace, FitsSlot, IsSoundPlace, IsSound, no_place, place_at}
+use Rattle.dine_core.specs.Places.{with_place, with_fork, noted, is_held, is_own_fork, breach_at, FitsPlace, FitsSlot, IsSoundPlace, IsSound}
 
 -- soundness reads the site, its meals, its due and its phase
 pub sound_place_along : (core : SeenCore) (places : List Place) (place : Place) → IsSoundPlace core place → IsSoundPlace (record core { places = places }) place
@@ -37,10 +40,16 @@ sound_away core place awake w = record {
   token = w.token;
 }
 
--- a core that does not eat stays sound without the fork of a place
-pub sound_gave : (core : SeenCore) (i : ℕ) (old new : Place) → IsSound core → is_eating core.phase ≡ false → i < length core.places → old ≡ place_at core i → new ≡ with_fork Away old → IsSound (with_place i new core)
-sound_gave core i old new sound awake within is gone =
-    sound_with_place core i new sound (subst (IsSoundPlace core) (sym (gone ∙ ap (with_fork Away) is)) (sound_away core (place_at core i) awake (sound.places i no_place within)))
+-- so a core stays kept with another place that is sound
+pub kept_with : (core : Inside) (i : ℕ) (place : Place) (places : List Place) → IsKept core → places ≡ set core.places i place → IsSoundPlace (seen core) place → IsKept (record core { places = places })
+kept_with core i place places kept are here =
+    let same : length places ≡ length core.places = ap length are ∙ length-set core.places i place in
+    record {
+      sound = subst (λ (l : List Place). IsSound (record (seen core) { places = l })) (sym are) (sound_with_place (seen core) i place kept.sound here);
+      no_hands = kept.no_hands;
+      room_for_hands = λ awake. omega (arith, kept.room_for_hands awake, same);
+      room = subst (λ (n : ℕ). HasRoom n core.parts) (sym same) kept.room;
+    }
 
 -- a slot fits as well at a place of the same edge
 pub fits_along : (s ate : ℕ) (eating : Bool) (old new : Place) (slot : ForkSlot) → old.edge ≡ new.edge → old.ends ≡ new.ends → old.due ≡ new.due

@@ -21,19 +21,6 @@ pub record HasAllAwake (seen : SeenWorld) (awake : List Bool) : Type 0 where
   pub size : length awake ≡ 64
   pub others : (s : ℕ) → slice_index_or awake s false ≡ false → IsStill seen s
 
--- no letter is on its way to the site
-abbrev pub HasNoMail : List (List Letter) → SeenCore → Type 0
-HasNoMail links core = (i : ℕ) → can_do links core (event.Take i) ≡ false
-
--- The set has each site that a letter is on its way to, so that it may take. It may have others.
-pub record HasAllMail (seen : SeenWorld) (mail : List Bool) : Type 0 where
-  pub size : length mail ≡ 64
-  pub others : (s : ℕ) → slice_index_or mail s false ≡ false → (i : ℕ) → can_happen seen (record { site = s; kind = event.Take i }) ≡ false
-
--- the set is as it was, or lacks the site, to which no letter is on its way
-abbrev pub LeavesMail : List (List Letter) → SeenCore → ℕ → List Bool → List Bool → Type 0
-LeavesMail links core s mail rest = (rest ≡ mail) ⊎ (rest ≡ slice_set mail s false) × HasNoMail links core
-
 -- an event of this shape puts no letter, or one at a place of the site, whose other end has a number below 64
 abbrev pub HasReceiver : SeenCore → Shape → Type 0
 HasReceiver core (Takes i) = Unit {0}

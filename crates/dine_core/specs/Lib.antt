@@ -13,6 +13,7 @@ pub use Rattle.dine_rules.specs.Schedules
 pub use Rattle.dine_rules.specs.Examples
 pub mod Core
 pub mod Places
+pub mod MarkedFields
 pub mod SiteFields
 pub mod PackedFields
 pub mod LinkNumbers
@@ -22,5 +23,7 @@ pub mod Forks
 pub mod EventSearch
 pub mod Worlds
 pub mod Awake
+pub mod Counts
+pub mod Heard
 pub mod WorldFields
 pub mod NextEvent

@@ -1,20 +1,35 @@
 -- The events that a site does by itself, without a letter to take.
-use Rattle.std.specs.Prelude.{ℕ, ◌&&◌, nat_lt, Bool, false, List, [], ◌∷◌, ◌++◌, length, map, find, Option, None, option_map}
+use Rattle.std.specs.Prelude.{ℕ, ◌&&◌, ◌==◌, not, nat_lt, Bool, false, List, [], ◌∷◌, ◌++◌, length, map, find, Option, None, option_map}
 use Rattle.std.specs.List.{range_with_len}
 use Rattle.std.specs.Option.{option_map_or, option_or}
 use Rattle.dine_plan.specs.Plan.{SeenPlan}
 use Rattle.dine_rules.specs.declared.events.EventKind.{EventKind}
 use Rattle.dine_rules.specs.declared.events.EventKind.TheVariants as event
-use Rattle.dine_rules.specs.Local.{LocalState, is_eating}
+use Rattle.dine_rules.specs.Local.{LocalState, is_eating, is_hungry, is_thinking}
 use Rattle.dine_rules.specs.Steps.{may, step_by}
+use Rattle.dine_core.specs.declared.site.places.Place.{Place}
 use Rattle.dine_core.specs.Core.{SeenCore}
-use Rattle.dine_core.specs.Places.{can_give, can_ask, can_hunger, can_begin, can_say_done, can_close}
+use Rattle.dine_core.specs.Places.{can_give, can_give_at, can_ask, can_ask_at, can_hunger, can_begin, can_say_done, can_say_done_at, can_close}
 use Rattle.dine_core.specs.Standing.{all_places}
 
 -- all events but Take that a site of these places can have, in the fixed order
 abbrev pub own_kinds : List ℕ → List EventKind
 own_kinds places = map event.Give places ++ event.End ∷ event.Begin ∷ event.Hungry ∷ []
     ++ map event.Ask places ++ map event.Done places ++ map event.Close places
+
+-- the Asks, Dones and Closes alone
+abbrev pub own_words : List ℕ → List EventKind
+own_words places = map event.Ask places ++ map event.Done places ++ map event.Close places
+
+-- What a core may do now at a place: send the fork, ask for it, and say Done.
+abbrev pub may_give_at : SeenCore → Place → Bool
+may_give_at core place = not (is_eating core.phase) && can_give_at place
+
+abbrev pub may_ask_at : SeenCore → Place → Bool
+may_ask_at core place = is_hungry core.phase && can_ask_at place
+
+abbrev pub may_say_done_at : SeenCore → Place → Bool
+may_say_done_at core place = is_thinking core.phase && core.ate == core.due && can_say_done_at place
 
 -- the rules allow the event, for which no letter lies anywhere
 abbrev pub may_by_itself : SeenPlan → ℕ → LocalState → EventKind → Bool

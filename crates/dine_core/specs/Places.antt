@@ -55,15 +55,46 @@ is_ready_at place = is_held place.fork && (not (is_dirty_in_hand place.fork) || 
 abbrev pub has_all : ℕ → Place → Bool
 has_all s place = meals_in (neighbour_of s place) place.fork == due_of_neighbour s place
 
--- What each event needs.
+-- What is so of a place: the fork is not held; the fork in hand is dirty; the token is here; Close is not put; Done is put, and
+-- taken.
+abbrev pub is_away_at : Place → Bool
+is_away_at place = not (is_held place.fork)
+
+abbrev pub is_dirty_at : Place → Bool
+is_dirty_at place = is_dirty_in_hand place.fork
+
+abbrev pub has_token_at : Place → Bool
+has_token_at place = is_some place.token
+
+abbrev pub is_open_at : Place → Bool
+is_open_at place = not place.close_put
+
+abbrev pub has_put_done_at : Place → Bool
+has_put_done_at place = place.done_put
+
+abbrev pub has_taken_done_at : Place → Bool
+has_taken_done_at place = place.done_taken
+
+-- What each event needs of its place.
 abbrev pub can_give_at : Place → Bool
-can_give_at place = is_dirty_in_hand place.fork && is_some place.token && not place.close_put
+can_give_at place = is_dirty_at place && has_token_at place && is_open_at place
+
+abbrev pub can_ask_at : Place → Bool
+can_ask_at place = has_token_at place && is_away_at place && is_open_at place
+
+abbrev pub can_say_done_at : Place → Bool
+can_say_done_at place = not (has_put_done_at place) && is_open_at place
+
+abbrev pub can_close_at : Place → Bool
+can_close_at place = has_put_done_at place && has_taken_done_at place && is_open_at place
+
+-- What each event needs.
 
 abbrev pub can_give : SeenCore → ℕ → Bool
 can_give core i = not (is_eating core.phase) && can_give_at (place_at core i)
 
 abbrev pub can_ask : SeenCore → ℕ → Bool
-can_ask core i = is_hungry core.phase && (is_some (place_at core i).token && not (is_held (place_at core i).fork) && not (place_at core i).close_put)
+can_ask core i = is_hungry core.phase && can_ask_at (place_at core i)
 
 abbrev pub can_hunger : SeenCore → Bool
 can_hunger core = is_thinking core.phase && nat_lt core.ate core.due
@@ -72,10 +103,10 @@ abbrev pub can_begin : SeenCore → Bool
 can_begin core = is_hungry core.phase && list_all is_ready_at core.places
 
 abbrev pub can_say_done : SeenCore → ℕ → Bool
-can_say_done core i = is_thinking core.phase && core.ate == core.due && (not (place_at core i).done_put && not (place_at core i).close_put)
+can_say_done core i = is_thinking core.phase && core.ate == core.due && can_say_done_at (place_at core i)
 
 abbrev pub can_close : SeenCore → ℕ → Bool
-can_close core i = (place_at core i).done_put && (place_at core i).done_taken && not (place_at core i).close_put
+can_close core i = can_close_at (place_at core i)
 
 -- the fork is that of the place
 abbrev pub is_own_fork : Place → SeenFork → Bool

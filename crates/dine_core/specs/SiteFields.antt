@@ -1,5 +1,5 @@
 -- How a site core is kept: what stands for its value, and what is kept beside that.
-use Rattle.std.specs.Prelude.{◌≡◌, ℕ, ◌<◌, ◌≤◌, ◌^◌, false, [], vec_len, vec_capacity}
+use Rattle.std.specs.Prelude.{◌≡◌, ℕ, ◌<◌, ◌≤◌, ◌^◌, false, [], length, vec_capacity}
 use Rattle.dine_core.specs.declared.site.SiteCore.TheInside.{Inside}
 use Rattle.dine_core.specs.declared.site.Parts.{Parts}
 use Rattle.dine_rules.specs.Local.{is_eating}
@@ -7,7 +7,7 @@ use Rattle.dine_core.specs.Core.{SeenCore}
 use Rattle.dine_core.specs.Places.{IsSound}
 
 abbrev pub seen : Inside → SeenCore
-seen core = record { site = core.site; due = core.due; phase = core.phase; ate = core.ate; places = core.places.items }
+seen core = record { site = core.site; due = core.due; phase = core.phase; ate = core.ate; places = core.places }
 
 -- there is room for all forks and tokens that a site with so many places may hold
 pub record HasRoom (degree : ℕ) (parts : Parts) : Type 0 where
@@ -21,5 +21,5 @@ pub record HasRoom (degree : ℕ) (parts : Parts) : Type 0 where
 pub record IsKept (core : Inside) : Type 0 where
   pub sound : IsSound (seen core)
   pub no_hands : core.hands.items ≡ []
-  pub room_for_hands : is_eating core.phase ≡ false → vec_len core.places ≤ vec_capacity core.hands
-  pub room : HasRoom (vec_len core.places) core.parts
+  pub room_for_hands : is_eating core.phase ≡ false → length core.places ≤ vec_capacity core.hands
+  pub room : HasRoom (length core.places) core.parts

@@ -4,13 +4,15 @@ use Rattle.dine_plan.specs.Plan.{SeenPlan}
 use Rattle.dine_core.specs.declared.world.World.TheInside.{Inside}
 use Rattle.dine_rules.specs.World.{WorldState}
 use Rattle.dine_core.specs.Worlds.{SeenWorld, IsWorldOf}
-use Rattle.dine_core.specs.Awake.{HasAllAwake, HasAllMail}
+use Rattle.dine_core.specs.Awake.{HasAllAwake}
+use Rattle.dine_core.specs.Counts.{HasCounts}
+use Rattle.dine_core.specs.Heard.{HasHeard}
 
 abbrev pub seen_world : Inside → SeenWorld
 seen_world world = record { sites = world.sites.items; links = world.links.items; edges = world.edges.items; bound = world.bound }
 
--- The world stands for some state that events reach from the start, there is room for the forks of all edges, and the
--- sites with enabled events, and those with letters on their way, are known.
+-- The world stands for some state that events reach from the start, there is room for the forks of all edges, the sites
+-- with enabled events are known, and the places that letters are on their way to, and the counts of events that are kept are right.
 pub record IsKeptWorld (world : Inside) : Type 0 where
   pub plan : SeenPlan
   pub state : WorldState
@@ -18,4 +20,5 @@ pub record IsKeptWorld (world : Inside) : Type 0 where
   pub no_forks : world.forks.items ≡ []
   pub room : length world.edges.items ≤ vec_capacity world.forks
   pub awake : HasAllAwake (seen_world world) world.awake
-  pub mail : HasAllMail (seen_world world) world.mail
+  pub heard : HasHeard (seen_world world) world.heard.items
+  pub counts : HasCounts (seen_world world) world.counts.items world.stale

@@ -16,6 +16,7 @@ ghost use Rattle.dine_core.specs.Places.{place_at, hand_of, is_held, can_give, c
 ghost use Rattle.dine_core.specs.LinkNumbers.{link_to, link_from};
 ghost use Rattle.dine_core.specs.Standing.{ForEachState, IsFreshFor, TellsMay, CoreStep, CoreSteps, CorePuts, TellsBreach, AreForksInHand, AreTokensInHand, all_places, has_finished, has_closed};
 
+mod marked;
 mod meals;
 mod next;
 mod opening;
@@ -27,9 +28,10 @@ mod tests;
 use dine_plan::Plan;
 pub use dine_rules::{Breach, Kind4, Letter, Phase};
 use dine_token::{Fork, Held, Meal, Token};
+use marked::MarkedPlaces;
 pub use opening::{fresh_forks, fresh_tokens};
 pub use packed::Packed;
-use places::{ForkSlot, Place};
+use places::ForkSlot;
 use std::alloc::{AllocError, Global};
 use std::marker::Model;
 use std::mem;
@@ -44,7 +46,7 @@ pub struct SiteCore {
     due: u32,
     phase: Phase,
     ate: u32,
-    places: Vec<Place>,
+    places: MarkedPlaces,
     alloc: Global,
     // Empty: the list that goes to a meal and comes back.
     hands: Vec<Held>,
@@ -92,9 +94,10 @@ impl SiteCore {
         ensures fresh { IfOk result (IsFreshFor plan.now) }
     {
         let places = opening::places_of(alloc, plan, site, forks, tokens)?;
-        let forks = Vec::with_capacity(alloc, places.len())?;
-        let tokens = Vec::with_capacity(alloc, places.len())?;
-        let hands = Vec::with_capacity(alloc, places.len())?;
+        let degree = places.len() as usize;
+        let forks = Vec::with_capacity(alloc, degree)?;
+        let tokens = Vec::with_capacity(alloc, degree)?;
+        let hands = Vec::with_capacity(alloc, degree)?;
         Ok(SiteCore {
             site,
             due: plan.jobs(site),
@@ -118,7 +121,7 @@ impl SiteCore {
     pub fn degree(&self) -> u32
         ensures { result ≡ length self.now.places }
     {
-        self.places.len() as u32
+        self.places.len()
     }
 
     /// What the site does.
@@ -141,7 +144,7 @@ impl SiteCore {
         ensures fork { result ≡ is_held (place_at self.now i).fork }
         ensures by_lists { ForEachState self.now (λ plan state. result ≡ (fork_at plan self.now.site state i == 1)) }
     {
-        self.places[i as usize].fork.is_held()
+        self.places.at(i).fork.is_held()
     }
 
     /// Whether the site has the token of place `i`.
@@ -150,7 +153,7 @@ impl SiteCore {
         ensures token { result ≡ is_some (place_at self.now i).token }
         ensures by_lists { ForEachState self.now (λ plan state. result ≡ (token_at plan self.now.site state i == 1)) }
     {
-        self.places[i as usize].token.is_some()
+        self.places.at(i).token.is_some()
     }
 
     /// Whether Close was taken at place `i`.
@@ -159,7 +162,7 @@ impl SiteCore {
         ensures close { result ≡ (place_at self.now i).close_taken }
         ensures by_lists { ForEachState self.now (λ plan state. result ≡ has_close (traffic_at state i).taken) }
     {
-        self.places[i as usize].close_taken
+        self.places.at(i).close_taken
     }
 
     /// Whether Close is put at every place.
@@ -167,7 +170,7 @@ impl SiteCore {
         ensures closed { result ≡ has_all_closed self.now }
         ensures by_lists { ForEachState self.now (λ plan state. result ≡ has_closed state) }
     {
-        self.are_all_closed()
+        self.places.are_all_closed()
     }
 
     /// Whether the site has done all: it thinks, all its meals are eaten, and Done and Close are put and taken everywhere.
@@ -175,7 +178,7 @@ impl SiteCore {
         ensures finished { result ≡ has_all_said self.now }
         ensures by_lists { ForEachState self.now (λ plan state. result ≡ has_finished plan self.now.site state) }
     {
-        self.phase == Phase::Thinking && self.ate == self.due && self.are_all_over()
+        self.phase == Phase::Thinking && self.ate == self.due && self.places.are_all_over()
     }
 
     /// The number of the link of the world that leads to the site at place `i`.
@@ -183,7 +186,7 @@ impl SiteCore {
         requires { i < length self.now.places }
         ensures { result ≡ link_to self.now.site (place_at self.now i) }
     {
-        let place = &self.places[i as usize];
+        let place = self.places.at(i);
         2 * (place.edge as usize) + usize::from(place.ends.0 == self.site)
     }
 
@@ -192,7 +195,7 @@ impl SiteCore {
         requires { i < length self.now.places }
         ensures { result ≡ link_from self.now.site (place_at self.now i) }
     {
-        let place = &self.places[i as usize];
+        let place = self.places.at(i);
         2 * (place.edge as usize) + usize::from(place.ends.0 != self.site)
     }
 
@@ -201,7 +204,7 @@ impl SiteCore {
         requires { i < length self.now.places }
         ensures { result ≡ neighbour_of self.now.site (place_at self.now i) }
     {
-        self.places[i as usize].neighbour(self.site)
+        self.places.at(i).neighbour(self.site)
     }
 
     /// Where the fork of place `i` is.
@@ -209,7 +212,7 @@ impl SiteCore {
         requires { i < length self.now.places }
         ensures { result.now ≡ (place_at self.now i).fork }
     {
-        &self.places[i as usize].fork
+        &self.places.at(i).fork
     }
 
     /// Hands out the fork of place `i`, where it is in hand.
@@ -219,28 +222,7 @@ impl SiteCore {
         ensures fork { result ≡ hand_of (place_at self.old i).fork }
         ensures away { self.new ≡ gave i self.old }
     {
-        self.places[i as usize].take_fork()
-    }
-
-    // Whether Close is put at every place.
-    fn are_all_closed(&self) -> bool
-        ensures { result ≡ list_all is_closed_at self.now.places }
-    {
-        self.places.iter().all(|place| place.close_put)
-    }
-
-    // Whether everything was said at every place.
-    fn are_all_over(&self) -> bool
-        ensures { result ≡ list_all is_over_at self.now.places }
-    {
-        self.places.iter().all(|place| place.is_over())
-    }
-
-    // Whether a meal may begin as far as the places go.
-    fn are_all_ready(&self) -> bool
-        ensures { result ≡ list_all is_ready_at self.now.places }
-    {
-        self.places.iter().all(|place| place.is_ready())
+        self.places.take_fork(i)
     }
 
     /// Whether the site may grow hungry: it thinks, and has meals left.
@@ -257,7 +239,7 @@ impl SiteCore {
         ensures needs { result ≡ can_ask self.now i }
         ensures may { TellsMay self.now (step.Ask i) result }
     {
-        let place = &self.places[i as usize];
+        let place = self.places.at(i);
         self.phase == Phase::Hungry
             && place.token.is_some()
             && !place.fork.is_held()
@@ -270,7 +252,7 @@ impl SiteCore {
         ensures needs { result ≡ can_give self.now i }
         ensures may { TellsMay self.now (step.Give i) result }
     {
-        self.phase != Phase::Eating && self.places[i as usize].may_give()
+        self.phase != Phase::Eating && self.places.at(i).may_give()
     }
 
     /// Whether a meal may begin: the site is hungry and has all its forks, each clean or not asked for.
@@ -278,7 +260,7 @@ impl SiteCore {
         ensures needs { result ≡ can_begin self.now }
         ensures may { TellsMay self.now step.Begin result }
     {
-        self.phase == Phase::Hungry && self.are_all_ready()
+        self.phase == Phase::Hungry && self.places.are_all_ready()
     }
 
     /// Whether a meal may end: the site eats.
@@ -295,7 +277,7 @@ impl SiteCore {
         ensures needs { result ≡ can_say_done self.now i }
         ensures may { TellsMay self.now (step.Done i) result }
     {
-        let place = &self.places[i as usize];
+        let place = self.places.at(i);
         self.phase == Phase::Thinking && self.ate == self.due && !place.done_put && !place.close_put
     }
 
@@ -305,7 +287,7 @@ impl SiteCore {
         ensures needs { result ≡ can_close self.now i }
         ensures may { TellsMay self.now (step.Close i) result }
     {
-        let place = &self.places[i as usize];
+        let place = self.places.at(i);
         place.done_put && place.done_taken && !place.close_put
     }
 
@@ -326,8 +308,7 @@ impl SiteCore {
         ensures letter { result ≡ Letter.Request (place_at self.old i).edge }
         ensures step { CorePuts i (step.Ask i) self.old self.new result }
     {
-        let place = &mut self.places[i as usize];
-        Letter::Request(place.token.take().unwrap())
+        Letter::Request(self.places.take_token(i))
     }
 
     /// Sends the fork of place `i`, clean. The token stays.
@@ -339,8 +320,7 @@ impl SiteCore {
         ensures step { CorePuts i (step.Give i) self.old self.new result }
     {
         let site = self.site;
-        let place = &mut self.places[i as usize];
-        place.give(site)
+        self.places.give(i, site)
     }
 
     /// Begins a meal with all forks, and writes it into each.
@@ -355,7 +335,7 @@ impl SiteCore {
         self.phase = Phase::Eating;
         self.ate += 1;
         let mut hands = mem::replace(&mut self.hands, Vec::new(self.alloc));
-        meals::lift(self.site, self.places.as_mut_slice(), &mut hands);
+        self.places.lift(self.site, &mut hands);
         Meal::begin(self.site, self.ate, hands)
     }
 
@@ -367,7 +347,7 @@ impl SiteCore {
         ensures step { ForEachState self.old (λ plan state. meal.forks ≡ forks_in_hand plan self.old.site state (all_places state) → CoreStep plan state step.End self.old self.new) }
     {
         let mut hands = meal.end();
-        meals::lay_down(self.places.as_mut_slice(), &mut hands);
+        self.places.lay_down(&mut hands);
         self.phase = Phase::Thinking;
         mem::replace(&mut self.hands, hands).destroy_empty();
     }
@@ -380,8 +360,7 @@ impl SiteCore {
         ensures letter { result ≡ Letter.Done }
         ensures step { CorePuts i (step.Done i) self.old self.new result }
     {
-        let place = &mut self.places[i as usize];
-        place.done_put = true;
+        self.places.put_done(i);
         Letter::Done
     }
 
@@ -393,8 +372,7 @@ impl SiteCore {
         ensures letter { result ≡ Letter.Close }
         ensures step { CorePuts i (step.Close i) self.old self.new result }
     {
-        let place = &mut self.places[i as usize];
-        place.close_put = true;
+        self.places.put_close(i);
         Letter::Close
     }
 
@@ -408,11 +386,10 @@ impl SiteCore {
         ensures letter { MatchOption result (self.new ≡ self.old) (λ l. l ≡ Letter.Close) }
         ensures step { MatchOption result (ForEachState self.old (λ plan state. has_close (traffic_at state i).put ≡ true)) (CorePuts i (step.Break i) self.old self.new) }
     {
-        let place = &mut self.places[i as usize];
-        if place.close_put {
+        if self.places.at(i).close_put {
             return None;
         }
-        place.close_put = true;
+        self.places.put_close(i);
         Some(Letter::Close)
     }
 
@@ -428,11 +405,11 @@ impl SiteCore {
         ensures step { MatchResult result (λ _. CoreSteps (step.Take i letter) self.old self.new) (λ _. Unit {0}) }
     {
         let (site, ate) = (self.site, self.ate);
-        let place = &mut self.places[i as usize];
+        let place = self.places.at(i);
         if let Some(breach) = place.breach_of(site, ate, &letter) {
             return Err((letter, breach));
         }
-        place.note(letter);
+        self.places.note(i, letter);
         Ok(())
     }
 
@@ -449,13 +426,13 @@ impl SiteCore {
             due: _,
             phase: _,
             ate: _,
-            mut places,
+            places,
             alloc: _,
             hands,
             mut parts,
         } = self;
         hands.destroy_empty();
-        meals::collect(places.as_mut_slice(), &mut parts);
+        places.collect(&mut parts);
         parts
     }
 }

@@ -4,8 +4,10 @@ ghost use Rattle.std.specs.Prelude.{◌≡◌, IfOk, MatchOption, MatchResult, N
 
 mod acts;
 mod awake;
+mod counts;
 mod enabled;
 mod forks;
+mod heard;
 mod opening;
 mod queue;
 mod schedules;
@@ -49,8 +51,11 @@ pub struct World {
     forks: Vec<Fork>,
     // Each site that has an enabled event is in it, and others may be.
     awake: WordSet,
-    // Each site that a letter is on its way to is in it, and others may be.
-    mail: WordSet,
+    // At which places of each site a letter lies in the link to it.
+    heard: Vec<WordSet>,
+    // How many events each site has enabled, but for the sites in `stale`, whose counts may be wrong.
+    counts: Vec<u32>,
+    stale: WordSet,
 }
 
 impl Model for World {
@@ -78,6 +83,8 @@ impl World {
         let edges = opening::ends_of(alloc, plan)?;
         let links = opening::links_of(alloc, plan)?;
         let forks = Vec::with_capacity(alloc, plan.edges() as usize)?;
+        let heard = opening::no_letters(alloc, plan)?;
+        let counts = opening::no_counts(alloc, plan)?;
         let sites = opening::sites_of(alloc, plan)?;
         let bound = opening::bound_of(plan);
         Ok(World {
@@ -87,7 +94,9 @@ impl World {
             bound,
             forks,
             awake: WordSet::full(),
-            mail: WordSet::full(),
+            heard,
+            counts,
+            stale: WordSet::full(),
         })
     }
 
@@ -142,8 +151,16 @@ impl World {
     {
         let world_site = &mut self.sites[event.site as usize];
         self.awake = acts::with_receiver(self.awake, &world_site.core, event.kind);
-        self.mail = acts::with_receiver(self.mail, &world_site.core, event.kind);
+        self.stale = acts::with_receiver(self.stale, &world_site.core, event.kind);
+        self.stale.insert(event.site);
+        let link = heard::changed_link(&world_site.core, event.kind);
         acts::act(world_site, self.links.as_mut_slice(), event.kind);
+        heard::note(
+            self.heard.as_mut_slice(),
+            self.links.as_slice(),
+            self.edges.as_slice(),
+            link,
+        );
     }
 
     // Whether the event is enabled.

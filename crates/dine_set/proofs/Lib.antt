@@ -1,1 +1,3 @@
+pub mod MarksOf
+pub mod NthPosition
 pub mod WordMarks

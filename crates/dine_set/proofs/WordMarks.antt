@@ -1,5 +1,5 @@
 -- A word and the 64 truth values that it holds, through each operation on the word.
-use Rattle.std.proofs.Common.{ltb, replicate, ◌≡◌, ◌≢◌, ℕ, zero, suc, ◌+◌, ◌*◌, ◌/◌, ◌%◌, ◌^◌, ◌<◌, ◌==◌, ◌⊎◌, inl, inr, Bool, true, false, cond, Some, None, List, [], ◌∷◌, length, get_or, set, refl, sym, ap, ◌∙◌, subst, arith, w64, get_or-set_same, get_or-set_other, slice_get, position, length-set}
+use Rattle.std.proofs.Common.{ltb, replicate, ◌≡◌, ◌≢◌, ℕ, zero, suc, ◌+◌, ◌*◌, ◌/◌, ◌%◌, ◌^◌, ◌<◌, ◌≤◌, ◌==◌, ◌⊎◌, inl, inr, Bool, true, false, cond, Some, None, List, [], ◌∷◌, length, get_or, set, refl, sym, ap, ap₂, ◌∙◌, subst, arith, w64, get_or-set_same, get_or-set_other, slice_get, position, count_by, count_ones, length-set, ◌-◌, ◌&&◌, not, min}
 use Rattle.std.specs.Int.{bit_at, bit_not, trailing_zeros}
 use Rattle.std.specs.Int.Bits.{bit_and, bit_or}
 use Rattle.std.specs.List.{position_or_len}
@@ -7,12 +7,14 @@ use Rattle.std.proofs.lemmas.Bool.{cases_order, lt-ltb}
 use Rattle.std.proofs.lemmas.Bool.Decides.{eqb_tells}
 use Rattle.std.proofs.lemmas.Grind.{common_steps}
 use Rattle.std.proofs.lemmas.List.{map-id}
-use Rattle.std.proofs.lemmas.Nat.{and_le_l, or_lt}
-use Rattle.std.proofs.lemmas.Nat.Bits.{shr_and_one, bit_at_set_same, bit_at_set_other, bit_at_clear_same, bit_at_clear_other, same_from_bits_below, bit_at-trailing_zeros}
+use Rattle.std.proofs.lemmas.List.Sums.{count_by-le-length}
+use Rattle.std.proofs.lemmas.Nat.{and_le_l, and_shr, or_lt}
+use Rattle.std.proofs.lemmas.Nat.Bits.{shr_and_one, bit_at_and, bit_at_lowest, bit_at_set_same, bit_at_set_other, bit_at_clear_same, bit_at_clear_other, same_from_bits_below, bit_at-trailing_zeros}
 use Rattle.std.proofs.lemmas.Option.{slice_get-get_or}
-use Rattle.std.proofs.lemmas.Simd.{bit_mask_l, mask_l-lt, first_set_mask_l}
+use Rattle.std.proofs.lemmas.Simd.{bit_mask_l, mask_l-lt, ones-mask_l, first_set_mask_l}
+use Rattle.std.proofs.Math.Nat.{two-pow-succ}
 use lib.Lanes.{mask_l}
-use Rattle.dine_set.specs.Marks.{low_digits, marks_of_word}
+use Rattle.dine_set.specs.Marks.{low_digits, marks_of_word, both_marks, marks_without}
 use Rattle.dine_set.specs.WordFromMarks.{word_from_marks}
 
 -- ---- a word from its marks and back
@@ -107,4 +109,56 @@ position-marks w h = rw (← first-marks w h, length-marks_of_word w) (at_zero (
     at_zero (inl e) = rw e.0
     at_zero (inr e) = rw (e.0, lt-ltb (trailing_zeros w64 w) 64 (trailing_lt w h e.1))
 
-pub ruleset word_laws = (common_steps, marks-zero, marks-all, slice_get-marks, insert_lt, marks-insert, marks-remove, trailing_lt, position-marks)
+pub count_by-marks : (w : ℕ) → w < 2 ^ 64 → count_ones w ≡ count_by (λ b. b) (marks_of_word w)
+count_by-marks w h = ap count_ones (sym (ap mask_l (map-id (marks_of_word w)) ∙ word_from_marks w h)) ∙ ones-mask_l (λ b. b) (marks_of_word w)
+
+pub ones_few : (w : ℕ) → w < 2 ^ 64 → count_ones w ≤ 64
+ones_few w h = omega (arith, count_by-marks w h, count_by-le-length (λ b. b) (marks_of_word w), length-marks_of_word w)
+
+-- ---- two words
+-- the test of the lower of two digits
+both_tests : (a b : ℕ) → a < 2 → b < 2 → (min a b == 1) ≡ ((a == 1) && (b == 1))
+both_tests zero b la lb = let e : min zero b ≡ 0 = omega arith in rw e refl
+both_tests (suc zero) zero la lb = refl
+both_tests (suc zero) (suc zero) la lb = refl
+both_tests (suc zero) (suc (suc b)) la lb = absurd (omega arith)
+both_tests (suc (suc a)) b la lb = absurd (omega arith)
+
+lowest_of_both : (a b : ℕ) → (bit_and a b % 2 == 1) ≡ ((a % 2 == 1) && (b % 2 == 1))
+lowest_of_both a b =
+    ap (λ n. n == 1) (sym (bit_at_lowest (bit_and a b)) ∙ bit_at_and a b 0 ∙ ap₂ min (bit_at_lowest a) (bit_at_lowest b))
+    ∙ both_tests (a % 2) (b % 2) (omega arith) (omega arith)
+
+digits_of_both : (k a b : ℕ) → low_digits k (bit_and a b) ≡ both_marks (low_digits k a) (low_digits k b)
+digits_of_both zero a b = refl
+digits_of_both (suc k) a b = ap₂ (λ mark marks. mark ∷ marks) (lowest_of_both a b) (ap (low_digits k) (and_shr a b 1) ∙ digits_of_both k (a / 2) (b / 2))
+
+pub marks-both : (a b : ℕ) → marks_of_word (bit_and a b) ≡ both_marks (marks_of_word a) (marks_of_word b)
+unfolding marks_of_word
+marks-both a b = digits_of_both 64 a b
+
+-- `!n`, a digit at a time
+turned_test : (n m : ℕ) → n < 2 → n + m ≡ 1 → (m == 1) ≡ not (n == 1)
+turned_test zero m l is = let e : m ≡ 1 = omega (arith, is) in rw e refl
+turned_test (suc zero) zero l is = refl
+turned_test (suc zero) (suc m) l is = absurd (omega arith)
+turned_test (suc (suc n)) m l is = absurd (omega arith)
+
+digits_without : (k a b : ℕ) → b < 2 ^ k → low_digits k (bit_and a (2 ^ k - 1 - b)) ≡ marks_without (low_digits k a) (low_digits k b)
+digits_without zero a b h = refl
+digits_without (suc k) a b h =
+    let turned : ℕ = 2 ^ suc k - 1 - b in
+    let lowest : b % 2 + turned % 2 ≡ 1 = omega (arith, two-pow-succ k) in
+    let half : turned / 2 ≡ 2 ^ k - 1 - b / 2 = omega (arith, two-pow-succ k) in
+    ap₂ (λ mark marks. mark ∷ marks)
+    (lowest_of_both a turned ∙ ap (λ t. (a % 2 == 1) && t) (turned_test (b % 2) (turned % 2) (omega arith) lowest))
+    (ap (low_digits k) (and_shr a turned 1 ∙ ap (bit_and (a / 2)) half) ∙ digits_without k (a / 2) (b / 2) (omega (arith, two-pow-succ k)))
+
+pub marks-without : (a b : ℕ) → b < 2 ^ 64 → marks_of_word (bit_and a (bit_not w64 b)) ≡ marks_without (marks_of_word a) (marks_of_word b)
+unfolding marks_of_word
+marks-without a b h = digits_without 64 a b h
+
+pub both_lt : (a b : ℕ) → a < 2 ^ 64 → bit_and a b < 2 ^ 64
+both_lt a b h = omega (arith, and_le_l a b)
+
+pub ruleset word_laws = (common_steps, marks-zero, marks-all, slice_get-marks, insert_lt, marks-insert, marks-remove, trailing_lt, position-marks, count_by-marks, ones_few, marks-both, marks-without, both_lt)

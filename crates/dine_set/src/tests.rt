@@ -27,3 +27,39 @@ fn the_full_set_has_each_number(rt: HostRuntime) {
     }
     assert!(rt; set.is_empty());
 }
+
+#[test]
+fn numbers_are_counted_and_found_in_order(rt: HostRuntime) {
+    let mut set = WordSet::empty();
+    assert_eq!(rt; (set.len(), set.nth(0)), (0, None));
+    set.insert(63);
+    set.insert(5);
+    set.insert(40);
+    assert_eq!(rt; set.len(), 3);
+    assert_eq!(rt;
+        (set.nth(0), set.nth(1), set.nth(2), set.nth(3)),
+        (Some(5), Some(40), Some(63), None)
+    );
+    assert_eq!(rt;
+        (WordSet::full().len(), WordSet::full().nth(63)),
+        (64, Some(63))
+    );
+}
+
+#[test]
+fn two_sets_are_compared(rt: HostRuntime) {
+    let mut few = WordSet::empty();
+    few.insert(0);
+    few.insert(5);
+    few.insert(63);
+    let mut others = WordSet::full();
+    others.remove(5);
+    let both = few.intersection(others);
+    assert_eq!(rt;
+        (both.len(), both.nth(0), both.nth(1)),
+        (2, Some(0), Some(63))
+    );
+    let rest = few.difference(others);
+    assert_eq!(rt; (rest.len(), rest.first()), (1, Some(5)));
+    assert_eq!(rt; others.difference(few).len(), 61);
+}

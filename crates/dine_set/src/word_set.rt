@@ -1,6 +1,7 @@
 //! A set in one word.
 
-ghost use Rattle.std.specs.Prelude.{◌≡◌, ◌<◌, true, false, Some, IfSome, is_none, replicate, slice_get, slice_set, position};
+ghost use Rattle.std.specs.Prelude.{◌≡◌, ◌<◌, ◌≤◌, true, false, Some, IfNone, IfSome, is_none, replicate, slice_get, slice_set, position, count_by};
+ghost use Rattle.dine_set.specs.Marks.{both_marks, marks_without, nth_position};
 
 use std::marker::Model;
 
@@ -95,5 +96,48 @@ impl WordSet {
             return None;
         }
         Some(self.word.trailing_zeros())
+    }
+
+    /// The `n`-th number in the set, from 0 and from the least on. None where there are not so many.
+    pub fn nth(&self, n: u32) -> Option<u32>
+        ensures value { result ≡ nth_position (λ is_in. is_in) n self.now }
+        ensures none { IfNone result (count_by (λ is_in. is_in) self.now ≤ n) }
+    {
+        let mut rest = *self;
+        let mut left = n;
+        while let Some(i) = rest.first() {
+            if left == 0 {
+                return Some(i);
+            }
+            left -= 1;
+            rest.remove(i);
+        }
+        None
+    }
+
+    /// How many numbers are in the set.
+    pub fn len(&self) -> u32
+        ensures value { result ≡ count_by (λ is_in. is_in) self.now }
+        ensures few { result ≤ 64 }
+    {
+        self.word.count_ones()
+    }
+
+    /// The numbers that are in this set and in the other.
+    pub fn intersection(self, other: WordSet) -> WordSet
+        ensures { result ≡ both_marks self other }
+    {
+        WordSet {
+            word: self.word & other.word,
+        }
+    }
+
+    /// The numbers that are in this set and not in the other.
+    pub fn difference(self, other: WordSet) -> WordSet
+        ensures { result ≡ marks_without self other }
+    {
+        WordSet {
+            word: self.word & !other.word,
+        }
     }
 }

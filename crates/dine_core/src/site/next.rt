@@ -1,12 +1,14 @@
 // The next event of a site that needs no letter.
-ghost use Rattle.std.specs.Prelude.{◌≡◌, ◌∷◌, [], find, length};
+ghost use Rattle.std.specs.Prelude.{◌≡◌, ◌≤◌, ◌∷◌, [], filter, find, length, slice_get};
 ghost use Rattle.std.specs.List.{range_with_len};
-ghost use Rattle.dine_core.specs.NextEvent.{can_by_itself, next_event, next_of, next_word_of};
+ghost use Rattle.dine_core.specs.NextEvent.{can_by_itself, may_ask_at, may_give_at, may_say_done_at, next_event, next_of, next_word_of, own_kinds, own_words};
+ghost use Rattle.dine_set.specs.Marks.{marks_of};
 ghost use Rattle.dine_core.specs.Places.{can_ask, can_close, can_give, can_say_done};
 ghost use Rattle.dine_core.specs.Standing.{ForEachState};
 
 use super::SiteCore;
-use dine_rules::EventKind;
+use dine_rules::{EventKind, Phase};
+use dine_set::WordSet;
 
 impl SiteCore {
     /// The first event other than Take that the site may do now, in the fixed order: Give by place, End, Begin, Hungry, Ask by
@@ -58,27 +60,104 @@ impl SiteCore {
     fn first_give(&self) -> Option<u32>
         ensures { result ≡ find (can_give self.now) (range_with_len 0 (length self.now.places)) }
     {
-        (0..self.degree()).find(|i| self.may_give(*i))
+        self.gives_now().first()
     }
 
     // The first place at which it may ask for the fork.
     fn first_ask(&self) -> Option<u32>
         ensures { result ≡ find (can_ask self.now) (range_with_len 0 (length self.now.places)) }
     {
-        (0..self.degree()).find(|i| self.may_ask(*i))
+        self.asks_now().first()
     }
 
     // The first place at which it may say Done.
     fn first_done(&self) -> Option<u32>
         ensures { result ≡ find (can_say_done self.now) (range_with_len 0 (length self.now.places)) }
     {
-        (0..self.degree()).find(|i| self.may_done(*i))
+        self.dones_now().first()
     }
 
     // The first place that it may close.
     fn first_close(&self) -> Option<u32>
         ensures { result ≡ find (can_close self.now) (range_with_len 0 (length self.now.places)) }
     {
-        (0..self.degree()).find(|i| self.may_close(*i))
+        self.places.closes().first()
+    }
+
+    // The places at which the site may give the fork now.
+    fn gives_now(&self) -> WordSet
+        ensures { result ≡ marks_of (may_give_at self.now) self.now.places }
+    {
+        let gives = self.places.gives();
+        if self.phase == Phase::Eating {
+            return WordSet::empty();
+        }
+        gives
+    }
+
+    // The places at which it may ask for the fork now.
+    fn asks_now(&self) -> WordSet
+        ensures { result ≡ marks_of (may_ask_at self.now) self.now.places }
+    {
+        let asks = self.places.asks();
+        if self.phase != Phase::Hungry {
+            return WordSet::empty();
+        }
+        asks
+    }
+
+    // The places at which it may say Done now.
+    fn dones_now(&self) -> WordSet
+        ensures { result ≡ marks_of (may_say_done_at self.now) self.now.places }
+    {
+        let dones = self.places.dones();
+        if self.phase != Phase::Thinking || self.ate != self.due {
+            return WordSet::empty();
+        }
+        dones
+    }
+
+    /// How many events other than Take the site may do now.
+    pub(crate) fn count_own(&self) -> u32
+        ensures count { result ≡ length (filter (can_by_itself self.now) (own_kinds (range_with_len 0 (length self.now.places)))) }
+        ensures few { result ≤ 2051 }
+    {
+        let of_phase = u32::from(self.next_phase().is_some());
+        let asks = self.asks_now().len();
+        let dones = self.dones_now().len();
+        self.gives_now().len() + of_phase + asks + dones + self.places.closes().len()
+    }
+
+    /// The `n`-th of them in the fixed order, from 0. None where there are not so many.
+    pub(crate) fn own_event(&self, n: u32) -> Option<EventKind>
+        ensures { result ≡ slice_get (filter (can_by_itself self.now) (own_kinds (range_with_len 0 (length self.now.places)))) n }
+    {
+        let gives = self.gives_now();
+        if let Some(i) = gives.nth(n) {
+            return Some(EventKind::Give(i));
+        }
+        let behind = n - gives.len();
+        match self.next_phase() {
+            Some(kind) if behind == 0 => Some(kind),
+            Some(_) => self.own_word(behind - 1),
+            None => self.own_word(behind),
+        }
+    }
+
+    // The `n`-th Ask, Done or Close that the site may do, from 0.
+    fn own_word(&self, n: u32) -> Option<EventKind>
+        ensures { result ≡ slice_get (filter (can_by_itself self.now) (own_words (range_with_len 0 (length self.now.places)))) n }
+    {
+        let asks = self.asks_now();
+        if let Some(i) = asks.nth(n) {
+            return Some(EventKind::Ask(i));
+        }
+        let behind = n - asks.len();
+        let dones = self.dones_now();
+        if let Some(i) = dones.nth(behind) {
+            return Some(EventKind::Done(i));
+        }
+        let i = self.places.closes().nth(behind - dones.len())?;
+        Some(EventKind::Close(i))
     }
 }

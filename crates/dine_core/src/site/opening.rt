@@ -5,6 +5,7 @@ ghost use Rattle.dine_core.specs.Core.{fresh_forks, fresh_tokens, kept_of};
 ghost use Rattle.dine_rules.specs.Local.{no_traffic};
 ghost use Rattle.dine_rules.specs.declared.phase.Phase.TheVariants.{Thinking};
 
+use super::marked::MarkedPlaces;
 use super::places::Place;
 use dine_plan::Plan;
 use dine_token::{Fork, Token};
@@ -59,18 +60,18 @@ pub(crate) fn places_of(
     site: u32,
     forks: Vec<Fork>,
     tokens: Vec<Token>,
-) -> Result<Vec<Place>, AllocError>
+) -> Result<MarkedPlaces, AllocError>
     requires site { site < site_count plan.now }
     requires forks { forks.items ≡ fresh_forks plan.now site (edges_of plan.now site) }
     requires tokens { tokens.items ≡ fresh_tokens plan.now site (edges_of plan.now site) }
-    ensures { IfOk result (λ places. places.items ≡ map (λ edge. kept_of plan.now site Thinking 0 edge no_traffic) (edges_of plan.now site)) }
+    ensures { IfOk result (λ places. places ≡ map (λ edge. kept_of plan.now site Thinking 0 edge no_traffic) (edges_of plan.now site)) }
 {
     let edges = plan.edges_of(site);
-    let mut places = Vec::with_capacity(alloc, edges.len())?;
+    let mut places = MarkedPlaces::with_capacity(alloc, edges.len())?;
     let mut forks = VecDeque::from_vec(forks);
     let mut tokens = VecDeque::from_vec(tokens);
     for edge in edges {
-        places.push_reserved(next_place(plan, site, *edge, &mut forks, &mut tokens));
+        places.push(next_place(plan, site, *edge, &mut forks, &mut tokens))?;
     }
     Ok(places)
 }

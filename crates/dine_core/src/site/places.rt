@@ -71,7 +71,7 @@ impl ForkSlot {
 }
 
 impl Place {
-    ghost use Rattle.dine_core.specs.Places.{neighbour_of, due_of_neighbour, is_held, is_dirty_in_hand, meals_in, has_all, is_ready_at, can_give_at, is_own_fork, breach_of_request, breach_of_fork, breach_of_done, breach_of_close, breach_at, noted, lifted, opened, is_over_at, hand_of, fork_in_hand, EndsOf, OnHere, with_fork};
+    ghost use Rattle.dine_core.specs.Places.{neighbour_of, due_of_neighbour, is_held, is_dirty_in_hand, meals_in, has_all, is_ready_at, can_give_at, is_own_fork, breach_of_request, breach_of_fork, breach_of_done, breach_of_close, breach_at, lifted, opened, is_over_at, hand_of, fork_in_hand, EndsOf, OnHere, with_fork};
 
     /// The site at the other end.
     pub(crate) fn neighbour(&self, site: u32) -> u32
@@ -202,18 +202,6 @@ impl Place {
             return Some(Breach::ClosedEarly);
         }
         None
-    }
-
-    /// Notes a letter that was taken.
-    pub(crate) fn note(&mut self, letter: Letter)
-        ensures { self.new ≡ noted letter self.old }
-    {
-        match letter {
-            Letter::Fork(fork) => self.fork = ForkSlot::Here(fork),
-            Letter::Request(token) => self.token = Some(token),
-            Letter::Done => self.done_taken = true,
-            Letter::Close => self.close_taken = true,
-        }
     }
 
     /// Sends the fork to the other end.

@@ -1,5 +1,6 @@
 use super::*;
 use dine_plan::{Plan, read_plan};
+use dine_rules::EventKind;
 use dine_token::{Entry, Fork, Token};
 use std::alloc::{AllocError, Global};
 use std::process::Abort;
@@ -476,6 +477,62 @@ fn letters_come_at_a_place_that_is_not_closed(rt: HostRuntime) {
     assert!(rt; !b.is_closed());
     let parts = spend(&rt, b);
     assert_eq!(rt; (parts.forks.len(), parts.tokens.len()), (1, 2));
+}
+
+// The core may do these events by itself, in this order, and no more.
+fn tell_own(rt: &impl Abort, core: &SiteCore, kinds: &[EventKind]) {
+    assert_eq!(rt; core.count_own() as usize, kinds.len());
+    assert_eq!(rt; core.next_event(), kinds.first().copied());
+    for (n, kind) in kinds.iter().enumerate() {
+        assert_eq!(rt; core.own_event(n as u32), Some(*kind));
+    }
+    assert_eq!(rt; core.own_event(kinds.len() as u32), None);
+}
+
+#[test]
+fn own_events_stand_in_the_fixed_order(rt: HostRuntime) {
+    let plan = read_plan(rt.alloc(), ROW).expect(&rt, "a plan");
+    let mut b = core_of(&rt, rt.alloc(), &plan, 1);
+    tell_own(&rt, &b, &[EventKind::Done(0), EventKind::Done(1)]);
+    take_at(&rt, &mut b, 1, Letter::Request(Token::open(1)));
+    let asked = [EventKind::Give(1), EventKind::Done(0), EventKind::Done(1)];
+    tell_own(&rt, &b, &asked);
+    let _done = say_done(&rt, &mut b);
+    take(&rt, &mut b, Letter::Done);
+    let said = [EventKind::Give(1), EventKind::Done(1), EventKind::Close(0)];
+    tell_own(&rt, &b, &said);
+    let _close = close(&rt, &mut b);
+    tell_own(&rt, &b, &[EventKind::Give(1), EventKind::Done(1)]);
+    let parts = spend(&rt, b);
+    assert_eq!(rt; (parts.forks.len(), parts.tokens.len()), (1, 2));
+}
+
+#[test]
+fn own_events_follow_the_phase(rt: HostRuntime) {
+    let plan = plan_of(&rt, rt.alloc(), JOB, JOB);
+    let mut a = core_of(&rt, rt.alloc(), &plan, 0);
+    let mut b = core_of(&rt, rt.alloc(), &plan, 1);
+    tell_own(&rt, &a, &[EventKind::Hungry]);
+    grow_hungry(&rt, &mut a);
+    tell_own(&rt, &a, &[EventKind::Begin]);
+    grow_hungry(&rt, &mut b);
+    tell_own(&rt, &b, &[EventKind::Ask(0)]);
+    let letter = ask(&rt, &mut b);
+    tell_own(&rt, &b, &[]);
+    take(&rt, &mut a, letter);
+    tell_own(&rt, &a, &[EventKind::Give(0)]);
+    let fork = give(&rt, &mut a);
+    tell_own(&rt, &a, &[EventKind::Ask(0)]);
+    take(&rt, &mut b, fork);
+    tell_own(&rt, &b, &[EventKind::Begin]);
+    assert!(rt; b.may_begin());
+    let meal = b.begin();
+    tell_own(&rt, &b, &[EventKind::End]);
+    b.end(meal);
+    tell_own(&rt, &b, &[EventKind::Done(0)]);
+    let left = spend(&rt, a);
+    let parts = spend(&rt, b);
+    assert_eq!(rt; (left.forks.len(), parts.forks.len()), (0, 1));
 }
 
 #[test]

@@ -1,11 +1,12 @@
 // What a site of the world may do, and does.
-ghost use Rattle.std.specs.Prelude.{◌≡◌, ℕ, ◌<◌, ◌+◌, IfSome, List, MatchOption, None, Some, find, length, is_some, option_and_then, option_map, slice_get, false, true};
-ghost use Rattle.std.specs.List.{range_with_len};
+ghost use Rattle.std.specs.Prelude.{◌≡◌, ℕ, ◌<◌, ◌+◌, IfSome, List, MatchOption, None, Some, length, position, is_some, option_and_then, option_map, slice_get, false, true};
+ghost use Rattle.std.specs.Option.{option_or};
 ghost use Rattle.dine_rules.specs.declared.letters.Letter.{Letter};
 ghost use Rattle.dine_rules.specs.Local.{is_eating};
 ghost use Rattle.dine_core.specs.Forks.{woken};
-ghost use Rattle.dine_core.specs.Awake.{HasNoMail, HasReceiver, LeavesMail, first_kind, with_receiver};
+ghost use Rattle.dine_core.specs.Awake.{HasReceiver, with_receiver};
 ghost use Rattle.dine_core.specs.LinkNumbers.{link_to};
+ghost use Rattle.dine_core.specs.NextEvent.{next_of};
 ghost use Rattle.dine_rules.specs.Steps.{Begin, End, Puts, Step, Take, after, shape_of, step_by};
 ghost use Rattle.dine_core.specs.Core.{forks_in_hand};
 ghost use Rattle.dine_core.specs.Places.{begun, can_begin, ended, place_at, took};
@@ -142,35 +143,14 @@ pub(crate) fn with_receiver(awake: WordSet, core: &SiteCore, kind: EventKind) ->
     }
 }
 
-/// The first event that the site may do now, in the fixed order, with these letters in the links. Where the site is not in
-/// `mail`, no letter is on its way to it; it also answers `mail`, without the site where no letter was found.
-pub(crate) fn first_kind(
-    links: &[Queue],
-    core: &SiteCore,
-    site: u32,
-    mail: WordSet,
-) -> (WordSet, Option<EventKind>)
-    requires within { site < 64 }
-    requires mail { slice_get mail site ≡ Some false → HasNoMail links.now core.now }
-    ensures mail { LeavesMail links.now core.now site mail result.0 }
-    ensures first { result.1 ≡ first_kind links.now core.now }
+/// The first event that the site may do now, in the fixed order. A letter lies in the link to it at just the places in `heard`.
+pub(crate) fn first_kind(heard: WordSet, core: &SiteCore) -> Option<EventKind>
+    ensures { result ≡ option_or (option_map EventKind.Take (position (λ is_in. is_in) heard)) (next_of core.now) }
 {
-    if !mail.has(site) {
-        return (mail, core.next_event());
+    if let Some(i) = heard.first() {
+        return Some(EventKind::Take(i));
     }
-    if let Some(i) = first_take(links, core) {
-        return (mail, Some(EventKind::Take(i)));
-    }
-    let mut rest = mail;
-    rest.remove(site);
-    (rest, core.next_event())
-}
-
-// The first place with a letter in the link to the site.
-fn first_take(links: &[Queue], core: &SiteCore) -> Option<u32>
-    ensures { result ≡ find (λ i. is_some (next_in links.now core.now i)) (range_with_len 0 (length core.now.places)) }
-{
-    (0..core.degree()).find(|i| can_take(links, core, *i))
+    core.next_event()
 }
 
 /// Whether the site may do that now, with these letters in the links.

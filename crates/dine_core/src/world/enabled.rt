@@ -1,5 +1,5 @@
 // The enabled events, in the fixed order: by site, and within a site by kind.
-ghost use Rattle.std.specs.Prelude.{◌≡◌, ◌+◌, ◌*◌, ◌<◌, ◌≤◌, Some, filter, length, slice_get};
+ghost use Rattle.std.specs.Prelude.{◌≡◌, ◌+◌, ◌*◌, ◌<◌, ◌≤◌, Some, filter, length, option_map, slice_get};
 ghost use Rattle.std.specs.List.{range_with_len};
 ghost use Rattle.dine_rules.specs.World.{kinds_at};
 
@@ -15,6 +15,7 @@ enum EventSearch {
 impl World {
     ghost use Rattle.dine_plan.specs.Plan.{edges_of};
     ghost use Rattle.dine_rules.specs.World.{enabled_events, events_at, is_enabled};
+    ghost use Rattle.dine_core.specs.Counts.{kinds_now_at};
     ghost use Rattle.dine_core.specs.EventSearch.{IsSearchOf};
     ghost use Rattle.dine_core.specs.Worlds.{ForEachWorld};
 
@@ -24,7 +25,7 @@ impl World {
     {
         let mut count = 0;
         for site in 0..self.site_count() {
-            count += self.count_at(site);
+            count += self.count_of(site);
         }
         count
     }
@@ -35,7 +36,7 @@ impl World {
     {
         let mut left = n;
         for site in 0..self.site_count() {
-            match self.enabled_at(site, left) {
+            match self.search_at(site, left) {
                 EventSearch::Found(event) => return Some(event),
                 EventSearch::Passed(more) => left = more,
             }
@@ -43,9 +44,10 @@ impl World {
         None
     }
 
-    // How many events of the site are enabled.
-    fn count_at(&self, site: u32) -> u32
+    // How many events of the site are enabled, asked one by one.
+    pub(super) fn count_at(&self, site: u32) -> u32
         requires { site < length self.now.sites }
+        ensures kinds { result ≡ length (kinds_now_at self.now site) }
         ensures count { ForEachWorld self.now (λ plan world. result ≡ length (filter (is_enabled plan world) (events_at plan site))) }
         ensures few { result ≤ 2563 }
     {
@@ -60,7 +62,20 @@ impl World {
         count
     }
 
-    // The `n`-th enabled event of the site, or how many more are to be passed over after all of its own.
+    // The `n`-th enabled event of the site, or how many more are to be passed over after all of its own. By its count the
+    // site is passed over without a question.
+    fn search_at(&self, site: u32, n: u32) -> EventSearch
+        requires { site < length self.now.sites }
+        ensures { ForEachWorld self.now (λ plan world. IsSearchOf (filter (is_enabled plan world) (events_at plan site)) n result) }
+    {
+        let count = self.count_of(site);
+        if count <= n {
+            return EventSearch::Passed(n - count);
+        }
+        self.enabled_at(site, n)
+    }
+
+    // The same, asked one by one.
     fn enabled_at(&self, site: u32, n: u32) -> EventSearch
         requires { site < length self.now.sites }
         ensures { ForEachWorld self.now (λ plan world. IsSearchOf (filter (is_enabled plan world) (events_at plan site)) n result) }
@@ -81,7 +96,7 @@ impl World {
     }
 
     // How many sites there are.
-    fn site_count(&self) -> u32
+    pub(super) fn site_count(&self) -> u32
         ensures count { result ≡ length self.now.sites }
         ensures few { result ≤ 64 }
     {
@@ -91,6 +106,7 @@ impl World {
     // How many edges the site has.
     fn degree_of(&self, site: u32) -> u32
         requires { site < length self.now.sites }
+        ensures places { option_map (λ world_site. length world_site.core.places) (slice_get self.now.sites site) ≡ Some result }
         ensures edges { ForEachWorld self.now (λ plan world. result ≡ length (edges_of plan site)) }
         ensures few { result ≤ 512 }
     {

@@ -37,7 +37,9 @@ impl World {
             bound: _,
             mut forks,
             awake: _,
-            mail: _,
+            heard: _,
+            counts: _,
+            stale: _,
         } = self;
         wake_all(sites.as_mut_slice());
         collect(

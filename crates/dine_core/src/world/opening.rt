@@ -1,5 +1,5 @@
 // The parts of a world before its first event.
-ghost use Rattle.std.specs.Prelude.{◌≡◌, ◌<◌, ◌≤◌, ◌+◌, ◌*◌, List, [], All, IfOk, map, length, sum};
+ghost use Rattle.std.specs.Prelude.{◌≡◌, ◌<◌, ◌≤◌, ◌+◌, ◌*◌, List, [], All, IfOk, false, map, length, replicate, sum};
 ghost use Rattle.std.specs.List.{range_with_len};
 ghost use Rattle.dine_plan.specs.Plan.{edge_count, edges_of, job_count, site_count};
 ghost use Rattle.dine_rules.specs.Bound.{bound_of, meals_due};
@@ -14,6 +14,7 @@ use super::queue::Queue;
 use super::sites::WorldSite;
 use crate::site::{SiteCore, fresh_forks, fresh_tokens};
 use dine_plan::Plan;
+use dine_set::WordSet;
 use std::alloc::{AllocError, Global};
 
 /// Where the ends of all edges are.
@@ -44,6 +45,20 @@ pub(super) fn links_of(alloc: Global, plan: &Plan) -> Result<Vec<Queue>, AllocEr
         links.push_reserved(Queue::open(alloc)?);
     }
     Ok(links)
+}
+
+/// A set of places for each site, in which no letter was heard of yet.
+pub(super) fn no_letters(alloc: Global, plan: &Plan) -> Result<Vec<WordSet>, AllocError>
+    ensures { IfOk result (λ heard. heard.items ≡ replicate (site_count plan.now) (replicate 64 false)) }
+{
+    vec![in alloc; WordSet::empty(); plan.sites() as usize]
+}
+
+/// A count for each site, of no events.
+pub(super) fn no_counts(alloc: Global, plan: &Plan) -> Result<Vec<u32>, AllocError>
+    ensures { IfOk result (λ counts. length counts.items ≡ site_count plan.now) }
+{
+    vec![in alloc; 0u32; plan.sites() as usize]
 }
 
 /// All sites, each with the forks and tokens that it has at the start.

@@ -17,6 +17,7 @@ impl World {
         let _ = &self.bound;
         let mut events = 0;
         for choice in choices {
+            self.refresh();
             if let Some(event) = self.enabled(*choice) {
                 self.happen(event);
                 events += 1;

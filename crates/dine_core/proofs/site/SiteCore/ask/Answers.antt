@@ -16,14 +16,14 @@ pub returns-clause-letter : goal.returns-clause-letter
 returns-clause-letter c =
     let core = c.args.self.now in
     let sound : IsSound core = subst IsSound c.self.view_is c.self.invariant.sound in
-    let token : (place_at core c.args.i).token ≡ Some c.unwrap.result = grind (arith, common_steps) in
-    ap (λ (edge : ℕ). Request edge) ((sound.places c.args.i no_place c.requires.place).token c.unwrap.result token)
+    let token : (place_at core c.args.i).token ≡ Some c.take_token.result = grind (arith, common_steps) in
+    ap (λ (edge : ℕ). Request edge) ((sound.places c.args.i no_place c.requires.place).token c.take_token.result token)
 
 pub returns-clause-step : goal.returns-clause-step
 returns-clause-step c plan state keeps stands =
     let core = c.args.self.now in
     let i = c.args.i in
-    let token : (place_at core i).token ≡ Some c.unwrap.result = grind (arith, common_steps) in
-    let held = token_held plan state core stands i c.requires.place c.unwrap.result token in
-    puts plan state core stands keeps i (Ask i) (Request c.unwrap.result) (Request (edge_at plan core.site i)) _ (ap (λ (edge : ℕ). Request edge) held.1) refl
+    let token : (place_at core i).token ≡ Some c.take_token.result = grind (arith, common_steps) in
+    let held = token_held plan state core stands i c.requires.place c.take_token.result token in
+    puts plan state core stands keeps i (Ask i) (Request c.take_token.result) (Request (edge_at plan core.site i)) _ (ap (λ (edge : ℕ). Request edge) held.1) refl
     (stepped plan state core stands keeps (Ask i) _ _ (returns-clause-core c) refl tt (may_ask plan state core stands keeps i c.requires.place c.requires.may) (stands-asked plan state core stands i c.requires.place held.0))

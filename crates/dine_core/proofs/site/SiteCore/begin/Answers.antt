@@ -1,11 +1,11 @@
-use Rattle.std.proofs.Common.{◌≡◌, ◌++◌, take, drop, ◌+◌, true, List, map, length, refl, sym, ◌∙◌, ap, subst, arith}
+use Rattle.std.proofs.Common.{◌≡◌, ℕ, ◌+◌, true, List, map, length, refl, sym, ◌∙◌, ap, subst, arith}
 use Rattle.std.specs.List.{All}
 use Rattle.std.proofs.lemmas.Bool.{false≢true}
 use Rattle.std.proofs.lemmas.List.{length-map}
 use Rattle.std.proofs.lemmas.Grind.{common_steps}
 use Rattle.dine_token.specs.Fork.{MayEat, eaten}
 use Rattle.dine_core.specs.declared.site.places.Place.{Place}
-use Rattle.dine_core.specs.SiteFields.{seen}
+use Rattle.dine_core.specs.SiteFields.{seen, HasRoom}
 use Rattle.dine_core.specs.Core.{SeenCore}
 use Rattle.dine_rules.specs.Steps.{Begin}
 use Rattle.dine_core.specs.Places.{can_begin, forks_of, lifted, begun, IsMealOf, IsSound}
@@ -27,19 +27,19 @@ begin-requires-clause-countable c =
     let can : can_begin old ≡ true = subst (λ (core : SeenCore). can_begin core ≡ true) (sym c.self.view_is) c.requires in
     let is : c.lift.new.hands.items ≡ forks_of old.places = grind (arith, common_steps) in
     let same : length c.lift.new.hands.items ≡ length old.places = ap length is ∙ ap length (forks_are_all old c.self.invariant.sound can) ∙ length-map old.places fork_at_place in
-    omega (arith, same, c.self.invariant.room.few, c.lift.new.hands.ok.0, c.self.inside.places.ok.0)
+    omega (arith, same, c.self.invariant.room.few, c.lift.new.hands.ok.0)
 
 pub invariant_of-self : goal.invariant_of-self
 invariant_of-self c =
     let kept = c.self.invariant in
     let old = seen c.self.inside in
     let can : can_begin old ≡ true = subst (λ (core : SeenCore). can_begin core ≡ true) (sym c.self.view_is) c.requires in
-    let is : take c.self.inside.places.len (c.lift.new.places ++ drop (length c.lift.new.places) c.self.inside.places.items) ≡ map (lifted old.site) old.places = grind (arith, common_steps) in
+    let is : c.lift.new.self ≡ map (lifted old.site) old.places = grind (arith, common_steps) in
     record {
       sound = subst (λ (l : List Place). IsSound (record (begun old) { places = l })) (sym is) (sound_begun old kept.sound can);
       no_hands = grind (arith, common_steps);
       room_for_hands = λ h. absurd (false≢true (sym h));
-      room = kept.room;
+      room = subst (λ (n : ℕ). HasRoom n c.self.inside.parts) (sym (ap length is ∙ length-map old.places (lifted old.site))) kept.room;
     }
 
 pub returns-clause-core : goal.returns-clause-core

@@ -1,12 +1,13 @@
-use Rattle.std.proofs.Common.{◌≡◌, ◌++◌, take, drop, true, List, length, vec_capacity, refl, sym, ap, subst, arith}
+use Rattle.std.proofs.Common.{◌≡◌, ◌∙◌, ℕ, true, List, length, vec_capacity, refl, sym, ap, subst, arith}
 use Rattle.std.proofs.lemmas.Grind.{common_steps}
 use Rattle.dine_core.specs.declared.site.places.Place.{Place}
 use Rattle.dine_rules.specs.Local.{is_eating}
-use Rattle.dine_core.specs.SiteFields.{seen}
+use Rattle.dine_core.specs.SiteFields.{seen, HasRoom}
 use Rattle.dine_core.specs.Core.{SeenCore}
 use Rattle.dine_rules.specs.Steps.{End}
 use Rattle.dine_core.specs.Places.{laid_down, ended, IsMealOf, IsSound}
 use Rattle.dine_core.proofs.CoreSteps.{stepped}
+use Rattle.dine_core.proofs.Marked.{length-laid_down}
 use Rattle.dine_core.proofs.SiteTests.{may_end}
 use Rattle.dine_core.proofs.Ending.{sound_ended, stands_ended}
 use Rattle.dine_core.proofs.site.SiteCore.end.Goals as goal
@@ -27,11 +28,12 @@ invariant_of-self c =
     let old = seen c.self.inside in
     let eating : is_eating old.phase ≡ true = subst (λ (core : SeenCore). is_eating core.phase ≡ true) (sym c.self.view_is) c.requires.eating in
     let is : IsMealOf old c.args.meal = subst (λ (core : SeenCore). IsMealOf core c.args.meal) (sym c.self.view_is) c.requires.meal in
-    let laid : take c.self.inside.places.len (c.lay_down.new.places ++ drop (length c.lay_down.new.places) c.self.inside.places.items) ≡ laid_down old.places c.args.meal.forks = grind (arith, common_steps) in
+    let laid : c.lay_down.new.self ≡ laid_down old.places c.args.meal.forks = grind (arith, common_steps) in
+    let same : length c.lay_down.new.self ≡ length old.places = ap length laid ∙ length-laid_down old.places c.args.meal.forks in
     record {
       sound = subst (λ (l : List Place). IsSound (record (ended c.args.meal.forks old) { places = l })) (sym laid) (sound_ended old c.args.meal kept.sound eating is);
       no_hands = grind (arith, common_steps);
       room_for_hands = λ awake.
-          omega (arith, c.lay_down.ensures.room, ap vec_capacity c.replace.ensures.after, ap length c.end-hands.ensures, is.count, c.end-hands.result.ok.0, c.end-hands.result.ok.1, c.self.inside.places.ok.0);
-      room = kept.room;
+          omega (arith, same, c.lay_down.ensures.room, ap vec_capacity c.replace.ensures.after, ap length c.end-hands.ensures, is.count, c.end-hands.result.ok.0, c.end-hands.result.ok.1);
+      room = subst (λ (n : ℕ). HasRoom n c.self.inside.parts) (sym same) kept.room;
     }

@@ -5,11 +5,11 @@ use Rattle.dine_core.proofs.site.SiteCore.open.Goals as goal
 
 pub invariant_of-result : goal.invariant_of-result
 invariant_of-result c = record {
-  sound = sound_start c.args.plan.now c.args.site c.jobs.result c.in_ok-places.places.items c.jobs.ensures.plan c.jobs.ensures.count c.in_ok-places.ensures;
+  sound = sound_start c.args.plan.now c.args.site c.jobs.result c.in_ok-places.places c.jobs.ensures.plan c.jobs.ensures.count c.in_ok-places.ensures;
   no_hands = grind (arith, common_steps);
   room_for_hands = λ awake. grind (arith, common_steps);
   room = record {
-    few = (let few = places_few c.args.plan.now c.args.site c.in_ok-places.places.items c.jobs.ensures.plan c.in_ok-places.ensures in omega (arith, few, c.in_ok-places.places.ok.0));
+    few = (let few = places_few c.args.plan.now c.args.site c.in_ok-places.places c.jobs.ensures.plan c.in_ok-places.ensures in omega (arith, few));
     no_forks = grind (arith, common_steps);
     room_for_forks = grind (arith, common_steps);
     no_tokens = grind (arith, common_steps);

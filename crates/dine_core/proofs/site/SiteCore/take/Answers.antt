@@ -1,10 +1,10 @@
-use Rattle.std.proofs.Common.{◌≡◌, Some, refl, sym, ◌∙◌, subst, arith}
+use Rattle.std.proofs.Common.{◌≡◌, Some, None, refl, sym, ◌∙◌, subst, arith}
 use Rattle.std.proofs.lemmas.Grind.{common_steps}
 use Rattle.dine_core.specs.Core.{SeenCore}
 use Rattle.dine_rules.specs.Steps.{Take}
 use Rattle.dine_core.specs.SiteFields.{seen}
-use Rattle.dine_core.specs.Places.{place_at, no_place, breach_at, IsSoundPlace}
-use Rattle.dine_core.proofs.Sound.{sound_with_place, sound_noted}
+use Rattle.dine_core.specs.Places.{place_at, no_place, breach_at, noted, IsSoundPlace}
+use Rattle.dine_core.proofs.Sound.{kept_with, sound_noted}
 use Rattle.dine_core.proofs.CoreSteps.{stepped}
 use Rattle.dine_core.proofs.Breaches.{breach_is, may_take, stands-took}
 use Rattle.dine_core.proofs.Options.{none_from}
@@ -19,19 +19,13 @@ returns-in-Some-clause-taken c plan state keeps stands =
 pub returns-in-Some-clause-agrees : goal.returns-in-Some-clause-agrees
 returns-in-Some-clause-agrees c plan state keeps stands = breach_is plan state c.args.self.now stands keeps c.args.i c.requires c.args.letter
 
-pub invariant_of-self-2 : goal.invariant_of-self-2
-invariant_of-self-2 c =
-    let kept = c.self.invariant in
+pub invariant_of-self : goal.invariant_of-self
+invariant_of-self c =
     let old = seen c.self.inside in
-    let is : c.index_mut-place.result.now ≡ place_at old c.args.i = grind (arith, common_steps) in
-    let here : IsSoundPlace old c.index_mut-place.result.now = subst (IsSoundPlace old) (sym is) (kept.sound.places c.args.i no_place (grind (arith, common_steps))) in
-    let turn = sym c.breach_of.ensures.breach ∙ none_from c.breach_of.result c.in_default.not-Some in
-    record {
-      sound = sound_with_place old c.args.i c.note.new.self kept.sound (subst (IsSoundPlace old) (sym c.note.ensures) (sound_noted old c.index_mut-place.result.now c.args.letter turn here));
-      no_hands = kept.no_hands;
-      room_for_hands = kept.room_for_hands;
-      room = kept.room;
-    }
+    let i = c.args.i in
+    let here : IsSoundPlace old (place_at old i) = c.self.invariant.sound.places i no_place (grind (arith, common_steps)) in
+    let turn : breach_at old.site old.ate (place_at old i) c.args.letter ≡ None = grind (arith, common_steps) in
+    kept_with c.self.inside i (noted c.args.letter (place_at old i)) c.note.new.self c.self.invariant c.note.ensures (sound_noted old (place_at old i) c.args.letter turn here)
 
 pub returns-clause-core : goal.returns-clause-core
 returns-clause-core c = grind (arith, common_steps)

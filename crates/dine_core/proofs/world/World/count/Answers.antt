@@ -5,6 +5,6 @@ use Rattle.dine_core.proofs.world.World.count.Goals as goal
 
 pub loop-site-preserved : goal.loop-site-preserved
 loop-site-preserved c = record {
-  counted = λ plan world is. omega (arith, c.loop-site.invariant.counted plan world is, c.count_at-count.ensures.count plan world is, more_sites (is_enabled plan world) (events_at plan) c.loop-site.site);
+  counted = λ plan world is. omega (arith, c.loop-site.invariant.counted plan world is, c.count_of-count.ensures.count plan world is, more_sites (is_enabled plan world) (events_at plan) c.loop-site.site);
   few = omega arith;
 }

@@ -1,4 +1,4 @@
-use Rattle.std.proofs.Common.{◌+◌, ℕ, List, drop, get_or, sym, ◌∙◌, subst, arith}
+use Rattle.std.proofs.Common.{◌+◌, ◌∷◌, ℕ, List, drop, get_or, sym, ◌∙◌, subst, arith}
 use Rattle.dine_plan.specs.Plan.{SeenPlan}
 use Rattle.dine_rules.specs.World.{WorldState}
 use Rattle.dine_core.specs.Worlds.{IsWorldOf, SeenWorld}
@@ -21,9 +21,10 @@ loop-choice-init c =
 pub happen-requires : goal.happen-requires
 happen-requires c =
     let kept = c.loop-choice.invariant in
-    let way = kept.under_way kept.plan kept.world kept.stood in
-    let n : ℕ = get_or c.args.choices.now c.loop-choice.choice-index 0 in
-    chosen_can kept.plan way.now.world c.loop-choice.self n c.in-Some.event way.stands (sym c.in-Some.is ∙ c.enabled.ensures kept.plan way.now.world way.stands)
+    let choices = c.args.choices.now in
+    let way = subst (IsReplaying kept.plan kept.world choices (drop c.loop-choice.choice-index choices) c.loop-choice.events) (sym c.refresh.ensures) (kept.under_way kept.plan kept.world kept.stood) in
+    let n : ℕ = get_or choices c.loop-choice.choice-index 0 in
+    chosen_can kept.plan way.now.world c.refresh.new.self n c.in-Some.event way.stands (sym c.in-Some.is ∙ c.enabled.ensures kept.plan way.now.world way.stands)
 
 pub loop-choice-preserved : goal.loop-choice-preserved
 loop-choice-preserved c =
@@ -32,7 +33,8 @@ loop-choice-preserved c =
     let choices = c.args.choices.now in
     let n : ℕ = get_or choices i 0 in
     let before = λ (plan : SeenPlan) (world : WorldState) (stands : IsWorldOf plan world c.args.self.now).
-    subst (λ (rest : List ℕ). IsReplaying plan world choices rest c.loop-choice.events c.loop-choice.self) (drop_choice choices i c.loop-choice-test.true) (kept.under_way plan world stands) in
+    subst (IsReplaying plan world choices (get_or choices i 0 ∷ drop (i + 1) choices) c.loop-choice.events) (sym c.refresh.ensures)
+    (subst (λ (rest : List ℕ). IsReplaying plan world choices rest c.loop-choice.events c.loop-choice.self) (drop_choice choices i c.loop-choice-test.true) (kept.under_way plan world stands)) in
     elim c.match-enabled.branch [
       | in-Some w ↦ record {
         few = omega (arith, kept.few, w.events-is);
@@ -43,7 +45,7 @@ loop-choice-preserved c =
             let way = before plan world stands in
             subst (λ (seen : SeenWorld). IsReplaying plan world choices (drop (i + 1) choices) c.match-enabled.events seen) (sym w.self-is)
             (subst (λ (events : ℕ). IsReplaying plan world choices (drop (i + 1) choices) events w.happen.new.self) (sym w.events-is)
-            (replaying_next plan world choices (drop (i + 1) choices) n c.loop-choice.events c.loop-choice.self w.happen.new.self w.in-Some.event way
+            (replaying_next plan world choices (drop (i + 1) choices) n c.loop-choice.events c.refresh.new.self w.happen.new.self w.in-Some.event way
             (sym w.in-Some.is ∙ c.enabled.ensures plan way.now.world way.stands) w.happen.ensures));
       }
       | in_default w ↦ record {
@@ -54,8 +56,8 @@ loop-choice-preserved c =
         under_way = λ plan world stands.
             let way = before plan world stands in
             subst (λ (seen : SeenWorld). IsReplaying plan world choices (drop (i + 1) choices) c.match-enabled.events seen) (sym w.self-is)
-            (subst (λ (events : ℕ). IsReplaying plan world choices (drop (i + 1) choices) events c.loop-choice.self) (sym w.events-is)
-            (replaying_on plan world choices (drop (i + 1) choices) n c.loop-choice.events c.loop-choice.self way
+            (subst (λ (events : ℕ). IsReplaying plan world choices (drop (i + 1) choices) events c.refresh.new.self) (sym w.events-is)
+            (replaying_on plan world choices (drop (i + 1) choices) n c.loop-choice.events c.refresh.new.self way
             (sym (none_from c.enabled.result w.in_default.not-Some) ∙ c.enabled.ensures plan way.now.world way.stands)));
       }
     ]

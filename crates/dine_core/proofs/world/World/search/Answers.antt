@@ -5,10 +5,10 @@ use Rattle.dine_core.proofs.FirstEvents.{first_of_all, none_of_all, still_at}
 use Rattle.dine_core.proofs.Options.{none_from}
 use Rattle.dine_core.proofs.world.World.search.Goals as goal
 
-pub returns-in-Some-kind-clause-first : goal.returns-in-Some-kind-clause-first
-returns-in-Some-kind-clause-first c plan world is =
+pub returns-in-Some-first_at-clause-first : goal.returns-in-Some-first_at-clause-first
+returns-in-Some-first_at-clause-first c plan world is =
     let seen = c.args.self.now in
-    sym (first_of_all plan world seen is c.in-Some.site c.in-Some-kind.kind (still_before seen c.loop-site.awake c.loop-site.invariant.awake c.in-Some.site (sym c.in-Some.ensures.value)) (sym c.first_at-rest.ensures.first ∙ c.in-Some-kind.is))
+    sym (first_of_all plan world seen is c.in-Some.site c.in-Some-first_at.kind (still_before seen c.loop-site.awake c.loop-site.invariant c.in-Some.site (sym c.in-Some.ensures.value)) (sym c.first_at.ensures ∙ c.in-Some-first_at.is))
 
 pub loop-site-smaller : goal.loop-site-smaller
 loop-site-smaller c =
@@ -17,13 +17,10 @@ loop-site-smaller c =
 pub loop-site-preserved : goal.loop-site-preserved
 loop-site-preserved c =
     let seen = c.args.self.now in
-    let none = sym c.first_at-rest.ensures.first ∙ none_from c.first_at-rest.result.1 c.in_default-kind.not-Some in
-    record {
-      awake = subst (HasAllAwake seen) (sym c.remove.ensures) (asleep seen c.loop-site.awake c.loop-site.invariant.awake c.in-Some.site (still_at seen c.in-Some.site none));
-      mail = c.first_at-rest.ensures.mail;
-    }
+    let none = sym c.first_at.ensures ∙ none_from c.first_at.result c.in_default-first_at.not-Some in
+    subst (HasAllAwake seen) (sym c.remove.ensures) (asleep seen c.loop-site.awake c.loop-site.invariant c.in-Some.site (still_at seen c.in-Some.site none))
 
 pub returns-clause-first : goal.returns-clause-first
 returns-clause-first c plan world is =
     let seen = c.args.self.now in
-    sym (none_of_all plan world seen is (λ t h. still_all seen c.loop-site.awake c.loop-site.invariant.awake (sym c.first.ensures.value ∙ none_from c.first.result c.in_default.not-Some) t))
+    sym (none_of_all plan world seen is (λ t h. still_all seen c.loop-site.awake c.loop-site.invariant (sym c.first.ensures.value ∙ none_from c.first.result c.in_default.not-Some) t))

@@ -1,0 +1,22 @@
+use Rattle.std.proofs.Common.{◌≤◌, length, sym, ap, subst, arith}
+use Rattle.dine_core.specs.Counts.{HasCounts}
+use Rattle.dine_core.specs.WorldFields.{seen_world}
+use Rattle.dine_core.specs.Worlds.{SeenWorld}
+use Rattle.dine_core.proofs.Counts.{past_counted}
+use Rattle.dine_core.proofs.world.World.refresh_at.Goals as goal
+
+pub invariant_of-self : goal.invariant_of-self
+invariant_of-self c =
+    let kept = c.self.invariant in
+    let seen = seen_world c.self.inside in
+    let past : length seen.sites ≤ c.args.site = omega (arith, c.if-site-site_count.true, c.site_count.ensures.count, ap (λ (w : SeenWorld). length w.sites) c.self.view_is) in
+    record {
+      plan = kept.plan;
+      state = kept.state;
+      stands = kept.stands;
+      no_forks = kept.no_forks;
+      room = kept.room;
+      awake = kept.awake;
+      heard = kept.heard;
+      counts = subst (HasCounts seen c.self.inside.counts.items) (sym c.remove.ensures) (past_counted seen c.self.inside.counts.items c.self.inside.stale c.args.site past kept.counts);
+    }

@@ -1,0 +1,19 @@
+-- How the places of a site are kept: the list of them, and beside it which of them pass each test.
+use Rattle.std.specs.Prelude.{◌≡◌, ◌≤◌, List, length}
+use Rattle.dine_set.specs.Marks.{marks_of}
+use Rattle.dine_core.specs.declared.site.marked.MarkedPlaces.TheInside.{Inside}
+use Rattle.dine_core.specs.declared.site.places.Place.{Place}
+use Rattle.dine_core.specs.Places.{is_away_at, is_dirty_at, has_token_at, is_open_at, has_put_done_at, has_taken_done_at}
+
+abbrev pub places_in : Inside → List Place
+places_in places = places.items.items
+
+-- Each set has the places that pass its test, and a set has room for all.
+pub record IsMarked (places : Inside) : Type 0 where
+  pub few : length places.items.items ≤ 64
+  pub away : places.away ≡ marks_of is_away_at places.items.items
+  pub dirty : places.dirty ≡ marks_of is_dirty_at places.items.items
+  pub tokens : places.tokens ≡ marks_of has_token_at places.items.items
+  pub unclosed : places.unclosed ≡ marks_of is_open_at places.items.items
+  pub said : places.said ≡ marks_of has_put_done_at places.items.items
+  pub heard : places.heard ≡ marks_of has_taken_done_at places.items.items
