@@ -1,7 +1,8 @@
 //! Measures `run` alone: reads a plan, runs it so many times over links of one kind, and writes the median, the least and the most
 //! of the wall time of `run`, in microseconds, to standard error. Standard output has the kind of links and the number of runs.
+//! With `world` it measures a world of one thread, from its opening to the forks after its last event.
 //!
-//! usage: dine_bench channel|ring RUNS < PLAN
+//! usage: dine_bench channel|ring|world RUNS < PLAN
 #![tactic(auto)]
 
 ghost use Rattle.std.specs.Prelude.{◌≡◌, ◌≤◌, Some, slice_get, IfOk};
@@ -9,6 +10,7 @@ ghost use Rattle.dine_plan.specs.Plan.{job_count};
 
 use anyhow::{Context, Result, bail};
 use dine::PlanDiner;
+use dine_core::World;
 use dine_link::{ChannelLane, Lane, RingLane};
 use dine_plan::{Plan, read_plan};
 use dine_run::run;
@@ -57,6 +59,17 @@ where
     Ok(taken.as_micros())
 }
 
+// The microseconds of all events of a world, each the first that is enabled by then.
+fn time_world<R: Clock>(rt: &R, alloc: Global, plan: &Plan) -> Result<u128> {
+    let start = Instant::now(rt)?;
+    let mut world = World::open(alloc, plan)?;
+    let _ = world.finish();
+    let forks = world.into_forks();
+    let taken = start.elapsed(rt)?;
+    drop(forks);
+    Ok(taken.as_micros())
+}
+
 fn main(rt: HostRuntime) -> Result<()> {
     let mut words = env::args(&rt)?;
     let _program = words.next();
@@ -70,6 +83,7 @@ fn main(rt: HostRuntime) -> Result<()> {
         let micros = match lane.as_str() {
             "channel" => time::<ChannelLane, HostRuntime>(&rt, rt.alloc(), &plan)?,
             "ring" => time::<RingLane, HostRuntime>(&rt, rt.alloc(), &plan)?,
+            "world" => time_world(&rt, rt.alloc(), &plan)?,
             _ => bail!("links are channel or ring"),
         };
         times.push(micros)?;
