@@ -1,8 +1,8 @@
 -- Which sites have no enabled event after an event: all that had none, but for the site that does it and the one that gets its letter.
-use Rattle.std.proofs.Common.{◌≡◌, ◌≢◌, ℕ, zero, suc, ◌<◌, ◌&&◌, nat_lt, Bool, true, false, List, [], ◌∷◌, length, drop, get_or, slice_get, slice_set, Option, Some, None, is_some, option_and_then, refl, sym, ◌∙◌, ap, subst, inl, inr, arith}
-use Rattle.std.specs.List.{filter, range_with_len}
+use Rattle.std.proofs.Common.{◌≡◌, ◌≢◌, ℕ, zero, suc, ◌<◌, ◌&&◌, nat_lt, Bool, true, false, List, [], ◌∷◌, length, get_or, slice_get, slice_set, Option, Some, None, is_some, option_and_then, refl, sym, ◌∙◌, ap, subst, inl, inr, arith}
+use Rattle.std.specs.List.{range_with_len}
 use Rattle.std.specs.Option.{option_map_or}
-use Rattle.std.proofs.lemmas.Bool.{and_parts, cases_eq, cases_lt, false≢true, le-ltb, lt-ltb, ltb-true}
+use Rattle.std.proofs.lemmas.Bool.{and_parts, cases_eq, cases_lt, false≢true, le-ltb, ltb-true}
 use Rattle.std.proofs.lemmas.List.{get_or-set_same, get_or-set_other, length-set}
 use Rattle.std.proofs.lemmas.List.Elements.{filter_agree}
 use Rattle.std.proofs.lemmas.Option.{get_or_from_slice_get, slice_get_within}
@@ -21,7 +21,7 @@ use Rattle.dine_core.specs.Counts.{HasCounts, kinds_now}
 use Rattle.dine_core.specs.Heard.{has_letter}
 use Rattle.dine_core.specs.LinkNumbers.{link_from, link_to}
 use Rattle.dine_core.specs.Places.{neighbour_of, place_at}
-use Rattle.dine_core.specs.WorldSites.{MovesLetters, can_do, has_place, next_in, without_next}
+use Rattle.dine_core.specs.WorldSites.{MovesLetters, can_do, has_place, next_in}
 use Rattle.dine_core.specs.Worlds.{IsWorldOf, SeenWorld, can_at, can_happen, number_to}
 use Rattle.dine_rules.proofs.Across.{across}
 use Rattle.dine_core.proofs.LinkNumbers.{from_is_to, same_place}

@@ -1,13 +1,11 @@
 -- The search for a site that is not still, through a set that has each of them.
-use Rattle.std.proofs.Common.{◌≡◌, ℕ, zero, suc, ◌<◌, ◌≤◌, Bool, true, false, cond, ltb, List, [], ◌∷◌, length, get_or, replicate, slice_get, slice_set, Some, None, position, count_by, refl, sym, ◌∙◌, ap, subst, inl, inr, arith}
+use Rattle.std.proofs.Common.{◌≡◌, ℕ, zero, suc, ◌<◌, ◌≤◌, Bool, true, false, cond, ltb, List, [], ◌∷◌, length, get_or, replicate, slice_set, Some, None, position, count_by, refl, sym, ◌∙◌, ap, subst, inl, inr, arith}
 use Rattle.std.specs.List.{position_or_len}
 use Rattle.std.proofs.lemmas.Bool.{cases_Bool, cases_eq, ltb-false}
 use Rattle.std.proofs.lemmas.List.{get_or-set_other, length-set}
 use Rattle.std.proofs.lemmas.List.Quantifiers.{position-Some}
 use Rattle.std.proofs.lemmas.List.Sums.{sum_by-set}
-use Rattle.std.proofs.lemmas.Option.{get_or_from_slice_get, slice_get_past}
-use Rattle.dine_rules.specs.declared.events.EventKind.TheVariants as event
-use Rattle.dine_core.specs.declared.world.sites.WorldSite.{WorldSite}
+use Rattle.std.proofs.lemmas.Option.{slice_get_past}
 use Rattle.dine_core.specs.Awake.{HasAllAwake, IsStill}
 use Rattle.dine_core.specs.Worlds.{SeenWorld, can_at}
 

@@ -1,32 +1,27 @@
 -- The counts of the events that the sites can do: what they are by the plan, and when they are right.
-use Rattle.std.proofs.Common.{◌≡◌, ℕ, ◌<◌, ◌≤◌, Bool, true, false, cond, List, [], ◌∷◌, length, map, get_or, replicate, slice_get, slice_set, Option, Some, None, option_map, refl, sym, ◌∙◌, ap, inl, inr, arith}
+use Rattle.std.proofs.Common.{◌≡◌, ℕ, ◌+◌, ◌<◌, ◌≤◌, Bool, true, false, List, [], length, map, get_or, replicate, slice_get, slice_set, Option, Some, None, option_map, refl, sym, ◌∙◌, ap, inl, inr, arith}
 use Rattle.std.specs.List.{filter, range_with_len}
 use Rattle.std.specs.Option.{option_map_or}
 use Rattle.std.proofs.lemmas.Bool.{cases_eq}
 use Rattle.std.proofs.lemmas.List.{get_or-set_other, get_or-set_same, get_or_past, length-map, length-set}
-use Rattle.std.proofs.lemmas.Option.{get_or_from_slice_get, same_Some, slice_get-get_or, slice_get_past}
+use Rattle.std.proofs.lemmas.Option.{get_or_from_slice_get, same_Some, slice_get-get_or, slice_get-map, slice_get_past}
 use Rattle.dine_plan.specs.Plan.{SeenPlan, edges_of}
 use Rattle.dine_rules.specs.declared.events.Event.{Event}
 use Rattle.dine_rules.specs.declared.events.EventKind.{EventKind}
+use Rattle.dine_rules.specs.declared.events.EventKind.TheVariants as event
 use Rattle.dine_rules.specs.World.{WorldState, events_at, is_enabled, kinds_at}
 use Rattle.dine_core.specs.declared.world.sites.WorldSite.{WorldSite}
 use Rattle.dine_core.specs.Counts.{HasCounts, kinds_now, kinds_now_at}
 use Rattle.dine_core.specs.Worlds.{IsWorldOf, SeenWorld, can_at, can_happen}
 use Rattle.dine_plan.proofs.ListLemmas.{length-filter-le}
-use Rattle.dine_rules.proofs.KindNumbers.{choices, choices_count}
+use Rattle.dine_rules.proofs.KindNumbers.{choices, choices_count, found_at, of_sites}
 use Rattle.dine_core.proofs.AwakeSearch.{past_full}
 use Rattle.dine_core.proofs.CanHappen.{site_at}
 use Rattle.dine_core.proofs.EnabledEvents.{degree_is, edges_few, enabled_at}
 use Rattle.dine_core.proofs.FirstEvents.{event_of}
+use Rattle.dine_core.proofs.NextEvents.{filter-map}
 
 -- ---- the events of a site, as events of the world
-
-filter-map : {X Y : Type 0} (p : Y → Bool) (f : X → Y) (xs : List X) → filter p (map f xs) ≡ map f (filter (λ x. p (f x)) xs)
-filter-map p f [] = refl
-filter-map {Y = Y} p f (x ∷ xs) = elim (p (f x)) as (λ b. cond b (f x ∷ filter p (map f xs)) (filter p (map f xs)) ≡ map f (cond b (x ∷ filter (λ y. p (f y)) xs) (filter (λ y. p (f y)) xs))) [
-  | true ↦ ap (λ (rest : List Y). f x ∷ rest) (filter-map p f xs)
-  | false ↦ filter-map p f xs
-]
 
 -- those of a site with so many places
 pub choices_now : (seen : SeenWorld) (s d : ℕ) (o : Option WorldSite) → slice_get seen.sites s ≡ o → option_map (λ (world_site : WorldSite). length world_site.core.places) o ≡ Some d
@@ -99,3 +94,16 @@ pub kept_count : (seen : SeenWorld) (counts : List ℕ) (stale : List Bool) (s d
 kept_count seen counts stale s d has within out =
     sym (get_or_from_slice_get counts s (get_or counts s d) 0 (slice_get-get_or counts s d (omega (arith, within, has.every_site))))
     ∙ has.others s (get_or_from_slice_get stale s false false out)
+
+-- ---- an event by its number
+
+-- the n-th enabled event of a site
+pub event_is : (plan : SeenPlan) (world : WorldState) (seen : SeenWorld) → IsWorldOf plan world seen → (s n : ℕ) → s < length seen.sites
+    → slice_get (filter (is_enabled plan world) (events_at plan s)) n ≡ option_map (event_of s) (slice_get (kinds_now_at seen s) n)
+event_is plan world seen is s n within = ap (λ (events : List Event). slice_get events n) (enabled_kinds plan world seen is s within) ∙ slice_get-map (event_of s) (kinds_now_at seen s) n
+
+-- where a site has so many events, the n-th of its own is that behind the events of all sites before it
+pub event_behind : (p : Event → Bool) (f : ℕ → List Event) (s n k : ℕ) → s < n → k < length (filter p (f s)) → slice_get (of_sites p f n) (length (of_sites p f s) + k) ≡ slice_get (filter p (f s)) k
+event_behind p f s n k before within =
+    let here : slice_get (filter p (f s)) k ≡ Some (get_or (filter p (f s)) k (event_of 0 event.End)) = slice_get-get_or (filter p (f s)) k (event_of 0 event.End) within in
+    found_at p f s n k (get_or (filter p (f s)) k (event_of 0 event.End)) before here ∙ sym here

@@ -122,3 +122,10 @@ module _ (plan : SeenPlan) (world : WorldState) (seen : SeenWorld) (stands : IsW
       ap (option_and_then (λ (x : WorldSite). first_kind seen.links x.core)) found
       ∙ first_spelled seen.links world_site.core
       ∙ ap (λ (o : Option ℕ). option_or (option_map event.Take o) (next_of world_site.core)) (sym (heard_first seen.links world_site.core row row_size few_places takes))
+
+  -- how many places have a letter, and the n-th of them
+  pub count_by_set : count_by (λ b. b) row ≡ length (filter (λ i. is_some (next_in seen.links world_site.core i)) (range_with_len 0 (length world_site.core.places)))
+  count_by_set = heard_count seen.links world_site.core row row_size few_places takes
+
+  pub nth_by_set : (k : ℕ) → nth_position (λ b. b) k row ≡ slice_get (filter (λ i. is_some (next_in seen.links world_site.core i)) (range_with_len 0 (length world_site.core.places))) k
+  nth_by_set k = heard_nth seen.links world_site.core row row_size few_places takes k

@@ -35,3 +35,4 @@ pub mod AwakeSearch
 pub mod Counts
 pub mod Heard
 pub mod HeardPlaces
+pub mod KindsNow

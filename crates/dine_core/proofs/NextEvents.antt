@@ -36,6 +36,14 @@ filter_first p (x ∷ xs) = elim (p x) as (λ b. slice_get (cond b (x ∷ filter
   | false ↦ filter_first p xs
 ]
 
+-- a test of what a function gives
+pub filter-map : {X Y : Type 0} (p : Y → Bool) (f : X → Y) (xs : List X) → filter p (map f xs) ≡ map f (filter (λ x. p (f x)) xs)
+filter-map p f [] = refl
+filter-map {Y = Y} p f (x ∷ xs) = elim (p (f x)) as (λ b. cond b (f x ∷ filter p (map f xs)) (filter p (map f xs)) ≡ map f (cond b (x ∷ filter (λ y. p (f y)) xs) (filter (λ y. p (f y)) xs))) [
+  | true ↦ ap (λ (rest : List Y). f x ∷ rest) (filter-map p f xs)
+  | false ↦ filter-map p f xs
+]
+
 find_agree : (p q : ℕ → Bool) (first n : ℕ) → ((i : ℕ) → i < first + n → p i ≡ q i) → find p (range_with_len first n) ≡ find q (range_with_len first n)
 find_agree p q first zero agree = refl
 find_agree p q first (suc n) agree = ap₂ (λ (b : Bool) (rest : Option ℕ). cond b (Some first) rest) (agree first (omega arith))

@@ -16,6 +16,7 @@ use Rattle.dine_core.specs.declared.site.places.Place.{Place}
 use Rattle.dine_core.specs.Core.{SeenCore}
 use Rattle.dine_core.specs.NextEvent.{can_by_itself, may_ask_at, may_give_at, may_say_done_at, own_kinds, own_words}
 use Rattle.dine_core.specs.Places.{can_close_at, place_at}
+use Rattle.dine_core.proofs.NextEvents.{filter-map}
 use Rattle.dine_core.proofs.MarkedEvents.{Agrees, as_it_is, marked_count, marked_nth}
 
 -- ---- an element of two lists, one behind the other
@@ -29,13 +30,6 @@ pub behind_front : {X : Type 0} (xs ys : List X) (n k : ℕ) → length xs + k �
 behind_front [] ys n k is = ap (slice_get ys) (let e : n ≡ k = omega (arith, is) in e)
 behind_front (x ∷ xs) ys zero k is = absurd (omega (arith, is))
 behind_front (x ∷ xs) ys (suc n) k is = behind_front xs ys n k (omega (arith, is))
-
-filter-map : (kind : ℕ → EventKind) (p : EventKind → Bool) (xs : List ℕ) → filter p (map kind xs) ≡ map kind (filter (λ i. p (kind i)) xs)
-filter-map kind p [] = refl
-filter-map kind p (x ∷ xs) = elim (p (kind x)) as (λ b. cond b (kind x ∷ filter p (map kind xs)) (filter p (map kind xs)) ≡ map kind (cond b (x ∷ filter (λ i. p (kind i)) xs) (filter (λ i. p (kind i)) xs))) [
-  | true ↦ ap (λ (kinds : List EventKind). kind x ∷ kinds) (filter-map kind p xs)
-  | false ↦ filter-map kind p xs
-]
 
 -- a site can do at most one of End, Begin and Hungry
 one_of_phases : (phase : Phase) (begins hungers : Bool)
@@ -69,10 +63,10 @@ module _ (core : SeenCore) where
         ap (λ (k : ℕ). test (kind k)) here ∙ is i ∙ ap (λ (b : Bool). b && at (place_at core i)) (lt-ltb i (length core.places) within)
 
     count_of_kind : length (filter test (map kind places)) ≡ count_by at core.places
-    count_of_kind = ap length (filter-map kind test places) ∙ length-map (filter (λ i. test (kind i)) places) kind ∙ marked_count at (λ i. test (kind i)) core.places 0 agrees
+    count_of_kind = ap length (filter-map test kind places) ∙ length-map (filter (λ i. test (kind i)) places) kind ∙ marked_count at (λ i. test (kind i)) core.places 0 agrees
 
     nth_of_kind : (n : ℕ) → slice_get (filter test (map kind places)) n ≡ option_map kind (nth_position at n core.places)
-    nth_of_kind n = ap (λ (kinds : List EventKind). slice_get kinds n) (filter-map kind test places) ∙ slice_get-map kind (filter (λ i. test (kind i)) places) n
+    nth_of_kind n = ap (λ (kinds : List EventKind). slice_get kinds n) (filter-map test kind places) ∙ slice_get-map kind (filter (λ i. test (kind i)) places) n
         ∙ ap (option_map kind) (marked_nth at (λ i. test (kind i)) core.places 0 n agrees ∙ as_it_is (nth_position at n core.places))
 
     -- by the marks of the places

@@ -1,9 +1,8 @@
 -- Which sites of the world may have an enabled event, and the first event of a site.
-use Rattle.std.specs.Prelude.{◌≡◌, ◌⊎◌, ℕ, ◌<◌, Bool, false, true, List, length, find, slice_get, slice_index_or, slice_set, Option, option_and_then}
+use Rattle.std.specs.Prelude.{◌≡◌, ℕ, ◌<◌, Bool, false, true, List, length, find, slice_get, slice_index_or, slice_set, Option, option_and_then}
 use Rattle.std.specs.List.{range_with_len}
 use Rattle.dine_rules.specs.declared.letters.Letter.{Letter}
 use Rattle.dine_rules.specs.declared.events.EventKind.{EventKind}
-use Rattle.dine_rules.specs.declared.events.EventKind.TheVariants as event
 use Rattle.dine_core.specs.declared.world.sites.WorldSite.{WorldSite}
 use Rattle.dine_rules.specs.Steps.{Shape, Takes, Puts, Alone}
 use Rattle.dine_rules.specs.World.{kinds_at}

@@ -7,6 +7,7 @@ use Rattle.dine_rules.specs.declared.events.EventKind.{EventKind}
 use Rattle.dine_core.specs.declared.world.sites.WorldSite.{WorldSite}
 use Rattle.dine_rules.specs.World.{kinds_at}
 use Rattle.dine_core.specs.Core.{SeenCore}
+use Rattle.dine_core.specs.NextEvent.{can_by_itself, own_kinds}
 use Rattle.dine_core.specs.WorldSites.{can_do}
 use Rattle.dine_core.specs.Worlds.{SeenWorld}
 
@@ -17,6 +18,10 @@ kinds_now links core = filter (can_do links core) (kinds_at (range_with_len 0 (l
 -- the same of the site with this number, and none where there is no such site
 abbrev pub kinds_now_at : SeenWorld → ℕ → List EventKind
 kinds_now_at seen s = option_map_or (λ (world_site : WorldSite). kinds_now seen.links world_site.core) (slice_get seen.sites s) []
+
+-- those of them for which it needs no letter
+abbrev pub own_kinds_now : SeenCore → List EventKind
+own_kinds_now core = filter (can_by_itself core) (own_kinds (range_with_len 0 (length core.places)))
 
 -- There is a count for each site, and where the site is not in the set it is how many events the site can do.
 pub record HasCounts (seen : SeenWorld) (counts : List ℕ) (stale : List Bool) : Type 0 where

@@ -20,7 +20,6 @@ pub mod LinkNumbers
 pub mod Standing
 pub mod WorldSites
 pub mod Forks
-pub mod EventSearch
 pub mod Worlds
 pub mod Awake
 pub mod Counts

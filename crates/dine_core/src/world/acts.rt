@@ -1,5 +1,5 @@
 // What a site of the world may do, and does.
-ghost use Rattle.std.specs.Prelude.{◌≡◌, ℕ, ◌<◌, ◌+◌, IfSome, List, MatchOption, None, Some, length, position, is_some, option_and_then, option_map, slice_get, false, true};
+ghost use Rattle.std.specs.Prelude.{◌≡◌, ℕ, ◌<◌, ◌+◌, ◌-◌, IfSome, List, MatchOption, None, Some, count_by, length, position, is_some, option_and_then, option_map, slice_get, false, true};
 ghost use Rattle.std.specs.Option.{option_or};
 ghost use Rattle.dine_rules.specs.declared.letters.Letter.{Letter};
 ghost use Rattle.dine_rules.specs.Local.{is_eating};
@@ -7,6 +7,8 @@ ghost use Rattle.dine_core.specs.Forks.{woken};
 ghost use Rattle.dine_core.specs.Awake.{HasReceiver, with_receiver};
 ghost use Rattle.dine_core.specs.LinkNumbers.{link_to};
 ghost use Rattle.dine_core.specs.NextEvent.{next_of};
+ghost use Rattle.dine_core.specs.Counts.{own_kinds_now};
+ghost use Rattle.dine_set.specs.Marks.{nth_position};
 ghost use Rattle.dine_rules.specs.Steps.{Begin, End, Puts, Step, Take, after, shape_of, step_by};
 ghost use Rattle.dine_core.specs.Core.{forks_in_hand};
 ghost use Rattle.dine_core.specs.Places.{begun, can_begin, ended, place_at, took};
@@ -151,6 +153,17 @@ pub(crate) fn first_kind(heard: WordSet, core: &SiteCore) -> Option<EventKind>
         return Some(EventKind::Take(i));
     }
     core.next_event()
+}
+
+/// The `n`-th event that the site may do now, in the fixed order, from 0. A letter lies in the link to it at just the places in
+/// `heard`.
+pub(crate) fn nth_kind(heard: WordSet, core: &SiteCore, n: u32) -> Option<EventKind>
+    ensures { result ≡ option_or (option_map EventKind.Take (nth_position (λ is_in. is_in) n heard)) (slice_get (own_kinds_now core.now) (n - count_by (λ is_in. is_in) heard)) }
+{
+    if let Some(i) = heard.nth(n) {
+        return Some(EventKind::Take(i));
+    }
+    core.own_event(n - heard.len())
 }
 
 /// Whether the site may do that now, with these letters in the links.

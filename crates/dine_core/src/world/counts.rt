@@ -5,6 +5,7 @@ use super::World;
 
 impl World {
     ghost use Rattle.dine_rules.specs.World.{events_at, is_enabled};
+    ghost use Rattle.dine_core.specs.Counts.{kinds_now_at};
     ghost use Rattle.dine_core.specs.Worlds.{ForEachWorld};
 
     /// Counts anew the events of the sites whose counts may be wrong. To its callers the world is as it was.
@@ -43,5 +44,16 @@ impl World {
         } else {
             self.counts[site as usize]
         }
+    }
+
+    // The same, counted: the places with a letter, and what the site may do by itself.
+    fn count_at(&self, site: u32) -> u32
+        requires { site < length self.now.sites }
+        ensures kinds { result ≡ length (kinds_now_at self.now site) }
+        ensures few { result ≤ 2563 }
+    {
+        let heard = self.heard[site as usize];
+        let world_site = &self.sites[site as usize];
+        heard.len() + world_site.core.count_own()
     }
 }

@@ -185,7 +185,7 @@ fn run_alike(rt: &impl Abort, trial: &Trial, mut chooser: Chooser) {
     end_both(rt, &model, world);
 }
 
-// A run of drawn events to the end, with the enabled events and the first of them compared after every event.
+// A run of drawn events to the end, each replayed alone, with the enabled events and the first of them compared after every event.
 fn run_far(rt: &impl Abort, trial: &Trial, seed: u32) {
     let (mut model, mut world) = (model_of(rt, trial), world_of(rt, trial));
     let mut chooser = Chooser::Drawn(seed);
@@ -193,10 +193,12 @@ fn run_far(rt: &impl Abort, trial: &Trial, seed: u32) {
         let enabled = model.enabled();
         same_events(rt, enabled.as_slice(), &world);
         assert_eq!(rt; world.first(), enabled.first().copied());
-        let Some(event) = world.enabled(chooser.next(world.count())) else {
+        let choice = chooser.next(enabled.len() as u32);
+        let Some(event) = enabled.get(choice as usize).copied() else {
             break;
         };
-        step_both(rt, &mut model, &mut world, event);
+        assert_eq!(rt; world.replay([choice].as_slice()), 1);
+        model.step(event);
     }
     end_both(rt, &model, world);
 }

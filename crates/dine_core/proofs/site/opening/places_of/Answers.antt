@@ -1,5 +1,4 @@
-use Rattle.std.proofs.Common.{◌<◌, ◌≤◌, ℕ, List, length, take, ap, subst, arith}
-use Rattle.std.specs.List.Sorted.{IsStrictlyIncreasing}
+use Rattle.std.proofs.Common.{◌<◌, ◌≤◌, ℕ, List, length, take, ap, arith}
 use Rattle.std.proofs.lemmas.List.{length-map, length-take-le}
 use Rattle.dine_rules.specs.declared.phase.Phase.TheVariants.{Thinking}
 use Rattle.dine_rules.specs.Local.{no_traffic}

@@ -1,42 +1,31 @@
-use Rattle.std.proofs.Common.{◌≡◌, ◌+◌, ◌*◌, List, length, slice_get, refl, arith, ap, sym, ◌∙◌}
-use Rattle.std.proofs.lemmas.List.{length-map}
-use Rattle.dine_rules.specs.declared.events.Event.{Event}
+use Rattle.std.proofs.Common.{◌≡◌, ◌+◌, ◌<◌, Bool, Some, [], length, get_or, slice_get, count_by, sym, ◌∙◌, ap, ap₂, arith}
+use Rattle.std.proofs.lemmas.Option.{get_or_from_slice_get, slice_get-get_or}
+use Rattle.dine_core.specs.declared.world.sites.WorldSite.{WorldSite}
 use Rattle.dine_core.specs.Counts.{kinds_now_at}
-use Rattle.dine_core.specs.Worlds.{can_happen}
-use Rattle.dine_rules.proofs.KindNumbers.{choices, passed, passed_all, passed_none, passed_one}
-use Rattle.dine_core.proofs.Counts.{choices_now}
-use Rattle.dine_core.proofs.EnabledEvents.{enabled_at}
-use Rattle.dine_core.proofs.FirstEvents.{event_of}
+use Rattle.dine_core.specs.WorldFields.{seen_world}
+use Rattle.dine_core.specs.Worlds.{SeenWorld}
+use Rattle.dine_core.proofs.Counts.{count_few}
+use Rattle.dine_core.proofs.KindsNow.{count_spelled}
 use Rattle.dine_core.proofs.world.World.count_at.Goals as goal
-use Rattle.dine_core.proofs.world.World.count_at.Goals.{then-can_happen, else-can_happen}
-
-pub loop-number-preserved : goal.loop-number-preserved
-loop-number-preserved c =
-    let seen = c.args.self.now in
-    elim c.if-can_happen.branch [
-      | then-can_happen w ↦
-          let one = passed_one (can_happen seen) c.args.site c.degree_of-degree.result c.loop-number.number c.kind_of-kind.result c.kind_of-kind.ensures (sym c.can_happen.ensures ∙ w.if-can_happen.true) in
-          record { counted = omega (arith, one, w.count-is); few = omega (arith, w.count-is) }
-      | else-can_happen w ↦
-          let none = passed_none (can_happen seen) c.args.site c.degree_of-degree.result c.loop-number.number c.kind_of-kind.result c.kind_of-kind.ensures (sym c.can_happen.ensures ∙ w.if-can_happen.false) in
-          record { counted = omega (arith, none, w.count-is); few = omega (arith, w.count-is) }
-    ]
 
 pub returns-clause-kinds : goal.returns-clause-kinds
 returns-clause-kinds c =
-    let seen = c.args.self.now in
-    let all : c.loop-number.number ≡ 5 * c.degree_of-degree.result + 3 = omega arith in
-    c.loop-number.invariant.counted
-    ∙ ap (passed (can_happen seen) (choices c.args.site c.degree_of-degree.result)) all
-    ∙ passed_all (can_happen seen) c.args.site c.degree_of-degree.result
-    ∙ ap (λ (l : List Event). length l) (choices_now seen c.args.site c.degree_of-degree.result (slice_get seen.sites c.args.site) refl c.degree_of-degree.ensures.places)
-    ∙ length-map (kinds_now_at seen c.args.site) (event_of c.args.site)
+    let seen = seen_world c.self.inside in
+    let kept = c.self.invariant in
+    let s = c.args.site in
+    let within : s < length seen.sites = omega (arith, c.requires, ap (λ (w : SeenWorld). length w.sites) c.self.view_is) in
+    let world_site = c.index-world_site.result.now in
+    let found : slice_get seen.sites s ≡ Some world_site = slice_get-get_or seen.sites s world_site within ∙ ap (λ (x : WorldSite). Some x) (sym c.index-world_site.ensures) in
+    let heard = c.self.inside.heard.items in
+    let r = c.index.result.now in
+    let row : r ≡ get_or heard s [] = c.index.ensures ∙ sym (get_or_from_slice_get heard s (get_or heard s r) [] (slice_get-get_or heard s r (omega (arith, within, kept.heard.every_site)))) in
+    ap₂ (λ x y. x + y) (c.len.ensures.value ∙ ap (count_by (λ (b : Bool). b)) row) c.count_own.ensures.count
+    ∙ sym (count_spelled kept.plan kept.state seen kept.stands heard kept.heard s world_site found)
+    ∙ ap (λ (w : SeenWorld). length (kinds_now_at w s)) c.self.view_is
 
-pub returns-clause-count : goal.returns-clause-count
-returns-clause-count c plan world is =
-    let seen = c.args.self.now in
-    let all : c.loop-number.number ≡ 5 * c.degree_of-degree.result + 3 = omega arith in
-    c.loop-number.invariant.counted
-    ∙ ap (passed (can_happen seen) (choices c.args.site c.degree_of-degree.result)) all
-    ∙ passed_all (can_happen seen) c.args.site c.degree_of-degree.result
-    ∙ ap (λ (l : List Event). length l) (enabled_at plan world seen is c.args.site c.degree_of-degree.result (c.degree_of-degree.ensures.edges plan world is))
+pub returns-clause-few : goal.returns-clause-few
+returns-clause-few c =
+    let seen = seen_world c.self.inside in
+    let kept = c.self.invariant in
+    let within : c.args.site < length seen.sites = omega (arith, c.requires, ap (λ (w : SeenWorld). length w.sites) c.self.view_is) in
+    omega (arith, returns-clause-kinds c, ap (λ (w : SeenWorld). length (kinds_now_at w c.args.site)) c.self.view_is, count_few kept.plan kept.state seen kept.stands c.args.site within)

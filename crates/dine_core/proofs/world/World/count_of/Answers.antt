@@ -1,9 +1,11 @@
-use Rattle.std.proofs.Common.{◌≡◌, ◌<◌, false, Some, slice_get, length, get_or, sym, ◌∙◌, ap, subst, arith}
-use Rattle.dine_core.specs.Counts.{kinds_now_at}
+use Rattle.std.proofs.Common.{◌≡◌, ◌<◌, false, Some, slice_get, length, sym, ◌∙◌, ap, subst, arith}
 use Rattle.dine_core.specs.WorldFields.{seen_world}
 use Rattle.dine_core.specs.Worlds.{IsWorldOf, SeenWorld}
 use Rattle.dine_core.proofs.Counts.{count_few, count_is, kept_count}
 use Rattle.dine_core.proofs.world.World.count_of.Goals as goal
+
+pub returns-then-has-clause-count : goal.returns-then-has-clause-count
+returns-then-has-clause-count c plan world is = c.count_at.ensures.kinds ∙ count_is plan world c.args.self.now is c.args.site c.requires
 
 pub returns-else-has-clause-count : goal.returns-else-has-clause-count
 returns-else-has-clause-count c plan world is =

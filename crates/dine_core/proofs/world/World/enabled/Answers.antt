@@ -2,17 +2,19 @@ use Rattle.std.proofs.Common.{◌≡◌, length, slice_get, arith, ap, sym, ◌�
 use Rattle.std.proofs.lemmas.Option.{slice_get_past}
 use Rattle.dine_plan.specs.Plan.{site_count}
 use Rattle.dine_rules.specs.World.{enabled_events, events_at, is_enabled}
-use Rattle.dine_rules.proofs.KindNumbers.{found_at, more_sites, of_sites}
+use Rattle.dine_rules.proofs.KindNumbers.{more_sites, of_sites}
+use Rattle.dine_core.proofs.Counts.{event_behind}
 use Rattle.dine_core.proofs.world.World.enabled.Goals as goal
 
-pub returns-in-Found : goal.returns-in-Found
-returns-in-Found c plan world is =
-    sym (ap (slice_get (enabled_events plan world)) (sym (c.loop-site.invariant plan world is))
-    ∙ found_at (is_enabled plan world) (events_at plan) c.loop-site.site (site_count plan) c.loop-site.left c.in-Found.event (omega (arith, is.sites.count)) (c.in-Found.ensures plan world is))
+pub returns-then-left-count : goal.returns-then-left-count
+returns-then-left-count c plan world is =
+    c.event_at.ensures plan world is
+    ∙ sym (event_behind (is_enabled plan world) (events_at plan) c.loop-site.site (site_count plan) c.loop-site.left (omega (arith, is.sites.count)) (omega (arith, c.if-left-count.true, c.count_of-count.ensures.count plan world is)))
+    ∙ ap (slice_get (enabled_events plan world)) (c.loop-site.invariant plan world is)
 
 pub loop-site-preserved : goal.loop-site-preserved
 loop-site-preserved c plan world is =
-    omega (arith, c.loop-site.invariant plan world is, c.in-Passed.ensures plan world is, more_sites (is_enabled plan world) (events_at plan) c.loop-site.site)
+    omega (arith, c.loop-site.invariant plan world is, c.if-left-count.false, c.count_of-count.ensures.count plan world is, more_sites (is_enabled plan world) (events_at plan) c.loop-site.site)
 
 pub returns : goal.returns
 returns c plan world is =
