@@ -171,7 +171,7 @@ impl MarkedPlaces {
         ensures away { self.new ≡ slice_set self.old i (with_fork ForkSlot.Away (slice_index_or self.old i no_place)) }
     {
         self.away.insert(i);
-        self.dirty.remove(i);
+        self.dirty.remove(i); // It goes out clean.
         self.items[i as usize].give(site)
     }
 
