@@ -1,7 +1,7 @@
 use Rattle.std.proofs.Common.{◌≡◌, ◌≤◌, length, ap, subst, vec_items, arith}
 use Rattle.dine_plan.specs.Plan.{job_count}
 use Rattle.dine_run.specs.CallLogs.{SeenCallLog}
-use Rattle.dine_run.specs.declared.tests.diners.Taster.{Taster}
+use Rattle.dine_tests.specs.declared.sites.diners.Taster.{Taster}
 use Rattle.dine_run.proofs.Collected.{each_more, each_of_none}
 use Rattle.dine_tests.proofs.sites.diners.tasters.Goals as goal
 

@@ -1,7 +1,7 @@
 use Rattle.std.proofs.Common.{◌≡◌, ◌≤◌, length, ap, subst, vec_items, arith}
 use Rattle.dine_plan.specs.Plan.{job_count}
 use Rattle.dine_run.specs.CallLogs.{SeenCallLog}
-use Rattle.dine_run.specs.declared.tests.diners.Waiter.{Waiter}
+use Rattle.dine_tests.specs.declared.sites.diners.Waiter.{Waiter}
 use Rattle.dine_run.proofs.Collected.{each_more, each_of_none}
 use Rattle.dine_tests.proofs.sites.diners.waiters.Goals as goal
 
