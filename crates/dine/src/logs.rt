@@ -3,14 +3,15 @@
 ghost use Rattle.std.specs.Prelude.{◌≡◌, ◌+◌, ◌≤◌, ◌∷◌, ◌++◌, codes, string_bytes, IfOk, OnOk};
 ghost use Rattle.dine_token.specs.declared.entry.Entry.TheVariants.{Move};
 ghost use Rattle.dine_token.specs.Periods.{meals_in};
+ghost use Rattle.std.specs.Fmt.{decimal};
 ghost use Rattle.dine_plan.specs.Plan.{name_of};
 ghost use Rattle.dine_core.specs.World.{WorldState};
 ghost use Rattle.dine_core.specs.Worlds.{IsWorldOf, IsOpenedFor};
-ghost use Rattle.dine.specs.Logs.{edge_line, edge_lines, entries_text, entry_text, events_line, separator, world_text};
+ghost use Rattle.dine.specs.Logs.{edge_line, edge_lines, entries_text, events_line, separator, world_text};
 
 use dine_core::World;
 use dine_plan::Plan;
-use dine_token::{Entry, Fork, Period};
+use dine_token::{Fork, Period};
 use std::alloc::{AllocError, Global};
 
 #[cfg(test)]
@@ -58,16 +59,6 @@ fn name_of(plan: &Plan, site: u32) -> &str
     }
 }
 
-// Adds the entry to the text.
-fn push_entry(text: &mut String, plan: &Plan, entry: Entry) -> Result<(), AllocError>
-    ensures { OnOk result (string_bytes text.new ≡ string_bytes text.old ++ entry_text (name_of plan.now) entry) }
-{
-    match entry {
-        Entry::Meal { site, k } => write!(text, "{}#{k}", name_of(plan, site)),
-        Entry::Move { to } => write!(text, "to {}", name_of(plan, to)),
-    }
-}
-
 // What stands before an entry.
 fn separator(is_first: bool) -> &'static str
     ensures { result.now ≡ separator is_first }
@@ -75,12 +66,22 @@ fn separator(is_first: bool) -> &'static str
     if is_first { " " } else { ", " }
 }
 
-// Adds the entry to the text, which is the first of its line or not.
-fn push_next(text: &mut String, plan: &Plan, is_first: bool, entry: Entry) -> Result<(), AllocError>
-    ensures { OnOk result (string_bytes text.new ≡ string_bytes text.old ++ (separator is_first ++ entry_text (name_of plan.now) entry)) }
+// Adds meal `k` of the site with this name to the text, as the first entry of its line or not.
+fn push_meal(text: &mut String, is_first: bool, name: &str, k: u32) -> Result<(), AllocError>
+    ensures { OnOk result (string_bytes text.new ≡ string_bytes text.old ++ (separator is_first ++ (name.now ++ codes "#" ++ decimal k))) }
 {
     text.push_str(separator(is_first))?;
-    push_entry(text, plan, entry)
+    text.push_str(name)?;
+    write!(text, "#{k}")
+}
+
+// Adds the Move to the site with this name to the text, as the first entry of its line or not.
+fn push_move(text: &mut String, is_first: bool, name: &str) -> Result<(), AllocError>
+    ensures { OnOk result (string_bytes text.new ≡ string_bytes text.old ++ (separator is_first ++ (codes "to " ++ name.now))) }
+{
+    text.push_str(separator(is_first))?;
+    text.push_str("to ")?;
+    text.push_str(name)
 }
 
 // Adds the meals of the period to the text.
@@ -93,13 +94,10 @@ fn push_meals(
     requires { period.first + period.count ≤ 1001 }
     ensures { OnOk result (string_bytes text.new ≡ string_bytes text.old ++ entries_text (name_of plan.now) (separator is_first) (meals_in period)) }
 {
+    let name = name_of(plan, period.site);
     let mut is_first = is_first;
     for i in 0..period.count {
-        let meal = Entry::Meal {
-            site: period.site,
-            k: period.first + i,
-        };
-        push_next(text, plan, is_first, meal)?;
+        push_meal(text, is_first, name, period.first + i)?;
         is_first = false;
     }
     Ok(())
@@ -115,8 +113,7 @@ fn push_moved(
     requires { period.first + period.count ≤ 1001 }
     ensures { OnOk result (string_bytes text.new ≡ string_bytes text.old ++ entries_text (name_of plan.now) (separator is_first) (Move period.site ∷ meals_in period)) }
 {
-    let to = period.site;
-    push_next(text, plan, is_first, Entry::Move { to })?;
+    push_move(text, is_first, name_of(plan, period.site))?;
     push_meals(text, plan, false, period)
 }
 
