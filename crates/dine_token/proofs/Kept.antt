@@ -1,5 +1,5 @@
 -- The periods and the counts that a Fork keeps stay those of its log.
-use Rattle.std.proofs.Common.{◌≡◌, ◌⊎◌, ℕ, ◌+◌, ◌<◌, ◌≤◌, true, false, List, [], ◌∷◌, ◌++◌, length, get_or, set, sym, ◌∙◌, ap, subst, inl, inr, arith, vec_capacity}
+use Rattle.std.proofs.Common.{◌≡◌, ◌⊎◌, ℕ, ◌+◌, ◌-◌, ◌<◌, ◌≤◌, true, false, List, [], ◌∷◌, ◌++◌, length, get_or, set, sym, ◌∙◌, ap, subst, inl, inr, arith, vec_capacity}
 use Rattle.dine_token.specs.declared.entry.Entry.{Entry}
 use Rattle.dine_token.specs.declared.entry.Entry.TheVariants.{Meal, Move}
 use Rattle.dine_token.specs.declared.fork.Fork.TheInside.{Inside}
@@ -11,7 +11,7 @@ use Rattle.dine_token.specs.Fork.{SeenFork, IsFork, MayMove, MayEat, moved, eate
 use Rattle.dine_token.specs.Fields.{seen, IsKept}
 use Rattle.dine_token.proofs.Logs.{is_dirty-push_meal, is_dirty-push_move, location_of-push_meal, location_of-push_move, meals_of-push_own, meals_of-push_other, meals_of-push_move}
 use Rattle.dine_token.proofs.Lawfulness.{IsLawful-none}
-use Rattle.dine_token.proofs.Periods.{period, one_more, last_one_more, last_one_more-append, set-last, periods_of-push_move, periods_of-push_meal, entries_of-opened, entries_of-one_more}
+use Rattle.dine_token.proofs.Periods.{period, length-periods_of, one_more, last_one_more, last_one_more-append, set-last, periods_of-push_move, periods_of-push_meal, entries_of-opened, entries_of-one_more}
 use Rattle.dine_token.proofs.Forks.{IsFork-moved, IsFork-eaten, IsEnd-location, told_fork}
 
 -- a fork that was just opened
@@ -42,12 +42,12 @@ log_moved fork to first kept =
     ∙ ap (λ (l : List Period). entries_of l ++ Move to ∷ []) (sym is)
 
 -- the last period got one more
-pub more_items : (items old : List Period) (n : ℕ) (last : Period) → items ≡ old → last ≡ get_or items n last → n + 1 ≡ length old → set items n (one_more last) ≡ last_one_more old
+more_items : (items old : List Period) (n : ℕ) (last : Period) → items ≡ old → last ≡ get_or items n last → n + 1 ≡ length old → set items n (one_more last) ≡ last_one_more old
 more_items items old n last same is at =
     ap (λ (p : Period). set items n (one_more p)) is ∙ set-last items n last (at ∙ ap length (sym same)) ∙ ap last_one_more same
 
 -- one more in the last period adds the meal to the log
-pub log_eaten : (fork : Inside) (site k : ℕ) → IsKept fork → MayEat site k (seen fork) → entries_of (last_one_more fork.periods.items) ≡ entries_of fork.periods.items ++ Meal site k ∷ []
+log_eaten : (fork : Inside) (site k : ℕ) → IsKept fork → MayEat site k (seen fork) → entries_of (last_one_more fork.periods.items) ≡ entries_of fork.periods.items ++ Meal site k ∷ []
 log_eaten fork site k kept may =
     let told = told_fork (seen fork) kept.proper in
     let is = kept.periods ∙ told.is in
@@ -56,6 +56,14 @@ log_eaten fork site k kept may =
     ap (λ (l : List Period). entries_of (last_one_more l)) is ∙ ap entries_of (last_one_more-append told.front told.last) ∙ entries_of-one_more told.front told.last
     ∙ ap (λ (l : List Period). entries_of l ++ Meal told.last.site (told.last.first + told.last.count) ∷ []) (sym is)
     ∙ ap (λ (e : ℕ). entries_of fork.periods.items ++ Meal e (told.last.first + told.last.count) ∷ []) eater ∙ ap (λ (j : ℕ). entries_of fork.periods.items ++ Meal site j ∷ []) number
+
+-- a meal is one more of the last period that a fork keeps, and adds the meal to the log
+pub items_eaten : (fork : Inside) (items : List Period) (len : ℕ) (last : Period) (site k : ℕ) → IsKept fork → MayEat site k (seen fork) → items ≡ fork.periods.items → last ≡ get_or items (len - 1) last → len ≡ length items
+    → (set items (len - 1) (one_more last) ≡ last_one_more fork.periods.items) × (entries_of (set items (len - 1) (one_more last)) ≡ entries_of fork.periods.items ++ Meal site k ∷ [])
+items_eaten fork items len last site k kept may same is count =
+    let some : len - 1 + 1 ≡ length fork.periods.items = omega (arith, length-periods_of (seen fork).ends.0 (seen fork).log, ap length kept.periods, ap length same, count) in
+    let more = more_items items fork.periods.items (len - 1) last same is some in
+    (more, ap entries_of more ∙ log_eaten fork site k kept may)
 
 -- the fork moved
 pub kept_moved : (old new : Inside) (to : ℕ) → IsKept old → MayMove to (seen old) → seen new ≡ moved to (seen old)

@@ -10,7 +10,7 @@ use Rattle.dine_token.specs.Fork.{SeenFork, MayEat, eaten}
 use Rattle.dine_token.specs.Fields.{seen}
 use Rattle.dine_token.proofs.Periods.{length-periods_of}
 use Rattle.dine_token.proofs.Forks.{periods_small}
-use Rattle.dine_token.proofs.Kept.{kept_eaten, log_eaten, more_items}
+use Rattle.dine_token.proofs.Kept.{kept_eaten, items_eaten}
 use Rattle.dine_token.proofs.fork.Fork.eat.Goals as goal
 use Rattle.dine_token.proofs.fork.Fork.eat.Goals.{then-site-self, else-site-self}
 
@@ -41,21 +41,19 @@ invariant_of-self c =
       | then-site-self w ↦ ap (λ (f : Inside). f.periods.items) w.self-inside-is
       | else-site-self w ↦ ap (λ (f : Inside). f.periods.items) w.self-inside-is
     ] in
-    let at : c.len-last.result - 1 + 1 ≡ length old.periods.items = omega (arith, length-periods_of fork.ends.0 fork.log, ap length same, ap length c.self.invariant.periods, c.len-last.ensures, c.if-site-self.self-inside.periods.ok.0) in
-    let more = more_items items old.periods.items (c.len-last.result - 1) c.index_mut.result.now same c.index_mut.ensures.value at in
-    let told = ap entries_of more ∙ log_eaten old c.args.site c.args.k c.self.invariant may in
+    let kept = items_eaten old items c.len-last.result c.index_mut.result.now c.args.site c.args.k c.self.invariant may same c.index_mut.ensures.value (omega (arith, c.len-last.ensures, c.if-site-self.self-inside.periods.ok.0)) in
     elim c.if-site-self.branch [
       | then-site-self w ↦
           let is = w.self-inside-is in
           kept_eaten old _ c.args.site c.args.k c.self.invariant may
-          (ap (λ (log : List Entry). record (seen c.if-site-self.self-inside) { log = log }) told ∙ ap (λ (f : Inside). eaten c.args.site c.args.k (record (seen f) { log = entries_of old.periods.items })) is)
-          (ap (λ (f : Inside). f.location) is) (ap (λ (f : Inside). f.dirty) is) more (ap (λ (f : Inside). vec_capacity f.periods) is)
+          (ap (λ (log : List Entry). record (seen c.if-site-self.self-inside) { log = log }) kept.1 ∙ ap (λ (f : Inside). eaten c.args.site c.args.k (record (seen f) { log = entries_of old.periods.items })) is)
+          (ap (λ (f : Inside). f.location) is) (ap (λ (f : Inside). f.dirty) is) kept.0 (ap (λ (f : Inside). vec_capacity f.periods) is)
           (inl (w.if-site-self.true, ap (λ (f : Inside). f.lower_meals) is, ap (λ (f : Inside). f.higher_meals) is))
       | else-site-self w ↦
           let is = w.self-inside-is in
           kept_eaten old _ c.args.site c.args.k c.self.invariant may
-          (ap (λ (log : List Entry). record (seen c.if-site-self.self-inside) { log = log }) told ∙ ap (λ (f : Inside). eaten c.args.site c.args.k (record (seen f) { log = entries_of old.periods.items })) is)
-          (ap (λ (f : Inside). f.location) is) (ap (λ (f : Inside). f.dirty) is) more (ap (λ (f : Inside). vec_capacity f.periods) is)
+          (ap (λ (log : List Entry). record (seen c.if-site-self.self-inside) { log = log }) kept.1 ∙ ap (λ (f : Inside). eaten c.args.site c.args.k (record (seen f) { log = entries_of old.periods.items })) is)
+          (ap (λ (f : Inside). f.location) is) (ap (λ (f : Inside). f.dirty) is) kept.0 (ap (λ (f : Inside). vec_capacity f.periods) is)
           (inr (w.if-site-self.false, ap (λ (f : Inside). f.lower_meals) is, ap (λ (f : Inside). f.higher_meals) is))
     ]
 
@@ -73,10 +71,8 @@ returns-clause-eaten c =
       | then-site-self w ↦ ap (λ (f : Inside). f.periods.items) w.self-inside-is
       | else-site-self w ↦ ap (λ (f : Inside). f.periods.items) w.self-inside-is
     ] in
-    let at : c.len-last.result - 1 + 1 ≡ length old.periods.items = omega (arith, length-periods_of fork.ends.0 fork.log, ap length same_items, ap length c.self.invariant.periods, c.len-last.ensures, c.if-site-self.self-inside.periods.ok.0) in
-    let more = more_items items old.periods.items (c.len-last.result - 1) c.index_mut.result.now same_items c.index_mut.ensures.value at in
-    let told = ap entries_of more ∙ log_eaten old c.args.site c.args.k c.self.invariant may in
-    ap (λ (log : List Entry). record (seen c.if-site-self.self-inside) { log = log }) told ∙ ap (λ (f : SeenFork). record f { log = fork.log ++ Meal c.args.site c.args.k ∷ [] }) same
+    let kept = items_eaten old items c.len-last.result c.index_mut.result.now c.args.site c.args.k c.self.invariant may same_items c.index_mut.ensures.value (omega (arith, c.len-last.ensures, c.if-site-self.self-inside.periods.ok.0)) in
+    ap (λ (log : List Entry). record (seen c.if-site-self.self-inside) { log = log }) kept.1 ∙ ap (λ (f : SeenFork). record f { log = fork.log ++ Meal c.args.site c.args.k ∷ [] }) same
     ∙ ap (eaten c.args.site c.args.k) c.self.view_is
 
 pub returns-clause-proper : goal.returns-clause-proper
