@@ -1,11 +1,10 @@
 -- The sets that a site keeps of its places, through each change of a place.
-use Rattle.std.proofs.Common.{◌≡◌, ℕ, zero, suc, ◌+◌, ◌-◌, ◌<◌, ◌≤◌, ◌&&◌, ◌||◌, not, Bool, true, false, cond, is_none, position, List, [], ◌∷◌, ◌++◌, length, map, replicate, set, take, get_or, Some, None, Option, refl, sym, ◌∙◌, ap, ap₂, arith}
+use Rattle.std.proofs.Common.{◌≡◌, ℕ, zero, suc, ◌+◌, ◌-◌, ◌<◌, ◌≤◌, ◌&&◌, ◌||◌, not, Bool, true, false, cond, is_none, position, List, [], ◌∷◌, ◌++◌, length, map, replicate, set, get_or, Some, None, Option, refl, sym, ◌∙◌, ap, ap₂, arith}
 use Rattle.std.specs.List.{All, list_all}
 use Rattle.std.specs.Option.{option_map}
-use Rattle.std.proofs.lemmas.List.{length-take-le, take_more}
 use Rattle.dine_token.specs.Fork.{SeenFork}
 use Rattle.dine_set.specs.Marks.{marks_of, marks_without, nth_position}
-use Rattle.dine_set.proofs.MarksOf.{without-marks_of, marks_of-agree, marks_of-set, marks_of-push, marks_of-same, marks_of-none, marks_of-map}
+use Rattle.dine_set.proofs.MarksOf.{without-marks_of, marks_of-agree, marks_of-set, marks_of-same, marks_of-none, marks_of-map}
 use Rattle.dine_set.proofs.NthPosition.{nth_position-zero}
 use Rattle.dine_core.specs.declared.site.places.Place.{Place}
 use Rattle.dine_core.specs.declared.site.places.ForkSlot.{ForkSlot}
@@ -104,15 +103,6 @@ all_ready (x ∷ xs) =
 
 pub ready_by_sets : (xs : List Place) → (is_none (position is_away_at xs) && is_none (position (λ place. is_dirty_at place && has_token_at place) xs)) ≡ list_all is_ready_at xs
 ready_by_sets xs = ap₂ (λ (a b : Bool). a && b) (none_of_all is_away_at xs) (none_of_all (λ place. is_dirty_at place && has_token_at place) xs) ∙ all_ready xs
-
--- the marks of one place more
-pub marks_of-more : (test : Place → Bool) (xs : List Place) (i : ℕ) (past : Place) → i < length xs → length xs ≤ 64
-    → set (marks_of test (take i xs)) i (test (get_or xs i past)) ≡ marks_of test (take (i + 1) xs)
-marks_of-more test xs i past within few =
-    let size : length (take i xs) ≡ i = length-take-le i xs (omega arith) in
-    ap (λ (n : ℕ). set (marks_of test (take i xs)) n (test (get_or xs i past))) (sym size)
-    ∙ sym (marks_of-push test (take i xs) (get_or xs i past) (omega (arith, size)))
-    ∙ ap (marks_of test) (sym (take_more xs i past within))
 
 -- Done may be said where it is not put, of the places where Close is not
 swapped : (a b : Bool) → (a && not b) ≡ (not b && a)

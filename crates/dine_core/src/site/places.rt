@@ -71,7 +71,7 @@ impl ForkSlot {
 }
 
 impl Place {
-    ghost use Rattle.dine_core.specs.Places.{neighbour_of, due_of_neighbour, is_held, is_dirty_in_hand, meals_in, has_all, is_ready_at, can_give_at, is_own_fork, breach_of_request, breach_of_fork, breach_of_done, breach_of_close, breach_at, lifted, opened, is_over_at, hand_of, fork_in_hand, EndsOf, OnHere, with_fork};
+    ghost use Rattle.dine_core.specs.Places.{neighbour_of, due_of_neighbour, is_held, is_dirty_in_hand, meals_in, has_all, can_give_at, is_own_fork, breach_of_request, breach_of_fork, breach_of_done, breach_of_close, breach_at, lifted, opened, is_over_at, hand_of, fork_in_hand, EndsOf, OnHere, with_fork};
 
     /// The site at the other end.
     pub(crate) fn neighbour(&self, site: u32) -> u32
@@ -100,13 +100,6 @@ impl Place {
         ensures { result ≡ meals_in (neighbour_of site self.now) self.now.fork }
     {
         self.fork.meals_of(self.neighbour(site))
-    }
-
-    /// Whether a meal may begin as far as this place goes: the fork is here, and clean or not asked for.
-    pub(crate) fn is_ready(&self) -> bool
-        ensures { result ≡ is_ready_at self.now }
-    {
-        self.fork.is_held() && (!self.fork.is_dirty_in_hand() || !self.token.is_some())
     }
 
     /// Whether the fork is due to be sent, by the release rule.
