@@ -193,7 +193,7 @@ fn run_far(rt: &impl Abort, trial: &Trial, seed: u32) {
         let enabled = model.enabled();
         same_events(rt, enabled.as_slice(), &world);
         assert_eq!(rt; world.first(), enabled.first().copied());
-        let choice = chooser.next(enabled.len() as u32);
+        let choice = chooser.next(world.count());
         let Some(event) = enabled.get(choice as usize).copied() else {
             break;
         };
