@@ -2,26 +2,26 @@
 use Rattle.std.proofs.Common.{◌≡◌, ◌⊎◌, ℕ, ◌+◌, ◌-◌, ◌<◌, ◌≤◌, true, false, List, [], ◌∷◌, ◌++◌, length, get_or, set, sym, ◌∙◌, ap, subst, inl, inr, arith, vec_capacity}
 use Rattle.dine_token.specs.declared.entry.Entry.{Entry}
 use Rattle.dine_token.specs.declared.entry.Entry.TheVariants.{Meal, Move}
-use Rattle.dine_token.specs.declared.fork.Fork.TheInside.{Inside}
+use Rattle.dine_token.specs.declared.fork.Kept.{Kept}
 use Rattle.dine_token.specs.declared.period.Period.{Period}
 use Rattle.dine_token.specs.Log.{is_dirty, location_of, meals_of}
 use Rattle.dine_token.specs.Lawful.{IsLawful}
 use Rattle.dine_token.specs.Periods.{periods_of, entries_of}
 use Rattle.dine_token.specs.Fork.{SeenFork, IsFork, MayMove, MayEat, moved, eaten}
-use Rattle.dine_token.specs.Fields.{seen, IsKept}
+use Rattle.dine_token.specs.Fields.{seen_kept, IsKept}
 use Rattle.dine_token.proofs.Logs.{is_dirty-push_meal, is_dirty-push_move, location_of-push_meal, location_of-push_move, meals_of-push_own, meals_of-push_other, meals_of-push_move}
 use Rattle.dine_token.proofs.Lawfulness.{IsLawful-none}
 use Rattle.dine_token.proofs.Periods.{period, length-periods_of, one_more, last_one_more, last_one_more-append, set-last, periods_of-push_move, periods_of-push_meal, entries_of-opened, entries_of-one_more}
 use Rattle.dine_token.proofs.Forks.{IsFork-moved, IsFork-eaten, IsEnd-location, told_fork}
 
 -- a fork that was just opened
-pub kept_opened : (fork : Inside) → fork.periods.items ≡ period fork.lower 1 0 ∷ [] → fork.lower < fork.higher → fork.lower_due ≤ 1000 → fork.higher_due ≤ 1000
+pub kept_opened : (fork : Kept) → fork.periods.items ≡ period fork.lower 1 0 ∷ [] → fork.lower < fork.higher → fork.lower_due ≤ 1000 → fork.higher_due ≤ 1000
     → fork.location ≡ fork.lower → fork.dirty ≡ true → fork.lower_meals ≡ 0 → fork.higher_meals ≡ 0 → fork.lower_due + fork.higher_due + 1 ≤ vec_capacity fork.periods
     → IsKept fork
 kept_opened fork is ordered lower_due higher_due there dirty lower_none higher_none room =
     let none : [] ≡ entries_of fork.periods.items = sym (ap entries_of is) in
-    let ends = (seen fork).ends in
-    let due = (seen fork).due in
+    let ends = (seen_kept fork).ends in
+    let due = (seen_kept fork).due in
     let P : List Entry → Type 0 = λ l. IsLawful ends due l in
     record {
       proper = record { ordered = ordered; lower_due = lower_due; higher_due = higher_due; lawful = subst P none (IsLawful-none ends due) };
@@ -34,9 +34,9 @@ kept_opened fork is ordered lower_due higher_due there dirty lower_none higher_n
     }
 
 -- a period that a Move opens adds the Move to the log
-pub log_moved : (fork : Inside) (to first : ℕ) → IsKept fork → entries_of (fork.periods.items ++ period to first 0 ∷ []) ≡ entries_of fork.periods.items ++ Move to ∷ []
+pub log_moved : (fork : Kept) (to first : ℕ) → IsKept fork → entries_of (fork.periods.items ++ period to first 0 ∷ []) ≡ entries_of fork.periods.items ++ Move to ∷ []
 log_moved fork to first kept =
-    let told = told_fork (seen fork) kept.proper in
+    let told = told_fork (seen_kept fork) kept.proper in
     let is = kept.periods ∙ told.is in
     ap (λ (l : List Period). entries_of (l ++ period to first 0 ∷ [])) is ∙ entries_of-opened told.front told.last to first
     ∙ ap (λ (l : List Period). entries_of l ++ Move to ∷ []) (sym is)
@@ -47,27 +47,27 @@ more_items items old n last same is at =
     ap (λ (p : Period). set items n (one_more p)) is ∙ set-last items n last (at ∙ ap length (sym same)) ∙ ap last_one_more same
 
 -- one more in the last period adds the meal to the log
-log_eaten : (fork : Inside) (site k : ℕ) → IsKept fork → MayEat site k (seen fork) → entries_of (last_one_more fork.periods.items) ≡ entries_of fork.periods.items ++ Meal site k ∷ []
+log_eaten : (fork : Kept) (site k : ℕ) → IsKept fork → MayEat site k (seen_kept fork) → entries_of (last_one_more fork.periods.items) ≡ entries_of fork.periods.items ++ Meal site k ∷ []
 log_eaten fork site k kept may =
-    let told = told_fork (seen fork) kept.proper in
+    let told = told_fork (seen_kept fork) kept.proper in
     let is = kept.periods ∙ told.is in
     let eater : told.last.site ≡ site = told.here ∙ may.held in
-    let number : told.last.first + told.last.count ≡ k = told.next ∙ ap (λ (e : ℕ). meals_of e (seen fork).log + 1) eater ∙ may.next in
+    let number : told.last.first + told.last.count ≡ k = told.next ∙ ap (λ (e : ℕ). meals_of e (seen_kept fork).log + 1) eater ∙ may.next in
     ap (λ (l : List Period). entries_of (last_one_more l)) is ∙ ap entries_of (last_one_more-append told.front told.last) ∙ entries_of-one_more told.front told.last
     ∙ ap (λ (l : List Period). entries_of l ++ Meal told.last.site (told.last.first + told.last.count) ∷ []) (sym is)
     ∙ ap (λ (e : ℕ). entries_of fork.periods.items ++ Meal e (told.last.first + told.last.count) ∷ []) eater ∙ ap (λ (j : ℕ). entries_of fork.periods.items ++ Meal site j ∷ []) number
 
 -- a meal is one more of the last period that a fork keeps, and adds the meal to the log
-pub items_eaten : (fork : Inside) (items : List Period) (len : ℕ) (last : Period) (site k : ℕ) → IsKept fork → MayEat site k (seen fork) → items ≡ fork.periods.items → last ≡ get_or items (len - 1) last → len ≡ length items
+pub items_eaten : (fork : Kept) (items : List Period) (len : ℕ) (last : Period) (site k : ℕ) → IsKept fork → MayEat site k (seen_kept fork) → items ≡ fork.periods.items → last ≡ get_or items (len - 1) last → len ≡ length items
     → (set items (len - 1) (one_more last) ≡ last_one_more fork.periods.items) × (entries_of (set items (len - 1) (one_more last)) ≡ entries_of fork.periods.items ++ Meal site k ∷ [])
 items_eaten fork items len last site k kept may same is count =
-    let some : len - 1 + 1 ≡ length fork.periods.items = omega (arith, length-periods_of (seen fork).ends.0 (seen fork).log, ap length kept.periods, ap length same, count) in
+    let some : len - 1 + 1 ≡ length fork.periods.items = omega (arith, length-periods_of (seen_kept fork).ends.0 (seen_kept fork).log, ap length kept.periods, ap length same, count) in
     let more = more_items items fork.periods.items (len - 1) last same is some in
     (more, ap entries_of more ∙ log_eaten fork site k kept may)
 
 -- the fork moved
-pub kept_moved : (old new : Inside) (to : ℕ) → IsKept old → MayMove to (seen old) → seen new ≡ moved to (seen old)
-    → new.location ≡ to → new.dirty ≡ false → new.lower_meals ≡ old.lower_meals → new.higher_meals ≡ old.higher_meals → new.periods.items ≡ old.periods.items ++ period to (meals_of to (seen old).log + 1) 0 ∷ [] → vec_capacity new.periods ≡ vec_capacity old.periods
+pub kept_moved : (old new : Kept) (to : ℕ) → IsKept old → MayMove to (seen_kept old) → seen_kept new ≡ moved to (seen_kept old)
+    → new.location ≡ to → new.dirty ≡ false → new.lower_meals ≡ old.lower_meals → new.higher_meals ≡ old.higher_meals → new.periods.items ≡ old.periods.items ++ period to (meals_of to (seen_kept old).log + 1) 0 ∷ [] → vec_capacity new.periods ≡ vec_capacity old.periods
     → IsKept new
 kept_moved old new to kept may change there clean lower_same higher_same opened same_room =
     let log_is : entries_of new.periods.items ≡ entries_of old.periods.items ++ Move to ∷ [] = ap (λ (f : SeenFork). f.log) change in
@@ -76,7 +76,7 @@ kept_moved old new to kept may change there clean lower_same higher_same opened 
     let lower_due_is : new.lower_due ≡ old.lower_due = ap (λ (f : SeenFork). f.due.0) change in
     let higher_due_is : new.higher_due ≡ old.higher_due = ap (λ (f : SeenFork). f.due.1) change in
     record {
-      proper = subst IsFork (sym change) (IsFork-moved (seen old) to kept.proper may);
+      proper = subst IsFork (sym change) (IsFork-moved (seen_kept old) to kept.proper may);
       location = there ∙ sym (ap (λ (l : List Entry). location_of new.lower l) log_is ∙ location_of-push_move new.lower (entries_of old.periods.items) to);
       dirty = clean ∙ sym (ap is_dirty log_is ∙ is_dirty-push_move (entries_of old.periods.items) to);
       lower_meals = lower_same ∙ kept.lower_meals ∙ sym (at new.lower old.lower lower_is log_is);
@@ -90,13 +90,13 @@ kept_moved old new to kept may change there clean lower_same higher_same opened 
     at new_end old_end end_is log_is = ap (λ (l : List Entry). meals_of new_end l) log_is ∙ ap (λ (e : ℕ). meals_of e (entries_of old.periods.items ++ Move to ∷ [])) end_is ∙ meals_of-push_move old_end (entries_of old.periods.items) to
 
 -- the fork was eaten with, by one end or the other
-pub kept_eaten : (old new : Inside) (site k : ℕ) → IsKept old → MayEat site k (seen old) → seen new ≡ eaten site k (seen old)
+pub kept_eaten : (old new : Kept) (site k : ℕ) → IsKept old → MayEat site k (seen_kept old) → seen_kept new ≡ eaten site k (seen_kept old)
     → new.location ≡ old.location → new.dirty ≡ true → new.periods.items ≡ last_one_more old.periods.items → vec_capacity new.periods ≡ vec_capacity old.periods
     → ((site ≡ old.lower) × (new.lower_meals ≡ k) × (new.higher_meals ≡ old.higher_meals)) ⊎ ((site ≡ old.lower → ⊥) × (new.lower_meals ≡ old.lower_meals) × (new.higher_meals ≡ k))
     → IsKept new
 kept_eaten old new site k kept may change there dirty more same_room which =
     record {
-      proper = subst IsFork (sym change) (IsFork-eaten (seen old) site k kept.proper may);
+      proper = subst IsFork (sym change) (IsFork-eaten (seen_kept old) site k kept.proper may);
       location = there ∙ kept.location ∙ sym (ap (λ (l : List Entry). location_of new.lower l) log_is ∙ location_of-push_meal new.lower (entries_of old.periods.items) site k ∙ ap (λ (e : ℕ). location_of e (entries_of old.periods.items)) lower_is);
       dirty = dirty ∙ sym (ap is_dirty log_is ∙ is_dirty-push_meal (entries_of old.periods.items) site k);
       lower_meals = elim which [
@@ -139,7 +139,7 @@ kept_eaten old new site k kept may change there dirty more same_room which =
     other old_end new_end end_is differs = sym (after old_end new_end end_is ∙ meals_of-push_other old_end site (entries_of old.periods.items) k differs)
 
     at_higher : (site ≡ old.lower → ⊥) → site ≡ old.higher
-    at_higher not_lower = elim (IsEnd-location (seen old) kept.proper) [
+    at_higher not_lower = elim (IsEnd-location (seen_kept old) kept.proper) [
       | inl here ↦ absurd (not_lower (sym may.held ∙ here))
       | inr here ↦ sym may.held ∙ here
     ]

@@ -14,16 +14,23 @@ use std::marker::Model;
 /// Its log is lawful by the rules of Chandy and Misra's hygienic solution (ACM TOPLAS 6(4), 1984).
 #[derive(Drop)]
 pub struct Fork {
-    edge: u32,
-    lower: u32,
-    higher: u32,
-    lower_due: u32,
-    higher_due: u32,
-    location: u32,
-    dirty: bool,
-    lower_meals: u32,
-    higher_meals: u32,
-    periods: Vec<Period>,
+    // What it keeps stays where it is in memory: a fork moves four times a meal, and in each letter that brings it.
+    kept: Box<Kept>,
+}
+
+// What a fork keeps: its edge, the ends and their due meals, and the periods of its log with what they come to.
+#[derive(Drop)]
+pub(crate) struct Kept {
+    pub(crate) edge: u32,
+    pub(crate) lower: u32,
+    pub(crate) higher: u32,
+    pub(crate) lower_due: u32,
+    pub(crate) higher_due: u32,
+    pub(crate) location: u32,
+    pub(crate) dirty: bool,
+    pub(crate) lower_meals: u32,
+    pub(crate) higher_meals: u32,
+    pub(crate) periods: Vec<Period>,
 }
 
 impl Model for Fork {
@@ -31,18 +38,18 @@ impl Model for Fork {
 
     ghost Value = { SeenFork };
 
-    ghost use Rattle.dine_token.specs.Fields.{seen, IsKept};
+    ghost use Rattle.dine_token.specs.Fields.{seen, IsWellKept};
 
     ghost view = { seen };
 
-    ghost invariant = { IsKept };
+    ghost invariant = { IsWellKept };
 }
 
 impl Fork {
     /// The fork of edge `edge` between the sites `lower` and `higher`, which have so many meals due, each at most 1,000.
     /// It is at the lower end, dirty, and its log is empty.
     ///
-    /// It takes memory for each period that the log may come to, once. Fails where that is refused.
+    /// It takes memory for itself and for each period that the log may come to, once. Fails where that is refused.
     pub fn open(
         alloc: Global,
         edge: u32,
@@ -63,7 +70,7 @@ impl Fork {
             first: 1,
             count: 0,
         });
-        Ok(Fork {
+        let kept = Kept {
             edge,
             lower,
             higher,
@@ -74,14 +81,16 @@ impl Fork {
             lower_meals: 0,
             higher_meals: 0,
             periods,
-        })
+        };
+        let kept = Box::new(alloc, kept)?;
+        Ok(Fork { kept })
     }
 
     /// The number of its edge.
     pub fn edge(&self) -> u32
         ensures { result ≡ self.now.edge }
     {
-        self.edge
+        self.kept.edge
     }
 
     /// Its ends, the lower site first.
@@ -89,7 +98,7 @@ impl Fork {
         ensures ends { result ≡ self.now.ends }
         ensures proper { IsFork self.now }
     {
-        (self.lower, self.higher)
+        (self.kept.lower, self.kept.higher)
     }
 
     /// How many meals an end has due in all, at most 1,000.
@@ -98,10 +107,10 @@ impl Fork {
         ensures due { result ≡ due_at self.now.ends self.now.due end }
         ensures bound { result ≤ 1000 }
     {
-        if end == self.lower {
-            self.lower_due
+        if end == self.kept.lower {
+            self.kept.lower_due
         } else {
-            self.higher_due
+            self.kept.higher_due
         }
     }
 
@@ -111,10 +120,10 @@ impl Fork {
         ensures meals { result ≡ meals_of end self.now.log }
         ensures bound { result ≤ due_at self.now.ends self.now.due end }
     {
-        if end == self.lower {
-            self.lower_meals
+        if end == self.kept.lower {
+            self.kept.lower_meals
         } else {
-            self.higher_meals
+            self.kept.higher_meals
         }
     }
 
@@ -122,7 +131,7 @@ impl Fork {
     pub fn is_dirty(&self) -> bool
         ensures { result ≡ is_dirty self.now.log }
     {
-        self.dirty
+        self.kept.dirty
     }
 
     /// The end where the fork is, or to which it is on its way.
@@ -130,7 +139,7 @@ impl Fork {
         ensures at { result ≡ location self.now }
         ensures end { IsEnd self.now result }
     {
-        self.location
+        self.kept.location
     }
 
     /// How many entries the log has, at most twice the meals that are due to both ends.
@@ -138,7 +147,8 @@ impl Fork {
         ensures len { result ≡ length self.now.log }
         ensures proper { IsFork self.now }
     {
-        self.lower_meals + self.higher_meals + self.moves()
+        let kept = &*self.kept;
+        kept.lower_meals + kept.higher_meals + self.moves()
     }
 
     /// Entry `i` of the log, from 0.
@@ -207,7 +217,7 @@ impl Fork {
         ensures whole { entries_of (periods_of self.now.ends.0 self.now.log) ≡ self.now.log }
         ensures proper { IsFork self.now }
     {
-        self.periods.len() as u32
+        self.kept.periods.len() as u32
     }
 
     /// Period `i` of the log, from 0. Only the first and the last may be without a meal.
@@ -217,14 +227,14 @@ impl Fork {
         ensures bound { result.first + result.count ≤ 1001 }
         ensures used { 0 < i → i + 1 < length (periods_of self.now.ends.0 self.now.log) → 1 ≤ result.count }
     {
-        self.periods[i as usize]
+        self.kept.periods[i as usize]
     }
 
     /// How many Moves the log has.
     pub fn moves(&self) -> u32
         ensures { result ≡ moves_of self.now.log }
     {
-        self.periods.len() as u32 - 1
+        self.kept.periods.len() as u32 - 1
     }
 
     // Writes a Move to the other end: it opens a period there. It takes no memory.
@@ -234,9 +244,10 @@ impl Fork {
         ensures proper { IsFork self.new }
     {
         let first = self.meals_of(to) + 1;
-        self.location = to;
-        self.dirty = false;
-        self.periods.push_reserved(Period {
+        let kept = &mut *self.kept;
+        kept.location = to;
+        kept.dirty = false;
+        kept.periods.push_reserved(Period {
             site: to,
             first,
             count: 0,
@@ -249,13 +260,14 @@ impl Fork {
         ensures eaten { self.new ≡ eaten site k self.old }
         ensures proper { IsFork self.new }
     {
-        self.dirty = true;
-        if site == self.lower {
-            self.lower_meals = k;
+        let kept = &mut *self.kept;
+        kept.dirty = true;
+        if site == kept.lower {
+            kept.lower_meals = k;
         } else {
-            self.higher_meals = k;
+            kept.higher_meals = k;
         }
-        let last = self.periods.len() - 1;
-        self.periods[last].count += 1;
+        let last = kept.periods.len() - 1;
+        kept.periods[last].count += 1;
     }
 }

@@ -1,4 +1,5 @@
-use Rattle.std.proofs.Common.{sym, subst, ℕ}
+use Rattle.std.proofs.Common.{sym, ◌∙◌, ap, subst, ℕ}
+use Rattle.dine_token.specs.declared.fork.Kept.{Kept}
 use Rattle.dine_token.specs.Fork.{SeenFork, IsEnd}
 use Rattle.dine_token.specs.Fields.{seen}
 use Rattle.dine_token.proofs.Forks.{IsEnd-location}
@@ -7,5 +8,5 @@ use Rattle.dine_token.proofs.fork.Fork.at.Goals as goal
 pub returns-clause-end : goal.returns-clause-end
 returns-clause-end c =
     let P : ℕ → Type 0 = λ e. IsEnd (seen c.self.inside) e in
-    let Q : SeenFork → Type 0 = λ f. IsEnd f c.self.inside.location in
-    subst Q c.self.view_is (subst P (sym c.self.invariant.location) (IsEnd-location (seen c.self.inside) c.self.invariant.proper))
+    let Q : SeenFork → Type 0 = λ f. IsEnd f c.deref.result.now.location in
+    subst Q c.self.view_is (subst P (sym (ap (λ (k : Kept). k.location) c.deref.ensures ∙ c.self.invariant.location)) (IsEnd-location (seen c.self.inside) c.self.invariant.proper))

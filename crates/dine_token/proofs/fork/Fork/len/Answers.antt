@@ -1,4 +1,5 @@
 use Rattle.std.proofs.Common.{length, ap, arith}
+use Rattle.dine_token.specs.declared.fork.Kept.{Kept}
 use Rattle.dine_token.specs.Fork.{SeenFork}
 use Rattle.dine_token.specs.Log.{moves_of}
 use Rattle.dine_token.specs.Fields.{seen}
@@ -10,10 +11,10 @@ pub overflow_add-result-2 : goal.overflow_add-result-2
 overflow_add-result-2 c =
     let kept = c.self.invariant in
     let fork = seen c.self.inside in
-    omega (arith, kept.lower_meals, kept.higher_meals, c.moves.ensures, ap (λ (f : SeenFork). moves_of f.log) c.self.view_is, (counted_lawful fork.ends fork.due kept.proper.ordered fork.log kept.proper.lawful).all, length-fork fork kept.proper, kept.proper.lower_due, kept.proper.higher_due)
+    omega (arith, ap (λ (k : Kept). k.lower_meals) c.deref-kept.ensures, ap (λ (k : Kept). k.higher_meals) c.deref-kept.ensures, kept.lower_meals, kept.higher_meals, c.moves.ensures, ap (λ (f : SeenFork). moves_of f.log) c.self.view_is, (counted_lawful fork.ends fork.due kept.proper.ordered fork.log kept.proper.lawful).all, length-fork fork kept.proper, kept.proper.lower_due, kept.proper.higher_due)
 
 pub returns-clause-len : goal.returns-clause-len
 returns-clause-len c =
     let kept = c.self.invariant in
     let fork = seen c.self.inside in
-    omega (arith, kept.lower_meals, kept.higher_meals, c.moves.ensures, ap (λ (f : SeenFork). moves_of f.log) c.self.view_is, ap (λ (f : SeenFork). length f.log) c.self.view_is, (counted_lawful fork.ends fork.due kept.proper.ordered fork.log kept.proper.lawful).all)
+    omega (arith, ap (λ (k : Kept). k.lower_meals) c.deref-kept.ensures, ap (λ (k : Kept). k.higher_meals) c.deref-kept.ensures, kept.lower_meals, kept.higher_meals, c.moves.ensures, ap (λ (f : SeenFork). moves_of f.log) c.self.view_is, ap (λ (f : SeenFork). length f.log) c.self.view_is, (counted_lawful fork.ends fork.due kept.proper.ordered fork.log kept.proper.lawful).all)

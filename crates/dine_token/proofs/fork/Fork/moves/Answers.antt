@@ -1,4 +1,5 @@
 use Rattle.std.proofs.Common.{ap, arith, length}
+use Rattle.dine_token.specs.declared.fork.Kept.{Kept}
 use Rattle.dine_token.specs.Fork.{SeenFork}
 use Rattle.dine_token.specs.Log.{moves_of}
 use Rattle.dine_token.specs.Fields.{seen}
@@ -10,10 +11,10 @@ pub overflow_cast-result : goal.overflow_cast-result
 overflow_cast-result c =
     let kept = c.self.invariant in
     let fork = seen c.self.inside in
-    omega (arith, c.len.ensures, c.self.inside.periods.ok.0, ap length kept.periods, length-periods_of fork.ends.0 fork.log, moves-fork fork kept.proper)
+    omega (arith, c.len.ensures, c.deref.result.now.periods.ok.0, ap (λ (k : Kept). length k.periods.items) c.deref.ensures, ap length kept.periods, length-periods_of fork.ends.0 fork.log, moves-fork fork kept.proper)
 
 pub returns : goal.returns
 returns c =
     let kept = c.self.invariant in
     let fork = seen c.self.inside in
-    omega (arith, c.len.ensures, c.self.inside.periods.ok.0, ap length kept.periods, length-periods_of fork.ends.0 fork.log, ap (λ (f : SeenFork). moves_of f.log) c.self.view_is)
+    omega (arith, c.len.ensures, c.deref.result.now.periods.ok.0, ap (λ (k : Kept). length k.periods.items) c.deref.ensures, ap length kept.periods, length-periods_of fork.ends.0 fork.log, ap (λ (f : SeenFork). moves_of f.log) c.self.view_is)

@@ -1,4 +1,5 @@
 use Rattle.std.proofs.Common.{ap, arith, length}
+use Rattle.dine_token.specs.declared.fork.Kept.{Kept}
 use Rattle.dine_token.specs.Fields.{seen}
 use Rattle.dine_token.proofs.Periods.{length-periods_of}
 use Rattle.dine_token.proofs.Forks.{moves-fork}
@@ -8,4 +9,4 @@ pub overflow_cast-result : goal.overflow_cast-result
 overflow_cast-result c =
     let kept = c.self.invariant in
     let fork = seen c.self.inside in
-    omega (arith, c.len.ensures, c.self.inside.periods.ok.0, ap length kept.periods, length-periods_of fork.ends.0 fork.log, moves-fork fork kept.proper)
+    omega (arith, c.len.ensures, c.deref.result.now.periods.ok.0, ap (λ (k : Kept). length k.periods.items) c.deref.ensures, ap length kept.periods, length-periods_of fork.ends.0 fork.log, moves-fork fork kept.proper)
