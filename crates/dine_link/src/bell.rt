@@ -21,6 +21,11 @@ use std::sync::Wait;
 // How many rings that were not yet told a bell has room for, for each ringer.
 const RINGS_EACH: usize = 4;
 
+// Up to how many ringers are few, and how often a wait for them tries. Both are measured (bench/README.md).
+const FEW_RINGERS: u32 = 4;
+
+const TRIES_OF_FEW: u32 = 2;
+
 /// Rings one bell, with a number of its own. Contracts see the number, and how often it rang.
 #[derive(Drop)]
 pub struct Ringer {
@@ -100,8 +105,19 @@ impl Bell {
             rt,
             &self.receiver,
             &mut self.pass,
+            tries_of(self.degree),
         );
         heard.ok_or(Lost)
+    }
+}
+
+// How often a wait for a bell tries before it sleeps. Where few ring, a waiting thread that sleeps lets the others go on for a
+// stretch, and all are done sooner; where many ring, one of them has rung before it could sleep.
+fn tries_of(degree: u32) -> u32 {
+    if degree <= FEW_RINGERS {
+        TRIES_OF_FEW
+    } else {
+        waiting::TRIES
     }
 }
 

@@ -194,6 +194,7 @@ impl Lane for ChannelLane {
             rt,
             &rx.receiver,
             &mut rx.pass,
+            waiting::TRIES,
         ) else {
             return Err(Lost);
         };

@@ -10,8 +10,8 @@ use crossbeam_channel::{Pass, RuledReceiver, RuledSender, TrySendError};
 use std::sync::Wait;
 use std::thread;
 
-// How often a wait tries before it sleeps.
-const TRIES: u32 = 10;
+// How often a wait tries before it sleeps, where nothing else is known.
+pub const TRIES: u32 = 10;
 
 // Sends the message, or hands it back where the other end is gone.
 pub fn send<T: Drop, V, P: Protocol<T, V>, M: Outcome<T, V> + Lesson<T, V>, R: Wait>(
@@ -40,18 +40,19 @@ pub fn send<T: Drop, V, P: Protocol<T, V>, M: Outcome<T, V> + Lesson<T, V>, R: W
     }
 }
 
-// Receives a message, or answers None where the other end is gone.
+// Receives a message after at most so many tries, and then asleep, or answers None where the other end is gone.
 pub fn receive<T: Drop, V, P: Protocol<T, V>, M: Outcome<T, V> + Lesson<T, V>, R: Wait>(
     rt: &R,
     receiver: &RuledReceiver<T, V, P>,
     pass: &mut Pass<T, V>,
+    tries: u32,
 ) -> Option<T>
     requires channel { IsSeatAt (receives_on receiver.now) pass.old }
     requires rule { Pops P.holds pass.old.id (view pass.old) (M.then (view pass.old)) × Learns P.holds pass.old.id (view pass.old) (M.fact (view pass.old)) }
     ensures channel { IsSeatAt (receives_on receiver.now) pass.new × (pass.new.id ≡ pass.old.id) }
     ensures rule { MatchOption result (view pass.new ≡ view pass.old) (λ message. M.then (view pass.old) message (view pass.new)) }
 {
-    for _ in 0..TRIES {
+    for _ in 0..tries {
         if let Ok(message) = receiver.try_recv_as::<M, R>(rt, pass) {
             return Some(message);
         }

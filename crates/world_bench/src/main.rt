@@ -1,0 +1,51 @@
+//! Measures `run` alone: reads a plan, runs it so many times over links of one kind, and writes the median, the least and the most
+//! of the wall time of `run`, in microseconds, to standard error. Standard output has the kind of links and the number of runs.
+//! With `world` it measures a world of one thread, from its opening to the forks after its last event.
+//!
+//! usage: dine_bench channel|ring|world RUNS < PLAN
+#![tactic(auto)]
+
+use anyhow::{Context, Result, bail};
+use dine_core::World;
+use dine_plan::{Plan, read_plan};
+use std::alloc::Global;
+use std::env;
+use std::io::Read;
+use std::rt::Clock;
+use std::time::Instant;
+
+// The microseconds of all events of a world, each the first that is enabled by then.
+fn time_world<R: Clock>(rt: &R, alloc: Global, plan: &Plan) -> Result<u128> {
+    let start = Instant::now(rt)?;
+    let mut world = World::open(alloc, plan)?;
+    let _ = world.finish();
+    let forks = world.into_forks();
+    let taken = start.elapsed(rt)?;
+    drop(forks);
+    Ok(taken.as_micros())
+}
+
+fn main(rt: HostRuntime) -> Result<()> {
+    let mut words = env::args(&rt)?;
+    let _program = words.next();
+    let lane = words.next().context("no kind of links")?;
+    let runs: u32 = words.next().context("no number of runs")?.parse()?;
+    let mut text = String::new(rt.alloc());
+    rt.stdin().read_to_string(&mut text)?;
+    let plan = read_plan(rt.alloc(), text.as_str())?;
+    let mut times = Vec::new(rt.alloc());
+    for _ in 0..runs {
+        let micros = match lane.as_str() {
+            "world" => time_world(&rt, rt.alloc(), &plan)?,
+            _ => bail!("links are channel or ring"),
+        };
+        times.push(micros)?;
+    }
+    times.sort()?;
+    println!(rt; "{lane} runs={runs}")?;
+    if let Some(median) = times.get(times.len() / 2) {
+        let (least, most) = (times[0], times[times.len() - 1]);
+        eprintln!(rt; "median={median} least={least} most={most}")?;
+    }
+    Ok(())
+}
