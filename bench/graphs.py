@@ -36,9 +36,9 @@ def graph_of(name):
     return int(size), {"ring": ring, "star": star, "complete": complete, "band": band}[kind](int(size))
 
 
-def plan_of(sites, edges, jobs):
-    """Returns the text of a plan, each of whose sites has so many jobs. Its edges stand in increasing order."""
-    job = ", ".join(['{ name = "j" }'] * jobs)
+def plan_of(sites, edges, jobs, turns=0):
+    """Returns the text of a plan, each of whose sites has so many jobs of so many turns. Its edges stand in increasing order."""
+    job = ", ".join(['{ name = "j", turns = %d }' % turns if turns else '{ name = "j" }'] * jobs)
     text = ["version = 1"]
     text += [f'[[site]]\nname = "s{it}"\njobs = [{job}]' for it in range(sites)]
     text += [f'[[edge]]\nends = ["s{one}", "s{other}"]' for one, other in sorted((min(it), max(it)) for it in edges)]

@@ -1,12 +1,12 @@
 //! The hygienic solution of the dining philosophers (Chandy and Misra, ACM TOPLAS 6(4), 1984) written by hand in Rust, without
 //! proofs, to measure `run` and `replay` beside it.
 //!
-//!     peer channel|ring|queue GRAPH JOBS RUNS
+//!     peer channel|ring|queue GRAPH JOBS TURNS RUNS
 //!
 //! channel: a thread a site, over `crossbeam_channel`s of four letters, and such a channel as the bell of each site.
 //! ring: the same over rings of four letters with one producer and one consumer, with such bells.
 //! queue: all sites in one thread.
-//! GRAPH: ring:N star:N complete:N grid:WxH band:N. JOBS: the meals of each site. They have no turns.
+//! GRAPH: ring:N star:N complete:N grid:WxH band:N. JOBS: the meals of each site. TURNS: the steps of xorshift of each.
 //! After the runs each fork's log was checked. It prints the median, the least and the most of the times in microseconds, in
 //! which the start and the end of the threads are, and not the check, and the events of the last run.
 
@@ -22,7 +22,7 @@ use std::time::Instant;
 fn main() -> ExitCode {
     let words: Vec<String> = std::env::args().skip(1).collect();
     let Some((kind, plan, runs)) = read(&words) else {
-        eprintln!("usage: peer channel|ring|queue GRAPH JOBS RUNS");
+        eprintln!("usage: peer channel|ring|queue GRAPH JOBS TURNS RUNS");
         return ExitCode::from(2);
     };
     let (mut times, mut events) = (Vec::new(), 0);
@@ -49,7 +49,7 @@ fn main() -> ExitCode {
 type Kind = fn(&Plan) -> (Vec<Fork>, u64);
 
 fn read(words: &[String]) -> Option<(Kind, Plan, usize)> {
-    let [kind, graph, jobs, runs] = words else {
+    let [kind, graph, jobs, turns, runs] = words else {
         return None;
     };
     let kind: Kind = match kind.as_str() {
@@ -59,5 +59,5 @@ fn read(words: &[String]) -> Option<(Kind, Plan, usize)> {
         _ => return None,
     };
     let runs = runs.parse().ok().filter(|runs| *runs > 0)?;
-    Some((kind, Plan::of(graph, jobs.parse().ok()?)?, runs))
+    Some((kind, Plan::of(graph, jobs.parse().ok()?, turns.parse().ok()?)?, runs))
 }

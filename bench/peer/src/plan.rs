@@ -5,10 +5,12 @@ pub struct Plan {
     /// Each edge (lower, higher), in increasing order.
     pub edges: Vec<(usize, usize)>,
     pub jobs: u64,
+    /// The steps of xorshift in each job.
+    pub turns: u32,
 }
 
 impl Plan {
-    pub fn of(text: &str, jobs: u64) -> Option<Plan> {
+    pub fn of(text: &str, jobs: u64, turns: u32) -> Option<Plan> {
         let (kind, size) = text.split_once(':')?;
         let (sites, edges) = graph(kind, size)?;
         let mut edges: Vec<_> = edges
@@ -17,7 +19,7 @@ impl Plan {
             .collect();
         edges.sort_unstable();
         edges.dedup();
-        Some(Plan { sites, edges, jobs })
+        Some(Plan { sites, edges, jobs, turns })
     }
 
     /// The edges at each site, in increasing order.

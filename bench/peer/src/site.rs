@@ -56,6 +56,9 @@ impl<N: Net> End<N> {
 pub struct Site<N: Net> {
     name: usize,
     jobs: u64,
+    turns: u32,
+    /// What the turns work on.
+    word: u32,
     ends: Vec<End<N>>,
     pub bell: N::Bell,
     /// Letters taken.
@@ -103,6 +106,11 @@ impl<N: Net> Site<N> {
             for end in &mut self.ends {
                 end.dirty = true;
                 end.fork.as_mut().unwrap().eat(self.name);
+            }
+            for _ in 0..self.turns {
+                self.word ^= self.word << 13;
+                self.word ^= self.word >> 17;
+                self.word ^= self.word << 5;
             }
             any = true;
         }
@@ -155,6 +163,8 @@ impl<N: Net> Site<N> {
             .map(|(name, bell)| Site {
                 name,
                 jobs: plan.jobs,
+                turns: plan.turns,
+                word: 2_463_534_242,
                 ends: Vec::new(),
                 bell,
                 letters: 0,
