@@ -4,6 +4,7 @@ pub mod Commands
 pub mod Faults
 pub mod Input
 pub mod Logs
+pub mod MealTexts
 pub mod Output
 pub mod PlanBytes
 pub mod PlanDiners

@@ -8,12 +8,15 @@ ghost use Rattle.dine_plan.specs.Plan.{name_of};
 ghost use Rattle.dine_core.specs.World.{WorldState};
 ghost use Rattle.dine_core.specs.Worlds.{IsWorldOf, IsOpenedFor};
 ghost use Rattle.dine.specs.Logs.{edge_line, edge_lines, entries_text, events_line, separator, world_text};
+ghost use Rattle.dine.specs.MealTexts.{texts_of};
 
+use crate::logs::meal_texts::{MealTexts, push_meal, separator};
 use dine_core::World;
 use dine_plan::Plan;
 use dine_token::{Fork, Period};
 use std::alloc::{AllocError, Global};
 
+mod meal_texts;
 #[cfg(test)]
 mod tests;
 
@@ -28,24 +31,41 @@ pub fn world_text(
     ensures { IfOk result (λ text. (state : WorldState) → IsWorldOf plan.now state world.now → text.items ≡ world_text plan.now state events) }
 {
     let mut text = String::new(alloc);
-    push_lines(&mut text, plan, world)?;
+    push_lines(&mut text, plan, &texts_of(alloc, plan)?, world)?;
     push_events_line(&mut text, events, world.bound())?;
     Ok(text.into_bytes())
 }
 
 // Adds the lines of all edges to the text.
-fn push_lines(text: &mut String, plan: &Plan, world: &World) -> Result<(), AllocError>
-    requires { IsOpenedFor plan.now world.now }
+fn push_lines(
+    text: &mut String,
+    plan: &Plan,
+    texts: &[MealTexts<'_>],
+    world: &World,
+) -> Result<(), AllocError>
+    requires opened { IsOpenedFor plan.now world.now }
+    requires texts { texts.now ≡ texts_of plan.now }
     ensures { OnOk result ((state : WorldState) → IsWorldOf plan.now state world.now
         → string_bytes text.new ≡ string_bytes text.old ++ edge_lines plan.now state) }
 {
     for edge in 0..plan.edges() {
         match world.fork(edge) {
-            Some(fork) => push_edge_line(text, plan, fork)?,
+            Some(fork) => push_edge_line(text, plan, texts, fork)?,
             None => unreachable!(),
         }
     }
     Ok(())
+}
+
+// The text of the meals that each site of the plan has due, in order.
+fn texts_of(alloc: Global, plan: &Plan) -> Result<Vec<MealTexts<'_>>, AllocError>
+    ensures { IfOk result (λ texts. texts.items ≡ texts_of plan.now) }
+{
+    let mut texts = Vec::new(alloc);
+    for site in 0..plan.sites() {
+        texts.push(MealTexts::make(alloc, plan.name(site), plan.jobs(site))?)?;
+    }
+    Ok(texts)
 }
 
 // The name of the site. A number that is no site has none.
@@ -59,22 +79,6 @@ fn name_of(plan: &Plan, site: u32) -> &str
     }
 }
 
-// What stands before an entry.
-fn separator(is_first: bool) -> &'static str
-    ensures { result.now ≡ separator is_first }
-{
-    if is_first { " " } else { ", " }
-}
-
-// Adds meal `k` of the site with this name to the text, as the first entry of its line or not.
-fn push_meal(text: &mut String, is_first: bool, name: &str, k: u32) -> Result<(), AllocError>
-    ensures { OnOk result (string_bytes text.new ≡ string_bytes text.old ++ (separator is_first ++ (name.now ++ codes "#" ++ decimal k))) }
-{
-    text.push_str(separator(is_first))?;
-    text.push_str(name)?;
-    write!(text, "#{k}")
-}
-
 // Adds the Move to the site with this name to the text, as the first entry of its line or not.
 fn push_move(text: &mut String, is_first: bool, name: &str) -> Result<(), AllocError>
     ensures { OnOk result (string_bytes text.new ≡ string_bytes text.old ++ (separator is_first ++ (codes "to " ++ name.now))) }
@@ -84,8 +88,8 @@ fn push_move(text: &mut String, is_first: bool, name: &str) -> Result<(), AllocE
     text.push_str(name)
 }
 
-// Adds the meals of the period to the text.
-fn push_meals(
+// Adds the meals of the period to the text, one after the other.
+fn push_each_meal(
     text: &mut String,
     plan: &Plan,
     is_first: bool,
@@ -103,37 +107,71 @@ fn push_meals(
     Ok(())
 }
 
+// Adds the meals of the period to the text, in one part where the texts of the sites have them.
+fn push_meals(
+    text: &mut String,
+    plan: &Plan,
+    texts: &[MealTexts<'_>],
+    is_first: bool,
+    period: Period,
+) -> Result<(), AllocError>
+    requires bound { period.first + period.count ≤ 1001 }
+    requires texts { texts.now ≡ texts_of plan.now }
+    ensures { OnOk result (string_bytes text.new ≡ string_bytes text.old ++ entries_text (name_of plan.now) (separator is_first) (meals_in period)) }
+{
+    if let Some(site) = texts.get(period.site as usize) {
+        if let Some(part) = site.of_period(is_first, period) {
+            return text.push_str(part);
+        }
+    }
+    push_each_meal(text, plan, is_first, period)
+}
+
 // Adds a period that a Move opened to the text: the Move, and the meals.
 fn push_moved(
     text: &mut String,
     plan: &Plan,
+    texts: &[MealTexts<'_>],
     is_first: bool,
     period: Period,
 ) -> Result<(), AllocError>
-    requires { period.first + period.count ≤ 1001 }
+    requires bound { period.first + period.count ≤ 1001 }
+    requires texts { texts.now ≡ texts_of plan.now }
     ensures { OnOk result (string_bytes text.new ≡ string_bytes text.old ++ entries_text (name_of plan.now) (separator is_first) (Move period.site ∷ meals_in period)) }
 {
     push_move(text, is_first, name_of(plan, period.site))?;
-    push_meals(text, plan, false, period)
+    push_meals(text, plan, texts, false, period)
 }
 
 // Adds the entries of the fork's log to the text, as its periods tell them.
-fn push_entries(text: &mut String, plan: &Plan, fork: &Fork) -> Result<(), AllocError>
+fn push_entries(
+    text: &mut String,
+    plan: &Plan,
+    texts: &[MealTexts<'_>],
+    fork: &Fork,
+) -> Result<(), AllocError>
+    requires { texts.now ≡ texts_of plan.now }
     ensures { OnOk result (string_bytes text.new ≡ string_bytes text.old ++ entries_text (name_of plan.now) (codes " ") fork.now.log) }
 {
     let periods = fork.periods();
     let first = fork.period(0);
-    push_meals(text, plan, true, first)?;
+    push_meals(text, plan, texts, true, first)?;
     let mut is_first = first.count == 0;
     for i in 1..periods {
-        push_moved(text, plan, is_first, fork.period(i))?;
+        push_moved(text, plan, texts, is_first, fork.period(i))?;
         is_first = false;
     }
     Ok(())
 }
 
 // Adds the line of the fork's edge to the text.
-fn push_edge_line(text: &mut String, plan: &Plan, fork: &Fork) -> Result<(), AllocError>
+fn push_edge_line(
+    text: &mut String,
+    plan: &Plan,
+    texts: &[MealTexts<'_>],
+    fork: &Fork,
+) -> Result<(), AllocError>
+    requires { texts.now ≡ texts_of plan.now }
     ensures { OnOk result (string_bytes text.new ≡ string_bytes text.old ++ edge_line (name_of plan.now) fork.now.edge fork.now.ends fork.now.log) }
 {
     let edge = fork.edge();
@@ -141,7 +179,7 @@ fn push_edge_line(text: &mut String, plan: &Plan, fork: &Fork) -> Result<(), All
     let lower = name_of(plan, lower);
     let higher = name_of(plan, higher);
     write!(text, "edge {edge} {lower} {higher}:")?;
-    push_entries(text, plan, fork)?;
+    push_entries(text, plan, texts, fork)?;
     text.push_str("\n")
 }
 

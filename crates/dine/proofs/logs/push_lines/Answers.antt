@@ -14,9 +14,9 @@ pub unreachable-requires : goal.unreachable-requires
 unreachable-requires c =
     let plan = c.args.plan.now in
     let e = c.loop-edge.edge in
-    let state = c.requires.0 in
+    let state = c.requires.opened.0 in
     let within : e < edge_count plan = omega (arith, c.loop-edge-test.true, c.edges-edge-end.ensures.count) in
-    none_some (fork_seen plan state e) (c.in-None.ensures plan state c.requires.1 ∙ fork_there plan state e within)
+    none_some (fork_seen plan state e) (c.in-None.ensures plan state c.requires.opened.1 ∙ fork_there plan state e within)
 
 pub loop-edge-preserved : goal.loop-edge-preserved
 loop-edge-preserved c state stands =

@@ -1,16 +1,17 @@
-use Rattle.std.proofs.Common.{◌++◌, ◌+◌, ◌∙◌, ap, List, ℕ, codes, string_bytes}
-use Rattle.std.specs.Fmt.{decimal}
-use Rattle.dine_token.specs.Periods.{meals_in}
-use Rattle.dine.specs.Logs.{entries_text, separator}
+use Rattle.std.proofs.Common.{◌≡◌, ◌++◌, ◌<◌, ◌∙◌, ap, List, ℕ, length, string_bytes, rules, slice_index_or}
 use Rattle.dine_plan.specs.Plan.{name_of}
-use Rattle.dine.proofs.EntryTexts.{meals_step}
+use Rattle.dine.specs.Logs.{separator}
+use Rattle.dine.proofs.MealParts.{same_meals, name_at}
 use Rattle.dine.proofs.logs.push_meals.Goals as goal
 
-pub loop-i-preserved : goal.loop-i-preserved
-loop-i-preserved c =
-    let name = name_of c.args.plan.now in
+pub returns-in-Some-of_period : goal.returns-in-Some-of_period
+returns-in-Some-of_period c =
+    let h = c.in-Some.ensures.lookup in
+    let value : c.in-Some.site.now ≡ slice_index_or c.args.texts.now c.args.period.site c.in-Some.site.now = h.1 in
+    let within : c.args.period.site < length c.args.texts.now = h.3.0 in
     let period = c.args.period in
-    let whole = string_bytes c.args.text.now ++ entries_text name (separator c.args.is_first) (meals_in period) in
-    let put = c.in_ok-push_meal.ensures ∙ ap (λ (n : List ℕ). string_bytes c.loop-i.text ++ (separator c.loop-i.is_first ++ (n ++ codes "#" ++ decimal (period.first + c.loop-i.i)))) c.name_of-name.ensures in
-    meals_step name period.site period.first period.count c.loop-i.i (string_bytes c.loop-i.text) (separator c.loop-i.is_first) (string_bytes c.push_meal.new.text) whole
-    c.loop-i-test.true c.loop-i.invariant put
+    let named : c.in-Some.site.now.name ≡ name_of c.args.plan.now period.site = name_at c.args.plan.now c.args.texts.now period.site c.in-Some.site.now c.requires.texts within value in
+    let same = same_meals (λ (s : ℕ). c.in-Some.site.now.name) (name_of c.args.plan.now) period.site period.site named (separator c.args.is_first) period.first period.count in
+    let part = c.in-Some-of_period.ensures.part ∙ same in
+    let text = ap (λ (l : List ℕ). string_bytes c.args.text.now ++ l) part in
+    search (rules, text)

@@ -2,7 +2,7 @@ use Rattle.std.proofs.Common.{◌≡◌, ◌+◌, ◌-◌, ◌++◌, string_byte
 use Rattle.dine_token.specs.Periods.{meals_from, meals_in}
 use Rattle.dine.specs.Logs.{entries_text, separator}
 use Rattle.dine_plan.specs.Plan.{name_of}
-use Rattle.dine.proofs.logs.push_meals.Given as goal
+use Rattle.dine.proofs.logs.push_each_meal.Given as goal
 
 -- the text so far, and that of the meals left, make the whole
 abbrev pub invariant-loop-i : goal.invariant-loop-i
