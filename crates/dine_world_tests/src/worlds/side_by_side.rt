@@ -451,6 +451,9 @@ fn drawn_runs_of_twelve_sites_go_alike(rt: HostRuntime) {
     let trial = trial_of(&rt, alloc, jobs.as_slice(), edges.as_slice());
     run_far(&rt, &trial, 1);
     run_far(&rt, &trial, 7);
+    let choices = draw_choices(&rt, &trial, 3);
+    let half = choices.get(..200).unwrap_or(choices.as_slice());
+    replay_alike(&rt, &trial, half);
 }
 
 // Whether the event is among those that the world tells as enabled.
