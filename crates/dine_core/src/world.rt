@@ -12,8 +12,6 @@ mod opening;
 mod queue;
 mod schedules;
 mod sites;
-#[cfg(test)]
-mod tests;
 
 use crate::site::SiteCore;
 use dine_plan::Plan;

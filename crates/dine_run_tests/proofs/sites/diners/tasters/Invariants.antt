@@ -1,7 +1,7 @@
 use Rattle.std.proofs.Common.{◌≡◌, ◌≤◌, ℕ, Some, slice_get, vec_len, vec_items}
 use Rattle.dine_plan.specs.Plan.{job_count}
-use Rattle.dine_tests.specs.declared.sites.diners.Taster.{Taster}
-use Rattle.dine_tests.proofs.sites.diners.tasters.Given as goal
+use Rattle.dine_run_tests.specs.declared.sites.diners.Taster.{Taster}
+use Rattle.dine_run_tests.proofs.sites.diners.tasters.Given as goal
 
 abbrev pub invariant-loop-site : goal.invariant-loop-site
 invariant-loop-site l = record {

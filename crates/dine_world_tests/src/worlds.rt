@@ -3,7 +3,7 @@ mod letters;
 mod model;
 mod side_by_side;
 
-use super::{NotEnabled, World};
+use dine_core::{NotEnabled, World};
 use dine_plan::{Plan, read_plan};
 use dine_rules::{Event, EventKind, Phase};
 use dine_token::{Entry, Fork, Period};

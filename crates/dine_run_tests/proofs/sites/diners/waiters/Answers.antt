@@ -1,9 +1,9 @@
 use Rattle.std.proofs.Common.{◌≡◌, ◌≤◌, length, ap, subst, vec_items, arith}
 use Rattle.dine_plan.specs.Plan.{job_count}
 use Rattle.dine_run.specs.CallLogs.{SeenCallLog}
-use Rattle.dine_tests.specs.declared.sites.diners.Waiter.{Waiter}
+use Rattle.dine_run_tests.specs.declared.sites.diners.Waiter.{Waiter}
 use Rattle.dine_run.proofs.Collected.{each_more, each_of_none}
-use Rattle.dine_tests.proofs.sites.diners.waiters.Goals as goal
+use Rattle.dine_run_tests.proofs.sites.diners.waiters.Goals as goal
 
 pub loop-site-init : goal.loop-site-init
 loop-site-init c = record {

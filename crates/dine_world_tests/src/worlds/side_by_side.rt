@@ -4,7 +4,7 @@ use super::graph::Graph;
 use super::letters::{is_dirty, location_of};
 use super::model::{Model, events_at};
 use super::{entry_at, opened, period_at, plan_with};
-use crate::world::{NotEnabled, World};
+use dine_core::{NotEnabled, World};
 use dine_plan::Plan;
 use dine_rules::{Event, EventKind, Kind4};
 use dine_token::{Fork, Period};
@@ -169,30 +169,32 @@ fn world_of(rt: &impl Abort, trial: &Trial) -> World {
     opened(rt, trial.alloc, &trial.plan)
 }
 
-// A run to the end, compared after every event, with refusals tried at each state.
-fn run_alike(rt: &impl Abort, trial: &Trial, mut chooser: Chooser) {
+// A run to the end, compared after every event, with refusals tried at each state. Answers its choices.
+fn run_alike(rt: &impl Abort, trial: &Trial, mut chooser: Chooser) -> Vec<u32> {
     let (mut model, mut world) = (model_of(rt, trial), world_of(rt, trial));
+    let mut choices = Vec::new(trial.alloc);
     for events in 0..=trial.graph.bound() {
         let enabled = model.enabled();
         refuse_others(rt, trial.all.as_slice(), enabled.as_slice(), &mut world);
         agree(rt, &model, enabled.as_slice(), &world, events);
-        assert_eq!(rt; world.first(), enabled.first().copied());
-        let Some(event) = world.enabled(chooser.next(world.count())) else {
+        let choice = chooser.next(world.count());
+        let Some(event) = world.enabled(choice) else {
             break;
         };
+        choices.push(choice).expect(rt, "memory");
         step_both(rt, &mut model, &mut world, event);
     }
     end_both(rt, &model, world);
+    choices
 }
 
-// A run of drawn events to the end, each replayed alone, with the enabled events and the first of them compared after every event.
+// A run of drawn events to the end, each replayed alone, with the enabled events compared after every event.
 fn run_far(rt: &impl Abort, trial: &Trial, seed: u32) {
     let (mut model, mut world) = (model_of(rt, trial), world_of(rt, trial));
     let mut chooser = Chooser::Drawn(seed);
     for _ in 0..=trial.graph.bound() {
         let enabled = model.enabled();
         same_events(rt, enabled.as_slice(), &world);
-        assert_eq!(rt; world.first(), enabled.first().copied());
         let choice = chooser.next(world.count());
         let Some(event) = enabled.get(choice as usize).copied() else {
             break;
@@ -228,13 +230,25 @@ fn replay_alike(rt: &impl Abort, trial: &Trial, choices: &[u32]) {
     end_both(rt, &model, world);
 }
 
+// Both finish from states all along the run. Nothing but `finish` asks a world for its first event alone, and so has it keep which
+// sites it found to have none.
+fn finish_alike(rt: &impl Abort, trial: &Trial, choices: &[u32]) {
+    for length in 0..choices.len() {
+        if length % 5 == 0 {
+            replay_alike(rt, trial, choices.get(..length).unwrap_or(choices));
+        }
+    }
+}
+
 // Runs and replays of a plan with so many jobs at each site.
 fn go_alike(rt: &impl Abort, alloc: Global, jobs: &[u32], edges: &[(u32, u32)]) {
     let trial = trial_of(rt, alloc, jobs, edges);
-    run_alike(rt, &trial, Chooser::First);
-    run_alike(rt, &trial, Chooser::Last);
+    let _firsts = run_alike(rt, &trial, Chooser::First);
+    let lasts = run_alike(rt, &trial, Chooser::Last);
+    finish_alike(rt, &trial, lasts.as_slice());
     for seed in 0..4u32 {
-        run_alike(rt, &trial, Chooser::Drawn(seed));
+        let drawn = run_alike(rt, &trial, Chooser::Drawn(seed));
+        finish_alike(rt, &trial, drawn.as_slice());
         let choices = draw_choices(rt, &trial, seed);
         for length in [1, 7, 20, choices.len()] {
             let choices = choices.get(..length).unwrap_or(choices.as_slice());
@@ -437,6 +451,9 @@ fn drawn_runs_of_twelve_sites_go_alike(rt: HostRuntime) {
     let trial = trial_of(&rt, alloc, jobs.as_slice(), edges.as_slice());
     run_far(&rt, &trial, 1);
     run_far(&rt, &trial, 7);
+    let choices = draw_choices(&rt, &trial, 3);
+    let half = choices.get(..200).unwrap_or(choices.as_slice());
+    replay_alike(&rt, &trial, half);
 }
 
 // Whether the event is among those that the world tells as enabled.

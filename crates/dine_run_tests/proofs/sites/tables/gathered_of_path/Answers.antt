@@ -5,7 +5,7 @@ use Rattle.dine_token.specs.Fork.{SeenFork}
 use Rattle.dine_plan.specs.Plan.{SeenPlan, edge_count, site_count, job_count, ends_of, lo_of, hi_of}
 use Rattle.dine_run.specs.declared.gathered.SiteOut.{SiteOut}
 use Rattle.dine_run.specs.Tables.{IsGatheredOf}
-use Rattle.dine_tests.proofs.sites.tables.gathered_of_path.Goals as goal
+use Rattle.dine_run_tests.proofs.sites.tables.gathered_of_path.Goals as goal
 
 -- what is so of the elements of a short list is so of each by its index
 two_at : {A : Type 0} (P : ℕ → A → Type 0) (a b : A) → P 0 a → P 1 b → (k : ℕ) (x : A) → slice_get (a ∷ b ∷ []) k ≡ Some x → P k x
