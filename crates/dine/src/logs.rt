@@ -107,7 +107,8 @@ fn push_each_meal(
     Ok(())
 }
 
-// Adds the meals of the period to the text, in one part where the texts of the sites have them.
+// Adds the meals of the period to the text, in one part of its site's text. A log holds no meal that is not due, so that
+// text has them; no proof says so here, and without it they are added one after the other.
 fn push_meals(
     text: &mut String,
     plan: &Plan,

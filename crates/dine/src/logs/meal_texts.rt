@@ -9,7 +9,8 @@ use dine_token::Period;
 use std::alloc::{AllocError, Global};
 use std::marker::Model;
 
-// The text of a site's meals from the first on, each behind a comma. Contracts see the name of the site.
+// The text of a site's meals from the first on, each behind a comma. Contracts see the name of the site and how
+// many meals there are.
 #[derive(Drop)]
 pub(super) struct MealTexts<'p> {
     name: &'p str,

@@ -1,5 +1,6 @@
-//! The periods of the forks of replayed plans.
+//! The periods of the forks of replayed plans, and how they are told.
 
+use crate::logs::meal_texts::MealTexts;
 use dine_core::World;
 use dine_plan::read_plan;
 use dine_token::Period;
@@ -67,4 +68,54 @@ fn forks_of_pairs_have_these_periods(rt: HostRuntime) -> Result<(), Fail> {
         higher_first.as_slice(),
     )?;
     has_periods(&rt, alloc, ONE_SIDED, [].as_slice(), [(0, 1, 3)].as_slice())
+}
+
+// The texts give the meals of the period, as the first of a line or not.
+fn gives(
+    rt: &impl Abort,
+    texts: &MealTexts<'_>,
+    is_first: bool,
+    (first, count): (u32, u32),
+    text: Option<&str>,
+) {
+    let period = Period {
+        site: 0,
+        first,
+        count,
+    };
+    assert_eq!(rt; texts.of_period(is_first, period), text);
+}
+
+#[test]
+fn texts_of_meals_are_cut_into_periods(rt: HostRuntime) -> Result<(), Fail> {
+    let texts = MealTexts::make(rt.alloc(), "ab", 1000)?;
+    let parts = [
+        ((1, 1), ", ab#1", " ab#1"),
+        ((9, 2), ", ab#9, ab#10", " ab#9, ab#10"),
+        ((99, 2), ", ab#99, ab#100", " ab#99, ab#100"),
+        (
+            (500, 3),
+            ", ab#500, ab#501, ab#502",
+            " ab#500, ab#501, ab#502",
+        ),
+        ((999, 2), ", ab#999, ab#1000", " ab#999, ab#1000"),
+        ((1000, 1), ", ab#1000", " ab#1000"),
+        ((1001, 0), "", ""),
+    ];
+    for (meals, behind, first) in parts {
+        gives(&rt, &texts, false, meals, Some(behind));
+        gives(&rt, &texts, true, meals, Some(first));
+    }
+    for meals in [(0, 1), (1, 1001), (1000, 2), (1001, 1)] {
+        gives(&rt, &texts, false, meals, None);
+    }
+    Ok(())
+}
+
+#[test]
+fn a_site_without_jobs_has_no_meal_in_its_text(rt: HostRuntime) -> Result<(), Fail> {
+    let texts = MealTexts::make(rt.alloc(), "ab", 0)?;
+    gives(&rt, &texts, true, (1, 0), Some(""));
+    gives(&rt, &texts, true, (1, 1), None);
+    Ok(())
 }
