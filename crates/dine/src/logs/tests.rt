@@ -1,6 +1,7 @@
 //! The periods of the forks of replayed plans, and how they are told.
 
 use crate::logs::meal_texts::MealTexts;
+use crate::replay::replay_text;
 use dine_core::World;
 use dine_plan::read_plan;
 use dine_token::Period;
@@ -27,6 +28,17 @@ jobs = [{ name = \"x\" }, { name = \"y\" }, { name = \"z\" }]
 [[site]]
 name = \"b\"
 jobs = []
+[[edge]]
+ends = [\"a\", \"b\"]
+";
+
+const THREE_AND_ONE: &str = "version = 1
+[[site]]
+name = \"a\"
+jobs = [{ name = \"x\" }, { name = \"y\" }, { name = \"z\" }]
+[[site]]
+name = \"b\"
+jobs = [{ name = \"u\" }]
 [[edge]]
 ends = [\"a\", \"b\"]
 ";
@@ -118,4 +130,30 @@ fn a_site_without_jobs_has_no_meal_in_its_text(rt: HostRuntime) -> Result<(), Fa
     gives(&rt, &texts, true, (1, 0), Some(""));
     gives(&rt, &texts, true, (1, 1), None);
     Ok(())
+}
+
+// After the choices and all that is left, the text begins with this line.
+fn is_told(
+    rt: &impl Abort,
+    alloc: Global,
+    text: &str,
+    choices: &[u32],
+    line: &str,
+) -> Result<(), Fail> {
+    let plan = read_plan(alloc, text).expect(rt, "a plan");
+    let told = replay_text(alloc, &plan, choices)?;
+    assert!(rt; told.as_slice().starts_with(line.as_bytes()));
+    Ok(())
+}
+
+#[test]
+fn periods_are_told_from_the_first_meal_of_each(rt: HostRuntime) -> Result<(), Fail> {
+    let alloc = rt.alloc();
+    let in_the_middle = "edge 0 a b: a#1, to b, b#1, to a, a#2, a#3\n";
+    let choices = [0, 0, 1, 1];
+    is_told(&rt, alloc, THREE_AND_ONE, choices.as_slice(), in_the_middle)?;
+    let none_at_first = "edge 0 a b: to b, b#1, to a, a#1, a#2, a#3\n";
+    is_told(&rt, alloc, THREE_AND_ONE, [1, 1].as_slice(), none_at_first)?;
+    let one_sided = "edge 0 a b: a#1, a#2, a#3\n";
+    is_told(&rt, alloc, ONE_SIDED, [].as_slice(), one_sided)
 }
