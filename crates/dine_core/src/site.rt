@@ -22,8 +22,6 @@ mod next;
 mod opening;
 mod packed;
 pub(crate) mod places;
-#[cfg(test)]
-mod tests;
 
 use dine_plan::Plan;
 pub use dine_rules::{Breach, Kind4, Letter, Phase};

@@ -12,8 +12,6 @@ mod places;
 mod plans;
 mod reading;
 mod sites;
-#[cfg(test)]
-mod tests;
 
 pub use faults::PlanFault;
 pub use plans::{Job, Plan};

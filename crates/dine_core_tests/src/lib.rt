@@ -1,0 +1,10 @@
+//! The tests of `dine_plan` and `dine_core`, by what anyone can see of them. There is nothing else here, so that neither crate is proved
+//! a second time for them.
+#![tactic(auto)]
+
+#[cfg(test)]
+mod plans;
+#[cfg(test)]
+mod sites;
+#[cfg(test)]
+mod worlds;

@@ -1,0 +1,628 @@
+// The core of one site: what it may do, what it takes and what it refuses.
+use dine_core::site::{fresh_forks, fresh_tokens};
+use dine_core::{Breach, EventKind, Kind4, Letter, Packed, Parts, Phase, SiteCore};
+use dine_plan::{Plan, read_plan};
+use dine_token::{Entry, Fork, Token};
+use std::alloc::{AllocError, Global};
+use std::process::Abort;
+use std::test::Fail;
+
+// Two sites with an edge, and so many jobs.
+fn pair_text(lower: &str, higher: &str, alloc: Global) -> Result<String, AllocError> {
+    format!(in alloc;
+        "version = 1\n[[site]]\nname = \"a\"\njobs = [{lower}]\n[[site]]\nname = \"b\"\njobs = [{higher}]\n[[edge]]\nends = [\"a\", \"b\"]\n"
+    )
+}
+
+const JOB: &str = "{ name = \"x\" }";
+
+const TWO_JOBS: &str = "{ name = \"x\" }, { name = \"y\" }";
+
+const THREE_JOBS: &str = "{ name = \"x\" }, { name = \"y\" }, { name = \"z\" }";
+
+fn plan_of(rt: &impl Abort, alloc: Global, lower: &str, higher: &str) -> Plan {
+    let text = pair_text(lower, higher, alloc).expect(rt, "memory");
+    read_plan(alloc, text.as_str()).expect(rt, "a plan")
+}
+
+// Three sites in a row, and a job at the last.
+const ROW: &str = "version = 1\n\
+    [[site]]\nname = \"a\"\n[[site]]\nname = \"b\"\n[[site]]\nname = \"c\"\njobs = [{ name = \"x\" }]\n\
+    [[edge]]\nends = [\"a\", \"b\"]\n[[edge]]\nends = [\"b\", \"c\"]\n";
+
+// The core of a site, with the forks and tokens that it has at the start.
+fn core_of(rt: &impl Abort, alloc: Global, plan: &Plan, site: u32) -> SiteCore {
+    assert!(rt; site < plan.sites());
+    let forks = fresh_forks(alloc, plan, site).expect(rt, "memory");
+    let tokens = fresh_tokens(alloc, plan, site).expect(rt, "memory");
+    SiteCore::open(alloc, plan, site, forks, tokens).expect(rt, "memory")
+}
+
+fn grow_hungry(rt: &impl Abort, core: &mut SiteCore) {
+    assert!(rt; core.may_hungry());
+    core.hungry();
+}
+
+fn ask(rt: &impl Abort, core: &mut SiteCore) -> Letter {
+    assert!(rt; 0 < core.degree());
+    assert!(rt; core.may_ask(0));
+    core.ask(0)
+}
+
+fn give(rt: &impl Abort, core: &mut SiteCore) -> Letter {
+    give_at(rt, core, 0)
+}
+
+fn give_at(rt: &impl Abort, core: &mut SiteCore, i: u32) -> Letter {
+    assert!(rt; i < core.degree());
+    assert!(rt; core.may_give(i));
+    core.give(i)
+}
+
+fn eat(rt: &impl Abort, core: &mut SiteCore) {
+    assert!(rt; core.may_begin());
+    assert!(rt; !core.may_end());
+    let meal = core.begin();
+    core.end(meal);
+}
+
+fn say_done(rt: &impl Abort, core: &mut SiteCore) -> Letter {
+    say_done_at(rt, core, 0)
+}
+
+fn say_done_at(rt: &impl Abort, core: &mut SiteCore, i: u32) -> Letter {
+    assert!(rt; i < core.degree());
+    assert!(rt; core.may_done(i));
+    core.done(i)
+}
+
+fn close(rt: &impl Abort, core: &mut SiteCore) -> Letter {
+    assert!(rt; 0 < core.degree());
+    assert!(rt; core.may_close(0));
+    core.close(0)
+}
+
+fn take(rt: &impl Abort, core: &mut SiteCore, letter: Letter) {
+    take_at(rt, core, 0, letter);
+}
+
+fn take_at(rt: &impl Abort, core: &mut SiteCore, i: u32, letter: Letter) {
+    assert!(rt; i < core.degree());
+    assert!(rt; core.take(i, letter).is_ok());
+}
+
+// What the readers tell of a core and of one of its places.
+#[derive(Clone, Copy, Debug, PartialEq, Eq)]
+struct Told {
+    site: u32,
+    phase: Phase,
+    ate: u32,
+    has_fork: bool,
+    has_token: bool,
+    has_taken_close: bool,
+    is_closed: bool,
+    is_finished: bool,
+}
+
+fn told_of(rt: &impl Abort, core: &SiteCore, i: u32) -> Told {
+    assert!(rt; i < core.degree());
+    Told {
+        site: core.site(),
+        phase: core.phase(),
+        ate: core.ate(),
+        has_fork: core.has_fork(i),
+        has_token: core.has_token(i),
+        has_taken_close: core.has_taken_close(i),
+        is_closed: core.is_closed(),
+        is_finished: core.is_finished(),
+    }
+}
+
+// The letter is refused and handed back, of the same kind, and the core tells the same as before.
+fn refuse(rt: &impl Abort, core: &mut SiteCore, letter: Letter, cause: Breach) -> Letter {
+    let before = told_of(rt, core, 0);
+    let kind = letter.kind();
+    assert!(rt; 0 < core.degree());
+    let Err((back, breach)) = core.take(0, letter) else {
+        assert!(rt; false);
+        return Letter::Close;
+    };
+    assert_eq!(rt; breach, cause);
+    assert_eq!(rt; back.kind(), kind);
+    assert_eq!(rt; told_of(rt, core, 0), before);
+    back
+}
+
+fn request() -> Letter {
+    Letter::Request(Token::open(0))
+}
+
+// The fork that the lower site gives, when it is asked for it.
+fn fork_from(rt: &impl Abort, a: &mut SiteCore) -> Letter {
+    take(rt, a, request());
+    give(rt, a)
+}
+
+// The higher site eats with the fork of the lower, which asks for it and gets it back.
+fn lend(rt: &impl Abort, a: &mut SiteCore, b: &mut SiteCore) {
+    grow_hungry(rt, b);
+    let letter = ask(rt, b);
+    take(rt, a, letter);
+    let letter = give(rt, a);
+    take(rt, b, letter);
+    eat(rt, b);
+    grow_hungry(rt, a);
+    let letter = ask(rt, a);
+    take(rt, b, letter);
+    let letter = give(rt, b);
+    take(rt, a, letter);
+}
+
+fn spend(rt: &impl Abort, core: SiteCore) -> Parts {
+    assert!(rt; core.phase() != Phase::Eating);
+    core.into_parts()
+}
+
+// What the one fork of the parts has written.
+fn entry_at(rt: &impl Abort, parts: &Parts, i: u32) -> Entry {
+    assert_eq!(rt; parts.forks.len(), 1);
+    let fork = &parts.forks[0];
+    assert!(rt; i < fork.len());
+    fork.entry(i)
+}
+
+#[test]
+fn two_sites_eat_one_after_the_other(rt: HostRuntime) {
+    let plan = plan_of(&rt, rt.alloc(), JOB, JOB);
+    let mut a = core_of(&rt, rt.alloc(), &plan, 0);
+    let mut b = core_of(&rt, rt.alloc(), &plan, 1);
+    grow_hungry(&rt, &mut a);
+    eat(&rt, &mut a);
+    grow_hungry(&rt, &mut b);
+    let letter = ask(&rt, &mut b);
+    take(&rt, &mut a, letter);
+    let letter = give(&rt, &mut a);
+    take(&rt, &mut b, letter);
+    let letter = say_done(&rt, &mut a);
+    take(&rt, &mut b, letter);
+    eat(&rt, &mut b);
+    let letter = say_done(&rt, &mut b);
+    take(&rt, &mut a, letter);
+    let letter = close(&rt, &mut a);
+    take(&rt, &mut b, letter);
+    let letter = close(&rt, &mut b);
+    take(&rt, &mut a, letter);
+    assert!(rt; a.is_finished() && b.is_finished());
+    assert!(rt; a.is_closed() && b.is_closed());
+    assert_eq!(rt; (a.ate(), b.ate()), (1, 1));
+    let of_a = spend(&rt, a);
+    let of_b = spend(&rt, b);
+    assert_eq!(rt; (of_a.forks.len(), of_a.tokens.len()), (0, 1));
+    assert_eq!(rt; (of_b.forks.len(), of_b.tokens.len()), (1, 0));
+    assert_eq!(rt; entry_at(&rt, &of_b, 0), Entry::Meal { site: 0, k: 1 });
+    assert_eq!(rt; entry_at(&rt, &of_b, 1), Entry::Move { to: 1 });
+    assert_eq!(rt; entry_at(&rt, &of_b, 2), Entry::Meal { site: 1, k: 1 });
+}
+
+#[test]
+fn second_request_is_refused(rt: HostRuntime) {
+    let plan = plan_of(&rt, rt.alloc(), JOB, JOB);
+    let mut a = core_of(&rt, rt.alloc(), &plan, 0);
+    take(&rt, &mut a, request());
+    refuse(&rt, &mut a, request(), Breach::RequestOutOfTurn);
+    let fork = give(&rt, &mut a);
+    assert_eq!(rt; fork.kind(), Kind4::Fork);
+    refuse(&rt, &mut a, request(), Breach::RequestOutOfTurn);
+    take(&rt, &mut a, Letter::Done);
+    let _parts = spend(&rt, a);
+}
+
+#[test]
+fn request_of_another_edge_is_refused(rt: HostRuntime) {
+    let plan = plan_of(&rt, rt.alloc(), JOB, JOB);
+    let mut a = core_of(&rt, rt.alloc(), &plan, 0);
+    let strange = Letter::Request(Token::open(7));
+    refuse(&rt, &mut a, strange, Breach::RequestOutOfTurn);
+    take(&rt, &mut a, request());
+    let _parts = spend(&rt, a);
+}
+
+#[test]
+fn request_where_the_fork_is_away_is_refused(rt: HostRuntime) {
+    let plan = plan_of(&rt, rt.alloc(), JOB, JOB);
+    let mut a = core_of(&rt, rt.alloc(), &plan, 0);
+    let mut b = core_of(&rt, rt.alloc(), &plan, 1);
+    refuse(&rt, &mut b, request(), Breach::RequestOutOfTurn);
+    grow_hungry(&rt, &mut b);
+    let _request = ask(&rt, &mut b);
+    refuse(&rt, &mut b, request(), Breach::RequestOutOfTurn);
+    let fork = fork_from(&rt, &mut a);
+    take(&rt, &mut b, fork);
+    let _parts = spend(&rt, a);
+    let _parts = spend(&rt, b);
+}
+
+#[test]
+fn request_past_the_last_meal_is_refused(rt: HostRuntime) {
+    let plan = plan_of(&rt, rt.alloc(), TWO_JOBS, TWO_JOBS);
+    let mut a = core_of(&rt, rt.alloc(), &plan, 0);
+    let mut b = core_of(&rt, rt.alloc(), &plan, 1);
+    lend(&rt, &mut a, &mut b);
+    eat(&rt, &mut a);
+    lend(&rt, &mut a, &mut b);
+    refuse(&rt, &mut a, request(), Breach::RequestOutOfTurn);
+    let done = say_done(&rt, &mut b);
+    take(&rt, &mut a, done);
+    refuse(&rt, &mut a, request(), Breach::RequestOutOfTurn);
+    let _parts = spend(&rt, a);
+    let _parts = spend(&rt, b);
+}
+
+#[test]
+fn lower_site_refuses_a_fork_and_an_early_done(rt: HostRuntime) -> Result<(), Fail> {
+    let plan = plan_of(&rt, rt.alloc(), JOB, JOB);
+    let fork = Fork::open(rt.alloc(), 0, 0, 1, 1, 1)?;
+    let mut a = core_of(&rt, rt.alloc(), &plan, 0);
+    refuse(&rt, &mut a, Letter::Fork(fork), Breach::ForkOutOfTurn);
+    refuse(&rt, &mut a, Letter::Done, Breach::DoneOutOfTurn);
+    take(&rt, &mut a, request());
+    let _parts = spend(&rt, a);
+    Ok(())
+}
+
+#[test]
+fn fork_that_was_not_asked_for_is_refused(rt: HostRuntime) {
+    let plan = plan_of(&rt, rt.alloc(), JOB, JOB);
+    let mut a = core_of(&rt, rt.alloc(), &plan, 0);
+    let mut b = core_of(&rt, rt.alloc(), &plan, 1);
+    let fork = fork_from(&rt, &mut a);
+    let back = refuse(&rt, &mut b, fork, Breach::ForkOutOfTurn);
+    grow_hungry(&rt, &mut b);
+    let back = refuse(&rt, &mut b, back, Breach::ForkOutOfTurn);
+    let _request = ask(&rt, &mut b);
+    take(&rt, &mut b, back);
+    let _parts = spend(&rt, a);
+    let _parts = spend(&rt, b);
+}
+
+#[test]
+fn fork_of_another_edge_is_refused(rt: HostRuntime) -> Result<(), Fail> {
+    let plan = plan_of(&rt, rt.alloc(), JOB, JOB);
+    let other_edge = Fork::open(rt.alloc(), 7, 0, 1, 1, 1)?;
+    let other_ends = Fork::open(rt.alloc(), 0, 0, 2, 1, 1)?;
+    let unmoved = Fork::open(rt.alloc(), 0, 0, 1, 1, 1)?;
+    let mut a = core_of(&rt, rt.alloc(), &plan, 0);
+    let mut b = core_of(&rt, rt.alloc(), &plan, 1);
+    grow_hungry(&rt, &mut b);
+    let _request = ask(&rt, &mut b);
+    refuse(&rt, &mut b, Letter::Fork(other_edge), Breach::StrangeFork);
+    refuse(&rt, &mut b, Letter::Fork(other_ends), Breach::StrangeFork);
+    refuse(&rt, &mut b, Letter::Fork(unmoved), Breach::StrangeFork);
+    let fork = fork_from(&rt, &mut a);
+    take(&rt, &mut b, fork);
+    let _parts = spend(&rt, a);
+    let _parts = spend(&rt, b);
+    Ok(())
+}
+
+#[test]
+fn fork_with_another_due_number_is_refused(rt: HostRuntime) {
+    let plan = plan_of(&rt, rt.alloc(), JOB, JOB);
+    let longer = plan_of(&rt, rt.alloc(), TWO_JOBS, JOB);
+    let mut a = core_of(&rt, rt.alloc(), &plan, 0);
+    let mut other = core_of(&rt, rt.alloc(), &longer, 0);
+    let mut b = core_of(&rt, rt.alloc(), &plan, 1);
+    grow_hungry(&rt, &mut b);
+    let _request = ask(&rt, &mut b);
+    let strange = fork_from(&rt, &mut other);
+    refuse(&rt, &mut b, strange, Breach::StrangeFork);
+    let fork = fork_from(&rt, &mut a);
+    take(&rt, &mut b, fork);
+    let _parts = spend(&rt, a);
+    let _parts = spend(&rt, other);
+    let _parts = spend(&rt, b);
+}
+
+// A site that ate nothing gets a fork with a meal of its own, which the site that ate it takes.
+#[test]
+fn fork_with_another_number_of_meals_is_refused(rt: HostRuntime) {
+    let plan = plan_of(&rt, rt.alloc(), TWO_JOBS, TWO_JOBS);
+    let mut a = core_of(&rt, rt.alloc(), &plan, 0);
+    let mut b = core_of(&rt, rt.alloc(), &plan, 1);
+    let mut fresh = core_of(&rt, rt.alloc(), &plan, 1);
+    lend(&rt, &mut a, &mut b);
+    eat(&rt, &mut a);
+    grow_hungry(&rt, &mut fresh);
+    let _request = ask(&rt, &mut fresh);
+    grow_hungry(&rt, &mut b);
+    let letter = ask(&rt, &mut b);
+    take(&rt, &mut a, letter);
+    let fork = give(&rt, &mut a);
+    let back = refuse(&rt, &mut fresh, fork, Breach::StrangeFork);
+    take(&rt, &mut b, back);
+    let _parts = spend(&rt, a);
+    let _parts = spend(&rt, b);
+    let _parts = spend(&rt, fresh);
+}
+
+// The fork was sent to the lower site, which takes it, and the higher refuses it.
+#[test]
+fn fork_sent_to_the_other_end_is_refused(rt: HostRuntime) {
+    let plan = plan_of(&rt, rt.alloc(), JOB, JOB);
+    let mut a = core_of(&rt, rt.alloc(), &plan, 0);
+    let mut b = core_of(&rt, rt.alloc(), &plan, 1);
+    let mut other = core_of(&rt, rt.alloc(), &plan, 1);
+    grow_hungry(&rt, &mut other);
+    let _request = ask(&rt, &mut other);
+    grow_hungry(&rt, &mut b);
+    let letter = ask(&rt, &mut b);
+    take(&rt, &mut a, letter);
+    let letter = give(&rt, &mut a);
+    take(&rt, &mut b, letter);
+    eat(&rt, &mut b);
+    grow_hungry(&rt, &mut a);
+    let letter = ask(&rt, &mut a);
+    take(&rt, &mut b, letter);
+    let fork = give(&rt, &mut b);
+    let back = refuse(&rt, &mut other, fork, Breach::StrangeFork);
+    take(&rt, &mut a, back);
+    let _parts = spend(&rt, a);
+    let _parts = spend(&rt, b);
+    let _parts = spend(&rt, other);
+}
+
+// After Done the fork has to have all meals of its sender.
+#[test]
+fn fork_after_done_with_a_meal_missing_is_refused(rt: HostRuntime) {
+    let plan = plan_of(&rt, rt.alloc(), JOB, JOB);
+    let mut hasty = core_of(&rt, rt.alloc(), &plan, 0);
+    let mut a = core_of(&rt, rt.alloc(), &plan, 0);
+    let mut b = core_of(&rt, rt.alloc(), &plan, 1);
+    grow_hungry(&rt, &mut b);
+    let _request = ask(&rt, &mut b);
+    take(&rt, &mut b, Letter::Done);
+    let strange = fork_from(&rt, &mut hasty);
+    refuse(&rt, &mut b, strange, Breach::StrangeFork);
+    grow_hungry(&rt, &mut a);
+    eat(&rt, &mut a);
+    let fork = fork_from(&rt, &mut a);
+    take(&rt, &mut b, fork);
+    let _parts = spend(&rt, hasty);
+    let _parts = spend(&rt, a);
+    let _parts = spend(&rt, b);
+}
+
+#[test]
+fn done_before_the_last_meal_is_refused(rt: HostRuntime) {
+    let plan = plan_of(&rt, rt.alloc(), JOB, TWO_JOBS);
+    let mut a = core_of(&rt, rt.alloc(), &plan, 0);
+    let mut b = core_of(&rt, rt.alloc(), &plan, 1);
+    lend(&rt, &mut a, &mut b);
+    refuse(&rt, &mut a, Letter::Done, Breach::DoneOutOfTurn);
+    grow_hungry(&rt, &mut b);
+    let letter = ask(&rt, &mut b);
+    take(&rt, &mut a, letter);
+    let _parts = spend(&rt, a);
+    let _parts = spend(&rt, b);
+}
+
+// No meal is due to the higher site, so its Done comes at once, and once.
+#[test]
+fn second_done_is_refused(rt: HostRuntime) {
+    let plan = plan_of(&rt, rt.alloc(), "", "");
+    let mut a = core_of(&rt, rt.alloc(), &plan, 0);
+    take(&rt, &mut a, Letter::Done);
+    refuse(&rt, &mut a, Letter::Done, Breach::DoneOutOfTurn);
+    let _done = say_done(&rt, &mut a);
+    take(&rt, &mut a, Letter::Close);
+    let _parts = spend(&rt, a);
+}
+
+#[test]
+fn close_before_done_was_put_is_early(rt: HostRuntime) {
+    let plan = plan_of(&rt, rt.alloc(), JOB, JOB);
+    let mut a = core_of(&rt, rt.alloc(), &plan, 0);
+    let mut b = core_of(&rt, rt.alloc(), &plan, 1);
+    take(&rt, &mut b, Letter::Done);
+    refuse(&rt, &mut b, Letter::Close, Breach::ClosedEarly);
+    grow_hungry(&rt, &mut a);
+    eat(&rt, &mut a);
+    grow_hungry(&rt, &mut b);
+    let _request = ask(&rt, &mut b);
+    let fork = fork_from(&rt, &mut a);
+    take(&rt, &mut b, fork);
+    eat(&rt, &mut b);
+    refuse(&rt, &mut b, Letter::Close, Breach::ClosedEarly);
+    let _done = say_done(&rt, &mut b);
+    take(&rt, &mut b, Letter::Close);
+    let _parts = spend(&rt, a);
+    let _parts = spend(&rt, b);
+}
+
+#[test]
+fn close_before_done_was_taken_is_early(rt: HostRuntime) {
+    let plan = plan_of(&rt, rt.alloc(), JOB, "");
+    let mut b = core_of(&rt, rt.alloc(), &plan, 1);
+    refuse(&rt, &mut b, Letter::Close, Breach::ClosedEarly);
+    let _done = say_done(&rt, &mut b);
+    refuse(&rt, &mut b, Letter::Close, Breach::ClosedEarly);
+    take(&rt, &mut b, Letter::Done);
+    take(&rt, &mut b, Letter::Close);
+    let _parts = spend(&rt, b);
+}
+
+#[test]
+fn nothing_comes_after_close(rt: HostRuntime) -> Result<(), Fail> {
+    let plan = plan_of(&rt, rt.alloc(), THREE_JOBS, "");
+    let fork = Fork::open(rt.alloc(), 0, 0, 1, 3, 0)?;
+    let mut b = core_of(&rt, rt.alloc(), &plan, 1);
+    let done = say_done(&rt, &mut b);
+    assert_eq!(rt; done.kind(), Kind4::Done);
+    take(&rt, &mut b, Letter::Done);
+    let last = close(&rt, &mut b);
+    assert_eq!(rt; last.kind(), Kind4::Close);
+    take(&rt, &mut b, Letter::Close);
+    refuse(&rt, &mut b, Letter::Close, Breach::AfterClose);
+    refuse(&rt, &mut b, Letter::Done, Breach::AfterClose);
+    refuse(&rt, &mut b, request(), Breach::AfterClose);
+    refuse(&rt, &mut b, Letter::Fork(fork), Breach::AfterClose);
+    assert!(rt; b.is_finished());
+    assert!(rt; b.is_closed());
+    let parts = spend(&rt, b);
+    assert_eq!(rt; (parts.forks.len(), parts.tokens.len()), (0, 1));
+    Ok(())
+}
+
+// Close at one place leaves the other as it was.
+#[test]
+fn letters_come_at_a_place_that_is_not_closed(rt: HostRuntime) {
+    let plan = read_plan(rt.alloc(), ROW).expect(&rt, "a plan");
+    let mut b = core_of(&rt, rt.alloc(), &plan, 1);
+    let _done = say_done(&rt, &mut b);
+    take(&rt, &mut b, Letter::Done);
+    take(&rt, &mut b, Letter::Close);
+    refuse(&rt, &mut b, Letter::Close, Breach::AfterClose);
+    take_at(&rt, &mut b, 1, Letter::Request(Token::open(1)));
+    assert!(rt; !b.is_closed());
+    let parts = spend(&rt, b);
+    assert_eq!(rt; (parts.forks.len(), parts.tokens.len()), (1, 2));
+}
+
+#[test]
+fn events_come_in_the_fixed_order(rt: HostRuntime) {
+    let plan = read_plan(rt.alloc(), ROW).expect(&rt, "a plan");
+    let mut b = core_of(&rt, rt.alloc(), &plan, 1);
+    assert_eq!(rt; b.next_event(), Some(EventKind::Done(0)));
+    take_at(&rt, &mut b, 1, Letter::Request(Token::open(1)));
+    assert_eq!(rt; b.next_event(), Some(EventKind::Give(1)));
+    let _done = say_done(&rt, &mut b);
+    take(&rt, &mut b, Letter::Done);
+    assert_eq!(rt; b.next_event(), Some(EventKind::Give(1)));
+    let _fork = give_at(&rt, &mut b, 1);
+    assert_eq!(rt; b.next_event(), Some(EventKind::Done(1)));
+    let _done = say_done_at(&rt, &mut b, 1);
+    assert_eq!(rt; b.next_event(), Some(EventKind::Close(0)));
+    let _close = close(&rt, &mut b);
+    assert_eq!(rt; b.next_event(), None);
+    let parts = spend(&rt, b);
+    assert_eq!(rt; (parts.forks.len(), parts.tokens.len()), (0, 2));
+}
+
+#[test]
+fn events_follow_the_phase(rt: HostRuntime) {
+    let plan = plan_of(&rt, rt.alloc(), JOB, JOB);
+    let mut a = core_of(&rt, rt.alloc(), &plan, 0);
+    let mut b = core_of(&rt, rt.alloc(), &plan, 1);
+    assert_eq!(rt; a.next_event(), Some(EventKind::Hungry));
+    grow_hungry(&rt, &mut a);
+    assert_eq!(rt; a.next_event(), Some(EventKind::Begin));
+    grow_hungry(&rt, &mut b);
+    assert_eq!(rt; b.next_event(), Some(EventKind::Ask(0)));
+    let letter = ask(&rt, &mut b);
+    assert_eq!(rt; b.next_event(), None);
+    take(&rt, &mut a, letter);
+    assert_eq!(rt; a.next_event(), Some(EventKind::Give(0)));
+    let fork = give(&rt, &mut a);
+    assert_eq!(rt; a.next_event(), Some(EventKind::Ask(0)));
+    take(&rt, &mut b, fork);
+    assert_eq!(rt; b.next_event(), Some(EventKind::Begin));
+    assert!(rt; b.may_begin());
+    let meal = b.begin();
+    assert_eq!(rt; b.next_event(), Some(EventKind::End));
+    b.end(meal);
+    assert_eq!(rt; b.next_event(), Some(EventKind::Done(0)));
+    let left = spend(&rt, a);
+    let parts = spend(&rt, b);
+    assert_eq!(rt; (left.forks.len(), parts.forks.len()), (0, 1));
+}
+
+#[test]
+fn second_break_off_gives_nothing(rt: HostRuntime) {
+    let plan = plan_of(&rt, rt.alloc(), JOB, JOB);
+    let mut a = core_of(&rt, rt.alloc(), &plan, 0);
+    assert!(rt; 0 < a.degree());
+    assert!(rt; a.phase() != Phase::Eating);
+    let first = a.break_off(0).expect(&rt, "Close");
+    assert_eq!(rt; first.kind(), Kind4::Close);
+    let before = told_of(&rt, &a, 0);
+    assert!(rt; 0 < a.degree());
+    assert!(rt; a.phase() != Phase::Eating);
+    assert!(rt; a.break_off(0).is_none());
+    assert_eq!(rt; told_of(&rt, &a, 0), before);
+    let parts = spend(&rt, a);
+    assert_eq!(rt; (parts.forks.len(), parts.tokens.len()), (1, 0));
+}
+
+#[test]
+fn fresh_forks_are_those_of_the_lower_end(rt: HostRuntime) -> Result<(), Fail> {
+    let alloc = rt.alloc();
+    let plan = read_plan(alloc, ROW).expect(&rt, "a plan");
+    assert!(&rt; 1 < plan.sites());
+    let forks = fresh_forks(alloc, &plan, 1)?;
+    assert_eq!(&rt; forks.len(), 1);
+    let fork = &forks[0];
+    assert_eq!(&rt; fork.edge(), 1);
+    assert_eq!(&rt; fork.ends(), (1, 2));
+    assert_eq!(&rt; fork.due_of(1), 0);
+    assert_eq!(&rt; fork.due_of(2), 1);
+    assert_eq!(&rt; fork.len(), 0);
+    assert!(&rt; 2 < plan.sites());
+    assert_eq!(&rt; fresh_forks(alloc, &plan, 2)?.len(), 0);
+    Ok(())
+}
+
+#[test]
+fn fresh_tokens_are_those_of_the_higher_end(rt: HostRuntime) -> Result<(), Fail> {
+    let alloc = rt.alloc();
+    let plan = read_plan(alloc, ROW).expect(&rt, "a plan");
+    assert!(&rt; 1 < plan.sites());
+    let tokens = fresh_tokens(alloc, &plan, 1)?;
+    assert_eq!(&rt; tokens.len(), 1);
+    assert_eq!(&rt; tokens[0].edge(), 0);
+    assert_eq!(&rt; fresh_tokens(alloc, &plan, 0)?.len(), 0);
+    Ok(())
+}
+
+// The packed core of a site.
+fn packed_site(rt: &impl Abort, alloc: Global, plan: &Plan, site: u32) -> Packed {
+    assert!(rt; site < plan.sites());
+    let forks = fresh_forks(alloc, plan, site).expect(rt, "memory");
+    let tokens = fresh_tokens(alloc, plan, site).expect(rt, "memory");
+    SiteCore::open(alloc, plan, site, forks, tokens)
+        .expect(rt, "memory")
+        .pack()
+}
+
+#[test]
+fn packed_core_comes_back_as_it_was(rt: HostRuntime) {
+    let alloc = rt.alloc();
+    let plan = plan_of(&rt, alloc, JOB, TWO_JOBS);
+    let mut core = packed_site(&rt, alloc, &plan, 0).unpack();
+    assert_eq!(&rt; (core.site(), core.degree(), core.ate()), (0, 1, 0));
+    assert!(&rt; 0 < core.degree());
+    assert!(&rt; core.has_fork(0));
+    assert!(&rt; !core.has_token(0));
+    grow_hungry(&rt, &mut core);
+    eat(&rt, &mut core);
+    assert_eq!(&rt; core.ate(), 1);
+    assert_eq!(&rt; spend(&rt, core).forks.len(), 1);
+}
+
+#[test]
+fn packed_core_may_be_dropped(rt: HostRuntime) {
+    let alloc = rt.alloc();
+    let plan = plan_of(&rt, alloc, JOB, TWO_JOBS);
+    for site in 0..2 {
+        let _ = packed_site(&rt, alloc, &plan, site);
+    }
+}
+
+#[test]
+fn breaches_have_the_numbers_one_to_six(rt: HostRuntime) {
+    assert_eq!(&rt; Breach::AfterClose.number(), 1);
+    assert_eq!(&rt; Breach::RequestOutOfTurn.number(), 2);
+    assert_eq!(&rt; Breach::ForkOutOfTurn.number(), 3);
+    assert_eq!(&rt; Breach::StrangeFork.number(), 4);
+    assert_eq!(&rt; Breach::DoneOutOfTurn.number(), 5);
+    assert_eq!(&rt; Breach::ClosedEarly.number(), 6);
+}
