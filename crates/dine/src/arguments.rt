@@ -9,9 +9,6 @@ use std::alloc::Global;
 use std::io::ErrorKind;
 use std::{env, io};
 
-#[cfg(test)]
-mod tests;
-
 /// The words in a list, of what `env::args` answered: all of them, in order. The first is the program's own name.
 ///
 /// Where it answered an error there are none, and the fault is `OutOfMemory` where memory was refused, and else `Usage`: a

@@ -7,9 +7,6 @@ ghost use Rattle.dine.specs.Choices.{choice_of, choices_of};
 use crate::words::WordsFault;
 use std::alloc::Global;
 
-#[cfg(test)]
-mod tests;
-
 const MAX_DIGITS: usize = 10;
 
 /// The choices of the text: one or more numbers of 1 to 10 decimal digits, at most 4294967295 each, separated by single

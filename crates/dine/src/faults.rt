@@ -14,9 +14,6 @@ use dine_run::SiteFault;
 use std::alloc::AllocError;
 use std::io::Write;
 
-#[cfg(test)]
-mod tests;
-
 /// What ended a command before its end.
 #[derive(Clone, Copy, Debug, PartialEq, Eq)]
 pub enum Fault {

@@ -6,9 +6,6 @@ ghost use Rattle.dine.specs.Input.{TakesAtMost, input_limit};
 use std::alloc::Global;
 use std::io::{ErrorKind, Read};
 
-#[cfg(test)]
-mod tests;
-
 /// How many bytes an input may have.
 pub const INPUT_LIMIT: usize = 8_388_608;
 
@@ -16,7 +13,7 @@ pub const INPUT_LIMIT: usize = 8_388_608;
 const CHUNK: usize = 4096;
 
 /// Why an input was not read to its end.
-#[derive(Clone, Copy, Debug, PartialEq, Eq)]
+#[derive(Clone, Copy)]
 pub enum InputFault {
     /// A read failed, or was interrupted again and again.
     Failed,

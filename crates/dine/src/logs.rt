@@ -17,9 +17,6 @@ use dine_token::{Fork, Period};
 use std::alloc::{AllocError, Global};
 
 mod meal_texts;
-#[cfg(test)]
-mod tests;
-
 /// The text of the world, which was opened for the plan, after so many events: the log of each edge, and the last line.
 pub fn world_text(
     alloc: Global,

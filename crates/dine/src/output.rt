@@ -6,15 +6,12 @@ ghost use Rattle.dine.specs.Output.{WritesPrefix};
 
 use std::io::{ErrorKind, Write};
 
-#[cfg(test)]
-mod tests;
-
 const LINE_FEED: u8 = b'\n';
 
 const ZERO: u8 = b'0';
 
 /// A text could not be written whole: a write or the flush failed, or a write took no byte.
-#[derive(Clone, Copy, Debug, PartialEq, Eq)]
+#[derive(Clone, Copy)]
 pub struct WriteFault;
 
 /// Writes the whole `text` and flushes.

@@ -9,9 +9,6 @@ use dine_token::Meal;
 use std::alloc::{AllocError, Global};
 use std::marker::Model;
 
-#[cfg(test)]
-mod tests;
-
 // The word that the turns begin with. Turns never lead from a word other than 0 to 0.
 const FIRST_WORD: u32 = 2_463_534_242;
 

@@ -9,9 +9,6 @@ use dine_plan::Plan;
 use dine_run::{EdgeRow, SiteRow};
 use std::alloc::{AllocError, Global};
 
-#[cfg(test)]
-mod tests;
-
 /// The table of edges: the header `edge,lo,hi,lo_meals,hi_meals`, and for each row a record of the edge's number, the names
 /// of its two ends and their meals. Each record ends with one line feed.
 ///

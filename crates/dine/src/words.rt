@@ -7,9 +7,6 @@ ghost use Rattle.dine.specs.declared.words.WordsFault.TheVariants.{Memory};
 use crate::choices::choices_of;
 use std::alloc::{AllocError, Global};
 
-#[cfg(test)]
-mod tests;
-
 const RUN: &str = "run";
 
 const REPLAY: &str = "replay";
@@ -31,7 +28,7 @@ const CHANNEL: &str = "channel";
 const RING: &str = "ring";
 
 /// Which table of a run is printed.
-#[derive(Clone, Copy, Debug, PartialEq, Eq)]
+#[derive(Clone, Copy)]
 pub enum Table {
     /// A row for each edge, with the meals of its two ends.
     Edges,
@@ -40,7 +37,7 @@ pub enum Table {
 }
 
 /// What carries the letters of a run from site to site. The table is the same with either.
-#[derive(Clone, Copy, Debug, PartialEq, Eq)]
+#[derive(Clone, Copy)]
 pub enum Links {
     /// A channel for each link.
     Channel,
@@ -49,7 +46,7 @@ pub enum Links {
 }
 
 /// What the program is asked to do.
-#[derive(Debug, Drop, PartialEq, Eq)]
+#[derive(Drop)]
 pub enum Command {
     /// Run every site of the plan on a thread of its own, over links of this kind, and print this table.
     Run(Table, Links),
@@ -60,7 +57,7 @@ pub enum Command {
 }
 
 /// Why the words name no command.
-#[derive(Clone, Copy, Debug, PartialEq, Eq)]
+#[derive(Clone, Copy)]
 pub enum WordsFault {
     /// `clap` refuses the words, LIST is no list of choices, or no table or no kind of links has the name. A question for
     /// help or the version is refused too.

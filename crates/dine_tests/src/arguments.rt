@@ -1,5 +1,5 @@
-use super::words_of;
-use crate::faults::Fault;
+// The words of the process.
+use dine::{Fault, words_of};
 use std::env::FillError;
 use std::rt::Env;
 use std::test::Fail;

@@ -1,12 +1,12 @@
-use super::Fault;
-use crate::status::Status;
+// What ends a command, its line and its status.
+use dine::{Fault, Status, exit_of};
 use dine_plan::PlanFault;
 use dine_rules::Breach;
 use dine_run::SiteFault;
 use std::alloc::Global;
 use std::io;
 use std::io::Write;
-use std::process::Abort;
+use std::process::{Abort, ExitCode};
 use std::test::Fail;
 
 // Takes all bytes, and counts the flushes behind the last of them.
@@ -146,4 +146,20 @@ fn each_fault_of_a_run_names_its_site(rt: HostRuntime) -> Result<(), Fail> {
         Status::RunFailed,
         "dine: run broken at site 1: NotStarted\n",
     )
+}
+
+#[test]
+fn each_status_has_its_number(rt: HostRuntime) {
+    let numbers = [
+        (Status::Success, 0),
+        (Status::Usage, 2),
+        (Status::PlanRefused, 3),
+        (Status::RunFailed, 4),
+        (Status::OutOfMemory, 5),
+        (Status::InputOutput, 6),
+    ];
+    for (status, number) in numbers {
+        assert_eq!(rt; status.number(), number);
+        assert!(rt; exit_of(status) == ExitCode::from(number));
+    }
 }

@@ -1,7 +1,11 @@
+// The diner of a plan does its jobs.
 ghost use Rattle.std.specs.Prelude.{◌≡◌, ◌+◌, ◌<◌, IfOk};
 
-use super::*;
+use dine::PlanDiner;
 use dine_plan::read_plan;
+use dine_run::{Call, Diner};
+use dine_token::Meal;
+use std::alloc::Global;
 use std::process::Abort;
 use std::test::Fail;
 
@@ -64,21 +68,4 @@ fn meal_without_a_job_goes_well(rt: HostRuntime) -> Result<(), Fail> {
     assert!(rt; eats(&mut diner, rt.alloc(), 0));
     assert!(rt; eats(&mut diner, rt.alloc(), 4));
     Ok(())
-}
-
-#[test]
-fn turns_change_the_word(rt: HostRuntime) -> Result<(), Fail> {
-    let mut diner = diner_of(&rt, rt.alloc(), 1, 1)?;
-    assert!(rt; eats(&mut diner, rt.alloc(), 1));
-    assert_ne!(rt; diner.word, FIRST_WORD);
-    Ok(())
-}
-
-// The first words of xorshift with these shifts, as its tables have them.
-#[test]
-fn turns_are_steps_of_xorshift(rt: HostRuntime) {
-    assert_eq!(rt; turned(FIRST_WORD, 0), FIRST_WORD);
-    assert_eq!(rt; turned(FIRST_WORD, 1), 723_471_715);
-    assert_eq!(rt; turned(FIRST_WORD, 2), 2_497_366_906);
-    assert_eq!(rt; turned(FIRST_WORD, 3), 2_064_144_800);
 }

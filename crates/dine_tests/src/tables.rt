@@ -1,8 +1,11 @@
+// The tables of edges and of sites.
 ghost use Rattle.std.specs.Prelude.{◌≡◌, IfOk};
 ghost use Rattle.dine_plan.specs.Plan.{edge_count, site_count};
 
-use super::*;
-use dine_plan::read_plan;
+use dine::{write_edges, write_sites};
+use dine_plan::{Plan, read_plan};
+use dine_run::{EdgeRow, SiteRow};
+use std::alloc::Global;
 use std::process::Abort;
 use std::test::Fail;
 

@@ -1,0 +1,19 @@
+//! The tests of `dine`, by what anyone can see of it. There is nothing else here, so that it is not proved a second time for them. What
+//! is printed for a plan stands in the plans' heads, which `tools/plans` tries with the program, and below `plans/texts/`, which
+//! `tools/texts` tries.
+#![tactic(auto)]
+
+#[cfg(test)]
+mod arguments;
+#[cfg(test)]
+mod commands;
+#[cfg(test)]
+mod faults;
+#[cfg(test)]
+mod input;
+#[cfg(test)]
+mod output;
+#[cfg(test)]
+mod plan_diner;
+#[cfg(test)]
+mod tables;
