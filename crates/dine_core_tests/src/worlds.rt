@@ -262,6 +262,42 @@ fn choices_of_no_event_are_passed_over(rt: HostRuntime) {
     higher_ate_first(&rt, &plan, world);
 }
 
+// After the choices and all that is left, the fork of two sites with these jobs has these periods, each as its site, its first meal and
+// how many.
+fn has_periods(
+    rt: &impl Abort,
+    alloc: Global,
+    jobs: &[u32],
+    choices: &[u32],
+    periods: &[(u32, u32, u32)],
+) {
+    let plan = plan_with(rt, alloc, jobs, [(0, 1)].as_slice());
+    let mut world = opened(rt, alloc, &plan);
+    let _ = world.replay(choices);
+    let _ = world.finish();
+    let fork = world.fork(0).expect(rt, "a fork");
+    assert_eq!(rt; fork.periods() as usize, periods.len());
+    for (i, period) in (0..periods.len() as u32).zip(periods) {
+        let Period { site, first, count } = period_at(rt, fork, i);
+        assert_eq!(rt; (site, first, count), *period);
+    }
+    let _forks = spend(rt, &plan, world);
+}
+
+#[test]
+fn forks_of_pairs_have_these_periods(rt: HostRuntime) {
+    let alloc = rt.alloc();
+    has_periods(&rt, alloc, &[1, 1], &[], &[(0, 1, 1), (1, 1, 1)]);
+    has_periods(
+        &rt,
+        alloc,
+        &[1, 1],
+        &[1, 1, 0, 0],
+        &[(0, 1, 0), (1, 1, 1), (0, 1, 1)],
+    );
+    has_periods(&rt, alloc, &[3, 0], &[], &[(0, 1, 3)]);
+}
+
 #[test]
 fn site_alone_eats_all_its_jobs(rt: HostRuntime) {
     let plan = plan_of(&rt, rt.alloc(), 1, 2, [].as_slice());
