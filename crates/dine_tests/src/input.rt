@@ -2,7 +2,10 @@
 use super::commands::{PAIR, leaves};
 use std::io;
 use std::io::Read;
+use std::process::Abort;
+use std::sync::Wait;
 use std::test::Fail;
+use std::thread::Threads;
 
 // Gives its bytes at most `step` at a time, and fails once, with `kind`, at the read `bad_read`.
 #[derive(Drop)]
@@ -110,51 +113,40 @@ fn an_interrupted_read_is_tried_again(rt: HostRuntime) -> Result<(), Fail> {
     Ok(())
 }
 
+// So many line feeds, given at most `step` at a time, are refused with this status and line. So many of them are left unread.
+fn feeds_leave<H: Threads + Wait + AllocGlobal + Abort + Copy + Send + 'static>(
+    rt: &H,
+    feeds: (usize, usize),
+    refusal: (u8, &str),
+    unread: usize,
+) -> Result<usize, Fail> {
+    let mut input = line_feeds(feeds.0, feeds.1);
+    leaves(rt, "dine check", &mut input, refusal.0, "", refusal.1)?;
+    assert_eq!(rt; input.left, unread);
+    Ok(input.reads)
+}
+
+const NO_VERSION: (u8, &str) = (3, "dine: plan refused: 2 Version\n");
+
+const TOO_LONG: (u8, &str) = (6, "dine: input too long\n");
+
 #[test]
 fn an_input_of_the_limit_is_read(rt: HostRuntime) -> Result<(), Fail> {
-    for step in [1000, 8192] {
-        let mut input = line_feeds(8_388_608, step);
-        leaves(
-            &rt,
-            "dine check",
-            &mut input,
-            3,
-            "",
-            "dine: plan refused: 2 Version\n",
-        )?;
-        assert_eq!(rt; input.left, 0);
-    }
+    feeds_leave(&rt, (8_388_608, 1000), NO_VERSION, 0)?;
+    feeds_leave(&rt, (8_388_608, 8192), NO_VERSION, 0)?;
     Ok(())
 }
 
 #[test]
 fn one_byte_more_than_the_limit_is_too_long(rt: HostRuntime) -> Result<(), Fail> {
-    for left in [8_388_609, 8_400_000] {
-        let mut input = line_feeds(left, 5000);
-        leaves(
-            &rt,
-            "dine check",
-            &mut input,
-            6,
-            "",
-            "dine: input too long\n",
-        )?;
-        assert_eq!(rt; input.left, left - 8_388_609);
-    }
+    feeds_leave(&rt, (8_388_609, 5000), TOO_LONG, 0)?;
+    feeds_leave(&rt, (8_400_000, 5000), TOO_LONG, 11_391)?;
     Ok(())
 }
 
 #[test]
 fn an_endless_input_is_left_after_as_many_reads(rt: HostRuntime) -> Result<(), Fail> {
-    let mut input = line_feeds(usize::MAX, 1);
-    leaves(
-        &rt,
-        "dine check",
-        &mut input,
-        6,
-        "",
-        "dine: input too long\n",
-    )?;
-    assert_eq!(rt; input.reads, 8_388_609);
+    let reads = feeds_leave(&rt, (usize::MAX, 1), TOO_LONG, usize::MAX - 8_388_609)?;
+    assert_eq!(rt; reads, 8_388_609);
     Ok(())
 }
