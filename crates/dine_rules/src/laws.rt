@@ -32,12 +32,18 @@ ghost use Rattle.dine_rules.specs.declared.events.EventKind.TheVariants.{Ask, Be
 ghost use Rattle.dine_rules.specs.declared.letters.Kind4.TheVariants as kind;
 
 mod joined;
+mod journals;
 
 pub use joined::{
     closed_links_are_wholly_taken, early_close_comes_as_worked, edges_have_a_place_at_each_end,
     joined_ends_have_one_whole_fork_and_one_token, kept_streams_account_for_fork_and_token,
     linked_ends_have_at_most_one_fork_and_token, reached_worlds_have_linked_ends,
     refused_letters_are_closes,
+};
+pub use journals::{
+    disabled_events_wait_for_a_letter, journals_and_links_fix_the_logs, journals_fix_the_world,
+    journals_go_as_worked, journals_grow_by_each_event, order_between_sites_does_not_matter,
+    orders_grow_by_each_event, orders_that_exist_are_found,
 };
 
 /// What the definitions come to on small plans: the log of each edge and the number of events, computed from the list

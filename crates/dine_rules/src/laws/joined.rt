@@ -2,7 +2,7 @@
 
 ghost use Rattle.std.specs.Prelude.{◌≡◌, ◌<◌, ◌≤◌, ◌+◌, Bool, List, Some, false, length, true, ℕ};
 ghost use mathlib.Core.List.{IsPrefix};
-ghost use Rattle.dine_plan.specs.Plan.{IsPlan, SeenPlan, edge_count, edges_of, hi_of, lo_of};
+ghost use Rattle.dine_plan.specs.Plan.{IsPlan, SeenPlan, edge_count, edges_of, hi_of, lo_of, site_count};
 ghost use Rattle.dine_rules.specs.Breach.{first_breach, is_allowed};
 ghost use Rattle.dine_rules.specs.Examples.{broken_off, pair};
 ghost use Rattle.dine_rules.specs.Holdings.{forks_held, tokens_held};
@@ -17,13 +17,16 @@ ghost use Rattle.dine_rules.specs.declared.breach.Breach.TheVariants.{ClosedEarl
 ghost use Rattle.dine_rules.specs.declared.letters.Letter.{Letter};
 ghost use Rattle.dine_rules.specs.declared.letters.Letter.TheVariants.{Close};
 
-/// Each edge has a place at its lower end and one at its higher, and each place of a site is an end of its edge.
+/// Each edge has a place at its lower end and one at its higher, and each place of a site is an end of its edge, at the other end of which
+/// is a site.
 pub fn edges_have_a_place_at_each_end()
     ensures ends { (plan : SeenPlan) (edge : ℕ) → IsPlan plan → edge < edge_count plan
         → AreEndsOfEdge plan (lo_of plan edge) (place_of plan (lo_of plan edge) edge) (hi_of plan edge) (place_of plan (hi_of plan edge) edge) }
     ensures edge { (plan : SeenPlan) (edge : ℕ) → IsPlan plan → edge < edge_count plan → edge_at plan (lo_of plan edge) (place_of plan (lo_of plan edge) edge) ≡ edge }
     ensures places { (plan : SeenPlan) (s i : ℕ) → IsPlan plan → i < length (edges_of plan s)
         → AreEndsOfEdge plan s i (neighbour_at plan s i) (place_of plan (neighbour_at plan s i) (edge_at plan s i)) }
+    ensures edges { (plan : SeenPlan) (s i : ℕ) → IsPlan plan → i < length (edges_of plan s) → edge_at plan s i < edge_count plan }
+    ensures sites { (plan : SeenPlan) (s i : ℕ) → IsPlan plan → i < length (edges_of plan s) → neighbour_at plan s i < site_count plan }
 {}
 
 /// In every world that events reach from the start the two ends of each link took prefixes of what the other put. Where the world

@@ -1,0 +1,91 @@
+//! Laws on journals, the events of each site in its order, and on the orders that hold all of them in one list.
+
+ghost use Rattle.std.specs.Prelude.{◌≡◌, ◌≢◌, ◌<◌, ◌++◌, List, Option, Some, [], ◌∷◌, false, length, true, ℕ};
+ghost use Rattle.dine_plan.specs.Plan.{IsPlan, SeenPlan, edges_of, site_count};
+ghost use Rattle.dine_token.specs.declared.entry.Entry.TheVariants.{Meal, Move};
+ghost use Rattle.dine_rules.specs.Examples.{pair};
+ghost use Rattle.dine_rules.specs.Holdings.{fork_at, hand_at};
+ghost use Rattle.dine_rules.specs.JournalExamples.{accepted_as, higher_journal, left_by, lower_journal, merged, ready_after};
+ghost use Rattle.dine_rules.specs.Journals.{AreStatesAfter, IsFrontOf, IsJournal, IsOrderOf, IsPlacedToEnd, IsWholeOrder, OrdersGrow, part_of};
+ghost use Rattle.dine_rules.specs.Local.{LocalState, edge_at, neighbour_at, start_of};
+ghost use Rattle.dine_rules.specs.Precedence.{fork_log};
+ghost use Rattle.dine_rules.specs.Steps.{Puts, Step, after, may, shape_of, step_by};
+ghost use Rattle.dine_rules.specs.World.{IsComplete, Reaches, WorldState, is_enabled, state_of, world_after};
+ghost use Rattle.dine_rules.specs.declared.events.Event.{Event};
+ghost use Rattle.dine_rules.specs.declared.events.EventKind.{EventKind};
+ghost use Rattle.dine_rules.specs.declared.events.EventKind.TheVariants.{Ask, Begin, Done, End, Hungry, Take};
+ghost use Rattle.dine_rules.specs.declared.letters.Kind4.TheVariants as kind;
+ghost use Rattle.dine_rules.specs.declared.letters.Letter.{Letter};
+ghost use Rattle.dine_rules.specs.declared.letters.Letter.TheVariants as letter;
+
+/// Two lists of events that the world accepts from its start on end in the same world where they have the same events of each
+/// site in the same order, however these lie between those of the other sites. So do two that have placed the same number of each
+/// journal's events.
+pub fn order_between_sites_does_not_matter()
+    ensures same { (plan : SeenPlan) (events others : List Event) (world other : WorldState) → Reaches plan events world → Reaches plan others other
+        → ((s : ℕ) → part_of s events ≡ part_of s others) → world ≡ other }
+    ensures counted { (plan : SeenPlan) (journals : List (List EventKind)) (events others : List Event) (world other : WorldState)
+        → Reaches plan events world → Reaches plan others other → IsFrontOf journals events → IsFrontOf journals others
+        → ((s : ℕ) → length (part_of s events) ≡ length (part_of s others)) → world ≡ other }
+{}
+
+/// Where some order of the journals is accepted and makes the world complete, events that were placed until no site is ready are
+/// such an order, whichever ready site was taken each time. So where not all are placed, or the world is not complete, there is no
+/// such order.
+pub fn orders_that_exist_are_found()
+    ensures all_placed { (plan : SeenPlan) (journals : List (List EventKind)) (order placed : List Event) (world : WorldState)
+        → IsWholeOrder plan journals order → IsPlacedToEnd plan journals placed world → IsOrderOf journals placed }
+    ensures complete { (plan : SeenPlan) (journals : List (List EventKind)) (order placed : List Event) (world : WorldState)
+        → IsWholeOrder plan journals order → IsPlacedToEnd plan journals placed world → IsComplete plan world }
+{}
+
+/// An event of a site is enabled after an event of another site exactly where it was before, unless that event puts a letter on a
+/// link to the site.
+pub fn disabled_events_wait_for_a_letter()
+    ensures { (plan : SeenPlan) (events : List Event) (world new : WorldState) (e other : Event) → IsPlan plan → Reaches plan events world
+        → world_after plan world other ≡ Some new → e.site ≢ other.site
+        → ((i : ℕ) → shape_of other.kind ≡ Puts i → neighbour_at plan other.site i ≢ e.site) → is_enabled plan new e ≡ is_enabled plan world e }
+{}
+
+/// What an event adds to a list of events that the world accepts from its start on, where it is enabled then.
+pub fn orders_grow_by_each_event()
+    ensures { OrdersGrow }
+{}
+
+/// A journal is empty at the start, and grows by each event of its site, whatever letters come next.
+pub fn journals_grow_by_each_event()
+    ensures start { (plan : SeenPlan) (s : ℕ) → IsJournal plan s [] (start_of plan s) }
+    ensures event { (plan : SeenPlan) (s : ℕ) (journal : List EventKind) (state : LocalState) (kind : EventKind) (next : ℕ → Option Letter) (step : Step)
+        → IsJournal plan s journal state → step_by next kind ≡ Some step → may plan s state step ≡ true
+        → IsJournal plan s (journal ++ kind ∷ []) (after plan s state step) }
+{}
+
+/// An order of the sites' journals that the world accepts leads to the world in which each site is in the state that its journal
+/// led it to.
+pub fn journals_fix_the_world()
+    ensures { (plan : SeenPlan) (journals : List (List EventKind)) (states world : WorldState) (events : List Event) → IsPlan plan
+        → AreStatesAfter plan journals states → IsOrderOf journals events → Reaches plan events world → world ≡ states }
+{}
+
+/// So the log of each edge's fork in that world is the one that lies in the hand of the site that holds the fork.
+pub fn journals_and_links_fix_the_logs()
+    ensures { (plan : SeenPlan) (journals : List (List EventKind)) (states world : WorldState) (events : List Event) (s i : ℕ) → IsPlan plan
+        → AreStatesAfter plan journals states → IsOrderOf journals events → Reaches plan events world
+        → s < site_count plan → i < length (edges_of plan s) → fork_at plan s (state_of states s) i ≡ 1
+        → fork_log plan world (edge_at plan s i) ≡ hand_at s (state_of states s) i }
+{}
+
+/// The journals of a pair with one job each. The lower site goes as far as it can alone, and then the higher, and so on: this
+/// order is accepted, and one that starts with the higher site too. Where the higher site takes twice after the lower's first four
+/// events, no event more can be placed. A site's journal gives what it ate and put.
+pub fn journals_go_as_worked()
+    ensures lowest_first { accepted_as (merged (0 ∷ 0 ∷ 0 ∷ 0 ∷ 1 ∷ 1 ∷ 0 ∷ 0 ∷ 1 ∷ 1 ∷ 1 ∷ 1 ∷ 1 ∷ 0 ∷ 0 ∷ 1 ∷ 0 ∷ 1 ∷ []) lower_journal higher_journal)
+        ≡ Some (18, Meal 0 1 ∷ Move 1 ∷ Meal 1 1 ∷ []) }
+    ensures higher_first { accepted_as (merged (1 ∷ 0 ∷ 0 ∷ 1 ∷ 0 ∷ 0 ∷ 1 ∷ 0 ∷ 0 ∷ 1 ∷ 1 ∷ 1 ∷ 1 ∷ 0 ∷ 0 ∷ 1 ∷ 0 ∷ 1 ∷ []) lower_journal higher_journal)
+        ≡ Some (18, Meal 0 1 ∷ Move 1 ∷ Meal 1 1 ∷ []) }
+    ensures parts { part_of 1 (merged (1 ∷ 0 ∷ 0 ∷ 1 ∷ []) lower_journal higher_journal) ≡ Hungry ∷ Ask 0 ∷ [] }
+    ensures ready { ready_after (lower_journal ∷ higher_journal ∷ []) [] ≡ Some (true, true) }
+    ensures stuck { ready_after ((Hungry ∷ Begin ∷ End ∷ Done 0 ∷ []) ∷ (Take 0 ∷ Take 0 ∷ []) ∷ [])
+        (merged (0 ∷ 0 ∷ 0 ∷ 0 ∷ 1 ∷ []) (Hungry ∷ Begin ∷ End ∷ Done 0 ∷ []) (Take 0 ∷ Take 0 ∷ [])) ≡ Some (false, false) }
+    ensures left { left_by 0 (letter.Request 0 ∷ letter.Done ∷ letter.Close ∷ []) lower_journal ≡ Some (1, kind.Done ∷ kind.Fork ∷ kind.Close ∷ []) }
+{}
