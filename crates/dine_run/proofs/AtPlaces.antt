@@ -1,13 +1,15 @@
 -- What holds at each place, and of the state as a whole, when a letter is put or taken at one place.
-use Rattle.std.proofs.Common.{◌≡◌, ℕ, ◌<◌, true, false, List, length, set, get_or, Some, sym, ◌∙◌, ap, subst, inl, inr, length-set}
+use Rattle.std.proofs.Common.{◌≡◌, ℕ, ◌<◌, true, false, List, [], ◌∷◌, ◌++◌, length, set, get_or, Option, Some, None, sym, ◌∙◌, ap, subst, inl, inr, length-set}
 use Rattle.std.specs.List.{slice_get}
 use Rattle.std.proofs.lemmas.List.{get_or-set_same, get_or-set_other, set-get_or}
 use Rattle.std.proofs.lemmas.Bool.{and_parts, not-true, ltb-true}
 use Rattle.dine_plan.specs.Plan.{SeenPlan, edges_of}
+use Rattle.dine_rules.specs.declared.events.EventKind.{EventKind}
 use Rattle.dine_rules.specs.declared.letters.Letter.{Letter}
+use Rattle.dine_rules.specs.Journals.{IsJournal}
 use Rattle.dine_rules.specs.Letters.{has_close}
 use Rattle.dine_rules.specs.Local.{LocalState, Traffic, no_traffic, traffic_at, is_eating}
-use Rattle.dine_rules.specs.Steps.{Step, Give, Ask, Done, Close, Break, may, after, with_put}
+use Rattle.dine_rules.specs.Steps.{Step, Give, Ask, Done, Close, Break, may, after, step_by, with_put}
 use Rattle.dine_rules.specs.Streams.{KeepsStreams}
 use Rattle.dine_core.specs.Core.{SeenCore, StandsFor}
 use Rattle.dine_core.specs.Standing.{CoreStep, CorePuts}
@@ -48,9 +50,9 @@ at-port P Q state i within ports port = at-set P Q state state i (traffic_at sta
 
 module _ {Identity : Type 0} (plan : SeenPlan) (given : List (SeenPort Identity)) where
   -- the core stands for another state
-  pub has-core : (run : SeenRun Identity) (state new : LocalState) (core : SeenCore) → HasState plan given run state → core.site ≡ run.core.site → StandsFor plan new core → KeepsStreams plan core.site new
-      → is_eating new.phase ≡ false → HasState plan given (record { core = core; ports = run.ports }) new
-  has-core run state new core has site stands keeps rests = record {
+  pub has-core : (run : SeenRun Identity) (state new : LocalState) (core : SeenCore) (journal : List EventKind) → HasState plan given run state → core.site ≡ run.core.site → StandsFor plan new core → KeepsStreams plan core.site new
+      → is_eating new.phase ≡ false → HasState plan given (record { core = core; ports = run.ports; journal = journal }) new
+  has-core run state new core journal has site stands keeps rests = record {
     is_plan = has.is_plan;
     is_site = stands.is_site;
     keeps = keeps;
@@ -62,13 +64,13 @@ module _ {Identity : Type 0} (plan : SeenPlan) (given : List (SeenPort Identity)
   }
 
   -- the core did a step
-  pub has-step : (run : SeenRun Identity) (state : LocalState) (step : Step) (core : SeenCore) → HasState plan given run state → CoreStep plan state step run.core core
-      → is_eating (after plan run.core.site state step).phase ≡ false → HasState plan given (record { core = core; ports = run.ports }) (after plan run.core.site state step)
-  has-step run state step core has did rests = has-core run state (after plan run.core.site state step) core has did.site did.stands did.keeps rests
+  pub has-step : (run : SeenRun Identity) (state : LocalState) (step : Step) (core : SeenCore) (journal : List EventKind) → HasState plan given run state → CoreStep plan state step run.core core
+      → is_eating (after plan run.core.site state step).phase ≡ false → HasState plan given (record { core = core; ports = run.ports; journal = journal }) (after plan run.core.site state step)
+  has-step run state step core journal has did rests = has-core run state (after plan run.core.site state step) core journal has did.site did.stands did.keeps rests
 
   -- a port changed, and has its links still
   pub has-port : (run : SeenRun Identity) (state : LocalState) (i : ℕ) (old new : SeenPort Identity) → HasState plan given run state → slice_get run.ports i ≡ Some old
-      → new.tx.link ≡ old.tx.link → new.rx.link ≡ old.rx.link → HasState plan given (record { core = run.core; ports = set run.ports i new }) state
+      → new.tx.link ≡ old.tx.link → new.rx.link ≡ old.rx.link → HasState plan given (record { core = run.core; ports = set run.ports i new; journal = run.journal }) state
   has-port run state i old new has at tx rx = record {
     is_plan = has.is_plan;
     is_site = has.is_site;
@@ -116,24 +118,38 @@ opens-break i plan s state h =
     let parts = and_parts _ _ h in
     (ltb-true i (length state.traffic) parts.0, not-true (has_close (traffic_at state i).put) (and_parts _ _ parts.1).1)
 
+-- what a law says: a journal grows by each event that its site may do
+abbrev pub JournalsGrow : Type 0
+JournalsGrow = (plan : SeenPlan) (s : ℕ) (journal : List EventKind) (state : LocalState) (kind : EventKind) (next : ℕ → Option Letter) (step : Step) → IsJournal plan s journal state
+    → step_by next kind ≡ Some step → may plan s state step ≡ true → IsJournal plan s (journal ++ kind ∷ []) (after plan s state step)
+
+-- an event more of the journal
+pub did_step : {Identity : Type 0} (grows : JournalsGrow) (plan : SeenPlan) (given : List (SeenPort Identity)) (run : SeenRun Identity) (running : IsRunning plan given run) (kind : EventKind) (step : Step) (core : SeenCore)
+    (next : ℕ → Option Letter) → step_by next kind ≡ Some step → CoreStep plan running.state step run.core core → IsJournal plan core.site (run.journal ++ kind ∷ []) (after plan run.core.site running.state step)
+did_step grows plan given run running kind step core next is_step did =
+    subst (λ (s : ℕ). IsJournal plan s (run.journal ++ kind ∷ []) (after plan run.core.site running.state step)) (sym did.site)
+    (grows plan run.core.site run.journal running.state kind next step running.did is_step did.allowed.needs)
+
 module _ {Identity : Type 0} (plan : SeenPlan) (given : List (SeenPort Identity)) (i : ℕ) (step : Step) (l : Letter) (opens : Opens i step) where
   -- the state once the core put the letter
-  pub has-put : (run : SeenRun Identity) (core : SeenCore) (state : LocalState) → CorePuts i step run.core core l → HasState plan given run state
-      → HasState plan given (record { core = core; ports = run.ports }) (with_put i l state)
-  has-put run core state puts has =
+  pub has-put : (run : SeenRun Identity) (core : SeenCore) (journal : List EventKind) (state : LocalState) → CorePuts i step run.core core l → HasState plan given run state
+      → HasState plan given (record { core = core; ports = run.ports; journal = journal }) (with_put i l state)
+  has-put run core journal state puts has =
       let did = puts plan state has.keeps has.stands in
-      subst (λ (new : LocalState). HasState plan given (record { core = core; ports = run.ports }) new) did.0
-      (has-step plan given run state step core has did.1 (ap (λ (new : LocalState). is_eating new.phase) did.0 ∙ has.rests))
+      subst (λ (new : LocalState). HasState plan given (record { core = core; ports = run.ports; journal = journal }) new) did.0
+      (has-step plan given run state step core journal has did.1 (ap (λ (new : LocalState). is_eating new.phase) did.0 ∙ has.rests))
 
-  pub putting : (run : SeenRun Identity) (core : SeenCore) → CorePuts i step run.core core l → IsRunning plan given run
-      → IsPutting i l plan given (record { core = core; ports = run.ports })
-  putting run core puts running =
+  pub putting : JournalsGrow → (kind : EventKind) → step_by (λ j. None) kind ≡ Some step → (run : SeenRun Identity) (core : SeenCore) (journal : List EventKind) → journal ≡ run.journal ++ kind ∷ [] → CorePuts i step run.core core l → IsRunning plan given run
+      → IsPutting i l plan given (record { core = core; ports = run.ports; journal = journal })
+  putting grows kind is_step run core journal noted puts running =
       let did = puts plan running.state running.has.keeps running.has.stands in
       let room = opens plan run.core.site running.state did.1.allowed.needs in
       record {
         before = running.state;
         within = room.0;
         open_place = room.1;
-        has = has-put run core running.state puts running.has;
+        has = has-put run core journal running.state puts running.has;
         lists = running.lists;
+        did = subst (λ (kinds : List EventKind). IsJournal plan core.site kinds (with_put i l running.state)) (sym noted)
+            (subst (λ (new : LocalState). IsJournal plan core.site (run.journal ++ kind ∷ []) new) did.0 (did_step grows plan given run running kind step core (λ j. None) is_step did.1));
       }

@@ -17,6 +17,7 @@ use Rattle.dine_run.specs.SiteEnds.{IsSiteEnd}
 use Rattle.dine_run.specs.Running.{SeenRun, ClosedBelow, MayEnd}
 use Rattle.dine_run.proofs.Lists.{list_all-weaker, list_all-each}
 use Rattle.dine_run.proofs.Letters.{puts_fit-same}
+use Rattle.dine_run.proofs.Stops.{just_did}
 
 -- one place more is closed
 pub closed_more : (core : SeenCore) (i : ℕ) → i < length core.places → ClosedBelow i core → ClosedBelow (i + 1) (closed i core)
@@ -46,7 +47,7 @@ finished_is_closed plan s state h =
 module _ {Identity : Type 0} (plan : SeenPlan) (given : List (SeenPort Identity)) (run : SeenRun Identity) (forks : List SeenFork) (tokens : List ℕ)
     (are_forks : AreForksInHand run.core forks) (are_tokens : AreTokensInHand run.core tokens) where
   pub site_end : (stray : Option Stray) (cause : Option SiteFault) → MayEnd stray cause plan given run
-      → IsSiteEnd plan run.core.site given (record { site = run.core.site; ate = run.core.ate; forks = forks; tokens = tokens; ports = run.ports; stray = stray; fault = cause })
+      → IsSiteEnd plan run.core.site given (record { site = run.core.site; ate = run.core.ate; forks = forks; tokens = tokens; journal = run.journal; ports = run.ports; stray = stray; fault = cause })
   site_end stray None h =
       let running = h.0 in
       let finished = h.1 plan running.state running.has.keeps running.has.stands in
@@ -59,6 +60,8 @@ module _ {Identity : Type 0} (plan : SeenPlan) (given : List (SeenPort Identity)
           ate = running.has.stands.ate;
           forks = are_forks plan running.state running.has.keeps running.has.stands;
           tokens = are_tokens plan running.state running.has.keeps running.has.stands;
+          did = just_did running.did;
+          did_all = λ e. running.did;
           count = running.has.count;
           same_links = running.has.same_links;
           puts = λ i port at. puts_fit-same (traffic_at running.state i).put port.tx.letters (running.lists i port at).puts;
@@ -66,6 +69,7 @@ module _ {Identity : Type 0} (plan : SeenPlan) (given : List (SeenPort Identity)
           finished = λ e. finished;
           whole = λ e i port at. (running.lists i port at).puts;
           no_stray = λ e. h.2;
+          memory = λ e. absurd (cc);
           breach = λ link breach e. absurd (cc);
         };
         closed = finished_is_closed plan run.core.site running.state finished;
@@ -81,6 +85,8 @@ module _ {Identity : Type 0} (plan : SeenPlan) (given : List (SeenPort Identity)
           ate = stopped.has.stands.ate;
           forks = are_forks plan stopped.state stopped.has.keeps stopped.has.stands;
           tokens = are_tokens plan stopped.state stopped.has.keeps stopped.has.stands;
+          did = stopped.did;
+          did_all = λ e. absurd (cc);
           count = stopped.has.count;
           same_links = stopped.has.same_links;
           puts = λ i port at. (stopped.lists i port at).puts;
@@ -88,6 +94,7 @@ module _ {Identity : Type 0} (plan : SeenPlan) (given : List (SeenPort Identity)
           finished = λ e. absurd (cc);
           whole = λ e. absurd (cc);
           no_stray = λ e. absurd (cc);
+          memory = λ e. stopped.memory (cc);
           breach = λ link breach e. stopped.breach link breach (cc);
         };
         closed = closed_everywhere plan stopped.state run.core stopped.has.stands h.1;

@@ -5,7 +5,10 @@ use Rattle.std.proofs.lemmas.Option.{same_Some, none-some, slice_get_within, get
 use Rattle.dine_token.specs.Fork.{SeenFork}
 use Rattle.dine_plan.specs.Plan.{SeenPlan, edges_of}
 use Rattle.dine_rules.specs.Local.{Traffic, no_traffic, start_of}
+use Rattle.dine_rules.specs.declared.events.EventKind.{EventKind}
+use Rattle.dine_rules.specs.Journals.{IsJournal}
 use Rattle.dine_rules.specs.Streams.{KeepsStreams}
+use Rattle.dine_run.proofs.Stops.{just_did}
 use Rattle.dine_core.specs.Core.{forks_in_hand, tokens_in_hand}
 use Rattle.dine_core.specs.Standing.{all_places}
 use Rattle.dine_run.specs.declared.diner.Call.{Call}
@@ -26,10 +29,10 @@ all_at : {X : Type 0} (P : X → Type 0) (xs : List X) (i : ℕ) (x : X) → All
 all_at P xs i x all at = subst P (get_or_from_slice_get xs i x x at) (all i x (slice_get_within xs i x at))
 
 -- a site that was not started left its start
-pub left_unstarted : {Identity : Type 0} (plan : SeenPlan) (s : ℕ) (given : List (SeenPort Identity)) (site : ℕ) (forks : List SeenFork) (tokens : List ℕ) → site ≡ s → KeepsStreams plan s (start_of plan s)
+pub left_unstarted : {Identity : Type 0} (plan : SeenPlan) (s : ℕ) (given : List (SeenPort Identity)) (site : ℕ) (forks : List SeenFork) (tokens : List ℕ) (journal : List EventKind) → journal ≡ [] → site ≡ s → KeepsStreams plan s (start_of plan s)
     → forks ≡ forks_in_hand plan s (start_of plan s) (all_places (start_of plan s)) → tokens ≡ tokens_in_hand plan s (start_of plan s) (all_places (start_of plan s)) → All IsFreshPort given
-    → IsLeft plan s given (record { site = site; ate = 0; forks = forks; tokens = tokens; ports = given; stray = None; fault = Some fault.NotStarted })
-left_unstarted {Identity} plan s given site forks tokens is_site keeps hold_forks hold_tokens unused = record {
+    → IsLeft plan s given (record { site = site; ate = 0; forks = forks; tokens = tokens; journal = journal; ports = given; stray = None; fault = Some fault.NotStarted })
+left_unstarted {Identity} plan s given site forks tokens journal nothing is_site keeps hold_forks hold_tokens unused = record {
   state = start_of plan s;
   keeps = keeps;
   rests = refl;
@@ -37,6 +40,8 @@ left_unstarted {Identity} plan s given site forks tokens is_site keeps hold_fork
   ate = refl;
   forks = hold_forks;
   tokens = hold_tokens;
+  did = just_did (did_nothing journal nothing);
+  did_all = λ none. did_nothing journal nothing;
   count = refl;
   same_links = λ i old new at_old at_new. (let same : old ≡ new = same_Some old new (sym at_old ∙ at_new) in record { tx = ap (λ (p : SeenPort Identity). p.tx.link) (sym same); rx = ap (λ (p : SeenPort Identity). p.rx.link) (sym same) });
   puts = λ i port at. (let fresh = all_at IsFreshPort given i port unused at in record {
@@ -50,8 +55,11 @@ left_unstarted {Identity} plan s given site forks tokens is_site keeps hold_fork
   finished = λ none. absurd (none-some fault.NotStarted (sym none));
   whole = λ none. absurd (none-some fault.NotStarted (sym none));
   no_stray = λ none. refl;
+  memory = λ told. refl;
   breach = λ link breach told. absurd cc;
-}
+} where
+  did_nothing : (kinds : List EventKind) → kinds ≡ [] → IsJournal plan s kinds (start_of plan s)
+  did_nothing kinds none = subst (λ (x : List EventKind). IsJournal plan s x (start_of plan s)) (sym none) refl
 
 -- a diner that was not called has eaten nothing
 pub not_called : {D : Type 0} (calls : D → List Call) (marks : D → List Bool) (fits : List Bool → ℕ → Bool → Bool) (diner : D) → HasEaten calls marks fits 0 0 diner diner

@@ -1,16 +1,20 @@
 -- A site stops: each fault leaves it with what a stop says, and breaking off keeps that.
-use Rattle.std.proofs.Common.{◌≡◌, ℕ, ◌<◌, ◌≤◌, ◌^◌, ◌==◌, Bool, true, false, cond, if◌then◌else◌, List, [], ◌∷◌, ◌++◌, length, set, Option, Some, None, refl, sym, ◌∙◌, ap, subst, inl, inr, arith, length-set}
+use Rattle.std.proofs.Common.{◌≡◌, ℕ, ◌<◌, ◌≤◌, ◌^◌, ◌==◌, Bool, true, false, cond, if◌then◌else◌, List, [], ◌∷◌, ◌++◌, length, map, set, Option, Some, None, refl, sym, ◌∙◌, ap, subst, inl, inr, arith, length-set}
 use Rattle.std.specs.List.{slice_get}
 use Rattle.std.proofs.lemmas.List.{get_or-set_same, get_or-set_other}
 use Rattle.std.proofs.lemmas.Bool.{cases_eq, eq-eqb, ne_eqb}
 use Rattle.dine_plan.specs.Plan.{SeenPlan, IsPlan, site_count}
 use Rattle.dine_rules.specs.declared.breach.Breach.{Breach}
+use Rattle.dine_rules.specs.declared.events.EventKind.{EventKind}
 use Rattle.dine_rules.specs.declared.letters.Letter.{Letter}
 use Rattle.dine_rules.specs.declared.letters.Letter.TheVariants as letter
 use Rattle.dine_rules.specs.Letters.{has_close, has_done, forks_in, requests_in}
 use Rattle.dine_rules.specs.Breach.{first_breach}
 use Rattle.dine_rules.specs.Local.{LocalState, Traffic, no_traffic, traffic_at}
-use Rattle.dine_rules.specs.Steps.{Break, with_put}
+use Rattle.dine_rules.specs.Journals.{IsJournal}
+use Rattle.dine_rules.specs.StepLists.{LeadTo}
+use Rattle.dine_rules.specs.Steps.{Break, may, with_put}
+use Rattle.dine_run.specs.Doings.{HasDone}
 use Rattle.dine_rules.specs.Streams.{KeepsStreams}
 use Rattle.dine_core.specs.Core.{SeenCore}
 use Rattle.dine_core.specs.Standing.{CoreStep, CorePuts, TellsBreach}
@@ -61,6 +65,16 @@ closing_breach plan s state i within link l = elim (cases_eq link i) [
       (ap (λ (u : Traffic). u.taken) there) (ap (λ (u : Traffic). forks_in u.put) there) (ap (λ (u : Traffic). requests_in u.put) there) (ap (λ (u : Traffic). has_done u.put) there) l
 ]
 
+-- what the journal led to, with no Close of a way out yet
+pub just_did : {plan : SeenPlan} {s : ℕ} {journal : List EventKind} {state : LocalState} → IsJournal plan s journal state → HasDone plan s journal state
+just_did {state = state} did = record { before = state; by_journal = did; places = []; broke_off = refl }
+
+-- one Close more of the way out
+one_more : (plan : SeenPlan) (s : ℕ) (places : List ℕ) (before state : LocalState) (i : ℕ) → LeadTo plan s before (map Break places) state → may plan s state (Break i) ≡ true
+    → LeadTo plan s before (map Break (places ++ i ∷ [])) (with_put i letter.Close state)
+one_more plan s [] before state i same needs = (ap (λ (x : LocalState). may plan s x (Break i)) same ∙ needs, ap (with_put i letter.Close) same)
+one_more plan s (place ∷ places) before state i leads needs = (leads.0, one_more plan s places (with_put place letter.Close before) state i leads.1 needs)
+
 module _ {Identity : Type 0} (plan : SeenPlan) (given : List (SeenPort Identity)) (run : SeenRun Identity) where
   -- a bell was refused, or a take: the links are as they were
   pub bare_stop : (n : ℕ) → IsRunning plan given run → IsStopped None (fault.Lost n) plan given run
@@ -68,7 +82,20 @@ module _ {Identity : Type 0} (plan : SeenPlan) (given : List (SeenPort Identity)
     state = running.state;
     has = running.has;
     lists = λ i port at. stops-as_it_was (traffic_at running.state i) port (running.lists i port at);
+    did = just_did running.did;
     breach = λ link breach e. absurd (cc);
+    memory = λ e. refl;
+  }
+
+  -- so it is where memory was refused
+  pub memory_stop : IsRunning plan given run → IsStopped None fault.Memory plan given run
+  memory_stop running = record {
+    state = running.state;
+    has = running.has;
+    lists = λ i port at. stops-as_it_was (traffic_at running.state i) port (running.lists i port at);
+    did = just_did running.did;
+    breach = λ link breach e. absurd (cc);
+    memory = λ e. refl;
   }
 
   -- the link refused a letter
@@ -81,7 +108,9 @@ module _ {Identity : Type 0} (plan : SeenPlan) (given : List (SeenPort Identity)
         (subst (λ (o : Option Letter). StopsAt o None (record (traffic_at putting.before i) { put = (traffic_at putting.before i).put ++ l ∷ [] }) port) (sym (here i l))
         (stops-refused (traffic_at putting.before i) port (putting.lists i port at) l putting.open_place))
         (λ j t p ne h. subst (λ (o : Option Letter). StopsAt o None t p) (sym (elsewhere i j l ne)) (stops-as_it_was t p h));
+    did = just_did putting.did;
     breach = λ link breach e. absurd (cc);
+    memory = λ e. absurd (cc);
   }
 
   -- the link refused Close
@@ -92,13 +121,15 @@ module _ {Identity : Type 0} (plan : SeenPlan) (given : List (SeenPort Identity)
     lists = at-keep (λ j. RunsAt) (λ j. StopsAt None None) putting.before (with_put i letter.Close putting.before) i _ refl putting.within run.ports port at putting.lists
         (stops-unclosed (traffic_at putting.before i) port (putting.lists i port at) putting.open_place)
         (λ j t p ne h. stops-as_it_was t p h);
+    did = just_did putting.did;
     breach = λ link breach e. absurd (cc);
+    memory = λ e. refl;
   }
 
   -- a letter came that was not in turn
   pub breach_stops : (i : ℕ) (l : Letter) (told : Breach) → i < length run.core.places → TellsBreach run.core i l (Some told) → IsRunning plan given run
       → (port : SeenPort Identity) → slice_get run.ports i ≡ Some port
-      → IsStopped (Some (record { link = i; letter = l })) (fault.Breach i told) plan given (record { core = run.core; ports = set run.ports i (taken_on l port) })
+      → IsStopped (Some (record { link = i; letter = l })) (fault.Breach i told) plan given (record { core = run.core; ports = set run.ports i (taken_on l port); journal = run.journal })
   breach_stops i l told within tells running port at =
       let inside : i < length running.state.traffic = omega (arith, running.has.stands.degree) in
       record {
@@ -108,6 +139,7 @@ module _ {Identity : Type 0} (plan : SeenPlan) (given : List (SeenPort Identity)
             (subst (λ (o : Option Letter). StopsAt None o (traffic_at running.state i) (taken_on l port)) (sym (here i l))
             (stops-breached (traffic_at running.state i) port (running.lists i port at) l))
             (λ j t p ne h. subst (λ (o : Option Letter). StopsAt None o t p) (sym (elsewhere i j l ne)) (stops-as_it_was t p h));
+        did = just_did running.did;
         breach = λ link breach e.
             let same : i ≡ link = cc in
             let cause : told ≡ breach = cc in
@@ -118,6 +150,7 @@ module _ {Identity : Type 0} (plan : SeenPlan) (given : List (SeenPort Identity)
               within = subst (λ (n : ℕ). n < length running.state.traffic) same inside;
               first = ap (λ (n : ℕ). first_breach plan run.core.site running.state n l) (sym same) ∙ first ∙ ap (λ (b : Breach). Some b) cause;
             };
+        memory = λ e. absurd (cc);
       }
 
   -- ---- breaking off
@@ -144,28 +177,42 @@ module _ {Identity : Type 0} (plan : SeenPlan) (given : List (SeenPort Identity)
               ∙ closing_breach plan run.core.site stopped.state i room.0 link before.letter ∙ before.first;
         }
 
+    -- it put one Close more on its way out
+    broke_more : HasDone plan core.site run.journal (with_put i letter.Close stopped.state)
+    broke_more = subst (λ (s : ℕ). HasDone plan s run.journal (with_put i letter.Close stopped.state)) (sym did.site)
+        (record {
+          before = stopped.did.before;
+          by_journal = stopped.did.by_journal;
+          places = stopped.did.places ++ i ∷ [];
+          broke_off = one_more plan run.core.site stopped.did.places stopped.did.before stopped.state i stopped.did.broke_off did.allowed.needs;
+        })
+
     pub break_live : port.is_live ≡ true
     break_live = (stopped.lists i port at).live room.1
 
-    pub break_closes : IsStopped stray cause plan given (record { core = core; ports = set run.ports i (closed_on port) })
+    pub break_closes : IsStopped stray cause plan given (record { core = core; ports = set run.ports i (closed_on port); journal = run.journal })
     break_closes = record {
       state = with_put i letter.Close stopped.state;
-      has = has-port plan given (record { core = core; ports = run.ports }) (with_put i letter.Close stopped.state) i port (closed_on port)
-          (has-put plan given i (Break i) letter.Close (opens-break i) run core stopped.state puts stopped.has) at refl refl;
+      has = has-port plan given (record { core = core; ports = run.ports; journal = run.journal }) (with_put i letter.Close stopped.state) i port (closed_on port)
+          (has-put plan given i (Break i) letter.Close (opens-break i) run core run.journal stopped.state puts stopped.has) at refl refl;
       lists = at-set (λ j. StopsAt (refused_at j (Some cause) stray) (breached_at j (Some cause) stray)) (λ j. StopsAt (refused_at j (Some cause) stray) (breached_at j (Some cause) stray))
           stopped.state (with_put i letter.Close stopped.state) i _ refl room.0 run.ports (closed_on port) stopped.lists
           (stops-closed (refused_at i (Some cause) stray) (breached_at i (Some cause) stray) (traffic_at stopped.state i) port (stopped.lists i port at) room.1) (λ j t p ne h. h);
+      did = broke_more;
       breach = told;
+      memory = stopped.memory;
     }
 
-    pub break_lost : IsStopped stray cause plan given (record { core = core; ports = run.ports })
+    pub break_lost : IsStopped stray cause plan given (record { core = core; ports = run.ports; journal = run.journal })
     break_lost = record {
       state = with_put i letter.Close stopped.state;
-      has = has-put plan given i (Break i) letter.Close (opens-break i) run core stopped.state puts stopped.has;
+      has = has-put plan given i (Break i) letter.Close (opens-break i) run core run.journal stopped.state puts stopped.has;
       lists = at-keep (λ j. StopsAt (refused_at j (Some cause) stray) (breached_at j (Some cause) stray)) (λ j. StopsAt (refused_at j (Some cause) stray) (breached_at j (Some cause) stray))
           stopped.state (with_put i letter.Close stopped.state) i _ refl room.0 run.ports port at stopped.lists
           (stops-close_refused (refused_at i (Some cause) stray) (breached_at i (Some cause) stray) (traffic_at stopped.state i) port (stopped.lists i port at) room.1) (λ j t p ne h. h);
+      did = broke_more;
       breach = told;
+      memory = stopped.memory;
     }
 
     -- what the link has is no more than the core put

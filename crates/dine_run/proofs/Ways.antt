@@ -1,14 +1,17 @@
 -- A site goes on its way: each event leaves it running.
-use Rattle.std.proofs.Common.{◌≡◌, ℕ, zero, suc, ◌+◌, ◌<◌, ◌≤◌, ◌^◌, true, false, List, [], ◌∷◌, ◌++◌, length, map, set, get_or, Option, Some, refl, sym, ◌∙◌, ap, subst, arith, length-append, length-set}
+use Rattle.std.proofs.Common.{◌≡◌, ℕ, zero, suc, ◌+◌, ◌<◌, ◌≤◌, ◌^◌, true, false, List, [], ◌∷◌, ◌++◌, length, map, set, get_or, Option, Some, None, refl, sym, ◌∙◌, ap, subst, arith, length-append, length-set}
 use Rattle.std.specs.List.{slice_get, All}
 use Rattle.std.proofs.lemmas.Option.{slice_get_within}
 use Rattle.std.proofs.lemmas.List.{get_or-set_same}
 use Rattle.dine_plan.specs.Plan.{SeenPlan, IsPlan, site_count, edges_of}
+use Rattle.dine_rules.specs.declared.events.EventKind.{EventKind}
+use Rattle.dine_rules.specs.declared.events.EventKind.TheVariants as event
 use Rattle.dine_rules.specs.declared.letters.Letter.{Letter}
 use Rattle.dine_rules.specs.declared.letters.Letter.TheVariants as letter
 use Rattle.dine_rules.specs.Local.{LocalState, Traffic, no_traffic, traffic_at, start_of}
 use Rattle.dine_rules.specs.Steps.{Hungry, Begin, End, Take, after, with_put, with_taken}
 use Rattle.dine_rules.specs.Streams.{KeepsStreams}
+use Rattle.dine_rules.specs.Journals.{IsJournal}
 use Rattle.dine_link.specs.Closing.{is_close}
 use Rattle.dine_token.specs.Fork.{SeenFork}
 use Rattle.dine_core.specs.Core.{SeenCore, forks_in_hand}
@@ -17,7 +20,7 @@ use Rattle.dine_run.specs.Ports.{SeenPort, SameLinks, IsFreshPort, put_on, close
 use Rattle.dine_run.specs.Running.{SeenRun, RunsAt, IsRunning, IsPutting}
 use Rattle.dine_run.proofs.Lists.{all_at}
 use Rattle.dine_run.proofs.Letters.{runs-put, runs-closed, runs-taken, live_where_open}
-use Rattle.dine_run.proofs.AtPlaces.{at-set, has-core, has-step, has-port}
+use Rattle.dine_run.proofs.AtPlaces.{JournalsGrow, at-set, did_step, has-core, has-step, has-port}
 
 module _ {Identity : Type 0} (plan : SeenPlan) (given : List (SeenPort Identity)) (run : SeenRun Identity) where
   -- ---- a letter goes out
@@ -28,12 +31,13 @@ module _ {Identity : Type 0} (plan : SeenPlan) (given : List (SeenPort Identity)
       omega (arith, putting.within, putting.has.stands.degree, putting.has.places, same)
 
   module _ (i : ℕ) (l : Letter) (putting : IsPutting i l plan given run) (port : SeenPort Identity) (at : slice_get run.ports i ≡ Some port) where
-    pub put_runs : is_close l ≡ false → IsRunning plan given (record { core = run.core; ports = set run.ports i (put_on l port) })
+    pub put_runs : is_close l ≡ false → IsRunning plan given (record { core = run.core; ports = set run.ports i (put_on l port); journal = run.journal })
     put_runs other = record {
       state = with_put i l putting.before;
       has = has-port plan given run (with_put i l putting.before) i port (put_on l port) putting.has at refl refl;
       lists = at-set (λ j. RunsAt) (λ j. RunsAt) putting.before (with_put i l putting.before) i _ refl putting.within run.ports (put_on l port) putting.lists
           (runs-put (traffic_at putting.before i) port (putting.lists i port at) l putting.open_place other) (λ j t p ne h. h);
+      did = putting.did;
     }
 
     -- the end is live, and has room
@@ -51,12 +55,13 @@ module _ {Identity : Type 0} (plan : SeenPlan) (given : List (SeenPort Identity)
         omega (arith, bound, grown, ap (λ (xs : List Letter). length xs) (putting.lists i port at).puts)
 
   pub close_runs : (i : ℕ) → IsPutting i letter.Close plan given run → (port : SeenPort Identity) → slice_get run.ports i ≡ Some port
-      → IsRunning plan given (record { core = run.core; ports = set run.ports i (closed_on port) })
+      → IsRunning plan given (record { core = run.core; ports = set run.ports i (closed_on port); journal = run.journal })
   close_runs i putting port at = record {
     state = with_put i letter.Close putting.before;
     has = has-port plan given run (with_put i letter.Close putting.before) i port (closed_on port) putting.has at refl refl;
     lists = at-set (λ j. RunsAt) (λ j. RunsAt) putting.before (with_put i letter.Close putting.before) i _ refl putting.within run.ports (closed_on port) putting.lists
         (runs-closed (traffic_at putting.before i) port (putting.lists i port at)) (λ j t p ne h. h);
+    did = putting.did;
   }
 
   -- ---- a letter comes in
@@ -64,14 +69,16 @@ module _ {Identity : Type 0} (plan : SeenPlan) (given : List (SeenPort Identity)
   pub place_within : (running : IsRunning plan given run) (i : ℕ) → i < length run.core.places → i < length running.state.traffic
   place_within running i h = omega (arith, running.has.stands.degree)
 
-  pub take_runs : (i : ℕ) (l : Letter) (core : SeenCore) → i < length run.core.places → CoreSteps (Take i l) run.core core → IsRunning plan given run → (port : SeenPort Identity) → slice_get run.ports i ≡ Some port
-      → IsRunning plan given (record { core = core; ports = set run.ports i (taken_on l port) })
-  take_runs i l core within steps running port at = record {
+  pub take_runs : JournalsGrow → (i : ℕ) (l : Letter) (core : SeenCore) (journal : List EventKind) → journal ≡ run.journal ++ event.Take i ∷ [] → i < length run.core.places → CoreSteps (Take i l) run.core core → IsRunning plan given run → (port : SeenPort Identity) → slice_get run.ports i ≡ Some port
+      → IsRunning plan given (record { core = core; ports = set run.ports i (taken_on l port); journal = journal })
+  take_runs grows i l core journal noted within steps running port at = record {
     state = with_taken i l running.state;
-    has = has-port plan given (record { core = core; ports = run.ports }) (with_taken i l running.state) i port (taken_on l port)
-        (has-step plan given run running.state (Take i l) core running.has (steps plan running.state running.has.keeps running.has.stands) running.has.rests) at refl refl;
+    has = has-port plan given (record { core = core; ports = run.ports; journal = journal }) (with_taken i l running.state) i port (taken_on l port)
+        (has-step plan given run running.state (Take i l) core journal running.has (steps plan running.state running.has.keeps running.has.stands) running.has.rests) at refl refl;
     lists = at-set (λ j. RunsAt) (λ j. RunsAt) running.state (with_taken i l running.state) i _ refl (place_within running i within) run.ports (taken_on l port) running.lists
         (runs-taken (traffic_at running.state i) port (running.lists i port at) l) (λ j t p ne h. h);
+    did = subst (λ (kinds : List EventKind). IsJournal plan core.site kinds (with_taken i l running.state)) (sym noted)
+        (did_step grows plan given run running (event.Take i) (Take i l) core (λ j. Some l) refl (steps plan running.state running.has.keeps running.has.stands));
   }
 
   pub take_room : ((plan : SeenPlan) (s : ℕ) (state : LocalState) (j : ℕ) → IsPlan plan → s < site_count plan → KeepsStreams plan s state → j < length state.traffic → length (traffic_at state j).taken ≤ 2003)
@@ -82,34 +89,43 @@ module _ {Identity : Type 0} (plan : SeenPlan) (given : List (SeenPort Identity)
 
   -- ---- no letter goes
 
-  pub hungry_runs : (core : SeenCore) → CoreSteps Hungry run.core core → IsRunning plan given run → IsRunning plan given (record { core = core; ports = run.ports })
-  hungry_runs core steps running = record {
+  pub hungry_runs : JournalsGrow → (core : SeenCore) (journal : List EventKind) → journal ≡ run.journal ++ event.Hungry ∷ [] → CoreSteps Hungry run.core core → IsRunning plan given run → IsRunning plan given (record { core = core; ports = run.ports; journal = journal })
+  hungry_runs grows core journal noted steps running = record {
     state = after plan run.core.site running.state Hungry;
-    has = has-step plan given run running.state Hungry core running.has (steps plan running.state running.has.keeps running.has.stands) refl;
+    has = has-step plan given run running.state Hungry core journal running.has (steps plan running.state running.has.keeps running.has.stands) refl;
     lists = running.lists;
+    did = subst (λ (kinds : List EventKind). IsJournal plan core.site kinds (after plan run.core.site running.state Hungry)) (sym noted)
+        (did_step grows plan given run running event.Hungry Hungry core (λ j. None) refl (steps plan running.state running.has.keeps running.has.stands));
   }
 
-  pub eat_runs : (eating core : SeenCore) (forks : List SeenFork) → CoreSteps Begin run.core eating
+  pub eat_runs : JournalsGrow → (eating core : SeenCore) (forks : List SeenFork) (first journal : List EventKind) → first ≡ run.journal ++ event.Begin ∷ [] → journal ≡ first ++ event.End ∷ [] → CoreSteps Begin run.core eating
       → ForEachState run.core (λ plan state. forks ≡ forks_in_hand plan run.core.site (after plan run.core.site state Begin) (all_places state))
       → ForEachState eating (λ plan state. forks ≡ forks_in_hand plan eating.site state (all_places state) → CoreStep plan state End eating core)
-      → IsRunning plan given run → IsRunning plan given (record { core = core; ports = run.ports })
-  eat_runs eating core forks begins in_hand ends running =
+      → IsRunning plan given run → IsRunning plan given (record { core = core; ports = run.ports; journal = journal })
+  eat_runs grows eating core forks first journal began_noted ended_noted begins in_hand ends running =
       let state = after plan run.core.site running.state Begin in
       let began = begins plan running.state running.has.keeps running.has.stands in
       let hands = in_hand plan running.state running.has.keeps running.has.stands ∙ ap (λ (s : ℕ). forks_in_hand plan s state (all_places state)) (sym began.site) in
       let ended = ends plan state began.keeps began.stands hands in
       record {
         state = after plan eating.site state End;
-        has = has-core plan given run running.state (after plan eating.site state End) core running.has (ended.site ∙ began.site) ended.stands ended.keeps refl;
+        has = has-core plan given run running.state (after plan eating.site state End) core journal running.has (ended.site ∙ began.site) ended.stands ended.keeps refl;
         lists = running.lists;
+        did = subst (λ (s : ℕ). IsJournal plan s journal (after plan eating.site state End)) (sym ended.site)
+            (subst (λ (kinds : List EventKind). IsJournal plan eating.site kinds (after plan eating.site state End)) (sym ended_noted)
+            (grows plan eating.site first state event.End (λ j. None) End
+            (subst (λ (s : ℕ). IsJournal plan s first state) (sym began.site)
+            (subst (λ (kinds : List EventKind). IsJournal plan run.core.site kinds state) (sym began_noted)
+            (grows plan run.core.site run.journal running.state event.Begin (λ j. None) Begin running.did refl began.allowed.needs)))
+            refl ended.allowed.needs));
       }
 
 -- ---- the start
 
 pub start_runs : {Identity : Type 0} (plan : SeenPlan) (core : SeenCore) (ports : List (SeenPort Identity))
     → ((plan : SeenPlan) (s : ℕ) → IsPlan plan → s < site_count plan → KeepsStreams plan s (start_of plan s))
-    → IsFreshFor plan core → length ports ≡ length core.places → All IsFreshPort ports → IsRunning plan ports (record { core = core; ports = ports })
-start_runs {Identity} plan core ports starts fresh count unused = record {
+    → IsFreshFor plan core → length ports ≡ length core.places → All IsFreshPort ports → (journal : List EventKind) → journal ≡ [] → IsRunning plan ports (record { core = core; ports = ports; journal = journal })
+start_runs {Identity} plan core ports starts fresh count unused journal none_yet = record {
   state = start_of plan core.site;
   has = record {
     is_plan = fresh.is_plan;
@@ -122,6 +138,7 @@ start_runs {Identity} plan core ports starts fresh count unused = record {
     same_links = λ i old new was is. same i old new (sym was ∙ is);
   };
   lists = λ i port at. unused_runs i port (all_at IsFreshPort ports i port unused at);
+  did = subst (λ (kinds : List EventKind). IsJournal plan core.site kinds (start_of plan core.site)) (sym none_yet) refl;
 } where
   same : (i : ℕ) (old new : SeenPort Identity) → ◌≡◌ {A = Option (SeenPort Identity)} (Some old) (Some new) → SameLinks old new
   same i old new e = record { tx = cc; rx = cc }

@@ -3,7 +3,9 @@
 use Rattle.std.specs.Prelude.{◌≡◌, ℕ, ◌+◌, ◌<◌, ◌≤◌, ◌++◌, not, Bool, true, false, List, length, slice_get, Option, Some, None, option_to_list, Result, MatchResult, vec_len}
 use Rattle.dine_plan.specs.Plan.{SeenPlan, IsPlan, site_count}
 use Rattle.dine_rules.specs.declared.breach.Breach.{Breach}
+use Rattle.dine_rules.specs.declared.events.EventKind.{EventKind}
 use Rattle.dine_rules.specs.declared.letters.Letter.{Letter}
+use Rattle.dine_rules.specs.Journals.{IsJournal}
 use Rattle.dine_rules.specs.Letters.{has_close}
 use Rattle.dine_rules.specs.Local.{LocalState, Traffic, is_eating, traffic_at}
 use Rattle.dine_rules.specs.Steps.{with_put}
@@ -19,6 +21,7 @@ use Rattle.dine_run.specs.declared.site_loop.running.Stop.{Stop}
 use Rattle.dine_run.specs.declared.site_loop.running.Running.{Running}
 use Rattle.dine_link.specs.Links.{SeenEnd}
 use Rattle.dine_run.specs.Diners.{HasEaten}
+use Rattle.dine_run.specs.Doings.{HasDone}
 use Rattle.dine_run.specs.Ports.{SeenPort, SameLinks, PutsFit, seen_ports}
 use Rattle.dine_run.specs.SiteEnds.{IsBreached, breached_at, refused_at}
 
@@ -26,6 +29,7 @@ use Rattle.dine_run.specs.SiteEnds.{IsBreached, breached_at, refused_at}
 pub record SeenRun (Identity : Type 0) : Type 0 where
   pub core : SeenCore
   pub ports : List (SeenPort Identity)
+  pub journal : List EventKind
 
 -- so it is at each place, of what the state put and took there and of the port
 abbrev pub AtEach : {Identity : Type 0} → (ℕ → Traffic → SeenPort Identity → Type 0) → LocalState → List (SeenPort Identity) → Type 0
@@ -55,11 +59,12 @@ pub record HasState {Identity : Type 0} (plan : SeenPlan) (given : List (SeenPor
   pub places : length run.ports ≡ length run.core.places
   pub same_links : (i : ℕ) (old new : SeenPort Identity) → slice_get given i ≡ Some old → slice_get run.ports i ≡ Some new → SameLinks old new
 
--- Between two events, without a fault.
+-- Between two events, without a fault. The journal led to the state.
 pub record IsRunning {Identity : Type 0} (plan : SeenPlan) (given : List (SeenPort Identity)) (run : SeenRun Identity) : Type 0 where
   pub state : LocalState
   pub has : HasState plan given run state
   pub lists : AtEach (λ i. RunsAt) state run.ports
+  pub did : IsJournal plan run.core.site run.journal state
 
 -- The core has put the letter at place i, and the link has it not yet.
 pub record IsPutting {Identity : Type 0} (i : ℕ) (letter : Letter) (plan : SeenPlan) (given : List (SeenPort Identity)) (run : SeenRun Identity) : Type 0 where
@@ -68,13 +73,16 @@ pub record IsPutting {Identity : Type 0} (i : ℕ) (letter : Letter) (plan : See
   pub open_place : has_close (traffic_at before i).put ≡ false
   pub has : HasState plan given run (with_put i letter before)
   pub lists : AtEach (λ j. RunsAt) before run.ports
+  pub did : IsJournal plan run.core.site run.journal (with_put i letter before)
 
--- After the first fault. A breach that is told is that of the stray.
+-- After the first fault. A breach that is told is that of the stray, and want of memory hands no letter back.
 pub record IsStopped {Identity : Type 0} (stray : Option Stray) (cause : SiteFault) (plan : SeenPlan) (given : List (SeenPort Identity)) (run : SeenRun Identity) : Type 0 where
   pub state : LocalState
   pub has : HasState plan given run state
   pub lists : AtEach (λ i. StopsAt (refused_at i (Some cause) stray) (breached_at i (Some cause) stray)) state run.ports
+  pub did : HasDone plan run.core.site run.journal state
   pub breach : (link : ℕ) (breach : Breach) → cause ≡ fault.Breach link breach → IsBreached plan run.core.site state stray link breach
+  pub memory : cause ≡ fault.Memory → stray ≡ None
 
 -- Close is put at each of the places below i
 abbrev pub ClosedBelow : ℕ → SeenCore → Type 0
@@ -114,7 +122,7 @@ GoesToEnd result plan given run = MatchResult result (λ _. IsRunning plan given
 
 module _ {Lane Tx Closed Rx Identity Diner : Type 0} (live : Tx → SeenEnd Identity) (shut : Closed → SeenEnd Identity) (taking : Rx → SeenEnd Identity) where
   abbrev pub seen_run : Running Lane Diner Tx Closed Rx → SeenRun Identity
-  seen_run run = record { core = run.core; ports = seen_ports live shut taking run.ports.items }
+  seen_run run = record { core = run.core; ports = seen_ports live shut taking run.ports.items; journal = run.journal.items }
 
 module _ {Lane Tx Closed Rx Diner : Type 0} where
   -- The bell is that of the places, there is room for the calls of all meals to come, and no more meals failed than were begun.

@@ -121,7 +121,9 @@ fn take_apart<L: Lane, D: Diner>(
             diner,
             forks,
             tokens,
+            journal,
             ports,
+            bell: _,
             stray,
             fault,
         } = end;
@@ -135,6 +137,7 @@ fn take_apart<L: Lane, D: Diner>(
             failed,
             diner,
             tokens,
+            journal,
             stray,
             fault,
         });

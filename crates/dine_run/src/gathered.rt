@@ -2,9 +2,11 @@
 use crate::diner::Diner;
 use crate::site_end::{SiteFault, Stray};
 use dine_link::LinkEnd;
+use dine_rules::EventKind;
 use dine_token::{Fork, Token};
 
-/// What a site left: how many meals it began and how many of their jobs failed, its diner, the tokens in its hands in edge order,
+/// What a site left: how many meals it began and how many of their jobs failed, its diner, the tokens in its hands in edge order, its
+/// journal, which has each event that it did in its order,
 /// and, where it ended before it did all, the first cause with the letter that was handed back.
 #[derive(Drop)]
 pub struct SiteOut<D: Diner> {
@@ -13,6 +15,7 @@ pub struct SiteOut<D: Diner> {
     pub failed: u32,
     pub diner: D,
     pub tokens: Vec<Token>,
+    pub journal: Vec<EventKind>,
     pub stray: Option<Stray>,
     pub fault: Option<SiteFault>,
 }

@@ -32,6 +32,7 @@ pub struct Seat<L: Lane, D: Diner> {
     pub ports: Vec<Port<L>>,
     pub bell: Bell,
     pub diner: D,
+    pub alloc: Global,
     pub gate: Arc<Gate, Global>,
 }
 
@@ -48,7 +49,13 @@ impl<L: Lane, D: Diner> Promise<SiteEnd<L, D>> for EndOf<L, D> {
 pub type Child<L, D> = PromisedHandle<SiteEnd<L, D>, EndOf<L, D>>;
 
 // What a site leaves that was not started.
-fn not_started<L: Lane, D: Diner>(core: SiteCore, ports: Vec<Port<L>>, diner: D) -> SiteEnd<L, D>
+fn not_started<L: Lane, D: Diner>(
+    alloc: Global,
+    core: SiteCore,
+    ports: Vec<Port<L>>,
+    bell: Bell,
+    diner: D,
+) -> SiteEnd<L, D>
     requires fresh { IsFresh core }
     requires unused { All IsFreshPort (seen_ports L.seen_tx L.seen_closed L.seen_rx ports.items) }
     ensures left { (plan : SeenPlan) → IsFreshFor plan core → IsLeft plan core.site (seen_ports L.seen_tx L.seen_closed L.seen_rx ports.items) (seen_site_end L.seen_tx L.seen_closed L.seen_rx result) }
@@ -64,7 +71,9 @@ fn not_started<L: Lane, D: Diner>(core: SiteCore, ports: Vec<Port<L>>, diner: D)
         diner,
         forks: parts.forks,
         tokens: parts.tokens,
+        journal: Vec::new(alloc),
         ports,
+        bell,
         stray: None,
         fault: Some(SiteFault::NotStarted),
     }
@@ -80,13 +89,14 @@ fn sit<R: Wait, L: Lane, D: Diner>(rt: &R, seat: Seat<L, D>) -> SiteEnd<L, D>
         ports,
         bell,
         diner,
+        alloc,
         gate,
     } = seat;
     let core = packed.unpack();
     if gate.pass(rt) {
-        run_site(rt, core, ports, bell, diner)
+        run_site(rt, alloc, core, ports, bell, diner)
     } else {
-        not_started(core, ports, diner)
+        not_started(alloc, core, ports, bell, diner)
     }
 }
 
@@ -204,6 +214,7 @@ pub fn seat_all<L: Lane, D: Diner>(
             ports,
             bell,
             diner,
+            alloc,
             gate,
         });
         number += 1;

@@ -1,8 +1,8 @@
 //! What a site leaves when it ends.
 use crate::diner::Diner;
 use crate::port::Port;
-use dine_link::Lane;
-use dine_rules::{Breach, Letter};
+use dine_link::{Bell, Lane};
+use dine_rules::{Breach, EventKind, Letter};
 use dine_token::{Fork, Token};
 
 /// A letter that was handed back: the place where it came, or where it was to go.
@@ -21,11 +21,15 @@ pub enum SiteFault {
     Lost(u32),
     /// The site was not started, and did nothing.
     NotStarted,
+    /// Memory for the journal was refused, before an event.
+    Memory,
 }
 
 /// What a site leaves when it ends: how many meals it began and how many of their jobs failed, its diner, the forks and tokens
-/// in its hands in edge order, its link ends in order, and, where it ended before it did all, the first cause with the letter
-/// that was handed back.
+/// in its hands in edge order, its journal, its link ends in order, its bell, and, where it ended before it did all, the first cause
+/// with the letter that was handed back.
+///
+/// The journal has each event that the site did, in its order. The bell is kept so that neighbours that are not done can still ring it.
 #[derive(Drop)]
 pub struct SiteEnd<L: Lane, D: Diner> {
     pub site: u32,
@@ -34,7 +38,9 @@ pub struct SiteEnd<L: Lane, D: Diner> {
     pub diner: D,
     pub forks: Vec<Fork>,
     pub tokens: Vec<Token>,
+    pub journal: Vec<EventKind>,
     pub ports: Vec<Port<L>>,
+    pub bell: Bell,
     pub stray: Option<Stray>,
     pub fault: Option<SiteFault>,
 }

@@ -15,6 +15,7 @@ use dine_core::SiteCore;
 use dine_link::{Bell, Lane};
 use dine_rules::laws;
 use running::Running;
+use std::alloc::Global;
 use std::sync::Wait;
 
 /// Runs a site: until it is finished it does the events other than Take that the rules allow, in the fixed order, until there is
@@ -24,8 +25,13 @@ use std::sync::Wait;
 ///
 /// A letter that is not in turn, and a link or bell that refuses, is a fault. After the first fault the site puts Close at each place
 /// where it has put none, in order, and ends. Faults that it meets then are not told. It may wait.
+///
+/// The journal has each event that the site did, in order, but for a letter that was not in turn and the Closes of the way out. Room
+/// for it is got before each event, and where that is refused the event is not done and the fault is `Memory`. The bell is handed back,
+/// so that neighbours that are not done can still ring it.
 pub fn run_site<R: Wait, L: Lane, D: Diner>(
     rt: &R,
+    alloc: Global,
     core: SiteCore,
     ports: Vec<Port<L>>,
     bell: Bell,
@@ -41,6 +47,7 @@ pub fn run_site<R: Wait, L: Lane, D: Diner>(
       ate = result.ate;
       forks = result.forks.items;
       tokens = result.tokens.items;
+      journal = result.journal.items;
       ports = seen_ports L.seen_tx L.seen_closed L.seen_rx result.ports.items;
       stray = result.stray;
       fault = result.fault;
@@ -48,7 +55,7 @@ pub fn run_site<R: Wait, L: Lane, D: Diner>(
     ensures eaten { HasEaten D.calls D.marks D.fits result.ate result.failed diner result.diner }
 {
     laws::streams_are_kept();
-    let mut site = Running::new(core, ports, bell, diner);
+    let mut site = Running::new(core, ports, bell, diner, Vec::new(alloc));
     match site.work(rt) {
         Ok(()) => site.end(None, None),
         Err(stop) => {

@@ -9,14 +9,15 @@ mod star;
 mod tables;
 mod threads;
 
-use dine_core::SiteCore;
+use crate::orders::{HIGHER, LOWER};
 use dine_core::site::{fresh_forks, fresh_tokens};
+use dine_core::{EventKind, SiteCore, World};
 use dine_link::{Bell, ChannelLane, Lane, RingLane, Ringer, TxEnd};
 use dine_plan::{Plan, read_plan};
 use dine_rules::{Breach, Kind4, Letter};
 use dine_run::{
     Call, CallLog, EdgeRow, Gathered, JobFault, Joined, Port, RunFault, SiteEnd, SiteFault,
-    SiteOut, SiteRow, Stray, edge_table, run, run_site, site_table,
+    SiteOut, SiteRow, Stray, edge_table, order, run, run_site, site_table,
 };
 use dine_token::{Entry, Fork, Token};
 use diners::{Fixed, Marked};
@@ -54,7 +55,7 @@ fn run_alone<L: Lane, R: Wait + Abort>(
     let tokens = fresh_tokens(alloc, plan, site)?;
     let core = SiteCore::open(alloc, plan, site, forks, tokens)?;
     assert!(rt; core.degree() as usize == ports.len());
-    Ok(run_site::<R, L, Fixed>(rt, core, ports, bell, diner))
+    Ok(run_site::<R, L, Fixed>(rt, alloc, core, ports, bell, diner))
 }
 
 // The bell of a site of that degree, and its ringers.
@@ -175,10 +176,13 @@ fn finds_early_close<L: Lane, R: Wait + Abort>(rt: &R, alloc: Global) -> Result<
         diner: _,
         forks,
         tokens,
+        journal,
         ports,
+        bell: _,
         stray,
         fault,
     } = end;
+    assert!(rt; journal.as_slice() == &LOWER[..6]);
     assert_eq!(rt; (site, ate, failed), (0, 1, 0));
     assert_eq!(rt; (forks.len(), tokens.len(), ports.len()), (0, 1, 1));
     assert_eq!(rt; fault, Some(SiteFault::Breach(0, Breach::ClosedEarly)));
@@ -250,10 +254,13 @@ fn higher_eats<L: Lane, R: Wait + Abort>(rt: &R, alloc: Global) -> Result<(), Fa
         diner: _,
         mut forks,
         tokens,
+        journal,
         ports,
+        bell: _,
         stray,
         fault,
     } = run_alone::<L, R>(rt, alloc, &plan, 1, ports, bell, 0)?;
+    assert!(rt; journal.as_slice() == HIGHER.as_slice());
     assert_eq!(rt; (site, ate, failed), (1, 1, 0));
     assert_eq!(rt; (tokens.len(), ports.len()), (0, 1));
     assert!(rt; stray.is_none() && fault.is_none());
@@ -314,6 +321,7 @@ fn refused_put_is_a_fault(rt: HostRuntime) -> Result<(), Fail> {
         (1, 0, 1, 1)
     );
     assert_eq!(rt; end.fault, Some(SiteFault::Lost(0)));
+    assert!(rt; end.journal.as_slice() == &LOWER[..4]);
     let Some(stray) = &end.stray else {
         return Err(Fail::from("no stray"));
     };
@@ -366,7 +374,14 @@ fn answers_of_a_marked_diner_fit_its_marks(rt: HostRuntime) -> Result<(), Fail> 
     let tokens = fresh_tokens(alloc, &plan, 0)?;
     let core = SiteCore::open(alloc, &plan, 0, forks, tokens)?;
     assert!(rt; core.degree() == 0);
-    let end = run_site::<HostRuntime, ChannelLane, Marked>(&rt, core, Vec::new(alloc), bell, diner);
+    let end = run_site::<HostRuntime, ChannelLane, Marked>(
+        &rt,
+        alloc,
+        core,
+        Vec::new(alloc),
+        bell,
+        diner,
+    );
     assert_eq!(rt; (end.ate, end.failed), (2, 2));
     assert!(rt; !end.diner.goes_well && end.fault.is_none());
     Ok(())

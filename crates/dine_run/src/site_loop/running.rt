@@ -1,5 +1,5 @@
 // A site on its way.
-ghost use Rattle.std.specs.Prelude.{◌≡◌, ◌<◌, ◌+◌, ◌^◌, List, length, true, false, None, vec_len, slice_get, slice_set, IfSome, MatchResult};
+ghost use Rattle.std.specs.Prelude.{◌≡◌, ◌<◌, ◌≤◌, ◌+◌, ◌^◌, List, OnOk, length, true, false, None, vec_capacity, vec_len, slice_get, slice_set, IfSome, MatchResult};
 ghost use Rattle.dine_plan.specs.Plan.{SeenPlan};
 ghost use Rattle.dine_rules.specs.Letters.{has_close};
 ghost use Rattle.dine_rules.specs.Local.{traffic_at};
@@ -25,18 +25,25 @@ pub struct Stop {
     pub stray: Option<Stray>,
 }
 
-// A site with its link ends, its bell, its diner, and how many jobs of its meals failed.
+// A site with its link ends, its bell, its diner, how many jobs of its meals failed, and what it did.
 pub struct Running<L: Lane, D: Diner> {
     core: SiteCore,
     ports: Vec<Port<L>>,
     bell: Bell,
     diner: D,
     failed: u32,
+    journal: Vec<EventKind>,
 }
 
 impl<L: Lane, D: Diner> Running<L, D> {
-    pub fn new(core: SiteCore, ports: Vec<Port<L>>, bell: Bell, diner: D) -> Running<L, D>
-        ensures { result ≡ record { core = core; ports = ports; bell = bell; diner = diner; failed = 0 } }
+    pub fn new(
+        core: SiteCore,
+        ports: Vec<Port<L>>,
+        bell: Bell,
+        diner: D,
+        journal: Vec<EventKind>,
+    ) -> Running<L, D>
+        ensures { result ≡ record { core = core; ports = ports; bell = bell; diner = diner; failed = 0; journal = journal } }
     {
         Running {
             core,
@@ -44,6 +51,7 @@ impl<L: Lane, D: Diner> Running<L, D> {
             bell,
             diner,
             failed: 0,
+            journal,
         }
     }
 
@@ -93,21 +101,61 @@ impl<L: Lane, D: Diner> Running<L, D> {
         ensures eats { EatsOn D.calls D.marks D.fits self.old self.new }
         ensures site { self.new.core.site ≡ self.old.core.site }
     {
+        self.make_room(if kind == EventKind::Begin { 2 } else { 1 })?;
+        self.perform(rt, kind)
+    }
+
+    // Gets room for so many entries of the journal.
+    fn make_room(&mut self, entries: usize) -> Result<(), Stop>
+        ensures way { Leads IsRunning (GoesOn result) (seen_run L.seen_tx L.seen_closed L.seen_rx self.old) (seen_run L.seen_tx L.seen_closed L.seen_rx self.new) }
+        ensures running { OnOk result (seen_run L.seen_tx L.seen_closed L.seen_rx self.new ≡ seen_run L.seen_tx L.seen_closed L.seen_rx self.old) }
+        ensures room { OnOk result (vec_len self.new.journal + entries ≤ vec_capacity self.new.journal) }
+        ensures ready { IsReady D.room_left self.old → IsReady D.room_left self.new }
+        ensures core { self.new.core ≡ self.old.core }
+        ensures bell { self.new.bell ≡ self.old.bell }
+        ensures same { SameMeals self.old self.new }
+    {
+        match self.journal.reserve(entries) {
+            Ok(()) => Ok(()),
+            Err(_) => Err(Stop {
+                fault: SiteFault::Memory,
+                stray: None,
+            }),
+        }
+    }
+
+    // Does an event other than Take, with room for it in the journal.
+    fn perform<R: Wait>(&mut self, rt: &R, kind: EventKind) -> Result<(), Stop>
+        requires running { ForSome IsRunning (seen_run L.seen_tx L.seen_closed L.seen_rx self.old) }
+        requires ready { IsReady D.room_left self.old }
+        requires may { can_by_itself self.old.core kind ≡ true }
+        requires room { vec_len self.old.journal < vec_capacity self.old.journal }
+        requires room_for_end { kind ≡ EventKind.Begin → vec_len self.old.journal + 2 ≤ vec_capacity self.old.journal }
+        ensures way { Leads IsRunning (GoesOn result) (seen_run L.seen_tx L.seen_closed L.seen_rx self.old) (seen_run L.seen_tx L.seen_closed L.seen_rx self.new) }
+        ensures ready { IsReady D.room_left self.new }
+        ensures eats { EatsOn D.calls D.marks D.fits self.old self.new }
+        ensures site { self.new.core.site ≡ self.old.core.site }
+    {
+        laws::journals_grow_by_each_event();
         match kind {
             EventKind::Give(i) => {
                 let letter = self.core.give(i);
+                self.journal.push_reserved(EventKind::Give(i));
                 self.put(rt, i, letter)
             }
             EventKind::Ask(i) => {
                 let letter = self.core.ask(i);
+                self.journal.push_reserved(EventKind::Ask(i));
                 self.put(rt, i, letter)
             }
             EventKind::Done(i) => {
                 let letter = self.core.done(i);
+                self.journal.push_reserved(EventKind::Done(i));
                 self.put(rt, i, letter)
             }
             EventKind::Close(i) => {
                 let _ = self.core.close(i);
+                self.journal.push_reserved(EventKind::Close(i));
                 self.close(rt, i)
             }
             EventKind::Begin => {
@@ -116,26 +164,31 @@ impl<L: Lane, D: Diner> Running<L, D> {
             }
             EventKind::Hungry => {
                 self.core.hungry();
+                self.journal.push_reserved(EventKind::Hungry);
                 Ok(())
             }
             EventKind::End | EventKind::Take(_) => unreachable!(),
         }
     }
 
-    // Eats one meal.
+    // Eats one meal, with room for its begin and its end in the journal.
     fn eat(&mut self)
         requires running { ForSome IsRunning (seen_run L.seen_tx L.seen_closed L.seen_rx self.old) }
         requires ready { IsReady D.room_left self.old }
         requires may { can_by_itself self.old.core EventKind.Begin ≡ true }
+        requires room { vec_len self.old.journal + 2 ≤ vec_capacity self.old.journal }
         ensures way { Leads IsRunning IsRunning (seen_run L.seen_tx L.seen_closed L.seen_rx self.old) (seen_run L.seen_tx L.seen_closed L.seen_rx self.new) }
         ensures ready { IsReady D.room_left self.new }
         ensures eats { EatsOn D.calls D.marks D.fits self.old self.new }
         ensures site { self.new.core.site ≡ self.old.core.site }
     {
+        laws::journals_grow_by_each_event();
         let meal = self.core.begin();
+        self.journal.push_reserved(EventKind::Begin);
         let ok = self.diner.eat(meal.k(), &meal).is_ok();
         self.failed += u32::from(!ok);
         self.core.end(meal);
+        self.journal.push_reserved(EventKind::End);
     }
 
     // Puts a letter other than Close, and rings.
@@ -216,10 +269,27 @@ impl<L: Lane, D: Diner> Running<L, D> {
         ensures way { Leads IsRunning (GoesOn result) (seen_run L.seen_tx L.seen_closed L.seen_rx self.old) (seen_run L.seen_tx L.seen_closed L.seen_rx self.new) }
         ensures same { SameMeals self.old self.new }
     {
+        self.make_room(1)?;
+        self.take_noted(rt, i)
+    }
+
+    // The same, with room for it in the journal.
+    fn take_noted<R: Wait>(&mut self, rt: &R, i: u32) -> Result<(), Stop>
+        requires running { ForSome IsRunning (seen_run L.seen_tx L.seen_closed L.seen_rx self.old) }
+        requires place { i < length self.old.core.places }
+        requires not_closed { ForEachState self.old.core (λ plan state. has_close (traffic_at state i).taken ≡ false) }
+        requires room { vec_len self.old.journal < vec_capacity self.old.journal }
+        ensures way { Leads IsRunning (GoesOn result) (seen_run L.seen_tx L.seen_closed L.seen_rx self.old) (seen_run L.seen_tx L.seen_closed L.seen_rx self.new) }
+        ensures same { SameMeals self.old self.new }
+    {
         laws::few_letters_are_taken();
+        laws::journals_grow_by_each_event();
         match self.ports[i as usize].take(rt) {
             Ok(letter) => match self.core.take(i, letter) {
-                Ok(()) => Ok(()),
+                Ok(()) => {
+                    self.journal.push_reserved(EventKind::Take(i));
+                    Ok(())
+                }
                 Err((letter, breach)) => Err(Stop {
                     fault: SiteFault::Breach(i, breach),
                     stray: Some(Stray { link: i, letter }),
@@ -274,6 +344,7 @@ impl<L: Lane, D: Diner> Running<L, D> {
           ate = result.ate;
           forks = result.forks.items;
           tokens = result.tokens.items;
+          journal = result.journal.items;
           ports = seen_ports L.seen_tx L.seen_closed L.seen_rx result.ports.items;
           stray = result.stray;
           fault = result.fault;
@@ -285,9 +356,10 @@ impl<L: Lane, D: Diner> Running<L, D> {
         let Running {
             core,
             ports,
-            bell: _,
+            bell,
             diner,
             failed,
+            journal,
         } = self;
         let site = core.site();
         let ate = core.ate();
@@ -299,7 +371,9 @@ impl<L: Lane, D: Diner> Running<L, D> {
             diner,
             forks: parts.forks,
             tokens: parts.tokens,
+            journal,
             ports,
+            bell,
             stray,
             fault,
         }

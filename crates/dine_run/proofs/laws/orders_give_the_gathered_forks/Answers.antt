@@ -1,0 +1,16 @@
+use Rattle.dine_run.proofs.Ordered.{Known, forks_of_order}
+use Rattle.dine_run.proofs.laws.orders_give_the_gathered_forks.Goals as goal
+
+pub returns : goal.returns
+returns c = λ plan ates links forks journals events world is_plan headline journals_are holds reached.
+    let places = c.edges_have_a_place_at_each_end.ensures in
+    let known : Known = record {
+      ends = places.ends;
+      edge = places.edge;
+      places = places.places;
+      edges = places.edges;
+      sites = places.sites;
+      fixed = c.journals_fix_the_world.ensures;
+      held = c.fork_logs_are_of_the_one_fork.ensures.held;
+    } in
+    forks_of_order known plan ates links forks is_plan headline journals journals_are events world holds reached

@@ -1,0 +1,27 @@
+//! Laws over the definitions alone. Each function does nothing: its contract is the law.
+
+ghost use Rattle.std.specs.Prelude.{◌≡◌, List, ℕ};
+ghost use Rattle.dine_plan.specs.Plan.{IsPlan, SeenPlan};
+ghost use Rattle.dine_token.specs.Fork.{SeenFork};
+ghost use Rattle.dine_rules.specs.Journals.{IsOrderOf};
+ghost use Rattle.dine_rules.specs.World.{Reaches, WorldState};
+ghost use Rattle.dine_rules.specs.declared.events.Event.{Event};
+ghost use Rattle.dine_rules.specs.declared.events.EventKind.{EventKind};
+ghost use Rattle.dine_core.specs.Worlds.{forks_seen};
+ghost use Rattle.dine_link.specs.Links.{SeenLink};
+ghost use Rattle.dine_run.specs.Headline.{IsHeadline};
+ghost use Rattle.dine_run.specs.Journals.{AreJournals};
+
+use dine_rules::laws;
+
+/// Where a run gathered forks, links and journals, each order of the journals that a world of the plan accepts leads to the very
+/// forks that were gathered, each with its log.
+pub fn orders_give_the_gathered_forks()
+    ensures { (plan : SeenPlan) (ates : List ℕ) (links : List SeenLink) (forks : List SeenFork) (journals : List (List EventKind)) (events : List Event) (world : WorldState)
+        → IsPlan plan → IsHeadline plan ates links forks → AreJournals plan ates links journals → IsOrderOf journals events → Reaches plan events world
+        → forks ≡ forks_seen plan world }
+{
+    laws::edges_have_a_place_at_each_end();
+    laws::journals_fix_the_world();
+    laws::fork_logs_are_of_the_one_fork();
+}
