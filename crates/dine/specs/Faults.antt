@@ -66,6 +66,7 @@ abbrev pub site_fault_words : SiteFault → List ℕ
 site_fault_words (site_fault.Breach link breach) = breach_words link breach
 site_fault_words (site_fault.Lost link) = lost_words link
 site_fault_words site_fault.NotStarted = codes ": NotStarted"
+site_fault_words site_fault.Memory = codes ": Memory"
 
 -- the lines of a run that was refused a thread, and of one that ended early, without their line feeds
 abbrev pub refused_thread_line : ℕ → List ℕ

@@ -123,6 +123,7 @@ fn tell_site_fault<F: Write>(fault: SiteFault, faults: &mut F) -> Result<(), Wri
         SiteFault::Breach(link, breach) => tell_breach(link, breach, faults),
         SiteFault::Lost(link) => tell_lost(link, faults),
         SiteFault::NotStarted => write_line(faults, ": NotStarted"),
+        SiteFault::Memory => write_line(faults, ": Memory"),
     }
 }
 

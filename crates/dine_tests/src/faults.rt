@@ -145,6 +145,13 @@ fn each_fault_of_a_run_names_its_site(rt: HostRuntime) -> Result<(), Fail> {
         Fault::RunBroken(1, SiteFault::NotStarted),
         Status::RunFailed,
         "dine: run broken at site 1: NotStarted\n",
+    )?;
+    ends(
+        &rt,
+        alloc,
+        Fault::RunBroken(63, SiteFault::Memory),
+        Status::RunFailed,
+        "dine: run broken at site 63: Memory\n",
     )
 }
 
