@@ -9,19 +9,24 @@
 //! 3. **Call `run`** with the plan and a diner for each site, as `settle` does. Each site runs on a thread of its own.
 //! 4. **Take what comes back.** `Gathered` has the diners by site, the forks with the log of all meals, and the links. So `settle`
 //!    can promise each balance and the total, whatever the schedule was.
+//! 5. **Ask for one order** of what the threads did. Each site left its journal, and `order` puts all journals into one list, which a
+//!    world of one thread accepts, as `order_of` does. It goes to standard error, since it is another one after each run.
 #![tactic(auto)]
 
 mod teller;
 
-ghost use Rattle.std.specs.Prelude.{◌≡◌, Some, IfOk, length, slice_get};
+ghost use Rattle.std.specs.Prelude.{◌≡◌, List, Some, IfOk, length, slice_get};
 ghost use Rattle.dine_plan.specs.Plan.{job_count, site_count};
+ghost use Rattle.dine_rules.specs.Journals.{IsWholeOrder};
+ghost use Rattle.dine_rules.specs.declared.events.EventKind.{EventKind};
 ghost use Rattle.dine_example.specs.Balances.{IsBooks};
 ghost use Rattle.dine_example.specs.Tellers.{AreFresh, HaveSent};
 
 use anyhow::{Result, bail};
+use dine_core::{Event, EventKind};
 use dine_link::ChannelLane;
 use dine_plan::{Plan, read_plan};
-use dine_run::{SiteOut, run};
+use dine_run::{SiteOut, order, run};
 use std::alloc::{AllocError, Global};
 use std::sync::Wait;
 use std::thread::Threads;
@@ -75,27 +80,51 @@ fn books_of(alloc: Global, plan: &Plan, outs: &[SiteOut<Teller>]) -> Result<Book
     Ok(Books { balances, total })
 }
 
-// Runs the plan, and balances the books.
+// One order of the journals that the sites left.
+fn order_of(alloc: Global, plan: &Plan, outs: Vec<SiteOut<Teller>>) -> Result<Vec<Event>>
+    ensures { IfOk result (λ events. (journals : List (List EventKind)) × IsWholeOrder plan.now journals events.items) }
+{
+    let mut journals = Vec::new(alloc);
+    for out in outs {
+        let SiteOut { journal, .. } = out;
+        journals.push(journal)?;
+    }
+    Ok(order(alloc, plan, journals.as_slice())?)
+}
+
+// Runs the plan, balances the books, and puts what the sites did into one order.
 fn settle<R: Threads + Wait + Copy + Send + 'static>(
     rt: &R,
     alloc: Global,
     plan: &Plan,
-) -> Result<Books>
-    ensures { IfOk result (IsBooks plan.now) }
+) -> Result<(Books, Vec<Event>)>
+    ensures books { IfOk result (λ settled. IsBooks plan.now settled.0) }
+    ensures order { IfOk result (λ settled. (journals : List (List EventKind)) × IsWholeOrder plan.now journals settled.1.items) }
 {
     let tellers = open_tellers(alloc, plan)?;
     let Ok(gathered) = run::<ChannelLane, Teller, R>(rt, alloc, plan, tellers) else {
         bail!("memory or a thread was refused");
     };
-    Ok(books_of(alloc, plan, gathered.sites.as_slice())?)
+    let books = books_of(alloc, plan, gathered.sites.as_slice())?;
+    Ok((books, order_of(alloc, plan, gathered.sites)?))
 }
 
 fn main(rt: HostRuntime) -> Result<()> {
     let plan = read_plan(rt.alloc(), RING)?;
-    let books = settle(&rt, rt.alloc(), &plan)?;
+    let (books, events) = settle(&rt, rt.alloc(), &plan)?;
     for site in 0..plan.sites() {
         println!(rt; "{} {}", plan.name(site), books.balances[site as usize])?;
     }
     println!(rt; "total {}", books.total)?;
+    let mut meals = 0u32;
+    for event in &events {
+        if event.site < plan.sites() {
+            eprintln!(rt; "{} {:?}", plan.name(event.site), event.kind)?;
+        }
+        if event.kind == EventKind::Begin {
+            meals = meals.saturating_add(1);
+        }
+    }
+    println!(rt; "{meals} meals in one order")?;
     Ok(())
 }

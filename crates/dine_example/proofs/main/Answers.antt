@@ -7,5 +7,5 @@ use Rattle.dine_example.proofs.main.Goals as goal
 pub index-requires : goal.index-requires
 index-requires g c =
     let plan = c.in_ok-plan.plan in
-    let count = ap length c.in_ok-books.ensures.balances ∙ length-map-range_with_len (balance_of plan) 0 (site_count plan) in
+    let count = ap length c.in_ok-books.ensures.books.balances ∙ length-map-range_with_len (balance_of plan) 0 (site_count plan) in
     omega (arith, count, c.loop-site-test.true, c.sites-site-end.ensures.count)

@@ -1,0 +1,173 @@
+// One site, whose links and bell are filled before it starts.
+ghost use Rattle.std.specs.Prelude.{◌≡◌, ◌<◌, ◌≤◌, ◌+◌, ◌^◌, [], All, IfOk, length, vec_len};
+ghost use Rattle.dine_run.specs.Ports.{IsFreshPort, seen_ports};
+
+use dine_core::SiteCore;
+use dine_core::site::{fresh_forks, fresh_tokens};
+use dine_link::{Bell, Lane, Ringer, TxEnd};
+use dine_plan::{Plan, read_plan};
+use dine_rules::{Kind4, Letter};
+use dine_run::{CallLog, Diner, JobFault, Port, SiteEnd, SiteFault, run_site};
+use dine_token::{Meal, Token};
+use std::alloc::{AllocError, Global};
+use std::io;
+use std::sync::Wait;
+
+// Two sites with one job each, and an edge between them.
+const PAIR: &str = "version = 1\n\
+    [[site]]\nname = \"a\"\njobs = [{ name = \"x\" }]\n[[site]]\nname = \"b\"\njobs = [{ name = \"x\" }]\n\
+    [[edge]]\nends = [\"a\", \"b\"]\n";
+
+// Eats, and no more.
+#[derive(Drop)]
+pub struct Eater {
+    log: CallLog,
+}
+
+impl Diner for Eater {
+    ghost calls = { λ eater. eater.log.calls };
+
+    ghost marks = { λ eater. [] };
+
+    ghost fits = { λ marks k ok. ok };
+
+    ghost room_left = { λ eater. eater.log.room };
+
+    fn room(&self) -> u32 {
+        self.log.room()
+    }
+
+    fn eat(&mut self, k: u32, _meal: &Meal) -> Result<(), JobFault> {
+        self.log.note(k, true);
+        Ok(())
+    }
+}
+
+// What a site left, and the link with all that it put.
+type Left<L> = (SiteEnd<L, Eater>, <L as Lane>::Rx);
+
+// The one port of a site with one edge.
+fn one_port<L: Lane>(
+    alloc: Global,
+    tx: L::Tx,
+    rx: L::Rx,
+    ringer: Ringer,
+) -> Result<Vec<Port<L>>, AllocError>
+    requires nothing_put { (L.seen_tx tx).letters ≡ [] }
+    requires nothingtaken { (L.seen_rx rx).letters ≡ [] }
+    ensures count { IfOk result (λ ports. vec_len ports ≡ 1) }
+    ensures unused { IfOk result (λ ports. All IsFreshPort (seen_ports L.seen_tx L.seen_closed L.seen_rx ports.items)) }
+{
+    let mut ports = Vec::with_capacity(alloc, 1)?;
+    ports.push_reserved(Port::<L> {
+        tx: TxEnd::Live(tx),
+        rx,
+        ringer,
+    });
+    Ok(ports)
+}
+
+// The lower site of the plan runs, over these ports.
+fn run_lower<L: Lane, R: Wait>(
+    rt: &R,
+    alloc: Global,
+    plan: &Plan,
+    ports: Vec<Port<L>>,
+    bell: Bell,
+) -> Result<SiteEnd<L, Eater>, AllocError>
+    requires bell { bell.degree ≡ vec_len ports }
+    requires unused { All IsFreshPort (seen_ports L.seen_tx L.seen_closed L.seen_rx ports.items) }
+{
+    if plan.sites() == 0 {
+        return Err(AllocError);
+    }
+    let log = CallLog::open(alloc, plan.jobs(0))?;
+    let forks = fresh_forks(alloc, plan, 0)?;
+    let tokens = fresh_tokens(alloc, plan, 0)?;
+    let core = SiteCore::open(alloc, plan, 0, forks, tokens)?;
+    if core.degree() as usize != ports.len() {
+        core.into_parts();
+        return Err(AllocError);
+    }
+    Ok(run_site(rt, alloc, core, ports, bell, Eater { log }))
+}
+
+// What is left of the lower site of the pair, where the higher one asked, is done and closed.
+fn lower_of_pair<L: Lane, R: Wait>(rt: &R, alloc: Global) -> Result<Left<L>, AllocError>
+    ensures { IfOk result (λ left. (L.seen_rx left.1).letters ≡ []) }
+{
+    let Ok(plan) = read_plan(alloc, PAIR) else {
+        return Err(AllocError);
+    };
+    let (Ok((tx, far_rx)), Ok((mut far_tx, rx))) = (L::pair(alloc, 0, 0), L::pair(alloc, 0, 1))
+    else {
+        return Err(AllocError);
+    };
+    let (Ok((mut ringers, bell)), Ok((mut far_ringers, _far_bell))) = (
+        Bell::open(alloc, 1),
+        Bell::open(alloc, 1),
+    ) else {
+        return Err(AllocError);
+    };
+    let (Some(mut ringer), Some(far_ringer)) = (ringers.pop(), far_ringers.pop()) else {
+        return Err(AllocError);
+    };
+    let ports = one_port::<L>(alloc, tx, rx, far_ringer)?;
+    let _ = L::put(rt, &mut far_tx, Letter::Request(Token::open(0)));
+    let _ = L::put(rt, &mut far_tx, Letter::Done);
+    let _ = L::close(rt, far_tx);
+    for _ in 0..3 {
+        let _ = ringer.ring(rt);
+    }
+    Ok((run_lower(rt, alloc, &plan, ports, bell)?, far_rx))
+}
+
+// The name of a fault, as far as it is told here.
+fn name_of(fault: Option<SiteFault>) -> &'static str {
+    match fault {
+        None => "none",
+        Some(SiteFault::Memory) => "Memory",
+        Some(_) => "another",
+    }
+}
+
+// The kind of the next letter, where Close was not taken.
+fn next_kind<L: Lane, R: Wait>(rt: &R, letters: &mut L::Rx) -> Option<Kind4>
+    requires { length (L.seen_rx letters.old).letters < 2 ^ 61 }
+    ensures { length (L.seen_rx letters.new).letters ≤ length (L.seen_rx letters.old).letters + 1 }
+{
+    if L::is_closed(letters) {
+        return None;
+    }
+    match L::take(rt, letters) {
+        Ok(letter) => Some(letter.kind()),
+        Err(_) => None,
+    }
+}
+
+/// Tells how the lower site of the pair ended: its fault, whether a letter was handed back, its meals, its forks and tokens, the events
+/// of its journal, and the kinds of the letters that it put.
+pub fn tell<L: Lane, R: Wait + Print>(rt: &R, alloc: Global) -> io::Result<()> {
+    let (end, mut letters) = lower_of_pair::<L, R>(rt, alloc)?;
+    let held = (end.forks.len(), end.tokens.len());
+    print!(rt;
+        "{} stray={} ate={} ",
+        name_of(end.fault),
+        end.stray.is_some(),
+        end.ate
+    )?;
+    print!(rt;
+        "forks={} tokens={} journal={}",
+        held.0,
+        held.1,
+        end.journal.len()
+    )?;
+    for taken in 0..4u32 {
+        let Some(kind) = next_kind::<L, R>(rt, &mut letters) else {
+            break;
+        };
+        print!(rt; " {kind:?}")?;
+    }
+    println!(rt; "")?;
+    Ok(())
+}
