@@ -164,6 +164,14 @@ pub record KeepsStreams (plan : SeenPlan) (s : ℕ) (state : LocalState) : Type 
   pub hungry_has_left : is_hungry state.phase ≡ true → state.ate < job_count plan s
   pub eater_has_begun : is_eating state.phase ≡ true → 1 ≤ state.ate
 
+-- What a site put at place i is in order, by what it ate and took there: a lawful stream, of lawful forks, in a chain, that asks for
+-- the edge's fork.
+pub record IsPutInOrder (plan : SeenPlan) (s i ate : ℕ) (traffic : Traffic) : Type 0 where
+  pub lawful : IsLawfulStream (is_lower_at plan s i) traffic.put
+  pub chained : IsChained plan s (edge_at plan s i) ate traffic
+  pub forks : AreLawfulForks plan (edge_at plan s i) traffic.put
+  pub requests : AreRequestsOf (edge_at plan s i) traffic.put
+
 -- a fork that is offered is a real one, as each value of its type is; no more is asked of the letters that come
 abbrev pub IsProper : Step → Type 0
 IsProper (Take i (Fork fork)) = IsFork fork

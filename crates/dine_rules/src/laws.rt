@@ -2,6 +2,7 @@
 
 ghost use Rattle.std.specs.Prelude.{◌≡◌, ◌≢◌, ◌<◌, ◌≤◌, ◌+◌, ◌*◌, ◌↔◌, ℕ, List, [], ◌∷◌, ◌++◌, None, Option, Some, false, length, map, slice_get, true};
 ghost use Rattle.std.specs.List.{list_any};
+ghost use mathlib.Core.List.{IsPrefix};
 ghost use Rattle.dine_plan.specs.Plan.{IsPlan, SeenPlan, edge_count, hi_of, job_count, lo_of, site_count};
 ghost use Rattle.dine_token.specs.Fork.{SeenFork};
 ghost use Rattle.dine_token.specs.Lawful.{IsLawful};
@@ -14,7 +15,7 @@ ghost use Rattle.dine_rules.specs.BreachCauses.{Applies};
 ghost use Rattle.dine_rules.specs.declared.breach.Breach.{Breach};
 ghost use Rattle.dine_rules.specs.declared.breach.Breach.TheVariants.{AfterClose, ClosedEarly, DoneOutOfTurn, ForkOutOfTurn, RequestOutOfTurn, StrangeFork};
 ghost use Rattle.dine_rules.specs.Holdings.{fork_at, hand_at, token_at};
-ghost use Rattle.dine_rules.specs.Letters.{closes_in, dones_in, forks_in, requests_in};
+ghost use Rattle.dine_rules.specs.Letters.{closes_in, dones_in, forks_in, has_close, requests_in};
 ghost use Rattle.dine_rules.specs.Links.{ForEachEdge, ForEachLink, forks_of_edge, queue_to, tokens_of_edge};
 ghost use Rattle.dine_rules.specs.Local.{LocalState, edge_at, is_eating, neighbour_at, start_of, traffic_at};
 ghost use Rattle.dine_rules.specs.Precedence.{IsAcyclic, StandsBefore, fork_log};
@@ -22,12 +23,13 @@ ghost use Rattle.dine_rules.specs.StepLists.{LeadTo, begins_in, is_give_at};
 ghost use Rattle.dine_rules.specs.Schedules.{after_choices, finish_within, from_here, replay, whole_run};
 ghost use Rattle.dine_rules.specs.Steps as step;
 ghost use Rattle.dine_rules.specs.Steps.{IsPlaceWithin, LocalStep, MovesBy, Step, after, may, shape_of, step_by};
-ghost use Rattle.dine_rules.specs.Streams.{IsProper, KeepsStreams};
+ghost use Rattle.dine_rules.specs.Streams.{IsProper, IsPutInOrder, KeepsStreams};
 ghost use Rattle.dine_rules.specs.World.{LinksAreOrdered, IsComplete, Reaches, WorldState, enabled_events, is_enabled, kinds_at, next_letter, put_to, start, state_of, world_after};
 ghost use Rattle.dine_rules.specs.declared.events.Event.{Event};
 ghost use Rattle.dine_rules.specs.declared.events.EventKind.{EventKind};
 ghost use Rattle.dine_rules.specs.declared.letters.Letter.{Letter};
 ghost use Rattle.dine_rules.specs.declared.letters.Letter.TheVariants.{Fork};
+ghost use Rattle.dine_rules.specs.declared.letters.Letter.TheVariants as letter;
 ghost use Rattle.dine_rules.specs.declared.events.EventKind.TheVariants.{Ask, Begin, Close, Done, End, Give, Hungry, Take};
 ghost use Rattle.dine_rules.specs.declared.letters.Kind4.TheVariants as kind;
 
@@ -45,6 +47,13 @@ pub use journals::{
     journals_go_as_worked, journals_grow_by_each_event, order_between_sites_does_not_matter,
     orders_grow_by_each_event, orders_that_exist_are_found,
 };
+
+/// What a link has of a site's letters is in order where it has a front of them, or a front and Close; also where it brought more than
+/// the site took.
+pub fn letters_cut_short_are_in_order()
+    ensures front { (plan : SeenPlan) (s i : ℕ) (state : LocalState) (front more : List Letter) → KeepsStreams plan s state → i < length state.traffic → IsPrefix front (traffic_at state i).put → IsPutInOrder plan s i state.ate (record { put = front; taken = (traffic_at state i).taken ++ more }) }
+    ensures closed { (plan : SeenPlan) (s i : ℕ) (state : LocalState) (front more : List Letter) → KeepsStreams plan s state → i < length state.traffic → IsPrefix front (traffic_at state i).put → has_close front ≡ false → IsPutInOrder plan s i state.ate (record { put = front ++ letter.Close ∷ []; taken = (traffic_at state i).taken ++ more }) }
+{}
 
 /// What the definitions come to on small plans: the log of each edge and the number of events, computed from the list
 /// of choices alone. A choice with no event is passed over.

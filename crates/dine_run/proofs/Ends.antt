@@ -1,22 +1,27 @@
 -- What a site leaves when it ends.
-use Rattle.std.proofs.Common.{◌≡◌, ℕ, ◌+◌, ◌<◌, true, List, length, Option, Some, None, refl, sym, ◌∙◌, ap, inl, inr, arith, append-nil}
+use Rattle.std.proofs.Common.{◌≡◌, ℕ, ◌+◌, ◌<◌, true, List, length, map, Option, Some, None, option_map, refl, sym, ◌∙◌, ap, subst, inl, inr, arith, append-nil}
 use Rattle.std.proofs.lemmas.List.{get_or-set_same, get_or-set_other}
 use Rattle.std.proofs.lemmas.Bool.{and_parts, cases_eq}
+use Rattle.std.proofs.lemmas.Option.{same_Some, slice_get-map, get_or_from_slice_get}
+use Rattle.std.specs.List.{slice_get}
 use Rattle.dine_token.specs.Fork.{SeenFork}
 use Rattle.dine_plan.specs.Plan.{SeenPlan}
 use Rattle.dine_rules.specs.Letters.{has_close}
-use Rattle.dine_rules.specs.Local.{LocalState, traffic_at}
+use Rattle.dine_rules.specs.Local.{LocalState, Traffic, no_traffic, traffic_at}
 use Rattle.dine_core.specs.declared.site.places.Place.{Place}
 use Rattle.dine_core.specs.Core.{SeenCore, StandsFor}
 use Rattle.dine_core.specs.Places.{closed, no_place, place_at}
 use Rattle.dine_core.specs.Standing.{AreForksInHand, AreTokensInHand, all_places, has_closed, has_finished}
 use Rattle.dine_run.specs.declared.site_end.SiteFault.{SiteFault}
+use Rattle.dine_run.specs.declared.site_end.SiteFault.TheVariants as fault
 use Rattle.dine_run.specs.declared.site_end.Stray.{Stray}
-use Rattle.dine_run.specs.Ports.{SeenPort}
+use Rattle.dine_run.specs.Endings.{links_at, on_links, refused_at}
+use Rattle.dine_run.specs.Ports.{SeenPort, PutsFit}
 use Rattle.dine_run.specs.SiteEnds.{IsSiteEnd}
-use Rattle.dine_run.specs.Running.{SeenRun, ClosedBelow, MayEnd}
+use Rattle.dine_run.specs.Running.{SeenRun, ClosedBelow, HasState, MayEnd}
 use Rattle.dine_run.proofs.Lists.{list_all-weaker, list_all-each}
 use Rattle.dine_run.proofs.Letters.{puts_fit-same}
+use Rattle.dine_run.proofs.Seen.{there_is}
 use Rattle.dine_run.proofs.Stops.{just_did}
 
 -- one place more is closed
@@ -44,58 +49,80 @@ pub finished_is_closed : (plan : SeenPlan) (s : ℕ) (state : LocalState) → ha
 finished_is_closed plan s state h =
     list_all-weaker _ (λ i. has_close (traffic_at state i).put) (λ i said. (and_parts _ _ (and_parts _ _ said).0).1) (all_places state) (and_parts _ _ h).1
 
+-- the links of a place where there is a port
+pub links_there : {Identity : Type 0} (ports : List (SeenPort Identity)) (i : ℕ) (port : SeenPort Identity) → slice_get ports i ≡ Some port → links_at ports i ≡ on_links port
+links_there ports i port at = get_or_from_slice_get (map on_links ports) i (on_links port) no_traffic (slice_get-map on_links ports i ∙ ap (option_map on_links) at)
+
 module _ {Identity : Type 0} (plan : SeenPlan) (given : List (SeenPort Identity)) (run : SeenRun Identity) (forks : List SeenFork) (tokens : List ℕ)
     (are_forks : AreForksInHand run.core forks) (are_tokens : AreTokensInHand run.core tokens) where
+  -- each place of the state has a port, whose links are these
+  port_there : (state : LocalState) → HasState plan given run state → (i : ℕ) → i < length state.traffic → (port : SeenPort Identity) × (slice_get run.ports i ≡ Some port) × (links_at run.ports i ≡ on_links port)
+  port_there state has i within =
+      let there = there_is run.ports i (omega (arith, within, has.stands.degree, has.places)) in
+      (there.0, there.1, links_there run.ports i there.0 there.1)
+
   pub site_end : (stray : Option Stray) (cause : Option SiteFault) → MayEnd stray cause plan given run
       → IsSiteEnd plan run.core.site given (record { site = run.core.site; ate = run.core.ate; forks = forks; tokens = tokens; journal = run.journal; ports = run.ports; stray = stray; fault = cause })
   site_end stray None h =
       let running = h.0 in
       let finished = h.1 plan running.state running.has.keeps running.has.stands in
+      let puts : (i : ℕ) → i < length running.state.traffic → (links_at run.ports i).put ≡ (traffic_at running.state i).put =
+      λ i within. (let there = port_there running.state running.has i within in ap (λ (t : Traffic). t.put) there.2 ∙ (running.lists i there.0 there.1).puts) in
       record {
         left = record {
           state = running.state;
-          keeps = running.has.keeps;
-          rests = running.has.rests;
+          ended = record {
+            keeps = running.has.keeps;
+            rests = running.has.rests;
+            ate = running.has.stands.ate;
+            tokens = are_tokens plan running.state running.has.keeps running.has.stands;
+            did = just_did running.did;
+            did_all = λ e. running.did;
+            puts = λ i within. puts_fit-same (traffic_at running.state i).put (links_at run.ports i).put (puts i within);
+            takes = λ i within. (let there = port_there running.state running.has i within in
+            ap (λ (t : Traffic). t.taken) there.2 ∙ (running.lists i there.0 there.1).takes ∙ sym (append-nil (traffic_at running.state i).taken));
+            whole = λ e. puts;
+            finished = λ e. finished;
+            closed = λ e. finished_is_closed plan run.core.site running.state finished;
+            not_started = λ e. absurd (cc);
+            no_stray = λ e. h.2;
+            breach = λ link breach e. absurd (cc);
+            lost = λ link e. absurd (cc);
+          };
           site = refl;
-          ate = running.has.stands.ate;
           forks = are_forks plan running.state running.has.keeps running.has.stands;
-          tokens = are_tokens plan running.state running.has.keeps running.has.stands;
-          did = just_did running.did;
-          did_all = λ e. running.did;
           count = running.has.count;
           same_links = running.has.same_links;
-          puts = λ i port at. puts_fit-same (traffic_at running.state i).put port.tx.letters (running.lists i port at).puts;
-          takes = λ i port at. (running.lists i port at).takes ∙ sym (append-nil (traffic_at running.state i).taken);
-          finished = λ e. finished;
-          whole = λ e i port at. (running.lists i port at).puts;
-          no_stray = λ e. h.2;
-          memory = λ e. absurd (cc);
-          breach = λ link breach e. absurd (cc);
         };
-        closed = finished_is_closed plan run.core.site running.state finished;
+        started = λ e. absurd (cc);
       }
   site_end stray (Some cause) h =
       let stopped = h.0 in
       record {
         left = record {
           state = stopped.state;
-          keeps = stopped.has.keeps;
-          rests = stopped.has.rests;
+          ended = record {
+            keeps = stopped.has.keeps;
+            rests = stopped.has.rests;
+            ate = stopped.has.stands.ate;
+            tokens = are_tokens plan stopped.state stopped.has.keeps stopped.has.stands;
+            did = stopped.did;
+            did_all = λ e. absurd (cc);
+            puts = λ i within. (let there = port_there stopped.state stopped.has i within in
+            subst (λ (t : Traffic). PutsFit (refused_at i (Some cause) stray) (traffic_at stopped.state i).put t.put) (sym there.2) (stopped.lists i there.0 there.1).puts);
+            takes = λ i within. (let there = port_there stopped.state stopped.has i within in ap (λ (t : Traffic). t.taken) there.2 ∙ (stopped.lists i there.0 there.1).takes);
+            whole = λ e. absurd (cc);
+            finished = λ e. absurd (cc);
+            closed = λ e. closed_everywhere plan stopped.state run.core stopped.has.stands h.1;
+            not_started = λ e. absurd (stopped.started (same_Some cause fault.NotStarted e));
+            no_stray = stopped.no_stray;
+            breach = λ link breach e. stopped.breach link breach (same_Some cause (fault.Breach link breach) e);
+            lost = λ link e. stopped.lost link (same_Some cause (fault.Lost link) e);
+          };
           site = refl;
-          ate = stopped.has.stands.ate;
           forks = are_forks plan stopped.state stopped.has.keeps stopped.has.stands;
-          tokens = are_tokens plan stopped.state stopped.has.keeps stopped.has.stands;
-          did = stopped.did;
-          did_all = λ e. absurd (cc);
           count = stopped.has.count;
           same_links = stopped.has.same_links;
-          puts = λ i port at. (stopped.lists i port at).puts;
-          takes = λ i port at. (stopped.lists i port at).takes;
-          finished = λ e. absurd (cc);
-          whole = λ e. absurd (cc);
-          no_stray = λ e. absurd (cc);
-          memory = λ e. stopped.memory (cc);
-          breach = λ link breach e. stopped.breach link breach (cc);
         };
-        closed = closed_everywhere plan stopped.state run.core stopped.has.stands h.1;
+        started = λ e. stopped.started (same_Some cause fault.NotStarted e);
       }

@@ -1,7 +1,8 @@
 -- What a site leaves that was not started.
 use Rattle.std.proofs.Common.{◌≡◌, ℕ, zero, suc, ◌++◌, Bool, Some, None, List, [], ◌∷◌, All, map, get_or, slice_get, refl, sym, ap, ◌∙◌, subst, inl, arith}
 use Rattle.std.proofs.lemmas.List.{append-nil}
-use Rattle.std.proofs.lemmas.Option.{same_Some, none-some, slice_get_within, get_or_from_slice_get}
+use Rattle.std.proofs.lemmas.List.Elements.{All-head, All-tail}
+use Rattle.std.proofs.lemmas.Option.{same_Some, none-some}
 use Rattle.dine_token.specs.Fork.{SeenFork}
 use Rattle.dine_plan.specs.Plan.{SeenPlan, edges_of}
 use Rattle.dine_rules.specs.Local.{Traffic, no_traffic, start_of}
@@ -14,6 +15,7 @@ use Rattle.dine_core.specs.Standing.{all_places}
 use Rattle.dine_run.specs.declared.diner.Call.{Call}
 use Rattle.dine_run.specs.declared.site_end.SiteFault.TheVariants as fault
 use Rattle.dine_run.specs.Diners.{HasEaten}
+use Rattle.dine_run.specs.Endings.{links_at}
 use Rattle.dine_run.specs.Ports.{SeenPort, IsFreshPort}
 use Rattle.dine_run.specs.SiteEnds.{IsLeft}
 
@@ -24,9 +26,12 @@ no_letters [] (suc i) = refl
 no_letters (edge ∷ edges) zero = refl
 no_letters (edge ∷ edges) (suc i) = no_letters edges i
 
--- an element of a list whose elements all have P
-all_at : {X : Type 0} (P : X → Type 0) (xs : List X) (i : ℕ) (x : X) → All P xs → slice_get xs i ≡ Some x → P x
-all_at P xs i x all at = subst P (get_or_from_slice_get xs i x x at) (all i x (slice_get_within xs i x at))
+-- so it is on the links of ports that are unused
+nothing_on : {Identity : Type 0} (ports : List (SeenPort Identity)) (i : ℕ) → All IsFreshPort ports → links_at ports i ≡ no_traffic
+nothing_on [] zero unused = refl
+nothing_on [] (suc i) unused = refl
+nothing_on (port ∷ ports) zero unused = let fresh = All-head IsFreshPort port ports unused in simp (fresh.nothing_put, fresh.nothing_taken)
+nothing_on (port ∷ ports) (suc i) unused = nothing_on ports i (All-tail IsFreshPort port ports unused)
 
 -- a site that was not started left its start
 pub left_unstarted : {Identity : Type 0} (plan : SeenPlan) (s : ℕ) (given : List (SeenPort Identity)) (site : ℕ) (forks : List SeenFork) (tokens : List ℕ) (journal : List EventKind) → journal ≡ [] → site ≡ s → KeepsStreams plan s (start_of plan s)
@@ -34,29 +39,33 @@ pub left_unstarted : {Identity : Type 0} (plan : SeenPlan) (s : ℕ) (given : Li
     → IsLeft plan s given (record { site = site; ate = 0; forks = forks; tokens = tokens; journal = journal; ports = given; stray = None; fault = Some fault.NotStarted })
 left_unstarted {Identity} plan s given site forks tokens journal nothing is_site keeps hold_forks hold_tokens unused = record {
   state = start_of plan s;
-  keeps = keeps;
-  rests = refl;
+  ended = record {
+    keeps = keeps;
+    rests = refl;
+    ate = refl;
+    tokens = hold_tokens;
+    did = just_did (did_nothing journal nothing);
+    did_all = λ none. did_nothing journal nothing;
+    puts = λ i within. record {
+      front = [];
+      closing = [];
+      closes = inl refl;
+      core = ap (λ (t : Traffic). t.put) (no_letters (edges_of plan s) i);
+      link = inl (ap (λ (t : Traffic). t.put) (nothing_on given i unused));
+    };
+    takes = λ i within. ap (λ (t : Traffic). t.taken) (nothing_on given i unused) ∙ sym (ap (λ (t : Traffic). t.taken ++ []) (no_letters (edges_of plan s) i));
+    whole = λ none. absurd (none-some fault.NotStarted (sym none));
+    finished = λ none. absurd (none-some fault.NotStarted (sym none));
+    closed = λ other. absurd (other refl);
+    not_started = λ told. refl;
+    no_stray = λ none. refl;
+    breach = λ link breach told. absurd cc;
+    lost = λ link told. absurd cc;
+  };
   site = is_site;
-  ate = refl;
   forks = hold_forks;
-  tokens = hold_tokens;
-  did = just_did (did_nothing journal nothing);
-  did_all = λ none. did_nothing journal nothing;
   count = refl;
   same_links = λ i old new at_old at_new. (let same : old ≡ new = same_Some old new (sym at_old ∙ at_new) in record { tx = ap (λ (p : SeenPort Identity). p.tx.link) (sym same); rx = ap (λ (p : SeenPort Identity). p.rx.link) (sym same) });
-  puts = λ i port at. (let fresh = all_at IsFreshPort given i port unused at in record {
-    front = [];
-    closing = [];
-    closes = inl refl;
-    core = ap (λ (t : Traffic). t.put) (no_letters (edges_of plan s) i);
-    link = inl fresh.nothing_put;
-  });
-  takes = λ i port at. (let fresh = all_at IsFreshPort given i port unused at in fresh.nothing_taken ∙ sym (ap (λ (t : Traffic). t.taken ++ []) (no_letters (edges_of plan s) i)));
-  finished = λ none. absurd (none-some fault.NotStarted (sym none));
-  whole = λ none. absurd (none-some fault.NotStarted (sym none));
-  no_stray = λ none. refl;
-  memory = λ told. refl;
-  breach = λ link breach told. absurd cc;
 } where
   did_nothing : (kinds : List EventKind) → kinds ≡ [] → IsJournal plan s kinds (start_of plan s)
   did_nothing kinds none = subst (λ (x : List EventKind). IsJournal plan s x (start_of plan s)) (sym none) refl

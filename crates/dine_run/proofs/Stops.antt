@@ -2,7 +2,8 @@
 use Rattle.std.proofs.Common.{◌≡◌, ℕ, ◌<◌, ◌≤◌, ◌^◌, ◌==◌, Bool, true, false, cond, if◌then◌else◌, List, [], ◌∷◌, ◌++◌, length, map, set, Option, Some, None, refl, sym, ◌∙◌, ap, subst, inl, inr, arith, length-set}
 use Rattle.std.specs.List.{slice_get}
 use Rattle.std.proofs.lemmas.List.{get_or-set_same, get_or-set_other}
-use Rattle.std.proofs.lemmas.Bool.{cases_eq, eq-eqb, ne_eqb}
+use Rattle.std.proofs.lemmas.Bool.{cases_eq, eq-eqb, ne_eqb, true≢false}
+use Rattle.std.proofs.lemmas.Option.{none-some, same_Some}
 use Rattle.dine_plan.specs.Plan.{SeenPlan, IsPlan, site_count}
 use Rattle.dine_rules.specs.declared.breach.Breach.{Breach}
 use Rattle.dine_rules.specs.declared.events.EventKind.{EventKind}
@@ -16,13 +17,14 @@ use Rattle.dine_rules.specs.StepLists.{LeadTo}
 use Rattle.dine_rules.specs.Steps.{Break, may, with_put}
 use Rattle.dine_run.specs.Doings.{HasDone}
 use Rattle.dine_rules.specs.Streams.{KeepsStreams}
+use Rattle.dine_link.specs.Closing.{is_close}
 use Rattle.dine_core.specs.Core.{SeenCore}
 use Rattle.dine_core.specs.Standing.{CoreStep, CorePuts, TellsBreach}
 use Rattle.dine_run.specs.declared.site_end.SiteFault.{SiteFault}
 use Rattle.dine_run.specs.declared.site_end.SiteFault.TheVariants as fault
 use Rattle.dine_run.specs.declared.site_end.Stray.{Stray}
 use Rattle.dine_run.specs.Ports.{SeenPort, closed_on, taken_on}
-use Rattle.dine_run.specs.SiteEnds.{IsBreached, breached_at, refused_at}
+use Rattle.dine_run.specs.Endings.{IsBreached, IsLost, breached_at, refused_at}
 use Rattle.dine_run.specs.Running.{SeenRun, RunsAt, StopsAt, IsRunning, IsPutting, IsStopped}
 use Rattle.dine_run.proofs.Letters.{puts_fit-shorter, stops-as_it_was, stops-refused, stops-unclosed, stops-breached, stops-closed, stops-close_refused, forks_in-closed, requests_in-closed, has_done-closed}
 use Rattle.dine_run.proofs.AtPlaces.{at-keep, at-set, at-port, has-port, has-put, opens-break}
@@ -75,16 +77,26 @@ one_more : (plan : SeenPlan) (s : ℕ) (places : List ℕ) (before state : Local
 one_more plan s [] before state i same needs = (ap (λ (x : LocalState). may plan s x (Break i)) same ∙ needs, ap (with_put i letter.Close) same)
 one_more plan s (place ∷ places) before state i leads needs = (leads.0, one_more plan s places (with_put place letter.Close before) state i leads.1 needs)
 
+-- a letter that is put adds no place
+grown_place : (state : LocalState) (i : ℕ) (l : Letter) → length (with_put i l state).traffic ≡ length state.traffic
+grown_place state i l = length-set state.traffic i (record (traffic_at state i) { put = (traffic_at state i).put ++ l ∷ [] })
+
+-- a place or a bell refused, and nothing was handed back
+no_letter_lost : {places : ℕ} (link : ℕ) → link ≤ places → IsLost places None link
+no_letter_lost link within = record { within = within; to_place = λ back is. absurd (none-some back is); no_close = λ back is. absurd (none-some back is) }
+
 module _ {Identity : Type 0} (plan : SeenPlan) (given : List (SeenPort Identity)) (run : SeenRun Identity) where
   -- a bell was refused, or a take: the links are as they were
-  pub bare_stop : (n : ℕ) → IsRunning plan given run → IsStopped None (fault.Lost n) plan given run
-  bare_stop n running = record {
+  pub bare_stop : (n : ℕ) → n ≤ length run.core.places → IsRunning plan given run → IsStopped None (fault.Lost n) plan given run
+  bare_stop n few running = record {
     state = running.state;
     has = running.has;
     lists = λ i port at. stops-as_it_was (traffic_at running.state i) port (running.lists i port at);
     did = just_did running.did;
     breach = λ link breach e. absurd (cc);
-    memory = λ e. refl;
+    lost = λ link e. (let same : n ≡ link = cc in no_letter_lost link (omega (arith, few, same, running.has.stands.degree)));
+    no_stray = λ e. refl;
+    started = λ e. absurd (cc);
   }
 
   -- so it is where memory was refused
@@ -95,13 +107,15 @@ module _ {Identity : Type 0} (plan : SeenPlan) (given : List (SeenPort Identity)
     lists = λ i port at. stops-as_it_was (traffic_at running.state i) port (running.lists i port at);
     did = just_did running.did;
     breach = λ link breach e. absurd (cc);
-    memory = λ e. refl;
+    lost = λ link e. absurd (cc);
+    no_stray = λ e. refl;
+    started = λ e. absurd (cc);
   }
 
   -- the link refused a letter
-  pub put_stops : (i : ℕ) (l : Letter) → IsPutting i l plan given run → (port : SeenPort Identity) → slice_get run.ports i ≡ Some port
+  pub put_stops : (i : ℕ) (l : Letter) → is_close l ≡ false → IsPutting i l plan given run → (port : SeenPort Identity) → slice_get run.ports i ≡ Some port
       → IsStopped (Some (record { link = i; letter = l })) (fault.Lost i) plan given run
-  put_stops i l putting port at = record {
+  put_stops i l other putting port at = record {
     state = with_put i l putting.before;
     has = putting.has;
     lists = at-keep (λ j. RunsAt) (λ j. StopsAt (if i == j then Some l else None) None) putting.before (with_put i l putting.before) i _ refl putting.within run.ports port at putting.lists
@@ -110,8 +124,19 @@ module _ {Identity : Type 0} (plan : SeenPlan) (given : List (SeenPort Identity)
         (λ j t p ne h. subst (λ (o : Option Letter). StopsAt o None t p) (sym (elsewhere i j l ne)) (stops-as_it_was t p h));
     did = just_did putting.did;
     breach = λ link breach e. absurd (cc);
-    memory = λ e. absurd (cc);
-  }
+    lost = λ link e.
+        let same : i ≡ link = cc in
+        let grown = grown_place putting.before i l in
+        record {
+          within = omega (arith, same, putting.within, grown);
+          to_place = λ back is. (ap (λ (b : Stray). b.link) (the_stray back is) ∙ same, omega (arith, same, putting.within, grown));
+          no_close = λ back is. ap (λ (b : Stray). is_close b.letter) (the_stray back is) ∙ other;
+        };
+    no_stray = λ e. absurd (true≢false e);
+    started = λ e. absurd (cc);
+  } where
+    the_stray : (back : Stray) → Some (record { link = i; letter = l }) ≡ Some back → back ≡ record { link = i; letter = l }
+    the_stray back is = sym (same_Some (record { link = i; letter = l }) back is)
 
   -- the link refused Close
   pub close_stops : (i : ℕ) → IsPutting i letter.Close plan given run → (port : SeenPort Identity) → slice_get run.ports i ≡ Some port → IsStopped None (fault.Lost i) plan given run
@@ -123,7 +148,9 @@ module _ {Identity : Type 0} (plan : SeenPlan) (given : List (SeenPort Identity)
         (λ j t p ne h. stops-as_it_was t p h);
     did = just_did putting.did;
     breach = λ link breach e. absurd (cc);
-    memory = λ e. refl;
+    lost = λ link e. (let same : i ≡ link = cc in no_letter_lost link (omega (arith, same, putting.within, grown_place putting.before i letter.Close)));
+    no_stray = λ e. refl;
+    started = λ e. absurd (cc);
   }
 
   -- a letter came that was not in turn
@@ -150,7 +177,9 @@ module _ {Identity : Type 0} (plan : SeenPlan) (given : List (SeenPort Identity)
               within = subst (λ (n : ℕ). n < length running.state.traffic) same inside;
               first = ap (λ (n : ℕ). first_breach plan run.core.site running.state n l) (sym same) ∙ first ∙ ap (λ (b : Breach). Some b) cause;
             };
-        memory = λ e. absurd (cc);
+        lost = λ link e. absurd (cc);
+        no_stray = λ e. absurd (true≢false e);
+        started = λ e. absurd (cc);
       }
 
   -- ---- breaking off
@@ -177,6 +206,10 @@ module _ {Identity : Type 0} (plan : SeenPlan) (given : List (SeenPort Identity)
               ∙ closing_breach plan run.core.site stopped.state i room.0 link before.letter ∙ before.first;
         }
 
+    -- and what is lost is lost still
+    still_lost : (link : ℕ) → cause ≡ fault.Lost link → IsLost (length (with_put i letter.Close stopped.state).traffic) stray link
+    still_lost link e = subst (λ (n : ℕ). IsLost n stray link) (sym (grown_place stopped.state i letter.Close)) (stopped.lost link e)
+
     -- it put one Close more on its way out
     broke_more : HasDone plan core.site run.journal (with_put i letter.Close stopped.state)
     broke_more = subst (λ (s : ℕ). HasDone plan s run.journal (with_put i letter.Close stopped.state)) (sym did.site)
@@ -200,7 +233,9 @@ module _ {Identity : Type 0} (plan : SeenPlan) (given : List (SeenPort Identity)
           (stops-closed (refused_at i (Some cause) stray) (breached_at i (Some cause) stray) (traffic_at stopped.state i) port (stopped.lists i port at) room.1) (λ j t p ne h. h);
       did = broke_more;
       breach = told;
-      memory = stopped.memory;
+      lost = still_lost;
+      no_stray = stopped.no_stray;
+      started = stopped.started;
     }
 
     pub break_lost : IsStopped stray cause plan given (record { core = core; ports = run.ports; journal = run.journal })
@@ -212,7 +247,9 @@ module _ {Identity : Type 0} (plan : SeenPlan) (given : List (SeenPort Identity)
           (stops-close_refused (refused_at i (Some cause) stray) (breached_at i (Some cause) stray) (traffic_at stopped.state i) port (stopped.lists i port at) room.1) (λ j t p ne h. h);
       did = broke_more;
       breach = told;
-      memory = stopped.memory;
+      lost = still_lost;
+      no_stray = stopped.no_stray;
+      started = stopped.started;
     }
 
     -- what the link has is no more than the core put

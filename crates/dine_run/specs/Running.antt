@@ -1,6 +1,6 @@
 -- A site on its way: what holds of its core and its link ends between two of its events, while a letter goes out, after its
 -- first fault, and at its end; and what is left as it was.
-use Rattle.std.specs.Prelude.{◌≡◌, ℕ, ◌+◌, ◌<◌, ◌≤◌, ◌++◌, not, Bool, true, false, List, length, slice_get, Option, Some, None, option_to_list, Result, MatchResult, vec_len}
+use Rattle.std.specs.Prelude.{◌≡◌, ◌≢◌, ℕ, ◌+◌, ◌<◌, ◌≤◌, ◌++◌, not, Bool, true, false, List, length, slice_get, Option, Some, None, option_to_list, Result, MatchResult, vec_len}
 use Rattle.dine_plan.specs.Plan.{SeenPlan, IsPlan, site_count}
 use Rattle.dine_rules.specs.declared.breach.Breach.{Breach}
 use Rattle.dine_rules.specs.declared.events.EventKind.{EventKind}
@@ -23,7 +23,7 @@ use Rattle.dine_link.specs.Links.{SeenEnd}
 use Rattle.dine_run.specs.Diners.{HasEaten}
 use Rattle.dine_run.specs.Doings.{HasDone}
 use Rattle.dine_run.specs.Ports.{SeenPort, SameLinks, PutsFit, seen_ports}
-use Rattle.dine_run.specs.SiteEnds.{IsBreached, breached_at, refused_at}
+use Rattle.dine_run.specs.Endings.{IsBreached, IsLost, breached_at, hands_back, refused_at}
 
 -- a site on its way, but for its diner
 pub record SeenRun (Identity : Type 0) : Type 0 where
@@ -75,14 +75,16 @@ pub record IsPutting {Identity : Type 0} (i : ℕ) (letter : Letter) (plan : See
   pub lists : AtEach (λ j. RunsAt) before run.ports
   pub did : IsJournal plan run.core.site run.journal (with_put i letter before)
 
--- After the first fault. A breach that is told is that of the stray, and want of memory hands no letter back.
+-- After the first fault. What is told is so, and the site was started.
 pub record IsStopped {Identity : Type 0} (stray : Option Stray) (cause : SiteFault) (plan : SeenPlan) (given : List (SeenPort Identity)) (run : SeenRun Identity) : Type 0 where
   pub state : LocalState
   pub has : HasState plan given run state
   pub lists : AtEach (λ i. StopsAt (refused_at i (Some cause) stray) (breached_at i (Some cause) stray)) state run.ports
   pub did : HasDone plan run.core.site run.journal state
   pub breach : (link : ℕ) (breach : Breach) → cause ≡ fault.Breach link breach → IsBreached plan run.core.site state stray link breach
-  pub memory : cause ≡ fault.Memory → stray ≡ None
+  pub lost : (link : ℕ) → cause ≡ fault.Lost link → IsLost (length state.traffic) stray link
+  pub no_stray : hands_back (Some cause) ≡ false → stray ≡ None
+  pub started : cause ≢ fault.NotStarted
 
 -- Close is put at each of the places below i
 abbrev pub ClosedBelow : ℕ → SeenCore → Type 0

@@ -64,4 +64,4 @@ returns-in-Err-clause-way g c plan given running =
     let within : c.args.i < length items = omega (arith, c.requires.place, running.has.places, length-map items f) in
     let at = seen_at f items c.args.i c.index_mut.result.now within c.index_mut.ensures.value in
     let ports = seen_same f items c.args.i c.index_mut.result.now c.take.new.self c.index_mut.ensures.value c.in-Err.ensures in
-    subst (λ (ps : List (SeenPort g.L.Lane.Identity)). IsStopped None (fault.Lost c.args.i) plan given (record { core = run.core; ports = ps; journal = run.journal })) (sym ports) (bare_stop plan given run c.args.i running)
+    subst (λ (ps : List (SeenPort g.L.Lane.Identity)). IsStopped None (fault.Lost c.args.i) plan given (record { core = run.core; ports = ps; journal = run.journal })) (sym ports) (bare_stop plan given run c.args.i (omega (arith, c.requires.place)) running)
