@@ -1,9 +1,8 @@
 -- What a link has of a site's letters is in order: a front of them, and a front and Close.
-use Rattle.std.proofs.Common.{◌≡◌, ℕ, ◌+◌, ◌<◌, ◌==◌, Bool, true, false, not, ◌||◌, List, [], ◌∷◌, ◌++◌, length, Some, refl, sym, ◌∙◌, ap, subst, inl, inr, arith, if◌then◌else◌}
+use Rattle.std.proofs.Common.{◌≡◌, ℕ, ◌+◌, ◌<◌, ◌==◌, Bool, true, false, not, ◌||◌, List, [], ◌∷◌, ◌++◌, length, Some, refl, sym, ◌∙◌, ap, subst, inl, inr, arith, append_assoc}
 use Rattle.std.specs.List.{slice_get}
 use Rattle.std.proofs.lemmas.Bool.{and_parts, eqb-true, false≢true}
 use Rattle.std.proofs.lemmas.List.{append-nil}
-use mathlib.Core.List.{IsPrefix}
 use Rattle.dine_token.specs.declared.entry.Entry.{Entry}
 use Rattle.dine_token.specs.Log.{meals_of}
 use Rattle.dine_plan.specs.Plan.{SeenPlan, lo_of, other_of}
@@ -13,8 +12,8 @@ use Rattle.dine_rules.specs.Holdings.{forks_held}
 use Rattle.dine_rules.specs.Letters.{forks_in, has_close, has_done, last_log_or, requests_in}
 use Rattle.dine_rules.specs.Local.{LocalState, Traffic, edge_at, traffic_at}
 use Rattle.dine_rules.specs.Streams.{CarriesOnTaken, IsChained, IsPutInOrder, KeepsStreams, is_alternating, is_close_last, is_done_last, is_lower_at, logs_of}
-use Rattle.dine_rules.proofs.Counting.{forks_in-append, has_done-append, last_log_or-append, last_log_or-none, logs_of-append, requests_in-append, slice_get-before, slice_get-push}
-use Rattle.dine_rules.proofs.Turns.{stream-push_close}
+use Rattle.dine_rules.proofs.Counting.{forks_in-append, has_close-append, has_done-append, last_log_or-append, last_log_or-none, logs_of-append, requests_in-append, slice_get-before, slice_get-push}
+use Rattle.dine_rules.proofs.Turns.{open_before, stream-push_close}
 
 -- ---- a front of a stream
 
@@ -58,14 +57,13 @@ log-before xs ys k log is = ap (λ (logs : List (List Entry)). slice_get logs k)
 carries-more : (s to : ℕ) (taken more : List Letter) (k : ℕ) (log : List Entry) → CarriesOnTaken s to (logs_of taken) k log → CarriesOnTaken s to (logs_of (taken ++ more)) k log
 carries-more s to taken more k log carries = record { before = carries.before; is_taken = log-before taken more k carries.before carries.is_taken; carries = carries.carries }
 
-pub front_in_order : (plan : SeenPlan) (s i : ℕ) (state : LocalState) (front more : List Letter) → KeepsStreams plan s state → i < length state.traffic → IsPrefix front (traffic_at state i).put
+pub front_in_order : (plan : SeenPlan) (s i : ℕ) (state : LocalState) (front rest more : List Letter) → KeepsStreams plan s state → i < length state.traffic → (traffic_at state i).put ≡ front ++ rest
     → IsPutInOrder plan s i state.ate (record { put = front; taken = (traffic_at state i).taken ++ more })
-front_in_order plan s i state front more keeps within prefix =
+front_in_order plan s i state front rest more keeps within is_front =
     let here = keeps.places i within in
-    let rest = prefix.0 in
     let taken = (traffic_at state i).taken in
     let edge = edge_at plan s i in
-    let whole : front ++ rest ≡ (traffic_at state i).put = prefix.1 in
+    let whole : front ++ rest ≡ (traffic_at state i).put = sym is_front in
     let logged : (k : ℕ) (log : List Entry) → slice_get (logs_of front) k ≡ Some log → slice_get (logs_of (traffic_at state i).put) k ≡ Some log =
     λ k log is. ap (λ (letters : List Letter). slice_get (logs_of letters) k) (sym whole) ∙ log-before front rest k log is in
     record {
@@ -94,9 +92,9 @@ front_in_order plan s i state front more keeps within prefix =
 logs_of-closed : (xs : List Letter) → logs_of (xs ++ Close ∷ []) ≡ logs_of xs
 logs_of-closed xs = logs_of-append xs (Close ∷ []) ∙ append-nil (logs_of xs)
 
-pub closed_in_order : (plan : SeenPlan) (s i ate : ℕ) (put taken : List Letter) → has_close put ≡ false → IsPutInOrder plan s i ate (record { put = put; taken = taken })
+push_close_in_order : (plan : SeenPlan) (s i ate : ℕ) (put taken : List Letter) → has_close put ≡ false → IsPutInOrder plan s i ate (record { put = put; taken = taken })
     → IsPutInOrder plan s i ate (record { put = put ++ Close ∷ []; taken = taken })
-closed_in_order plan s i ate put taken still_open order =
+push_close_in_order plan s i ate put taken still_open order =
     let logged : (k : ℕ) (log : List Entry) → slice_get (logs_of (put ++ Close ∷ [])) k ≡ Some log → slice_get (logs_of put) k ≡ Some log =
     λ k log is. ap (λ (logs : List (List Entry)). slice_get logs k) (sym (logs_of-closed put)) ∙ is in
     record {
@@ -110,3 +108,10 @@ closed_in_order plan s i ate put taken still_open order =
       forks = λ k fork is. elim (slice_get-push put Close (Fork fork) k is) [ inl before ↦ order.forks k fork before | inr at ↦ absurd (let e = at.1 in cc) ];
       requests = λ k e is. elim (slice_get-push put Close (Request e) k is) [ inl before ↦ order.requests k e before | inr at ↦ absurd (let e = at.1 in cc) ];
     }
+
+pub closed_in_order : (plan : SeenPlan) (s i : ℕ) (state : LocalState) (front rest more : List Letter) → KeepsStreams plan s state → i < length state.traffic → (traffic_at state i).put ≡ front ++ rest ++ Close ∷ []
+    → IsPutInOrder plan s i state.ate (record { put = front ++ Close ∷ []; taken = (traffic_at state i).taken ++ more })
+closed_in_order plan s i state front rest more keeps within is =
+    let open_front : has_close (front ++ rest) ≡ false = open_before (front ++ rest) [] Close (ap is_close_last (sym is) ∙ (keeps.places i within).put_lawful.close_last) in
+    push_close_in_order plan s i state.ate front ((traffic_at state i).taken ++ more) (neither (has_close front) (has_close rest) (ap not (sym (has_close-append front rest) ∙ open_front)))
+    (front_in_order plan s i state front (rest ++ Close ∷ []) more keeps within (is ∙ append_assoc front rest (Close ∷ [])))

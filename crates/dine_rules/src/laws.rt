@@ -2,7 +2,6 @@
 
 ghost use Rattle.std.specs.Prelude.{◌≡◌, ◌≢◌, ◌<◌, ◌≤◌, ◌+◌, ◌*◌, ◌↔◌, ℕ, List, [], ◌∷◌, ◌++◌, None, Option, Some, false, length, map, slice_get, true};
 ghost use Rattle.std.specs.List.{list_any};
-ghost use mathlib.Core.List.{IsPrefix};
 ghost use Rattle.dine_plan.specs.Plan.{IsPlan, SeenPlan, edge_count, hi_of, job_count, lo_of, site_count};
 ghost use Rattle.dine_token.specs.Fork.{SeenFork};
 ghost use Rattle.dine_token.specs.Lawful.{IsLawful};
@@ -15,7 +14,7 @@ ghost use Rattle.dine_rules.specs.BreachCauses.{Applies};
 ghost use Rattle.dine_rules.specs.declared.breach.Breach.{Breach};
 ghost use Rattle.dine_rules.specs.declared.breach.Breach.TheVariants.{AfterClose, ClosedEarly, DoneOutOfTurn, ForkOutOfTurn, RequestOutOfTurn, StrangeFork};
 ghost use Rattle.dine_rules.specs.Holdings.{fork_at, hand_at, token_at};
-ghost use Rattle.dine_rules.specs.Letters.{closes_in, dones_in, forks_in, has_close, requests_in};
+ghost use Rattle.dine_rules.specs.Letters.{closes_in, dones_in, forks_in, requests_in};
 ghost use Rattle.dine_rules.specs.Links.{ForEachEdge, ForEachLink, forks_of_edge, queue_to, tokens_of_edge};
 ghost use Rattle.dine_rules.specs.Local.{LocalState, edge_at, is_eating, neighbour_at, start_of, traffic_at};
 ghost use Rattle.dine_rules.specs.Precedence.{IsAcyclic, StandsBefore, fork_log};
@@ -51,8 +50,10 @@ pub use journals::{
 /// What a link has of a site's letters is in order where it has a front of them, or a front and Close; also where it brought more than
 /// the site took.
 pub fn letters_cut_short_are_in_order()
-    ensures front { (plan : SeenPlan) (s i : ℕ) (state : LocalState) (front more : List Letter) → KeepsStreams plan s state → i < length state.traffic → IsPrefix front (traffic_at state i).put → IsPutInOrder plan s i state.ate (record { put = front; taken = (traffic_at state i).taken ++ more }) }
-    ensures closed { (plan : SeenPlan) (s i : ℕ) (state : LocalState) (front more : List Letter) → KeepsStreams plan s state → i < length state.traffic → IsPrefix front (traffic_at state i).put → has_close front ≡ false → IsPutInOrder plan s i state.ate (record { put = front ++ letter.Close ∷ []; taken = (traffic_at state i).taken ++ more }) }
+    ensures front { (plan : SeenPlan) (s i : ℕ) (state : LocalState) (front rest more : List Letter) → KeepsStreams plan s state → i < length state.traffic → (traffic_at state i).put ≡ front ++ rest
+        → IsPutInOrder plan s i state.ate (record { put = front; taken = (traffic_at state i).taken ++ more }) }
+    ensures closed { (plan : SeenPlan) (s i : ℕ) (state : LocalState) (front rest more : List Letter) → KeepsStreams plan s state → i < length state.traffic → (traffic_at state i).put ≡ front ++ rest ++ letter.Close ∷ []
+        → IsPutInOrder plan s i state.ate (record { put = front ++ letter.Close ∷ []; taken = (traffic_at state i).taken ++ more }) }
 {}
 
 /// What the definitions come to on small plans: the log of each edge and the number of events, computed from the list

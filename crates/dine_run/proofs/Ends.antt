@@ -1,5 +1,5 @@
 -- What a site leaves when it ends.
-use Rattle.std.proofs.Common.{◌≡◌, ℕ, ◌+◌, ◌<◌, true, List, length, map, Option, Some, None, option_map, refl, sym, ◌∙◌, ap, subst, inl, inr, arith, append-nil}
+use Rattle.std.proofs.Common.{◌≡◌, ℕ, ◌+◌, ◌<◌, true, List, [], length, map, Option, Some, None, option_map, option_to_list, refl, sym, ◌∙◌, ap, subst, inl, inr, arith, append-nil}
 use Rattle.std.proofs.lemmas.List.{get_or-set_same, get_or-set_other}
 use Rattle.std.proofs.lemmas.Bool.{and_parts, cases_eq}
 use Rattle.std.proofs.lemmas.Option.{same_Some, slice_get-map, get_or_from_slice_get}
@@ -15,12 +15,12 @@ use Rattle.dine_core.specs.Standing.{AreForksInHand, AreTokensInHand, all_places
 use Rattle.dine_run.specs.declared.site_end.SiteFault.{SiteFault}
 use Rattle.dine_run.specs.declared.site_end.SiteFault.TheVariants as fault
 use Rattle.dine_run.specs.declared.site_end.Stray.{Stray}
-use Rattle.dine_run.specs.Endings.{links_at, on_links, refused_at}
+use Rattle.dine_run.specs.Endings.{breached_at, links_at, on_links, refused_at}
 use Rattle.dine_run.specs.Ports.{SeenPort, PutsFit}
 use Rattle.dine_run.specs.SiteEnds.{IsSiteEnd}
 use Rattle.dine_run.specs.Running.{SeenRun, ClosedBelow, HasState, MayEnd}
 use Rattle.dine_run.proofs.Lists.{list_all-weaker, list_all-each}
-use Rattle.dine_run.proofs.Letters.{puts_fit-same}
+use Rattle.dine_run.proofs.Letters.{ClosedFrontsAreInOrder, FrontsAreInOrder, fit_in_order, puts_fit-same}
 use Rattle.dine_run.proofs.Seen.{there_is}
 use Rattle.dine_run.proofs.Stops.{just_did}
 
@@ -54,7 +54,7 @@ pub links_there : {Identity : Type 0} (ports : List (SeenPort Identity)) (i : �
 links_there ports i port at = get_or_from_slice_get (map on_links ports) i (on_links port) no_traffic (slice_get-map on_links ports i ∙ ap (option_map on_links) at)
 
 module _ {Identity : Type 0} (plan : SeenPlan) (given : List (SeenPort Identity)) (run : SeenRun Identity) (forks : List SeenFork) (tokens : List ℕ)
-    (are_forks : AreForksInHand run.core forks) (are_tokens : AreTokensInHand run.core tokens) where
+    (are_forks : AreForksInHand run.core forks) (are_tokens : AreTokensInHand run.core tokens) (fronts : FrontsAreInOrder) (closes : ClosedFrontsAreInOrder) where
   -- each place of the state has a port, whose links are these
   port_there : (state : LocalState) → HasState plan given run state → (i : ℕ) → i < length state.traffic → (port : SeenPort Identity) × (slice_get run.ports i ≡ Some port) × (links_at run.ports i ≡ on_links port)
   port_there state has i within =
@@ -81,6 +81,9 @@ module _ {Identity : Type 0} (plan : SeenPlan) (given : List (SeenPort Identity)
             puts = λ i within. puts_fit-same (traffic_at running.state i).put (links_at run.ports i).put (puts i within);
             takes = λ i within. (let there = port_there running.state running.has i within in
             ap (λ (t : Traffic). t.taken) there.2 ∙ (running.lists i there.0 there.1).takes ∙ sym (append-nil (traffic_at running.state i).taken));
+            in_order = λ i within. (let there = port_there running.state running.has i within in
+            fit_in_order fronts closes plan run.core.site i running.state (links_at run.ports i) None [] running.has.keeps within (puts_fit-same (traffic_at running.state i).put (links_at run.ports i).put (puts i within))
+            (ap (λ (t : Traffic). t.taken) there.2 ∙ (running.lists i there.0 there.1).takes ∙ sym (append-nil (traffic_at running.state i).taken)));
             whole = λ e. puts;
             finished = λ e. finished;
             closed = λ e. finished_is_closed plan run.core.site running.state finished;
@@ -111,6 +114,10 @@ module _ {Identity : Type 0} (plan : SeenPlan) (given : List (SeenPort Identity)
             puts = λ i within. (let there = port_there stopped.state stopped.has i within in
             subst (λ (t : Traffic). PutsFit (refused_at i (Some cause) stray) (traffic_at stopped.state i).put t.put) (sym there.2) (stopped.lists i there.0 there.1).puts);
             takes = λ i within. (let there = port_there stopped.state stopped.has i within in ap (λ (t : Traffic). t.taken) there.2 ∙ (stopped.lists i there.0 there.1).takes);
+            in_order = λ i within. (let there = port_there stopped.state stopped.has i within in
+            fit_in_order fronts closes plan run.core.site i stopped.state (links_at run.ports i) (refused_at i (Some cause) stray) (option_to_list (breached_at i (Some cause) stray)) stopped.has.keeps within
+            (subst (λ (t : Traffic). PutsFit (refused_at i (Some cause) stray) (traffic_at stopped.state i).put t.put) (sym there.2) (stopped.lists i there.0 there.1).puts)
+            (ap (λ (t : Traffic). t.taken) there.2 ∙ (stopped.lists i there.0 there.1).takes));
             whole = λ e. absurd (cc);
             finished = λ e. absurd (cc);
             closed = λ e. closed_everywhere plan stopped.state run.core stopped.has.stands h.1;

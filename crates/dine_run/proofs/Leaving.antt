@@ -1,14 +1,15 @@
 -- What a site leaves that was not started.
-use Rattle.std.proofs.Common.{◌≡◌, ℕ, zero, suc, ◌++◌, Bool, Some, None, List, [], ◌∷◌, All, map, get_or, slice_get, refl, sym, ap, ◌∙◌, subst, inl, arith}
+use Rattle.std.proofs.Common.{◌≡◌, ℕ, zero, suc, ◌<◌, ◌++◌, Bool, length, Some, None, List, [], ◌∷◌, All, map, get_or, slice_get, refl, sym, ap, ◌∙◌, subst, inl, arith}
 use Rattle.std.proofs.lemmas.List.{append-nil}
 use Rattle.std.proofs.lemmas.List.Elements.{All-head, All-tail}
 use Rattle.std.proofs.lemmas.Option.{same_Some, none-some}
 use Rattle.dine_token.specs.Fork.{SeenFork}
 use Rattle.dine_plan.specs.Plan.{SeenPlan, edges_of}
-use Rattle.dine_rules.specs.Local.{Traffic, no_traffic, start_of}
+use Rattle.dine_rules.specs.Local.{Traffic, no_traffic, start_of, traffic_at}
 use Rattle.dine_rules.specs.declared.events.EventKind.{EventKind}
 use Rattle.dine_rules.specs.Journals.{IsJournal}
 use Rattle.dine_rules.specs.Streams.{KeepsStreams}
+use Rattle.dine_run.proofs.Letters.{ClosedFrontsAreInOrder, FrontsAreInOrder, fit_in_order}
 use Rattle.dine_run.proofs.Stops.{just_did}
 use Rattle.dine_core.specs.Core.{forks_in_hand, tokens_in_hand}
 use Rattle.dine_core.specs.Standing.{all_places}
@@ -16,7 +17,7 @@ use Rattle.dine_run.specs.declared.diner.Call.{Call}
 use Rattle.dine_run.specs.declared.site_end.SiteFault.TheVariants as fault
 use Rattle.dine_run.specs.Diners.{HasEaten}
 use Rattle.dine_run.specs.Endings.{links_at}
-use Rattle.dine_run.specs.Ports.{SeenPort, IsFreshPort}
+use Rattle.dine_run.specs.Ports.{SeenPort, IsFreshPort, PutsFit}
 use Rattle.dine_run.specs.SiteEnds.{IsLeft}
 
 -- at the start nothing was put or taken at any place
@@ -34,10 +35,10 @@ nothing_on (port ∷ ports) zero unused = let fresh = All-head IsFreshPort port 
 nothing_on (port ∷ ports) (suc i) unused = nothing_on ports i (All-tail IsFreshPort port ports unused)
 
 -- a site that was not started left its start
-pub left_unstarted : {Identity : Type 0} (plan : SeenPlan) (s : ℕ) (given : List (SeenPort Identity)) (site : ℕ) (forks : List SeenFork) (tokens : List ℕ) (journal : List EventKind) → journal ≡ [] → site ≡ s → KeepsStreams plan s (start_of plan s)
+pub left_unstarted : {Identity : Type 0} (fronts : FrontsAreInOrder) (closes : ClosedFrontsAreInOrder) (plan : SeenPlan) (s : ℕ) (given : List (SeenPort Identity)) (site : ℕ) (forks : List SeenFork) (tokens : List ℕ) (journal : List EventKind) → journal ≡ [] → site ≡ s → KeepsStreams plan s (start_of plan s)
     → forks ≡ forks_in_hand plan s (start_of plan s) (all_places (start_of plan s)) → tokens ≡ tokens_in_hand plan s (start_of plan s) (all_places (start_of plan s)) → All IsFreshPort given
     → IsLeft plan s given (record { site = site; ate = 0; forks = forks; tokens = tokens; journal = journal; ports = given; stray = None; fault = Some fault.NotStarted })
-left_unstarted {Identity} plan s given site forks tokens journal nothing is_site keeps hold_forks hold_tokens unused = record {
+left_unstarted {Identity} fronts closes plan s given site forks tokens journal nothing is_site keeps hold_forks hold_tokens unused = record {
   state = start_of plan s;
   ended = record {
     keeps = keeps;
@@ -46,14 +47,9 @@ left_unstarted {Identity} plan s given site forks tokens journal nothing is_site
     tokens = hold_tokens;
     did = just_did (did_nothing journal nothing);
     did_all = λ none. did_nothing journal nothing;
-    puts = λ i within. record {
-      front = [];
-      closing = [];
-      closes = inl refl;
-      core = ap (λ (t : Traffic). t.put) (no_letters (edges_of plan s) i);
-      link = inl (ap (λ (t : Traffic). t.put) (nothing_on given i unused));
-    };
-    takes = λ i within. ap (λ (t : Traffic). t.taken) (nothing_on given i unused) ∙ sym (ap (λ (t : Traffic). t.taken ++ []) (no_letters (edges_of plan s) i));
+    puts = puts;
+    takes = takes;
+    in_order = λ i within. fit_in_order fronts closes plan s i (start_of plan s) (links_at given i) None [] keeps within (puts i within) (takes i within);
     whole = λ none. absurd (none-some fault.NotStarted (sym none));
     finished = λ none. absurd (none-some fault.NotStarted (sym none));
     closed = λ other. absurd (other refl);
@@ -67,6 +63,18 @@ left_unstarted {Identity} plan s given site forks tokens journal nothing is_site
   count = refl;
   same_links = λ i old new at_old at_new. (let same : old ≡ new = same_Some old new (sym at_old ∙ at_new) in record { tx = ap (λ (p : SeenPort Identity). p.tx.link) (sym same); rx = ap (λ (p : SeenPort Identity). p.rx.link) (sym same) });
 } where
+  puts : (i : ℕ) → i < length (start_of plan s).traffic → PutsFit None (traffic_at (start_of plan s) i).put (links_at given i).put
+  puts i within = record {
+    front = [];
+    closing = [];
+    closes = inl refl;
+    core = ap (λ (t : Traffic). t.put) (no_letters (edges_of plan s) i);
+    link = inl (ap (λ (t : Traffic). t.put) (nothing_on given i unused));
+  }
+
+  takes : (i : ℕ) → i < length (start_of plan s).traffic → (links_at given i).taken ≡ (traffic_at (start_of plan s) i).taken ++ []
+  takes i within = ap (λ (t : Traffic). t.taken) (nothing_on given i unused) ∙ sym (ap (λ (t : Traffic). t.taken ++ []) (no_letters (edges_of plan s) i))
+
   did_nothing : (kinds : List EventKind) → kinds ≡ [] → IsJournal plan s kinds (start_of plan s)
   did_nothing kinds none = subst (λ (x : List EventKind). IsJournal plan s x (start_of plan s)) (sym none) refl
 

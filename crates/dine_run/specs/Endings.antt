@@ -7,7 +7,7 @@ use Rattle.dine_rules.specs.declared.letters.Letter.{Letter}
 use Rattle.dine_rules.specs.Breach.{first_breach}
 use Rattle.dine_rules.specs.Journals.{IsJournal}
 use Rattle.dine_rules.specs.Local.{LocalState, Traffic, is_eating, no_traffic, start_of, traffic_at}
-use Rattle.dine_rules.specs.Streams.{KeepsStreams}
+use Rattle.dine_rules.specs.Streams.{IsPutInOrder, KeepsStreams}
 use Rattle.dine_core.specs.Core.{tokens_in_hand}
 use Rattle.dine_core.specs.Standing.{all_places, has_closed, has_finished}
 use Rattle.dine_link.specs.Closing.{is_close}
@@ -66,8 +66,8 @@ pub record Ending : Type 0 where
   pub fault : Option SiteFault
 
 -- What a site tells fits a state of whole lists that keeps the streams, in which it does not eat. Its tokens are those of this state,
--- and so are its links, but for the letter of a breach, a letter that a link refused, and a Close that a link refused. It did the
--- events of its journal and then it broke off, and where it was started it has put Close everywhere. Where it tells no fault it did all,
+-- and so are its links, but for the letter of a breach, a letter that a link refused, and a Close that a link refused; what its
+-- links have is in order all the same. It did the events of its journal and then it broke off, and where it was started it has put Close everywhere. Where it tells no fault it did all,
 -- just those events, and its links have exactly what it put. A site that was not started is at its start. A fault that is told is so.
 pub record HasEnded (plan : SeenPlan) (s : ℕ) (state : LocalState) (links : ℕ → Traffic) (end : Ending) : Type 0 where
   pub keeps : KeepsStreams plan s state
@@ -78,6 +78,7 @@ pub record HasEnded (plan : SeenPlan) (s : ℕ) (state : LocalState) (links : �
   pub did_all : end.fault ≡ None → IsJournal plan s end.journal state
   pub puts : (i : ℕ) → i < length state.traffic → PutsFit (refused_at i end.fault end.stray) (traffic_at state i).put (links i).put
   pub takes : (i : ℕ) → i < length state.traffic → (links i).taken ≡ (traffic_at state i).taken ++ option_to_list (breached_at i end.fault end.stray)
+  pub in_order : (i : ℕ) → i < length state.traffic → IsPutInOrder plan s i state.ate (links i)
   pub whole : end.fault ≡ None → (i : ℕ) → i < length state.traffic → (links i).put ≡ (traffic_at state i).put
   pub finished : end.fault ≡ None → has_finished plan s state ≡ true
   pub closed : end.fault ≢ Some fault.NotStarted → has_closed state ≡ true

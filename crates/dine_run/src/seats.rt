@@ -62,6 +62,7 @@ fn not_started<L: Lane, D: Diner>(
     ensures eaten { HasEaten D.calls D.marks D.fits result.ate result.failed diner result.diner }
 {
     laws::streams_are_kept();
+    laws::letters_cut_short_are_in_order();
     let site = core.site();
     let parts = core.into_parts();
     SiteEnd {

@@ -353,6 +353,7 @@ impl<L: Lane, D: Diner> Running<L, D> {
         ensures failed { result.failed ≡ self.failed }
         ensures diner { result.diner ≡ self.diner }
     {
+        laws::letters_cut_short_are_in_order();
         let Running {
             core,
             ports,
