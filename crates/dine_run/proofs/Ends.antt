@@ -80,10 +80,10 @@ module _ {Identity : Type 0} (plan : SeenPlan) (given : List (SeenPort Identity)
             did_all = λ e. running.did;
             puts = λ i within. puts_fit-same (traffic_at running.state i).put (links_at run.ports i).put (puts i within);
             takes = λ i within. (let there = port_there running.state running.has i within in
-            ap (λ (t : Traffic). t.taken) there.2 ∙ (running.lists i there.0 there.1).takes ∙ sym (append-nil (traffic_at running.state i).taken));
+                ap (λ (t : Traffic). t.taken) there.2 ∙ (running.lists i there.0 there.1).takes ∙ sym (append-nil (traffic_at running.state i).taken));
             in_order = λ i within. (let there = port_there running.state running.has i within in
-            fit_in_order fronts closes plan run.core.site i running.state (links_at run.ports i) None [] running.has.keeps within (puts_fit-same (traffic_at running.state i).put (links_at run.ports i).put (puts i within))
-            (ap (λ (t : Traffic). t.taken) there.2 ∙ (running.lists i there.0 there.1).takes ∙ sym (append-nil (traffic_at running.state i).taken)));
+                fit_in_order fronts closes plan run.core.site i running.state (links_at run.ports i) None [] running.has.keeps within (puts_fit-same (traffic_at running.state i).put (links_at run.ports i).put (puts i within))
+                (ap (λ (t : Traffic). t.taken) there.2 ∙ (running.lists i there.0 there.1).takes ∙ sym (append-nil (traffic_at running.state i).taken)));
             whole = λ e. puts;
             finished = λ e. finished;
             closed = λ e. finished_is_closed plan run.core.site running.state finished;
@@ -112,12 +112,12 @@ module _ {Identity : Type 0} (plan : SeenPlan) (given : List (SeenPort Identity)
             did = stopped.did;
             did_all = λ e. absurd (cc);
             puts = λ i within. (let there = port_there stopped.state stopped.has i within in
-            subst (λ (t : Traffic). PutsFit (refused_at i (Some cause) stray) (traffic_at stopped.state i).put t.put) (sym there.2) (stopped.lists i there.0 there.1).puts);
+                subst (λ (t : Traffic). PutsFit (refused_at i (Some cause) stray) (traffic_at stopped.state i).put t.put) (sym there.2) (stopped.lists i there.0 there.1).puts);
             takes = λ i within. (let there = port_there stopped.state stopped.has i within in ap (λ (t : Traffic). t.taken) there.2 ∙ (stopped.lists i there.0 there.1).takes);
             in_order = λ i within. (let there = port_there stopped.state stopped.has i within in
-            fit_in_order fronts closes plan run.core.site i stopped.state (links_at run.ports i) (refused_at i (Some cause) stray) (option_to_list (breached_at i (Some cause) stray)) stopped.has.keeps within
-            (subst (λ (t : Traffic). PutsFit (refused_at i (Some cause) stray) (traffic_at stopped.state i).put t.put) (sym there.2) (stopped.lists i there.0 there.1).puts)
-            (ap (λ (t : Traffic). t.taken) there.2 ∙ (stopped.lists i there.0 there.1).takes));
+                fit_in_order fronts closes plan run.core.site i stopped.state (links_at run.ports i) (refused_at i (Some cause) stray) (option_to_list (breached_at i (Some cause) stray)) stopped.has.keeps within
+                (subst (λ (t : Traffic). PutsFit (refused_at i (Some cause) stray) (traffic_at stopped.state i).put t.put) (sym there.2) (stopped.lists i there.0 there.1).puts)
+                (ap (λ (t : Traffic). t.taken) there.2 ∙ (stopped.lists i there.0 there.1).takes));
             whole = λ e. absurd (cc);
             finished = λ e. absurd (cc);
             closed = λ e. closed_everywhere plan stopped.state run.core stopped.has.stands h.1;

@@ -3,7 +3,6 @@ use Rattle.std.specs.Prelude.{◌≡◌, ◌≢◌, ℕ, List, length, slice_get
 use Rattle.dine_token.specs.Fork.{SeenFork}
 use Rattle.dine_plan.specs.Plan.{SeenPlan}
 use Rattle.dine_rules.specs.declared.events.EventKind.{EventKind}
-use Rattle.dine_rules.specs.declared.letters.Letter.{Letter}
 use Rattle.dine_rules.specs.Local.{LocalState}
 use Rattle.dine_core.specs.Core.{forks_in_hand}
 use Rattle.dine_core.specs.Standing.{all_places}
