@@ -1,9 +1,2 @@
-pub mod ChoicesLemmas
-pub mod EdgeLines
-pub mod EntryTexts
-pub mod InputLemmas
-pub mod MealParts
-pub mod OutputLemmas
 pub mod PlainFields
 pub mod RunLemmas
-pub mod WordsLemmas

@@ -5,17 +5,17 @@ use Rattle.dine_plan.specs.Plan.{SeenPlan}
 use Rattle.dine_plan.specs.declared.faults.PlanFault.{PlanFault}
 use Rattle.dine.specs.declared.faults.Fault.{Fault}
 use Rattle.dine.specs.declared.faults.Fault.TheVariants as fault
-use Rattle.dine.specs.declared.status.Status.{Status}
-use Rattle.dine.specs.declared.status.Status.TheVariants as status
-use Rattle.dine.specs.Input.{input_limit}
+use Rattle.dine_words.specs.declared.status.Status.{Status}
+use Rattle.dine_words.specs.declared.status.Status.TheVariants as status
+use Rattle.dine_words.specs.Input.{input_limit}
 use Rattle.dine.specs.Faults.{TellsLine, line_of, status_of}
-use Rattle.dine.specs.Check.{check_text}
-use Rattle.dine.specs.PlanBytes.{IsPlanBytes, fault_of_bytes}
-use Rattle.dine.specs.Replay.{replay_text}
+use Rattle.dine_words.specs.Check.{check_text}
+use Rattle.dine_words.specs.PlanBytes.{IsPlanBytes, fault_of_bytes}
+use Rattle.dine_logs.specs.Replay.{replay_text}
 use Rattle.dine.specs.Run.{NamesSite, run_text}
-use Rattle.dine.specs.Words.{Asked, Runs, Replays, Checks}
-use Rattle.dine.specs.declared.words.Links.{Links}
-use Rattle.dine.specs.declared.words.Table.{Table}
+use Rattle.dine_words.specs.Words.{Asked, Runs, Replays, Checks}
+use Rattle.dine_words.specs.declared.words.Links.{Links}
+use Rattle.dine_words.specs.declared.words.Table.{Table}
 
 -- the text that is made of a plan, by what is asked for; that of a run is the same over links of any kind
 abbrev pub text_of : Asked → SeenPlan → List ℕ

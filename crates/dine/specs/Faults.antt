@@ -9,15 +9,15 @@ use Rattle.dine_rules.specs.declared.breach.Breach.{Breach}
 use Rattle.dine_rules.specs.Breach.{number_of}
 use Rattle.dine_run.specs.declared.site_end.SiteFault.{SiteFault}
 use Rattle.dine_run.specs.declared.site_end.SiteFault.TheVariants as site_fault
-use Rattle.dine.specs.Output.{WritesPrefix}
+use Rattle.dine_words.specs.Output.{WritesPrefix}
 use Rattle.dine.specs.declared.faults.Fault.{Fault}
 use Rattle.dine.specs.declared.faults.Fault.TheVariants as fault
-use Rattle.dine.specs.declared.status.Status.{Status}
-use Rattle.dine.specs.declared.status.Status.TheVariants as status
-use Rattle.dine.specs.declared.words.WordsFault.{WordsFault}
-use Rattle.dine.specs.declared.words.WordsFault.TheVariants as words
-use Rattle.dine.specs.declared.input.InputFault.{InputFault}
-use Rattle.dine.specs.declared.input.InputFault.TheVariants as input
+use Rattle.dine_words.specs.declared.status.Status.{Status}
+use Rattle.dine_words.specs.declared.status.Status.TheVariants as status
+use Rattle.dine_words.specs.declared.words.WordsFault.{WordsFault}
+use Rattle.dine_words.specs.declared.words.WordsFault.TheVariants as words
+use Rattle.dine_words.specs.declared.input.InputFault.{InputFault}
+use Rattle.dine_words.specs.declared.input.InputFault.TheVariants as input
 
 -- the status that a fault ends the program with
 abbrev pub status_of : Fault → Status

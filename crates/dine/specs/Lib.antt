@@ -1,16 +1,6 @@
-pub mod Check
-pub mod Choices
 pub mod Commands
 pub mod Faults
-pub mod Input
-pub mod Logs
-pub mod MealTexts
-pub mod Output
-pub mod PlanBytes
 pub mod PlanDiners
 pub mod Records
-pub mod Replay
 pub mod Run
-pub mod Status
 pub mod Tables
-pub mod Words

@@ -8,8 +8,8 @@ use Rattle.dine_run.specs.declared.site_end.SiteFault.{SiteFault}
 use Rattle.dine_run.specs.Tables.{IsGatheredOf, edge_rows, site_rows, due_edge_rows, due_site_rows}
 use Rattle.dine.specs.PlanDiners.{SeenPlanDiner, fails_of}
 use Rattle.dine.specs.Tables.{edges_table, sites_table}
-use Rattle.dine.specs.declared.words.Table.{Table}
-use Rattle.dine.specs.declared.words.Table.TheVariants.{Edges, Sites}
+use Rattle.dine_words.specs.declared.words.Table.{Table}
+use Rattle.dine_words.specs.declared.words.Table.TheVariants.{Edges, Sites}
 use Rattle.dine.specs.declared.faults.Fault.{Fault}
 use Rattle.dine.specs.declared.faults.Fault.TheVariants as fault
 

@@ -3,19 +3,14 @@ ghost use Rattle.std.specs.Prelude.{◌≡◌, ◌≢◌, ◌<◌, ◌≤◌, If
 ghost use Rattle.std.specs.Io.KnownBytes.{IsAtEnd};
 ghost use Rattle.dine.specs.Commands.{EndsByFault, FailsRun, IsDone, IsFailedRun, IsPartDone, IsPlanLeft, IsRefused, TellsCause, Writes, WritesPart, text_of};
 ghost use Rattle.dine.specs.Faults.{status_of};
-ghost use Rattle.dine.specs.Input.{input_limit};
-ghost use Rattle.dine.specs.Words.{AreRight, HasNoFault, are_taken, asked_of, command_in, dine_app};
+ghost use Rattle.dine_words.specs.Input.{input_limit};
+ghost use Rattle.dine_words.specs.Words.{AreRight, HasNoFault, are_taken, asked_of, command_in, dine_app};
 
-use crate::check::check_text;
 use crate::faults::Fault;
-use crate::input::read_input;
-use crate::output::write_out;
-use crate::plan_bytes::plan_of_bytes;
-use crate::replay::replay_text;
 use crate::run_text::run_text;
-use crate::status::Status;
-use crate::words::{Command, command_of};
+use dine_logs::replay_text;
 use dine_plan::Plan;
+use dine_words::{Command, Status, check_text, command_of, plan_of_bytes, read_input, write_out};
 use std::alloc::Global;
 use std::io::{Read, Write};
 use std::sync::Wait;

@@ -2,15 +2,12 @@
 ghost use Rattle.std.specs.Prelude.{◌≡◌, IfSome, OnOk};
 ghost use Rattle.std.specs.Io.KnownBytes.{Appends};
 ghost use Rattle.dine.specs.Faults.{breach_words, broken_run_line, lost_words, refused_thread_line, site_fault_words, whole_line};
-ghost use Rattle.dine.specs.Output.{WritesPrefix};
+ghost use Rattle.dine_words.specs.Output.{WritesPrefix};
 
-use crate::input::InputFault;
-use crate::output::{WriteFault, write_line, write_numbered};
-use crate::status::Status;
-use crate::words::WordsFault;
 use dine_plan::PlanFault;
 use dine_rules::Breach;
 use dine_run::SiteFault;
+use dine_words::{InputFault, Status, WordsFault, WriteFault, write_line, write_numbered};
 use std::alloc::AllocError;
 use std::io::Write;
 

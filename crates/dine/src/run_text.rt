@@ -7,10 +7,10 @@ ghost use Rattle.dine.specs.Run.{EndedWith, HasDueRows, NamesSite, diners_of, ru
 use crate::faults::Fault;
 use crate::plan_diner::PlanDiner;
 use crate::tables::{write_edges, write_sites};
-use crate::words::{Links, Table};
 use dine_link::{ChannelLane, Lane, RingLane};
 use dine_plan::Plan;
 use dine_run::{Gathered, RunFault, SiteFault, SiteOut, edge_table, run, site_table};
+use dine_words::{Links, Table};
 use std::alloc::{AllocError, Global};
 use std::sync::Wait;
 use std::thread::Threads;

@@ -4,59 +4,44 @@ ghost use Rattle.dine_plan.specs.Fault.{number_of_fault};
 ghost use Rattle.dine_plan.specs.declared.faults.PlanFault.TheVariants.{Memory};
 
 use std::alloc::{AllocError, AllocFailed};
-use thiserror::Error;
+use std::error::Error;
+use std::fmt;
 
 /// Why a plan text was refused. The checks run over the whole document, one after the other in this order, and the
 /// number in a fault is the least position, from 0, in the text's list of sites or of edges at which it holds.
-#[derive(Clone, Copy, Debug, PartialEq, Eq, Error)]
+#[derive(Clone, Copy, Debug, PartialEq, Eq)]
 pub enum PlanFault {
     /// The text is no TOML.
-    #[error("1 NotToml")]
     NotToml,
     /// `version` is absent or is not the whole number 1.
-    #[error("2 Version")]
     Version,
     /// The document, a site, a job or an edge has a key that the format does not name for it.
-    #[error("3 UnknownKey")]
     UnknownKey,
     /// A site or a job has no `name`, or an edge no `ends`.
-    #[error("4 MissingKey")]
     MissingKey,
     /// A value is of another kind than the format names for its key.
-    #[error("5 WrongKind")]
     WrongKind,
     /// The name of this site, or of one of its jobs, is no name.
-    #[error("6 BadName at site {0}")]
     BadName(usize),
     /// The name of this site stands at an earlier site.
-    #[error("7 SiteTwice at site {0}")]
     SiteTwice(usize),
     /// There is no site.
-    #[error("8 NoSite")]
     NoSite,
     /// There are more than 64 sites.
-    #[error("9 TooManySites")]
     TooManySites,
     /// This site has more than 1,000 jobs.
-    #[error("10 TooManyJobs at site {0}")]
     TooManyJobs(usize),
     /// A job of this site has `turns` above 1,000,000.
-    #[error("11 TurnsTooLarge at site {0}")]
     TurnsTooLarge(usize),
     /// An end of this edge is no site's name.
-    #[error("12 UnknownEnd at edge {0}")]
     UnknownEnd(usize),
     /// Both ends of this edge are one site.
-    #[error("13 Loop at edge {0}")]
     Loop(usize),
     /// An earlier edge joins the two sites of this one.
-    #[error("14 EdgeTwice at edge {0}")]
     EdgeTwice(usize),
     /// There are more than 512 edges.
-    #[error("15 TooManyEdges")]
     TooManyEdges,
     /// Memory ran out.
-    #[error("16 Memory")]
     Memory,
 }
 
@@ -84,7 +69,55 @@ impl PlanFault {
             PlanFault::Memory => 16,
         }
     }
+
+    // The cause's number and name, and for a cause with a position of what.
+    fn words(&self) -> &'static str {
+        match self {
+            PlanFault::NotToml => "1 NotToml",
+            PlanFault::Version => "2 Version",
+            PlanFault::UnknownKey => "3 UnknownKey",
+            PlanFault::MissingKey => "4 MissingKey",
+            PlanFault::WrongKind => "5 WrongKind",
+            PlanFault::BadName(_) => "6 BadName at site",
+            PlanFault::SiteTwice(_) => "7 SiteTwice at site",
+            PlanFault::NoSite => "8 NoSite",
+            PlanFault::TooManySites => "9 TooManySites",
+            PlanFault::TooManyJobs(_) => "10 TooManyJobs at site",
+            PlanFault::TurnsTooLarge(_) => "11 TurnsTooLarge at site",
+            PlanFault::UnknownEnd(_) => "12 UnknownEnd at edge",
+            PlanFault::Loop(_) => "13 Loop at edge",
+            PlanFault::EdgeTwice(_) => "14 EdgeTwice at edge",
+            PlanFault::TooManyEdges => "15 TooManyEdges",
+            PlanFault::Memory => "16 Memory",
+        }
+    }
+
+    // The position of the cause, where it has one.
+    fn position(&self) -> Option<usize> {
+        match self {
+            PlanFault::BadName(at)
+            | PlanFault::SiteTwice(at)
+            | PlanFault::TooManyJobs(at)
+            | PlanFault::TurnsTooLarge(at)
+            | PlanFault::UnknownEnd(at)
+            | PlanFault::Loop(at)
+            | PlanFault::EdgeTwice(at) => Some(*at),
+            _ => None,
+        }
+    }
 }
+
+impl fmt::Display for PlanFault {
+    fn fmt<W: fmt::Write>(&self, f: &mut fmt::Formatter<W>) -> fmt::Result {
+        f.write_str(self.words())?;
+        match self.position() {
+            Some(at) => write!(f, " {at}"),
+            None => Ok(()),
+        }
+    }
+}
+
+impl Error for PlanFault {}
 
 impl From<AllocError> for PlanFault {
     ghost from_gives = { λ _ f. f ≡ Memory };

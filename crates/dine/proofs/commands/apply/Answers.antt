@@ -4,12 +4,12 @@ use Rattle.std.proofs.lemmas.Option.{IfSome_then}
 use Rattle.dine_plan.specs.Plan.{SeenPlan}
 use Rattle.dine.specs.Commands.{FailsRun, IsFailedRun}
 use Rattle.dine.specs.Faults.{status_of}
-use Rattle.dine.specs.PlanBytes.{IsPlanBytes}
+use Rattle.dine_words.specs.PlanBytes.{IsPlanBytes}
 use Rattle.dine.specs.Run.{NamesSite}
-use Rattle.dine.specs.Words.{Asked, asked_of}
+use Rattle.dine_words.specs.Words.{Asked, asked_of}
 use Rattle.dine.specs.declared.faults.Fault.{Fault}
 use Rattle.dine.specs.declared.faults.Fault.TheVariants as fault
-use Rattle.dine.specs.declared.status.Status.TheVariants as status
+use Rattle.dine_words.specs.declared.status.Status.TheVariants as status
 use Rattle.dine.proofs.commands.apply.Goals as goal
 
 -- a fault of the run is told as it is

@@ -3,8 +3,8 @@ use Rattle.std.proofs.Common.{◌≡◌, ◌++◌, ◌∷◌, [], ℕ, codes, re
 use Rattle.std.proofs.KnownBytes.{Appends-trans}
 use Rattle.dine_rules.specs.Breach.{number_of}
 use Rattle.dine.specs.Faults.{numbered, whole_line}
-use Rattle.dine.specs.Output.{WritesPrefix}
-use Rattle.dine.proofs.OutputLemmas.{WritesPrefix-begun, WritesPrefix-more}
+use Rattle.dine_words.specs.Output.{WritesPrefix}
+use Rattle.dine_words.proofs.OutputLemmas.{WritesPrefix-begun, WritesPrefix-more}
 use Rattle.dine.proofs.faults.tell_breach.Goals as goal
 
 pub returns-in_err-write_numbered-clause-begun : goal.returns-in_err-write_numbered-clause-begun

@@ -1,0 +1,3 @@
+pub mod EdgeLines
+pub mod EntryTexts
+pub mod MealParts

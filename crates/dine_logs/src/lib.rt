@@ -1,0 +1,8 @@
+//! The text of `replay`: the logs of the forks of a world, after the events that were chosen.
+#![tactic(auto)]
+
+mod logs;
+mod replay;
+
+pub use logs::world_text;
+pub use replay::replay_text;

@@ -1,0 +1,4 @@
+pub mod ChoicesLemmas
+pub mod InputLemmas
+pub mod OutputLemmas
+pub mod WordsLemmas

@@ -1,0 +1,10 @@
+use Rattle.std.proofs.Common.{◌≡◌, ◌≤◌, ◌*◌, length, map, sum, take}
+use Rattle.dine_plan.specs.Plan.{SeenSite}
+use Rattle.dine_words.proofs.check.job_total.Given as goal
+
+-- the jobs of the sites so far, at most 1,000 a site
+abbrev pub invariant-loop-site : goal.invariant-loop-site
+invariant-loop-site l = record {
+  jobs_so_far : l.total ≡ sum (map (λ (site : SeenSite). length site.jobs) (take l.site l.plan.sites));
+  few : l.total ≤ 1000 * l.site;
+}

@@ -1,0 +1,25 @@
+-- The name of the kind of links is the first value that the parse met.
+use Rattle.std.proofs.Common.{◌∙◌, ap, sym, Some, Option, List, ℕ, codes, option_map, Bor}
+use Rattle.std.specs.Option.{option_map_or}
+use Rattle.clap.specs.Words.{found_of}
+use Rattle.clap.proofs.WalkLemmas.{first_value-rows}
+use Rattle.dine_words.specs.Words.{links_of}
+use Rattle.dine_words.specs.declared.words.Links.{Links}
+use Rattle.dine_words.specs.declared.words.Links.TheVariants.{Ring}
+use Rattle.dine_words.proofs.words.links_met.Goals as goal
+
+abbrev links_at : Option (List ℕ) → Option Links
+links_at text = option_map_or links_of text (Some Ring)
+
+abbrev seen : Option (Bor (List ℕ)) → Option (List ℕ)
+seen = option_map (λ text. text.now)
+
+pub returns-in-Some : goal.returns-in-Some
+returns-in-Some c =
+    let met = first_value-rows (found_of c.args.matches.now) (codes "links") in
+    c.links_of.ensures ∙ sym (ap links_at (sym met ∙ sym c.get_str.ensures ∙ ap seen c.in-Some.is))
+
+pub returns-in-None : goal.returns-in-None
+returns-in-None c =
+    let met = first_value-rows (found_of c.args.matches.now) (codes "links") in
+    sym (ap links_at (sym met ∙ sym c.get_str.ensures ∙ ap seen c.in-None.is))

@@ -1,0 +1,7 @@
+pub mod Check
+pub mod Choices
+pub mod Input
+pub mod Output
+pub mod PlanBytes
+pub mod Status
+pub mod Words

@@ -1,0 +1,33 @@
+//! The text of the command `check`.
+ghost use Rattle.std.specs.Prelude.{◌≡◌, ◌++◌, IfOk, OnOk, string_bytes};
+ghost use Rattle.dine_words.specs.Check.{check_text, job_total, sizes_line};
+
+use dine_plan::Plan;
+use std::alloc::{AllocError, Global};
+
+/// How large the plan is, in words.
+pub fn check_text(alloc: Global, plan: &Plan) -> Result<String, AllocError>
+    ensures { IfOk result (λ text. string_bytes text ≡ check_text plan.now) }
+{
+    let mut text = String::new(alloc);
+    push_sizes(&mut text, plan.sites(), plan.edges(), job_total(plan))?;
+    Ok(text)
+}
+
+// Adds the line of so many sites, edges and jobs to the text.
+fn push_sizes(text: &mut String, sites: u32, edges: u32, jobs: u32) -> Result<(), AllocError>
+    ensures { OnOk result (string_bytes text.new ≡ string_bytes text.old ++ sizes_line sites edges jobs) }
+{
+    writeln!(text, "ok: {sites} sites, {edges} edges, {jobs} jobs")
+}
+
+// How many jobs all sites have together.
+fn job_total(plan: &Plan) -> u32
+    ensures { result ≡ job_total plan.now }
+{
+    let mut total = 0;
+    for site in 0..plan.sites() {
+        total += plan.jobs(site);
+    }
+    total
+}

@@ -1,0 +1,60 @@
+//! The input, read to its end.
+ghost use Rattle.std.specs.Prelude.{◌≡◌, ◌≤◌, ◌<◌, ◌+◌, IfOk, IfSome, IsErrOf, OnOk, length, vec_len};
+ghost use Rattle.std.specs.Io.KnownBytes.{IsAtEnd};
+ghost use Rattle.dine_words.specs.Input.{TakesAtMost, input_limit};
+
+use std::alloc::Global;
+use std::io::{ErrorKind, Read};
+
+/// How many bytes an input may have.
+pub const INPUT_LIMIT: usize = 8_388_608;
+
+// How many bytes one read asks for at most.
+const CHUNK: usize = 4096;
+
+/// Why an input was not read to its end.
+#[derive(Clone, Copy)]
+pub enum InputFault {
+    /// A read failed, or was interrupted again and again.
+    Failed,
+    /// More than `INPUT_LIMIT` bytes came.
+    TooLong,
+    /// The buffer could not grow.
+    Memory,
+}
+
+/// All the bytes of `input`, of which there may be `INPUT_LIMIT`.
+///
+/// It takes at most one byte more than that from `input`, by at most as many reads. An interrupted
+/// read is tried again among these. After an `Err` the bytes that were taken are lost.
+pub fn read_input<R: Read>(alloc: Global, input: &mut R) -> Result<Vec<u8>, InputFault>
+    ensures bytes { IfOk result (λ taken. IfSome (R.remaining input.old) (λ left. taken.items ≡ left)) }
+    ensures end { OnOk result (IsAtEnd (R.remaining input.new)) }
+    ensures within { IfOk result (λ taken. vec_len taken ≤ input_limit) }
+    ensures too_long { IsErrOf result InputFault.TooLong
+        → IfSome (R.remaining input.old) (λ left. input_limit < length left) }
+    ensures takes { TakesAtMost (input_limit + 1) (R.remaining input.old) (R.remaining input.new) }
+{
+    let mut taken = Vec::new(alloc);
+    let mut chunk = [0u8; CHUNK];
+    for _ in 0..=INPUT_LIMIT {
+        let room = CHUNK.min(INPUT_LIMIT + 1 - taken.len());
+        match input.read(&mut chunk[..room]) {
+            Ok(0) => return Ok(taken),
+            Ok(count) => {
+                if taken.len() + count > INPUT_LIMIT {
+                    return Err(InputFault::TooLong);
+                }
+                taken
+                    .extend_from_slice(&chunk[..count])
+                    .map_err(|_| InputFault::Memory)?;
+            }
+            Err(error) => {
+                if error.kind() != ErrorKind::Interrupted {
+                    return Err(InputFault::Failed);
+                }
+            }
+        }
+    }
+    Err(InputFault::Failed)
+}

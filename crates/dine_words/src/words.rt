@@ -1,0 +1,218 @@
+//! The words of the command line, read by `clap`.
+ghost use Rattle.std.specs.Prelude.{◌≡◌, IfOk, IsErrOf, None, OnOk, Some, false, is_some, map, string_bytes};
+ghost use Rattle.clap.specs.Words.{app_of, found_of, kind_of, rows_of, rule_of, with_subcommand};
+ghost use Rattle.dine_words.specs.Words.{AreRight, HasNoFault, IsCommandName, are_taken, asked_by, asked_of, choices_in, command_in, dine_app, fault_of_kind, links_in, links_of, option_rule, run_app, run_in, table_in, table_of};
+ghost use Rattle.dine_words.specs.declared.words.WordsFault.TheVariants.{Memory};
+
+use crate::choices::choices_of;
+use std::alloc::{AllocError, Global};
+
+const RUN: &str = "run";
+
+const REPLAY: &str = "replay";
+
+const CHECK: &str = "check";
+
+const TABLE: &str = "table";
+
+const CHOICES: &str = "choices";
+
+const EDGES: &str = "edges";
+
+const SITES: &str = "sites";
+
+const LINKS: &str = "links";
+
+const CHANNEL: &str = "channel";
+
+const RING: &str = "ring";
+
+/// Which table of a run is printed.
+#[derive(Clone, Copy)]
+pub enum Table {
+    /// A row for each edge, with the meals of its two ends.
+    Edges,
+    /// A row for each site, with its meals and how many of their jobs failed.
+    Sites,
+}
+
+/// What carries the letters of a run from site to site. The table is the same with either.
+#[derive(Clone, Copy)]
+pub enum Links {
+    /// A channel for each link.
+    Channel,
+    /// A ring for each link.
+    Ring,
+}
+
+/// What the program is asked to do.
+#[derive(Drop)]
+pub enum Command {
+    /// Run every site of the plan on a thread of its own, over links of this kind, and print this table.
+    Run(Table, Links),
+    /// Go through the plan's events one by one, those of the choices first, and print the logs.
+    Replay(Vec<u32>),
+    /// Read the plan, and say how large it is.
+    Check,
+}
+
+/// Why the words name no command.
+#[derive(Clone, Copy)]
+pub enum WordsFault {
+    /// `clap` refuses the words, LIST is no list of choices, or no table or no kind of links has the name. A question for
+    /// help or the version is refused too.
+    Usage,
+    /// There was no memory to read them.
+    Memory,
+}
+
+impl From<clap::Error> for WordsFault {
+    ghost from_gives = { λ error fault. fault ≡ fault_of_kind (kind_of error) };
+
+    fn from(error: clap::Error) -> WordsFault {
+        match error.kind() {
+            clap::error::ErrorKind::OutOfMemory => WordsFault::Memory,
+            _ => WordsFault::Usage,
+        }
+    }
+}
+
+impl From<AllocError> for WordsFault {
+    ghost from_gives = { λ _ fault. fault ≡ Memory };
+
+    fn from(_error: AllocError) -> WordsFault {
+        WordsFault::Memory
+    }
+}
+
+/// The command that the words name, of which the first is the program's own name. Where they name none it is `run` with the
+/// table of edges, over rings.
+///
+/// It answers `Usage` where the words are refused, and `Memory` where memory is.
+pub fn command_of(alloc: Global, words: &[String]) -> Result<Command, WordsFault>
+    ensures ok { IfOk result (λ command. command_in dine_app (map string_bytes words.now) ≡ Some (asked_of command)) }
+    ensures taken { OnOk result (AreRight dine_app (map string_bytes words.now)) }
+    ensures usage { IsErrOf result WordsFault.Usage → are_taken dine_app (map string_bytes words.now) ≡ false }
+    ensures fault { IsErrOf result WordsFault.Usage → HasNoFault dine_app (map string_bytes words.now) → command_in dine_app (map string_bytes words.now) ≡ None }
+{
+    let matches = program(alloc)?.try_get_matches_from(words)?;
+    match matches.subcommand() {
+        Some((name, found)) => command_named(alloc, name, found),
+        None => Ok(Command::Run(Table::Edges, Links::Ring)),
+    }
+}
+
+// The command of the name, with what the parse found behind it.
+fn command_named(
+    alloc: Global,
+    name: &str,
+    found: &clap::ArgMatches<'_>,
+) -> Result<Command, WordsFault>
+    requires known { IsCommandName name.now }
+    ensures ok { IfOk result (λ command. asked_by (name.now, rows_of (found_of found.now)) ≡ Some (asked_of command)) }
+    ensures refused { IsErrOf result WordsFault.Usage → asked_by (name.now, rows_of (found_of found.now)) ≡ None }
+{
+    match name {
+        RUN => run_met(found),
+        REPLAY => Ok(Command::Replay(choices_met(alloc, found)?)),
+        CHECK => Ok(Command::Check),
+        _ => unreachable!(),
+    }
+}
+
+// `dine` and its subcommands. The program prints its own usage line, so `clap` offers no help.
+fn program<'a>(alloc: Global) -> Result<clap::Command<'a>, AllocError>
+    ensures { IfOk result (λ program. app_of program ≡ dine_app) }
+{
+    let alone = clap::Command::new(alloc, "dine")
+        .disable_help_flag(true)
+        .disable_help_subcommand(true);
+    let replay = clap::Command::new(alloc, REPLAY).arg(text_option(alloc, CHOICES))?;
+    with_run(alloc, alone)?
+        .subcommand(replay)?
+        .subcommand(clap::Command::new(alloc, CHECK))
+}
+
+// Adds the subcommand `run`, with its two options.
+fn with_run<'a>(alloc: Global, program: clap::Command<'a>) -> Result<clap::Command<'a>, AllocError>
+    ensures { IfOk result (λ more. app_of more ≡ with_subcommand (app_of program.entry) run_app.top) }
+{
+    let run = clap::Command::new(alloc, RUN)
+        .arg(text_option(alloc, TABLE))?
+        .arg(text_option(alloc, LINKS))?;
+    program.subcommand(run)
+}
+
+// The option of this name, which takes a text.
+fn text_option<'a>(alloc: Global, name: &'a str) -> clap::Arg<'a>
+    ensures rule { rule_of result ≡ option_rule name.now }
+    ensures optional { (result.required ≡ false) × (result.global ≡ false) }
+{
+    clap::Arg::new(alloc, name)
+        .long(name)
+        .action(clap::ArgAction::Set)
+}
+
+// The run that the parse met.
+fn run_met(matches: &clap::ArgMatches<'_>) -> Result<Command, WordsFault>
+    ensures run { IfOk result (λ command. run_in (rows_of (found_of matches.now)) ≡ Some (asked_of command)) }
+    ensures refused { IsErrOf result WordsFault.Usage → run_in (rows_of (found_of matches.now)) ≡ None }
+{
+    match (table_met(matches), links_met(matches)) {
+        (Some(table), Some(links)) => Ok(Command::Run(table, links)),
+        _ => Err(WordsFault::Usage),
+    }
+}
+
+// The table whose name the parse met. Where it met none it is that of edges.
+fn table_met(matches: &clap::ArgMatches<'_>) -> Option<Table>
+    ensures { result ≡ table_in (rows_of (found_of matches.now)) }
+{
+    match matches.get_str(TABLE) {
+        Some(name) => table_of(name),
+        None => Some(Table::Edges),
+    }
+}
+
+// The table of the name.
+fn table_of(name: &str) -> Option<Table>
+    ensures { result ≡ table_of name.now }
+{
+    match name {
+        EDGES => Some(Table::Edges),
+        SITES => Some(Table::Sites),
+        _ => None,
+    }
+}
+
+// The kind of links whose name the parse met. Where it met none they are rings.
+fn links_met(matches: &clap::ArgMatches<'_>) -> Option<Links>
+    ensures { result ≡ links_in (rows_of (found_of matches.now)) }
+{
+    match matches.get_str(LINKS) {
+        Some(name) => links_of(name),
+        None => Some(Links::Ring),
+    }
+}
+
+// The kind of links of the name.
+fn links_of(name: &str) -> Option<Links>
+    ensures { result ≡ links_of name.now }
+{
+    match name {
+        CHANNEL => Some(Links::Channel),
+        RING => Some(Links::Ring),
+        _ => None,
+    }
+}
+
+// The choices that the parse met. Where it met none there are none.
+fn choices_met(alloc: Global, matches: &clap::ArgMatches<'_>) -> Result<Vec<u32>, WordsFault>
+    ensures choices { IfOk result (λ choices. choices_in (rows_of (found_of matches.now)) ≡ Some choices.items) }
+    ensures refused { IsErrOf result WordsFault.Usage → choices_in (rows_of (found_of matches.now)) ≡ None }
+{
+    match matches.get_str(CHOICES) {
+        Some(list) => choices_of(alloc, list),
+        None => Ok(Vec::new(alloc)),
+    }
+}
