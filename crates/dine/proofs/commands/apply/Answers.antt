@@ -5,7 +5,7 @@ use Rattle.dine_plan.specs.Plan.{SeenPlan}
 use Rattle.dine.specs.Commands.{FailsRun, IsFailedRun}
 use Rattle.dine.specs.Faults.{status_of}
 use Rattle.dine.specs.PlanBytes.{IsPlanBytes}
-use Rattle.dine.specs.Run.{NamesSite}
+use Rattle.dine.specs.Run.{NamesSite, TellsRun}
 use Rattle.dine.specs.Words.{Asked, asked_of}
 use Rattle.dine.specs.declared.faults.Fault.{Fault}
 use Rattle.dine.specs.declared.faults.Fault.TheVariants as fault
