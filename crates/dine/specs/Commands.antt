@@ -12,7 +12,7 @@ use Rattle.dine.specs.Faults.{TellsLine, line_of, status_of}
 use Rattle.dine_words.specs.Check.{check_text}
 use Rattle.dine_words.specs.PlanBytes.{IsPlanBytes, fault_of_bytes}
 use Rattle.dine_logs.specs.Replay.{replay_text}
-use Rattle.dine.specs.Run.{NamesSite, run_text}
+use Rattle.dine.specs.Run.{NamesSite, TellsRun, run_text}
 use Rattle.dine_words.specs.Words.{Asked, Runs, Replays, Checks}
 use Rattle.dine_words.specs.declared.words.Links.{Links}
 use Rattle.dine_words.specs.declared.words.Table.{Table}
@@ -57,14 +57,15 @@ IsPlanLeft left = (bytes : List ℕ) × (left ≡ Some bytes) × (fault_of_bytes
 abbrev pub TellsCause : Fault → Option (List ℕ) → Type 0
 TellsCause told left = (cause : PlanFault) → told ≡ fault.NoPlan cause → IfSome left (λ bytes. fault_of_bytes bytes ≡ Some cause)
 
--- a run was asked for, and the fault tells at which site of the plan it failed
+-- a run was asked for, and the fault tells at which site of the plan it failed, as `run` answered it
 pub record FailsRun (asked : Asked) (plan : SeenPlan) (told : Fault) : Type 0 where
   pub table : Table
   pub links : Links
   pub asks : asked ≡ Runs table links
   pub names : NamesSite plan told
+  pub tells : TellsRun plan told
 
--- a run was asked for and a plan was read, and the fault tells at which site of the plan the run failed
+-- a run was asked for and a plan was read, and the fault tells at which site of the plan the run failed, as `run` answered it
 pub record IsFailedRun (command : Option Asked) (told : Fault) (left : Option (List ℕ)) : Type 0 where
   pub table : Table
   pub links : Links
@@ -72,6 +73,7 @@ pub record IsFailedRun (command : Option Asked) (told : Fault) (left : Option (L
   pub plan : SeenPlan
   pub reads : IfSome left (λ bytes. IsPlanBytes bytes plan)
   pub names : NamesSite plan told
+  pub tells : TellsRun plan told
 
 -- How a fault ended the program: its cause has the status, and what was written of its line is a beginning of it. The output
 -- holds what it held, but where writing failed. A refused plan is told with its own cause, a run fails only where one

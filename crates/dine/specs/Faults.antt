@@ -1,5 +1,5 @@
 -- What ends a command before its end.
-use Rattle.std.specs.Prelude.{ℕ, List, [], ◌∷◌, ◌++◌, Option, Some, None, IfSome, codes}
+use Rattle.std.specs.Prelude.{ℕ, List, [], ◌∷◌, ◌++◌, Option, Some, None, IfSome, codes, option_and_then, slice_get, unwrap_or}
 use Rattle.std.specs.Fmt.{decimal}
 use Rattle.std.specs.declared.io.ErrorKind.{ErrorKind}
 use Rattle.std.specs.declared.io.ErrorKind.TheVariants as kind
@@ -7,9 +7,13 @@ use Rattle.dine_plan.specs.declared.faults.PlanFault.{PlanFault}
 use Rattle.dine_plan.specs.declared.faults.PlanFault.TheVariants as text
 use Rattle.dine_rules.specs.declared.breach.Breach.{Breach}
 use Rattle.dine_rules.specs.Breach.{number_of}
+use Rattle.dine_run.specs.declared.gathered.RunFault.{RunFault}
+use Rattle.dine_run.specs.declared.gathered.RunFault.TheVariants as run
+use Rattle.dine_run.specs.declared.gathered.SiteOut.{SiteOut}
 use Rattle.dine_run.specs.declared.site_end.SiteFault.{SiteFault}
 use Rattle.dine_run.specs.declared.site_end.SiteFault.TheVariants as site_fault
 use Rattle.dine_words.specs.Output.{WritesPrefix}
+use Rattle.dine.specs.PlanDiners.{SeenPlanDiner}
 use Rattle.dine.specs.declared.faults.Fault.{Fault}
 use Rattle.dine.specs.declared.faults.Fault.TheVariants as fault
 use Rattle.dine_words.specs.declared.status.Status.{Status}
@@ -50,6 +54,18 @@ fault_of_arguments _ = fault.Usage
 abbrev pub fault_of_text : PlanFault → Fault
 fault_of_text text.Memory = fault.OutOfMemory
 fault_of_text cause = fault.NoPlan cause
+
+-- the fault that a site ended with; a site that has none, which `run` never tells as broken, counts as not started
+abbrev pub fault_at : List (SiteOut SeenPlanDiner) → ℕ → SiteFault
+fault_at outs site = unwrap_or (option_and_then (λ (out : SiteOut SeenPlanDiner). out.fault) (slice_get outs site)) site_fault.NotStarted
+
+-- the fault that an answer of `run` is: a refused thread by its own site, and a broken run by the site that `run` told and the
+-- fault that this site ended with
+abbrev pub fault_of_run : RunFault SeenPlanDiner → Fault
+fault_of_run (run.DinersDiffer given diners) = fault.DinersDiffer
+fault_of_run run.Memory = fault.OutOfMemory
+fault_of_run (run.Thread site) = fault.ThreadRefused site
+fault_of_run (run.Broken site joined) = fault.RunBroken site (fault_at joined.sites.items site)
 
 -- words, and behind them a number in decimal digits
 abbrev pub numbered : List ℕ → ℕ → List ℕ

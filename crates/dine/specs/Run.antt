@@ -1,17 +1,20 @@
 -- What the command `run` writes.
-use Rattle.std.specs.Prelude.{◌≡◌, ◌<◌, ℕ, List, [], map, count_by, length, slice_get, Some}
+use Rattle.std.specs.Prelude.{◌≡◌, ◌<◌, ℕ, List, [], map, count_by}
+use Rattle.std.specs.Global.{Vec}
 use Rattle.std.specs.List.{range_with_len}
 use Rattle.dine_plan.specs.Plan.{SeenPlan, SeenJob, IsPlan, site_count, job_count, jobs_of}
 use Rattle.dine_token.specs.Fork.{SeenFork}
+use Rattle.dine_run.specs.declared.gathered.RunFault.{RunFault}
 use Rattle.dine_run.specs.declared.gathered.SiteOut.{SiteOut}
-use Rattle.dine_run.specs.declared.site_end.SiteFault.{SiteFault}
+use Rattle.dine_run.specs.Headline.{FaultIs}
 use Rattle.dine_run.specs.Tables.{IsGatheredOf, edge_rows, site_rows, due_edge_rows, due_site_rows}
-use Rattle.dine.specs.PlanDiners.{SeenPlanDiner, fails_of}
+use Rattle.dine.specs.PlanDiners.{SeenPlanDiner, fails_of, fits_marks}
 use Rattle.dine.specs.Tables.{edges_table, sites_table}
 use Rattle.dine_words.specs.declared.words.Table.{Table}
 use Rattle.dine_words.specs.declared.words.Table.TheVariants.{Edges, Sites}
 use Rattle.dine.specs.declared.faults.Fault.{Fault}
 use Rattle.dine.specs.declared.faults.Fault.TheVariants as fault
+use Rattle.dine.specs.Faults.{fault_of_run}
 
 -- how many jobs of a site fail, and so for each site in order
 abbrev pub failing_jobs : SeenPlan → ℕ → ℕ
@@ -46,6 +49,10 @@ NamesSite plan (fault.ThreadRefused site) = site < site_count plan
 NamesSite plan (fault.RunBroken site cause) = site < site_count plan
 NamesSite plan _ = ⊥
 
--- a site ended with this fault
-abbrev pub EndedWith : ℕ → List (SiteOut SeenPlanDiner) → SiteFault → Type 0
-EndedWith site outs told = (out : SiteOut SeenPlanDiner) → slice_get outs site ≡ Some out → out.fault ≡ Some told
+-- The fault is told as `run` answered it, when it was handed the diners of the plan: there is such an answer.
+pub record TellsRun (plan : SeenPlan) (told : Fault) : Type 0 where
+  pub diners : Vec SeenPlanDiner
+  pub of_plan : diners.items ≡ diners_of plan
+  pub answer : RunFault SeenPlanDiner
+  pub answered : FaultIs (λ (d : SeenPlanDiner). d.calls) (λ (d : SeenPlanDiner). d.marks) fits_marks plan diners answer
+  pub told_so : told ≡ fault_of_run answer

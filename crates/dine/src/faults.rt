@@ -1,12 +1,13 @@
 //! What ends a command before its end, and the line that tells of it.
 ghost use Rattle.std.specs.Prelude.{◌≡◌, IfSome, OnOk};
 ghost use Rattle.std.specs.Io.KnownBytes.{Appends};
-ghost use Rattle.dine.specs.Faults.{breach_words, broken_run_line, lost_words, refused_thread_line, site_fault_words, whole_line};
+ghost use Rattle.dine.specs.Faults.{breach_words, broken_run_line, fault_at, lost_words, refused_thread_line, site_fault_words, whole_line};
 ghost use Rattle.dine_words.specs.Output.{WritesPrefix};
 
+use crate::plan_diner::PlanDiner;
 use dine_plan::PlanFault;
 use dine_rules::Breach;
-use dine_run::SiteFault;
+use dine_run::{RunFault, SiteFault, SiteOut};
 use dine_words::{InputFault, Status, WordsFault, WriteFault, write_line, write_numbered};
 use std::alloc::AllocError;
 use std::io::Write;
@@ -167,6 +168,33 @@ impl From<InputFault> for Fault {
             InputFault::TooLong => Fault::InputTooLong,
             InputFault::Memory => Fault::OutOfMemory,
         }
+    }
+}
+
+impl From<RunFault<PlanDiner>> for Fault {
+    ghost use Rattle.dine.specs.Faults.{fault_of_run};
+
+    ghost from_gives = { λ fault made. made ≡ fault_of_run fault };
+
+    fn from(fault: RunFault<PlanDiner>) -> Fault {
+        match fault {
+            RunFault::DinersDiffer { .. } => Fault::DinersDiffer,
+            RunFault::Memory => Fault::OutOfMemory,
+            RunFault::Thread(site) => Fault::ThreadRefused(site),
+            RunFault::Broken { site, joined } => {
+                Fault::RunBroken(site, fault_at(joined.sites.as_slice(), site))
+            }
+        }
+    }
+}
+
+// The fault that the site of this number ended with. `run` tells no site as broken that has none; that would be one not started.
+fn fault_at(outs: &[SiteOut<PlanDiner>], site: u32) -> SiteFault
+    ensures { result ≡ fault_at outs.now site }
+{
+    match outs.get(site as usize) {
+        Some(out) => out.fault.unwrap_or(SiteFault::NotStarted),
+        None => SiteFault::NotStarted,
     }
 }
 

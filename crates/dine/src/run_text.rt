@@ -1,15 +1,14 @@
 //! The command `run`.
 ghost use Rattle.std.specs.Prelude.{◌≡◌, ◌≢◌, IfErr, IfOk};
 ghost use Rattle.dine_plan.specs.Plan.{IsPlan};
-ghost use Rattle.dine_run.specs.Gathered.{IsLowestFault};
-ghost use Rattle.dine.specs.Run.{EndedWith, HasDueRows, NamesSite, diners_of, run_text};
+ghost use Rattle.dine.specs.Run.{HasDueRows, NamesSite, TellsRun, diners_of, run_text};
 
 use crate::faults::Fault;
 use crate::plan_diner::PlanDiner;
 use crate::tables::{write_edges, write_sites};
 use dine_link::{ChannelLane, Lane, RingLane};
 use dine_plan::Plan;
-use dine_run::{Gathered, RunFault, SiteFault, SiteOut, edge_table, run, site_table};
+use dine_run::{Gathered, edge_table, run, site_table};
 use dine_words::{Links, Table};
 use std::alloc::{AllocError, Global};
 use std::sync::Wait;
@@ -28,6 +27,7 @@ pub fn run_text<H: Threads + Wait + Copy + Send + 'static>(
 ) -> Result<Vec<u8>, Fault>
     ensures text { IfOk result (λ text. text.items ≡ run_text table plan.now) }
     ensures fault { result ≢ Err Fault.OutOfMemory → IfErr result (NamesSite plan.now) }
+    ensures told { result ≢ Err Fault.OutOfMemory → IfErr result (TellsRun plan.now) }
 {
     match links {
         Links::Channel => run_over::<ChannelLane, H>(rt, alloc, plan, table),
@@ -48,18 +48,11 @@ where
     L::Rx: 'static,
     ensures text { IfOk result (λ text. text.items ≡ run_text table plan.now) }
     ensures fault { result ≢ Err Fault.OutOfMemory → IfErr result (NamesSite plan.now) }
+    ensures told { result ≢ Err Fault.OutOfMemory → IfErr result (TellsRun plan.now) }
 {
     let diners = open_diners(alloc, plan)?;
-    match run::<L, PlanDiner, H>(rt, alloc, plan, diners) {
-        Ok(gathered) => Ok(table_text(alloc, plan, &gathered, table)?),
-        Err(RunFault::DinersDiffer { .. }) => Err(Fault::DinersDiffer),
-        Err(RunFault::Memory) => Err(Fault::OutOfMemory),
-        Err(RunFault::Thread(site)) => Err(Fault::ThreadRefused(site)),
-        Err(RunFault::Broken { site, joined }) => {
-            let cause = fault_at(joined.sites.as_slice(), site);
-            Err(Fault::RunBroken(site, cause))
-        }
-    }
+    let gathered = run::<L, PlanDiner, H>(rt, alloc, plan, diners)?;
+    Ok(table_text(alloc, plan, &gathered, table)?)
 }
 
 // A diner for each site, in order.
@@ -93,16 +86,5 @@ fn table_text(
             let rows = site_table(alloc, plan, gathered)?;
             write_sites(alloc, plan, rows.as_slice())
         }
-    }
-}
-
-// The fault with which the lowest site that has one ended.
-fn fault_at(outs: &[SiteOut<PlanDiner>], site: u32) -> SiteFault
-    requires { IsLowestFault site outs.now }
-    ensures { EndedWith site outs.now result }
-{
-    match outs[site as usize].fault {
-        Some(fault) => fault,
-        None => unreachable!(),
     }
 }

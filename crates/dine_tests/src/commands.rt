@@ -2,7 +2,7 @@
 use super::input::stutters;
 use super::output::takes_pieces;
 use dine::run_cmd;
-use std::alloc::AllocError;
+use std::alloc::{AllocError, Global};
 use std::io;
 use std::io::{Read, Write};
 use std::process::Abort;
@@ -104,6 +104,52 @@ fn refused_words_leave_the_input_unread(rt: HostRuntime) -> Result<(), Fail> {
         let mut input = stutters(PAIR.as_bytes(), 8192, 1, io::ErrorKind::Other);
         leaves(&rt, line, &mut input, 2, "", USAGE)?;
         assert_eq!(rt; input.reads, 0, "at {line}");
+    }
+    Ok(())
+}
+
+#[test]
+fn each_command_refuses_a_text_that_is_no_plan(rt: HostRuntime) -> Result<(), Fail> {
+    let refusals = [
+        ("", "dine: plan refused: 2 Version\n"),
+        ("version", "dine: plan refused: 1 NotToml\n"),
+        ("version = 1\n", "dine: plan refused: 8 NoSite\n"),
+    ];
+    for line in [
+        "dine run --table sites --links channel",
+        "dine replay --choices 1",
+        "dine check",
+    ] {
+        for (text, told) in refusals {
+            let mut input = text.as_bytes();
+            leaves(&rt, line, &mut input, 3, "", told)?;
+        }
+    }
+    Ok(())
+}
+
+// A plan of so many sites with a job each, and no edge.
+fn sites_alone(alloc: Global, sites: u32) -> Result<String, AllocError> {
+    let mut text = String::from_str(alloc, "version = 1\n")?;
+    for site in 0..sites {
+        writeln!(text, "[[site]]")?;
+        writeln!(text, "name = \"s{site}\"")?;
+        writeln!(text, "jobs = [{{ name = \"x\" }}]")?;
+    }
+    Ok(text)
+}
+
+#[test]
+fn a_check_takes_64_sites_and_no_more(rt: HostRuntime) -> Result<(), Fail> {
+    for (sites, number, output, faults) in [
+        (1, 0, "ok: 1 sites, 0 edges, 1 jobs\n", ""),
+        (63, 0, "ok: 63 sites, 0 edges, 63 jobs\n", ""),
+        (64, 0, "ok: 64 sites, 0 edges, 64 jobs\n", ""),
+        (65, 3, "", "dine: plan refused: 9 TooManySites\n"),
+    ] {
+        let text = sites_alone(rt.alloc(), sites)?;
+        let mut input = text.as_bytes();
+        leaves(&rt, "dine check", &mut input, number, output, faults)?;
     }
     Ok(())
 }

@@ -5,7 +5,7 @@ use Rattle.dine_plan.specs.Plan.{SeenPlan}
 use Rattle.dine.specs.Commands.{FailsRun, IsFailedRun}
 use Rattle.dine.specs.Faults.{status_of}
 use Rattle.dine_words.specs.PlanBytes.{IsPlanBytes}
-use Rattle.dine.specs.Run.{NamesSite}
+use Rattle.dine.specs.Run.{NamesSite, TellsRun}
 use Rattle.dine_words.specs.Words.{Asked, asked_of}
 use Rattle.dine.specs.declared.faults.Fault.{Fault}
 use Rattle.dine.specs.declared.faults.Fault.TheVariants as fault
@@ -19,7 +19,7 @@ failed_run : {S T : Type 0} (r : Result T Fault) (told : Fault) (asked : Asked) 
 failed_run (Ok x) told asked plan left same fails reads = tt
 failed_run (Err made) told asked plan left same fails reads = λ is.
     let failed = fails (λ e. let memory : told ≡ fault.OutOfMemory = cc in let ended = ap status_of (same ∙ memory) in absurd cc) in
-    record { table = failed.table; links = failed.links; asks = ap Some failed.asks; plan = plan; reads = reads; names = subst (NamesSite plan) (sym same) failed.names }
+    record { table = failed.table; links = failed.links; asks = ap Some failed.asks; plan = plan; reads = reads; names = subst (NamesSite plan) (sym same) failed.names; tells = subst (TellsRun plan) (sym same) failed.tells }
 
 pub returns-in_err-text-clause-failed_run : goal.returns-in_err-text-clause-failed_run
 returns-in_err-text-clause-failed_run g c =
