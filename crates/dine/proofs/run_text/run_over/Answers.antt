@@ -1,5 +1,5 @@
 -- What was gathered has the rows of the plan; and a fault is told as `run` answered it.
-use Rattle.std.proofs.Common.{◌≡◌, ◌≢◌, ◌<◌, ◌∙◌, List, Result, Ok, Err, IfErr, IfOk, IsErrAnd, length, vec_items, vec_len, refl, ap, subst, sym, arith}
+use Rattle.std.proofs.Common.{◌≡◌, ◌≢◌, ◌<◌, ◌∙◌, refl, List, Result, Ok, Err, IfErr, IsErrAnd, length, vec_items, vec_len, ap, subst, sym, arith}
 use Rattle.std.specs.Global.{Vec}
 use Rattle.dine_plan.specs.Plan.{SeenPlan, site_count}
 use Rattle.dine_run.specs.Headline.{FaultIs}
@@ -21,6 +21,17 @@ names plan diners run.Memory many is other = absurd (other refl)
 names plan diners (run.Thread site) many is other = is.1
 names plan diners (run.Broken site joined) many is other = omega (arith, is.2.count, is.3.within)
 
+names_made : {T : Type 0} (r : Result T Fault) (plan : SeenPlan) (diners : Vec SeenPlanDiner) (answer : RunFault SeenPlanDiner) → IsErrAnd r (λ made. made ≡ fault_of_run answer) → vec_len diners ≡ site_count plan
+    → FaultIs (λ (d : SeenPlanDiner). d.calls) (λ (d : SeenPlanDiner). d.marks) fits_marks plan diners answer → r ≢ Err fault.OutOfMemory → IfErr r (NamesSite plan)
+names_made (Ok x) plan diners answer same many is other = tt
+names_made (Err made) plan diners answer same many is other = subst (NamesSite plan) (sym same) (names plan diners answer many is (λ memory. other (ap Err (same ∙ memory))))
+
+-- and it is told as `run` answered it
+tells_made : {T : Type 0} (r : Result T Fault) (plan : SeenPlan) (diners : Vec SeenPlanDiner) (answer : RunFault SeenPlanDiner) → IsErrAnd r (λ made. made ≡ fault_of_run answer) → diners.items ≡ diners_of plan
+    → FaultIs (λ (d : SeenPlanDiner). d.calls) (λ (d : SeenPlanDiner). d.marks) fits_marks plan diners answer → IfErr r (TellsRun plan)
+tells_made (Ok x) plan diners answer same of_plan is = tt
+tells_made (Err made) plan diners answer same of_plan is = record { diners = diners; of_plan = of_plan; answer = answer; answered = is; told_so = same }
+
 pub run-requires-clause-room : goal.run-requires-clause-room
 run-requires-clause-room g c κs within many s diner at = diner_has_room c.args.plan.now c.in_ok-diners.diners.items c.in_ok-diners.ensures.diners s diner at
 
@@ -28,3 +39,14 @@ pub table_text-requires : goal.table_text-requires
 table_text-requires g c =
     let gathered = c.in_ok-gathered.gathered in
     due_rows c.args.plan.now (vec_items gathered.forks) (vec_items gathered.sites) (vec_items gathered.links) c.in_ok-diners.diners.items c.in_ok-diners.ensures.diners c.open_diners.ensures.plan c.in_ok-gathered.ensures.headline c.in_ok-gathered.ensures.sites c.in_ok-gathered.ensures.finished
+
+pub returns-in_err-gathered-clause-fault : goal.returns-in_err-gathered-clause-fault
+returns-in_err-gathered-clause-fault g c other =
+    let plan = c.args.plan.now in
+    let diners = c.in_ok-diners.diners in
+    let many : vec_len diners ≡ site_count plan = omega (arith, diners.ok.0, ap length c.in_ok-diners.ensures.diners, diner_count plan) in
+    names_made c.from_residual-in_err-gathered.result plan diners c.in_err-gathered.field-0.0 c.from_residual-in_err-gathered.ensures.1 many c.in_err-gathered.ensures.fault other
+
+pub returns-in_err-gathered-clause-told : goal.returns-in_err-gathered-clause-told
+returns-in_err-gathered-clause-told g c _ =
+    tells_made c.from_residual-in_err-gathered.result c.args.plan.now c.in_ok-diners.diners c.in_err-gathered.field-0.0 c.from_residual-in_err-gathered.ensures.1 c.in_ok-diners.ensures.diners c.in_err-gathered.ensures.fault
