@@ -19,7 +19,7 @@ failed_run : {S T : Type 0} (r : Result T Fault) (told : Fault) (asked : Asked) 
 failed_run (Ok x) told asked plan left same fails reads = tt
 failed_run (Err made) told asked plan left same fails reads = λ is.
     let failed = fails (λ e. let memory : told ≡ fault.OutOfMemory = cc in let ended = ap status_of (same ∙ memory) in absurd cc) in
-    record { table = failed.table; links = failed.links; asks = ap Some failed.asks; plan = plan; reads = reads; names = subst (NamesSite plan) (sym same) failed.names }
+    record { table = failed.table; links = failed.links; asks = ap Some failed.asks; plan = plan; reads = reads; names = subst (NamesSite plan) (sym same) failed.names; tells = subst (TellsRun plan) (sym same) failed.tells }
 
 pub returns-in_err-text-clause-failed_run : goal.returns-in_err-text-clause-failed_run
 returns-in_err-text-clause-failed_run g c =
