@@ -29,6 +29,7 @@ pub fn run_text<H: Threads + Wait + Copy + Send + 'static>(
     ensures fault { result ≢ Err Fault.OutOfMemory → IfErr result (NamesSite plan.now) }
     ensures told { result ≢ Err Fault.OutOfMemory → IfErr result (TellsRun plan.now) }
 {
+    // Neither a table nor a fault holds the lane, so no clause tells the two arms apart, and no test does.
     match links {
         Links::Channel => run_over::<ChannelLane, H>(rt, alloc, plan, table),
         Links::Ring => run_over::<RingLane, H>(rt, alloc, plan, table),
