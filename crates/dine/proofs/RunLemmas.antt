@@ -18,7 +18,7 @@ use Rattle.dine_run.specs.declared.tables.SiteRow.{SiteRow}
 use Rattle.dine_run.specs.Tables.{due_edge_rows, due_site_rows, edge_row}
 use Rattle.dine_run.proofs.Rows.{edge_rows-due, headline_gathered, site_rows-due}
 use Rattle.dine_run.proofs.Seen.{there_is}
-use Rattle.dine.specs.PlanDiners.{SeenPlanDiner, fails_of, fits_marks, mark_of}
+use Rattle.dine.specs.PlanDiners.{SeenPlanDiner, fails_of, first_word, fits_marks, mark_of}
 use Rattle.dine.specs.Tables.{IsEdgeRowOf, IsSiteRowOf}
 use Rattle.dine.specs.Run.{HasDueRows, diner_of, diners_of, failing_by_site, failing_jobs}
 
@@ -86,11 +86,12 @@ diner_at : (plan : SeenPlan) (s : ℕ) → s < site_count plan → slice_get (di
 diner_at plan s within = slice_get_read (diners_of plan) (site_count plan) s (diner_of plan s) (sym (diner_count plan)) within (sym (get_or-map-range_with_len (diner_of plan) 0 (site_count plan) s s (diner_of plan s) within (omega arith)))
 
 -- a diner is that of its site by what is known of it, and it has room for all jobs
-pub diner_is : (plan : SeenPlan) (s : ℕ) (diner : SeenPlanDiner) → diner.calls ≡ [] → diner.marks ≡ fails_of plan s → diner.room ≡ job_count plan s → diner ≡ diner_of plan s
-diner_is plan s diner calls marks room =
+pub diner_is : (plan : SeenPlan) (s : ℕ) (diner : SeenPlanDiner) → diner.calls ≡ [] → diner.marks ≡ fails_of plan s → diner.room ≡ job_count plan s → diner.word ≡ first_word → diner ≡ diner_of plan s
+diner_is plan s diner calls marks room word =
     ap (λ (these : List Call). record diner { calls = these }) calls
     ∙ ap (λ (these : List Bool). record diner { calls = []; marks = these }) marks
-    ∙ ap (λ (n : ℕ). record (diner_of plan s) { room = n }) room
+    ∙ ap (λ (n : ℕ). record diner { calls = []; marks = fails_of plan s; room = n }) room
+    ∙ ap (λ (n : ℕ). record (diner_of plan s) { word = n }) word
 
 pub diner_has_room : (plan : SeenPlan) (diners : List SeenPlanDiner) → diners ≡ diners_of plan → (s : ℕ) (diner : SeenPlanDiner) → slice_get diners s ≡ Some diner → job_count plan s ≤ diner.room
 diner_has_room plan diners are s diner at =

@@ -3,11 +3,17 @@ use Rattle.std.specs.Prelude.{ℕ, Bool, false, not, List, ◌∷◌, map, slice
 use Rattle.dine_plan.specs.Plan.{SeenPlan, SeenJob, jobs_of}
 use Rattle.dine_run.specs.declared.diner.Call.{Call}
 
--- the calls so far, in order, for each job of the site whether it fails, and for how many more calls there is room
+-- the calls so far, in order, for each job of the site whether it fails, for how many more calls there is room, and the word to which
+-- the turns so far led
 pub record SeenPlanDiner : Type 0 where
   pub calls : List Call
   pub marks : List Bool
   pub room : ℕ
+  pub word : ℕ
+
+-- the word that the turns begin with
+abbrev pub first_word : ℕ
+first_word = 2463534242
 
 -- whether each job of a site fails, in order
 abbrev pub fails_of : SeenPlan → ℕ → List Bool

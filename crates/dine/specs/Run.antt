@@ -8,7 +8,7 @@ use Rattle.dine_run.specs.declared.gathered.RunFault.{RunFault}
 use Rattle.dine_run.specs.declared.gathered.SiteOut.{SiteOut}
 use Rattle.dine_run.specs.Headline.{FaultIs}
 use Rattle.dine_run.specs.Tables.{IsGatheredOf, edge_rows, site_rows, due_edge_rows, due_site_rows}
-use Rattle.dine.specs.PlanDiners.{SeenPlanDiner, fails_of, fits_marks}
+use Rattle.dine.specs.PlanDiners.{SeenPlanDiner, fails_of, first_word, fits_marks}
 use Rattle.dine.specs.Tables.{edges_table, sites_table}
 use Rattle.dine_words.specs.declared.words.Table.{Table}
 use Rattle.dine_words.specs.declared.words.Table.TheVariants.{Edges, Sites}
@@ -31,7 +31,7 @@ run_text Sites plan = sites_table plan (due_site_rows plan (failing_by_site plan
 
 -- the diner of a site before its first meal, and those of all sites in order
 abbrev pub diner_of : SeenPlan → ℕ → SeenPlanDiner
-diner_of plan s = record { calls = []; marks = fails_of plan s; room = job_count plan s }
+diner_of plan s = record { calls = []; marks = fails_of plan s; room = job_count plan s; word = first_word }
 
 abbrev pub diners_of : SeenPlan → List SeenPlanDiner
 diners_of plan = map (diner_of plan) (range_with_len 0 (site_count plan))

@@ -1,7 +1,7 @@
 //! The diner that does the jobs of a site as its plan tells them.
 ghost use Rattle.std.specs.Prelude.{◌≡◌, ◌<◌, [], IfOk};
 ghost use Rattle.dine_plan.specs.Plan.{site_count, job_count};
-ghost use Rattle.dine.specs.PlanDiners.{fails_of, fits_marks, mark_of};
+ghost use Rattle.dine.specs.PlanDiners.{fails_of, first_word, fits_marks, mark_of};
 
 use dine_plan::Plan;
 use dine_run::{Call, CallLog, Diner, JobFault};
@@ -44,7 +44,7 @@ impl Model for PlanDiner {
 
     ghost Value = { SeenPlanDiner };
 
-    ghost view = { λ diner. record { calls = diner.log.calls; marks = map (λ chore. chore.fails) diner.chores.items; room = diner.log.room } };
+    ghost view = { λ diner. record { calls = diner.log.calls; marks = map (λ chore. chore.fails) diner.chores.items; room = diner.log.room; word = diner.word } };
 }
 
 impl PlanDiner {
@@ -57,6 +57,7 @@ impl PlanDiner {
         ensures calls { IfOk result (λ diner. diner.calls ≡ []) }
         ensures marks { IfOk result (λ diner. diner.marks ≡ fails_of plan.now site) }
         ensures room { IfOk result (λ diner. diner.room ≡ job_count plan.now site) }
+        ensures word { IfOk result (λ diner. diner.word ≡ first_word) }
     {
         let jobs = plan.jobs(site);
         let log = CallLog::open(alloc, jobs)?;
@@ -80,6 +81,14 @@ impl PlanDiner {
         ensures { result.now ≡ self.now.calls }
     {
         self.log.calls()
+    }
+
+    /// The word to which all turns so far led: 2,463,534,242 before the first, and after each turn the next word of xorshift with the
+    /// shifts 13, 17 and 5.
+    pub fn word(&self) -> u32
+        ensures { result ≡ self.now.word }
+    {
+        self.word
     }
 
     // What meal `k` asks for.

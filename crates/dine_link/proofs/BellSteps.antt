@@ -1,5 +1,5 @@
 -- Each step of a bell keeps its rule.
-use Rattle.std.proofs.Common.{◌≡◌, ◌≢◌, ◌<◌, ◌+◌, ℕ, zero, suc, List, [], ◌∷◌, ◌++◌, map, set, sym, refl, ap, ◌∙◌, subst, ⊎_elim, arith}
+use Rattle.std.proofs.Common.{◌≡◌, ◌≢◌, ◌<◌, ◌+◌, ℕ, zero, suc, List, [], ◌∷◌, ◌++◌, map, set, false, sym, refl, ap, ◌∙◌, subst, ⊎_elim, arith}
 use mathlib.Core.Option.{some, some-ne-none, some-injective}
 use lib.ListN.{get_elem?}
 use Rattle.std.specs.List.{All, range_with_len}
@@ -10,7 +10,7 @@ use Rattle.atomic_table.proofs.Lists.{at_snoc}
 use Rattle.dine_link.specs.declared.bell_rule.Part.{Part}
 use Rattle.dine_link.specs.declared.bell_rule.Part.TheVariants.{Waits, Rings}
 use Rattle.dine_link.specs.BellRule.{IsOfRinger, Fits, AreOfRingers, no_ringers, one_more, next_ringer, IsKnown, after_sound, after_hearing, rings_of}
-use Rattle.dine_link.specs.Bells.{SeenRinger, new_ringer}
+use Rattle.dine_link.specs.Bells.{BellId, SeenRinger, new_ringer}
 use Rattle.dine_link.proofs.Passes.{Each, each_set}
 
 -- a new channel
@@ -91,7 +91,7 @@ pub forks : (pass : ℕ) (v : Part) (count : ℕ) → v ≡ Waits count [] → F
 forks pass v count is = subst (λ (u : Part). Forks AreOfRingers pass u (one_more u) (next_ringer u)) (sym is) (waits_forks pass count)
 
 -- the ringers so far and a new one
-pub ringer_more : (number : ℕ) (before after : List SeenRinger) (own : Part) → before ≡ map new_ringer (range_with_len 0 number) → own ≡ Rings number 0
-    → after ≡ before ++ record { number = number; rings = rings_of own } ∷ [] → after ≡ map new_ringer (range_with_len 0 (number + 1))
-ringer_more number before after own so_far is added = let one : Part → SeenRinger = λ p. record { number = number; rings = rings_of p } in
-    added ∙ ap (λ (l : List SeenRinger). l ++ one own ∷ []) so_far ∙ ap (λ (p : Part). map new_ringer (range_with_len 0 number) ++ one p ∷ []) is ∙ sym (map-range_with_len_more new_ringer 0 number number (omega arith))
+pub ringer_more : (bell own_bell : BellId) (number : ℕ) (before after : List SeenRinger) (own : Part) → before ≡ map (new_ringer bell) (range_with_len 0 number) → own_bell ≡ bell → own ≡ Rings number 0
+    → after ≡ before ++ record { bell = own_bell; number = number; rings = rings_of own; refused = false } ∷ [] → after ≡ map (new_ringer bell) (range_with_len 0 (number + 1))
+ringer_more bell own_bell number before after own so_far same is added = let one : BellId → Part → SeenRinger = λ b p. record { bell = b; number = number; rings = rings_of p; refused = false } in
+    added ∙ ap (λ (l : List SeenRinger). l ++ one own_bell own ∷ []) so_far ∙ ap (λ (b : BellId). map (new_ringer bell) (range_with_len 0 number) ++ one b own ∷ []) same ∙ ap (λ (p : Part). map (new_ringer bell) (range_with_len 0 number) ++ one bell p ∷ []) is ∙ sym (map-range_with_len_more (new_ringer bell) 0 number number (omega arith))

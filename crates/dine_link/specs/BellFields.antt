@@ -7,10 +7,10 @@ use Rattle.dine_link.specs.BellRule.{IsOfBell, IsOfRinger, told_by, rings_of}
 use Rattle.dine_link.specs.Bells.{SeenRinger, SeenBell}
 
 abbrev pub seen_ringer : InRinger → SeenRinger
-seen_ringer ringer = record { number = ringer.number; rings = rings_of (view ringer.pass) }
+seen_ringer ringer = record { bell = sends_on ringer.sender; number = ringer.number; rings = rings_of (view ringer.pass); refused = ringer.refused }
 
 abbrev pub seen_bell : InBell → SeenBell
-seen_bell bell = record { degree = bell.degree; told = told_by (view bell.pass) }
+seen_bell bell = record { identity = receives_on bell.receiver; degree = bell.degree; told = told_by (view bell.pass); refused = bell.refused }
 
 -- The pass is one of the ringer's channel, and that of its number.
 pub record IsRinger (ringer : InRinger) : Type 0 where

@@ -23,9 +23,9 @@ use Rattle.dine_link.specs.Links.{SeenEnd}
 abbrev pub Channel : Type 0
 Channel = Rows (Badge (Key Letter)) (Doing Letter Known) (Rounds InOrder) (Option Letter) (Key Letter) (Lockers Whole) Global
 
--- the end that letters are put in: all that was put in it
+-- the end that letters are put in: all that was put in it, and whether it met a refusal
 abbrev pub seen_putting : Putting → SeenEnd Channel
-seen_putting tx = record { link = record { identity = sends_on tx.sender; edge = tx.edge; from = tx.from }; letters = (view tx.pass).put }
+seen_putting tx = record { link = record { identity = sends_on tx.sender; edge = tx.edge; from = tx.from }; letters = (view tx.pass).put; refused = tx.refused }
 
 abbrev pub seen_tx : ChannelTx → SeenEnd Channel
 seen_tx tx = seen_putting tx.putting
@@ -33,6 +33,6 @@ seen_tx tx = seen_putting tx.putting
 abbrev pub seen_closed : ChannelClosedTx → SeenEnd Channel
 seen_closed tx = seen_putting tx.putting
 
--- the end that letters are taken from: all that was taken
+-- the end that letters are taken from: all that was taken, and whether it met a refusal
 abbrev pub seen_rx : ChannelRx → SeenEnd Channel
-seen_rx rx = record { link = record { identity = receives_on rx.receiver; edge = rx.edge; from = rx.from }; letters = (view rx.pass).taken }
+seen_rx rx = record { link = record { identity = receives_on rx.receiver; edge = rx.edge; from = rx.from }; letters = (view rx.pass).taken; refused = rx.refused }

@@ -22,7 +22,7 @@ taken_from (Ring ends) = received ends.consumer
 
 -- what the fields of a LinkEnd stand for
 abbrev pub seen_link : Inside → SeenLink
-seen_link link = record { edge = link.edge; from = link.from; put = put_in link.ends; taken = taken_from link.ends }
+seen_link link = record { edge = link.edge; from = link.from; put = put_in link.ends; taken = taken_from link.ends; put_refused = link.put_refused; take_refused = link.take_refused }
 
 -- The numbers are those of the lists, the taken list is a prefix of the put list, and nothing was put behind Close.
 pub record IsKeptLink (link : Inside) : Type 0 where

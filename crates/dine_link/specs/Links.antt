@@ -1,5 +1,5 @@
 -- Links and their ends, as contracts see them. A link is one direction of an edge.
-use Rattle.std.specs.Prelude.{ℕ, List, [], ◌∷◌, ◌++◌}
+use Rattle.std.specs.Prelude.{◌≡◌, ℕ, Bool, true, List, [], ◌∷◌, ◌++◌, ◌||◌, false}
 use mathlib.Core.List.{IsPrefix}
 use Rattle.dine_rules.specs.declared.letters.Letter.{Letter}
 
@@ -9,24 +9,37 @@ pub record LinkName (Identity : Type 0) : Type 0 where
   pub edge : ℕ
   pub from : ℕ
 
--- An end of a link: the name of the link, and all letters that were put or taken at this end so far, in order.
+-- An end of a link: the name of the link, all letters that were put or taken at this end so far, in order, and whether a step
+-- of this end was ever refused.
 pub record SeenEnd (Identity : Type 0) : Type 0 where
   pub link : LinkName Identity
   pub letters : List Letter
+  pub refused : Bool
+
+-- nothing was put, taken or refused at the end yet
+abbrev pub IsUnused : {Identity : Type 0} → SeenEnd Identity → Type 0
+IsUnused end = (end.letters ≡ []) × (end.refused ≡ false)
 
 -- the same end after more letters, and after one
 abbrev pub with_letters : {Identity : Type 0} → List Letter → SeenEnd Identity → SeenEnd Identity
-with_letters letters end = record { link = end.link; letters = end.letters ++ letters }
+with_letters letters end = record { link = end.link; letters = end.letters ++ letters; refused = end.refused }
 
 abbrev pub with_letter : {Identity : Type 0} → Letter → SeenEnd Identity → SeenEnd Identity
 with_letter letter end = with_letters (letter ∷ []) end
 
--- A link whose two ends were brought together: its edge, the site that put, all that was put, and all that was taken.
+-- the same end after a step of it was refused
+abbrev pub after_refusal : {Identity : Type 0} → SeenEnd Identity → SeenEnd Identity
+after_refusal end = record { link = end.link; letters = end.letters; refused = true }
+
+-- A link whose two ends were brought together: its edge, the site that put, all that was put, all that was taken, and whether
+-- a put or a close and whether a take was ever refused.
 pub record SeenLink : Type 0 where
   pub edge : ℕ
   pub from : ℕ
   pub put : List Letter
   pub taken : List Letter
+  pub put_refused : Bool
+  pub take_refused : Bool
 
 -- what was taken is a prefix of what was put: in order, each letter once, and none left out before the last one taken
 abbrev pub IsLink : SeenLink → Type 0
@@ -34,4 +47,8 @@ IsLink link = IsPrefix link.taken link.put
 
 -- the link of an end that letters were put in and an end that they were taken from
 abbrev pub link_of : {Identity : Type 0} → SeenEnd Identity → SeenEnd Identity → SeenLink
-link_of tx rx = record { edge = tx.link.edge; from = tx.link.from; put = tx.letters; taken = rx.letters }
+link_of tx rx = record { edge = tx.link.edge; from = tx.link.from; put = tx.letters; taken = rx.letters; put_refused = tx.refused; take_refused = rx.refused }
+
+-- the same link, of which the given refusals too are told
+abbrev pub also_refused : Bool → Bool → SeenLink → SeenLink
+also_refused put take link = record { edge = link.edge; from = link.from; put = link.put; taken = link.taken; put_refused = link.put_refused || put; take_refused = link.take_refused || take }

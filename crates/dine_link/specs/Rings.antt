@@ -1,4 +1,5 @@
--- The ends of a link over a ring, as contracts see them.
+-- The ends of a link over a ring, as contracts see them. No step of a ring is ever refused.
+use Rattle.std.specs.Prelude.{false}
 use Rattle.dine_link.specs.declared.ring.Pushing.{Pushing}
 use Rattle.dine_link.specs.declared.ring.RingTx.{RingTx}
 use Rattle.dine_link.specs.declared.ring.RingClosedTx.{RingClosedTx}
@@ -14,7 +15,7 @@ abbrev pub Ring : Type 0
 Ring = Ptr × Ptr × Names × Global
 
 abbrev pub seen_pushing : Pushing → SeenEnd Ring
-seen_pushing tx = record { link = record { identity = (tx.producer.end.words, tx.producer.end.slots, tx.producer.end.names, tx.producer.end.heap); edge = tx.edge; from = tx.from }; letters = rtrb_ring.sent tx.producer }
+seen_pushing tx = record { link = record { identity = (tx.producer.end.words, tx.producer.end.slots, tx.producer.end.names, tx.producer.end.heap); edge = tx.edge; from = tx.from }; letters = rtrb_ring.sent tx.producer; refused = false }
 
 abbrev pub seen_tx : RingTx → SeenEnd Ring
 seen_tx tx = seen_pushing tx.pushing
@@ -23,4 +24,4 @@ abbrev pub seen_closed : RingClosedTx → SeenEnd Ring
 seen_closed tx = seen_pushing tx.pushing
 
 abbrev pub seen_rx : RingRx → SeenEnd Ring
-seen_rx rx = record { link = record { identity = (rx.consumer.end.words, rx.consumer.end.slots, rx.consumer.end.names, rx.consumer.end.heap); edge = rx.edge; from = rx.from }; letters = rtrb_ring.received rx.consumer }
+seen_rx rx = record { link = record { identity = (rx.consumer.end.words, rx.consumer.end.slots, rx.consumer.end.names, rx.consumer.end.heap); edge = rx.edge; from = rx.from }; letters = rtrb_ring.received rx.consumer; refused = false }

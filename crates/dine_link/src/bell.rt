@@ -4,7 +4,7 @@ ghost use Rattle.std.specs.List.{range_with_len};
 ghost use Rattle.crossbeam_channel.specs.Claims.{view, IsSeatAt};
 ghost use Rattle.crossbeam_channel.specs.Ends.{sends_on};
 ghost use Rattle.dine_link.specs.BellRule.{no_ringers};
-ghost use Rattle.dine_link.specs.Bells.{new_ringer, after_ring, new_bell, after_telling};
+ghost use Rattle.dine_link.specs.Bells.{BellId, new_ringer, after_ring, after_refused_ring, new_bell, after_telling, after_refused_wait};
 ghost use Rattle.dine_link.specs.declared.bell_rule.Part.TheVariants.{Waits};
 
 #[cfg(test)]
@@ -26,12 +26,14 @@ const FEW_RINGERS: u32 = 4;
 
 const TRIES_OF_FEW: u32 = 2;
 
-/// Rings one bell, with a number of its own. Contracts see the number, and how often it rang.
+/// Rings one bell, with a number of its own. Contracts see which bell, the number, how often it rang, and whether a ring was
+/// ever refused.
 #[derive(Drop)]
 pub struct Ringer {
     number: u32,
     sender: RuledSender<u32, Part, OfRingers>,
     pass: Pass<u32, Part>,
+    refused: bool,
 }
 
 impl Model for Ringer {
@@ -46,13 +48,14 @@ impl Model for Ringer {
     ghost invariant = { IsRinger };
 }
 
-/// Tells the numbers of the ringers that rang. Contracts see its degree, which is how many ringers it was opened with, and
-/// the numbers that it told.
+/// Tells the numbers of the ringers that rang. Contracts see what tells it from every other bell, its degree, which is how many
+/// ringers it was opened with, the numbers that it told, and whether a wait was ever refused.
 #[derive(Drop)]
 pub struct Bell {
     degree: u32,
     receiver: RuledReceiver<u32, Part, OfRingers>,
     pass: Pass<u32, Part>,
+    refused: bool,
 }
 
 impl Model for Bell {
@@ -68,13 +71,14 @@ impl Model for Bell {
 }
 
 impl Bell {
-    /// A bell of `degree` ringers and these, in the order of their numbers from 0. Nobody has rung. The bell has room for
-    /// four times as many rings as there are ringers, and for at least one. Without ringers nobody can ring it.
+    /// A bell of `degree` ringers and these, in the order of their numbers from 0. They ring this bell, and nobody has rung.
+    /// The bell has room for four times as many rings as there are ringers, and for at least one. Without ringers nobody
+    /// can ring it.
     ///
     /// Fails where memory is refused.
     pub fn open(alloc: Global, degree: u32) -> Result<(Vec<Ringer>, Bell), LinkFault>
-        ensures ringers { IfOk result (λ opened. opened.0.items ≡ map new_ringer (range_with_len 0 degree)) }
-        ensures bell { IfOk result (λ opened. opened.1 ≡ new_bell degree) }
+        ensures ringers { IfOk result (λ opened. opened.0.items ≡ map (new_ringer opened.1.identity) (range_with_len 0 degree)) }
+        ensures bell { IfOk result (λ opened. opened.1 ≡ new_bell opened.1.identity degree) }
     {
         let capacity = (RINGS_EACH * degree as usize).max(1);
         let Ok((sender, receiver, mut pass)) = bounded_with::<u32, Part, OfRingers, Global>(
@@ -89,6 +93,7 @@ impl Bell {
             degree,
             receiver,
             pass,
+            refused: false,
         };
         Ok((ringers, bell))
     }
@@ -96,10 +101,10 @@ impl Bell {
     /// Tells the number of a ringer that rang, which is below the degree. Each ring is told once. It may wait, where no
     /// ring is left to tell.
     ///
-    /// Fails where the channel beneath refuses, and then no ring was taken from the bell.
+    /// Fails where the channel beneath refuses, and then no ring was taken from the bell, which keeps that a wait was refused.
     pub fn wait<R: Wait>(&mut self, rt: &R) -> Result<u32, Lost>
         ensures below { IfOk result (λ number. number < self.new.degree) }
-        ensures told { MatchResult result (λ number. self.new ≡ after_telling number self.old) (λ _. self.new ≡ self.old) }
+        ensures told { MatchResult result (λ number. self.new ≡ after_telling number self.old) (λ _. self.new ≡ after_refused_wait self.old) }
     {
         let heard = waiting::receive::<u32, Part, OfRingers, Hears, R>(
             rt,
@@ -107,7 +112,11 @@ impl Bell {
             &mut self.pass,
             tries_of(self.degree),
         );
-        heard.ok_or(Lost)
+        let Some(number) = heard else {
+            self.refused = true;
+            return Err(Lost);
+        };
+        Ok(number)
     }
 }
 
@@ -132,7 +141,7 @@ fn make_ringers(
     requires first { view pass.old ≡ no_ringers }
     ensures seated { IsSeatAt (sends_on sender.now) pass.new }
     ensures knows { IfOk result (λ _. view pass.new ≡ Waits degree []) }
-    ensures ringers { IfOk result (λ ringers. ringers.items ≡ map new_ringer (range_with_len 0 degree)) }
+    ensures ringers { IfOk result (λ ringers. ringers.items ≡ map (new_ringer (sends_on sender.now)) (range_with_len 0 degree)) }
 {
     let mut ringers = Vec::with_capacity(alloc, degree as usize)?;
     for number in 0..degree {
@@ -142,6 +151,7 @@ fn make_ringers(
             number,
             sender: sender_too,
             pass: own,
+            refused: false,
         });
     }
     Ok(ringers)
@@ -150,9 +160,9 @@ fn make_ringers(
 impl Ringer {
     /// Rings the bell with its number. It may wait, where the bell is full.
     ///
-    /// Fails where the channel beneath refuses, and then the bell was not rung.
+    /// Fails where the channel beneath refuses, and then the bell was not rung, and the ringer keeps that a ring was refused.
     pub fn ring<R: Wait>(&mut self, rt: &R) -> Result<(), Lost>
-        ensures { MatchResult result (λ _. self.new ≡ after_ring self.old) (λ _. self.new ≡ self.old) }
+        ensures { MatchResult result (λ _. self.new ≡ after_ring self.old) (λ _. self.new ≡ after_refused_ring self.old) }
     {
         let rung = waiting::send::<u32, Part, OfRingers, Sounds, R>(
             rt,
@@ -160,6 +170,10 @@ impl Ringer {
             &mut self.pass,
             self.number,
         );
-        rung.map_err(|_| Lost)
+        if rung.is_err() {
+            self.refused = true;
+            return Err(Lost);
+        }
+        Ok(())
     }
 }

@@ -34,6 +34,7 @@ pub struct Putting {
     put: u64,
     sender: LetterSender,
     pass: LetterPass,
+    refused: bool,
     pub ghost seated: { IsSeatAt (sends_on sender) pass },
     pub ghost puts: { (view pass).puts ≡ true },
     pub ghost counted: { put ≡ length (view pass).put },
@@ -63,6 +64,7 @@ pub struct ChannelRx {
     closed: bool,
     receiver: LetterReceiver,
     pass: LetterPass,
+    refused: bool,
     pub ghost seated: { IsSeatAt (receives_on receiver) pass },
     pub ghost takes: { (view pass).takes ≡ true },
     pub ghost counted: { taken ≡ length (view pass).taken },
@@ -79,16 +81,28 @@ pub struct ChannelEnds {
 
 impl Putting {
     ghost use Rattle.dine_link.specs.Channels.{seen_putting, seen_rx};
-    ghost use Rattle.dine_link.specs.Links.{IsLink, with_letter, link_of};
+    ghost use Rattle.dine_link.specs.Links.{IsLink, with_letter, after_refusal, link_of};
 
-    // Puts the letter last, or hands it back.
+    // Puts the letter last, or hands it back and keeps that it was refused.
     fn send<R: Wait>(&mut self, rt: &R, letter: Letter) -> Result<(), Letter>
         requires room { length (seen_putting self.old).letters < 2 ^ 61 }
-        ensures { MatchResult result (λ _. seen_putting self.new ≡ with_letter letter (seen_putting self.old)) (λ back. (back ≡ letter) × (seen_putting self.new ≡ seen_putting self.old)) }
+        ensures { MatchResult result (λ _. seen_putting self.new ≡ with_letter letter (seen_putting self.old)) (λ back. (back ≡ letter) × (seen_putting self.new ≡ after_refusal (seen_putting self.old))) }
     {
-        waiting::send::<Letter, Known, InOrder, Puts, R>(rt, &self.sender, &mut self.pass, letter)?;
-        self.put += 1;
-        Ok(())
+        match waiting::send::<Letter, Known, InOrder, Puts, R>(
+            rt,
+            &self.sender,
+            &mut self.pass,
+            letter,
+        ) {
+            Ok(()) => {
+                self.put += 1;
+                Ok(())
+            }
+            Err(letter) => {
+                self.refused = true;
+                Err(letter)
+            }
+        }
     }
 
     // Brings both ends together.
@@ -107,6 +121,7 @@ impl Putting {
             put,
             sender,
             mut pass,
+            refused: put_refused,
         } = self;
         let ChannelRx {
             edge: _,
@@ -115,6 +130,7 @@ impl Putting {
             closed: _,
             receiver,
             pass: taking,
+            refused: take_refused,
         } = rx;
         sender.absorb::<Ends>(&mut pass, taking);
         sender.learn_as::<Reconciles>(&mut pass);
@@ -123,11 +139,12 @@ impl Putting {
             receiver,
             pass,
         };
-        LinkEnd::keep(edge, from, put, taken, shut, BothEnds::Channel(ends))
+        let end = LinkEnd::keep(edge, from, put, taken, shut, BothEnds::Channel(ends));
+        end.and_refused(put_refused, take_refused)
     }
 }
 
-/// Links over channels. A step is refused where the other end is gone.
+/// Links over channels. A step is refused where the other end is gone, and the end keeps that it was.
 pub struct ChannelLane;
 
 impl Lane for ChannelLane {
@@ -162,6 +179,7 @@ impl Lane for ChannelLane {
             put: 0,
             sender,
             pass: putting,
+            refused: false,
         };
         let rx = ChannelRx {
             edge,
@@ -170,6 +188,7 @@ impl Lane for ChannelLane {
             closed: false,
             receiver,
             pass: taking,
+            refused: false,
         };
         Ok((ChannelTx { putting: tx }, rx))
     }
@@ -196,6 +215,7 @@ impl Lane for ChannelLane {
             &mut rx.pass,
             waiting::TRIES,
         ) else {
+            rx.refused = true;
             return Err(Lost);
         };
         rx.taken += 1;

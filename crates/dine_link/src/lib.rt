@@ -1,4 +1,5 @@
-//! Links: letters in order from one site to one other, whichever threads these run in. Bells: who put one.
+//! Links: letters in order from one site to one other, whichever threads these run in. Bells: who put one. Gates: where
+//! threads wait for the start.
 #![tactic(auto)]
 
 mod bell;
@@ -6,6 +7,7 @@ mod bell_rule;
 mod channel;
 mod closing;
 mod faults;
+mod gate;
 mod lane;
 mod link_end;
 mod pausing;
@@ -18,6 +20,7 @@ mod waiting;
 pub use bell::{Bell, Ringer};
 pub use channel::{ChannelClosedTx, ChannelLane, ChannelRx, ChannelTx};
 pub use faults::{LinkFault, Lost};
+pub use gate::{Gate, Signal};
 pub use lane::{Lane, TxEnd};
 pub use link_end::LinkEnd;
 pub use ring::{RingClosedTx, RingLane, RingRx, RingTx};

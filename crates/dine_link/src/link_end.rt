@@ -1,8 +1,8 @@
 // What went over a link, once its two ends were brought together.
-ghost use Rattle.std.specs.Prelude.{◌≡◌, true, length};
+ghost use Rattle.std.specs.Prelude.{◌≡◌, true, false, length};
 ghost use Rattle.dine_rules.specs.Streams.{is_close_last};
 ghost use Rattle.dine_link.specs.Closing.{ends_in_close};
-ghost use Rattle.dine_link.specs.Links.{SeenLink, IsLink};
+ghost use Rattle.dine_link.specs.Links.{SeenLink, IsLink, also_refused};
 ghost use mathlib.Core.List.{IsPrefix};
 
 use crate::channel::ChannelEnds;
@@ -19,7 +19,8 @@ pub enum BothEnds {
 /// Both ends of a link after its use, of any lane. Only [`crate::Lane::reconcile`] makes one. It keeps the ends, so
 /// letters that were put and not taken are dropped with it.
 ///
-/// Contracts see its edge, the site that put, and the lists of all letters put and of all taken.
+/// Contracts see its edge, the site that put, the lists of all letters put and of all taken, and whether a step of either
+/// end was refused.
 #[derive(Drop)]
 pub struct LinkEnd {
     edge: u32,
@@ -27,6 +28,8 @@ pub struct LinkEnd {
     put: u64,
     taken: u64,
     shut: bool,
+    put_refused: bool,
+    take_refused: bool,
     ends: BothEnds,
 }
 
@@ -45,7 +48,7 @@ impl Model for LinkEnd {
 impl LinkEnd {
     ghost use Rattle.dine_link.specs.Ends.{put_in, taken_from};
 
-    // The ends of a link, with the numbers of the letters put and taken.
+    // The ends of a link, with the numbers of the letters put and taken. No refusal is told yet.
     pub(crate) fn keep(
         edge: u32,
         from: u32,
@@ -59,7 +62,7 @@ impl LinkEnd {
         requires shut { shut ≡ ends_in_close (put_in ends) }
         requires prefix { IsPrefix (taken_from ends) (put_in ends) }
         requires close_last { is_close_last (put_in ends) ≡ true }
-        ensures { result ≡ record { edge = edge; from = from; put = put_in ends; taken = taken_from ends } }
+        ensures { result ≡ record { edge = edge; from = from; put = put_in ends; taken = taken_from ends; put_refused = false; take_refused = false } }
     {
         LinkEnd {
             edge,
@@ -67,7 +70,20 @@ impl LinkEnd {
             put,
             taken,
             shut,
+            put_refused: false,
+            take_refused: false,
             ends,
+        }
+    }
+
+    /// The same link, of which these refusals are told too. It is for a lane that wraps another and refuses steps itself.
+    pub fn and_refused(self, put: bool, take: bool) -> LinkEnd
+        ensures { result ≡ also_refused put take self }
+    {
+        LinkEnd {
+            put_refused: self.put_refused || put,
+            take_refused: self.take_refused || take,
+            ..self
         }
     }
 
@@ -106,5 +122,19 @@ impl LinkEnd {
         ensures { result ≡ ends_in_close self.now.put }
     {
         self.shut
+    }
+
+    /// Whether a put or a close was ever refused.
+    pub fn put_refused(&self) -> bool
+        ensures { result ≡ self.now.put_refused }
+    {
+        self.put_refused
+    }
+
+    /// Whether a take was ever refused.
+    pub fn take_refused(&self) -> bool
+        ensures { result ≡ self.now.take_refused }
+    {
+        self.take_refused
     }
 }

@@ -2,6 +2,8 @@
 ghost use Rattle.std.specs.Prelude.{◌≡◌, IfOk, vec_len};
 
 mod exchange;
+mod refusals;
+mod slowly;
 mod waits;
 
 use super::*;
@@ -172,29 +174,33 @@ fn two_threads_close_a_link_or_leave_letters(rt: HostRuntime) -> Result<(), Fail
     Ok(())
 }
 
-// Where the other end is gone, a step is refused, and the caller's end is as it was.
-fn other_end_gone<L: Lane, R: Wait + Abort>(rt: &R, alloc: Global) -> Result<(), LinkFault> {
-    let (mut tx, rx) = L::pair(alloc, 0, 0)?;
-    drop(rx);
-    let Err((letter, Lost)) = L::put(rt, &mut tx, Letter::Request(Token::open(9))) else {
-        panic!(rt; "put with no other end");
+// A link keeps its name, however high the numbers in it are.
+fn keeps_its_name<L: Lane, R: Wait + Abort>(
+    rt: &R,
+    alloc: Global,
+    edge: u32,
+    from: u32,
+) -> Result<(), LinkFault> {
+    let (mut tx, mut rx) = L::pair(alloc, edge, from)?;
+    assert!(rt; L::put(rt, &mut tx, Letter::Request(Token::open(edge))).is_ok());
+    let Ok(letter) = L::take(rt, &mut rx) else {
+        panic!(rt; "the take was refused");
     };
     let Letter::Request(token) = letter else {
-        panic!(rt; "another letter came back");
+        panic!(rt; "no request came");
     };
-    assert_eq!(rt; token.edge(), 9);
-    let Err((_tx, Lost)) = L::close(rt, tx) else {
-        panic!(rt; "closed with no other end");
-    };
-    let (tx, mut rx) = L::pair(alloc, 0, 0)?;
-    drop(tx);
-    assert!(rt; L::take(rt, &mut rx).is_err());
-    assert!(rt; !L::is_closed(&rx));
+    assert_eq!(rt; token.edge(), edge);
+    let end = L::reconcile(TxEnd::Live(tx), rx);
+    assert_eq!(rt; (end.edge(), end.from()), (edge, from));
+    assert_eq!(rt; (end.put(), end.taken()), (1, 1));
     Ok(())
 }
 
 #[test]
-fn channel_refuses_steps_where_the_other_end_is_gone(rt: HostRuntime) -> Result<(), Fail> {
-    other_end_gone::<ChannelLane, HostRuntime>(&rt, rt.alloc())?;
+fn links_keep_high_names(rt: HostRuntime) -> Result<(), Fail> {
+    for (edge, from) in [(63, 64), (64, 65), (300, 70), (u32::MAX, u32::MAX - 1)] {
+        keeps_its_name::<ChannelLane, HostRuntime>(&rt, rt.alloc(), edge, from)?;
+        keeps_its_name::<RingLane, HostRuntime>(&rt, rt.alloc(), edge, from)?;
+    }
     Ok(())
 }

@@ -1,5 +1,6 @@
 // One site, whose links and bell are filled before it starts.
-ghost use Rattle.std.specs.Prelude.{◌≡◌, ◌<◌, ◌≤◌, ◌+◌, ◌^◌, [], All, IfOk, length, vec_len};
+ghost use Rattle.std.specs.Prelude.{◌≡◌, ◌<◌, ◌≤◌, ◌+◌, ◌^◌, [], false, All, IfOk, length, vec_len};
+ghost use Rattle.dine_link.specs.Links.{IsUnused};
 ghost use Rattle.dine_run.specs.Ports.{IsFreshPort, seen_ports};
 
 use dine_core::SiteCore;
@@ -53,8 +54,9 @@ fn one_port<L: Lane>(
     rx: L::Rx,
     ringer: Ringer,
 ) -> Result<Vec<Port<L>>, AllocError>
-    requires nothing_put { (L.seen_tx tx).letters ≡ [] }
-    requires nothingtaken { (L.seen_rx rx).letters ≡ [] }
+    requires nothing_put { IsUnused (L.seen_tx tx) }
+    requires nothingtaken { IsUnused (L.seen_rx rx) }
+    requires silent { (ringer.rings ≡ 0) × (ringer.refused ≡ false) }
     ensures count { IfOk result (λ ports. vec_len ports ≡ 1) }
     ensures unused { IfOk result (λ ports. All IsFreshPort (seen_ports L.seen_tx L.seen_closed L.seen_rx ports.items)) }
 {
@@ -67,6 +69,18 @@ fn one_port<L: Lane>(
     Ok(ports)
 }
 
+// A ringer that never rang, and its bell.
+fn one_ringer(alloc: Global) -> Result<(Ringer, Bell), AllocError>
+    ensures silent { IfOk result (λ opened. (opened.0.rings ≡ 0) × (opened.0.refused ≡ false)) }
+    ensures degree { IfOk result (λ opened. opened.1.degree ≡ 1) }
+    ensures unheard { IfOk result (λ opened. opened.1.refused ≡ false) }
+{
+    let Ok((mut ringers, bell)) = Bell::open(alloc, 1) else {
+        return Err(AllocError);
+    };
+    ringers.pop().map(|ringer| (ringer, bell)).ok_or(AllocError)
+}
+
 // The lower site of the plan runs, over these ports.
 fn run_lower<L: Lane, R: Wait>(
     rt: &R,
@@ -76,6 +90,7 @@ fn run_lower<L: Lane, R: Wait>(
     bell: Bell,
 ) -> Result<SiteEnd<L, Eater>, AllocError>
     requires bell { bell.degree ≡ vec_len ports }
+    requires unheard { bell.refused ≡ false }
     requires unused { All IsFreshPort (seen_ports L.seen_tx L.seen_closed L.seen_rx ports.items) }
 {
     if plan.sites() == 0 {
@@ -94,7 +109,7 @@ fn run_lower<L: Lane, R: Wait>(
 
 // What is left of the lower site of the pair, where the higher one asked, is done and closed.
 fn lower_of_pair<L: Lane, R: Wait>(rt: &R, alloc: Global) -> Result<Left<L>, AllocError>
-    ensures { IfOk result (λ left. (L.seen_rx left.1).letters ≡ []) }
+    ensures { IfOk result (λ left. IsUnused (L.seen_rx left.1)) }
 {
     let Ok(plan) = read_plan(alloc, PAIR) else {
         return Err(AllocError);
@@ -103,15 +118,8 @@ fn lower_of_pair<L: Lane, R: Wait>(rt: &R, alloc: Global) -> Result<Left<L>, All
     else {
         return Err(AllocError);
     };
-    let (Ok((mut ringers, bell)), Ok((mut far_ringers, _far_bell))) = (
-        Bell::open(alloc, 1),
-        Bell::open(alloc, 1),
-    ) else {
-        return Err(AllocError);
-    };
-    let (Some(mut ringer), Some(far_ringer)) = (ringers.pop(), far_ringers.pop()) else {
-        return Err(AllocError);
-    };
+    let (mut ringer, bell) = one_ringer(alloc)?;
+    let (far_ringer, _far_bell) = one_ringer(alloc)?;
     let ports = one_port::<L>(alloc, tx, rx, far_ringer)?;
     let _ = L::put(rt, &mut far_tx, Letter::Request(Token::open(0)));
     let _ = L::put(rt, &mut far_tx, Letter::Done);

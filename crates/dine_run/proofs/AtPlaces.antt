@@ -1,6 +1,7 @@
 -- What holds at each place, and of the state as a whole, when a letter is put or taken at one place.
-use Rattle.std.proofs.Common.{◌≡◌, ℕ, ◌<◌, true, false, List, [], ◌∷◌, ◌++◌, length, set, get_or, Option, Some, None, sym, ◌∙◌, ap, subst, inl, inr, length-set}
+use Rattle.std.proofs.Common.{◌≡◌, ℕ, ◌<◌, true, false, List, [], ◌∷◌, ◌++◌, length, map, set, get_or, Option, Some, None, option_map, sym, ◌∙◌, ap, subst, inl, inr, length-set}
 use Rattle.std.specs.List.{slice_get}
+use Rattle.std.proofs.lemmas.Option.{get_or_from_slice_get, slice_get-map}
 use Rattle.std.proofs.lemmas.List.{get_or-set_same, get_or-set_other, set-get_or}
 use Rattle.std.proofs.lemmas.Bool.{and_parts, not-true, ltb-true}
 use Rattle.dine_plan.specs.Plan.{SeenPlan, edges_of}
@@ -13,12 +14,19 @@ use Rattle.dine_rules.specs.Steps.{Step, Give, Ask, Done, Close, Break, may, aft
 use Rattle.dine_rules.specs.Streams.{KeepsStreams}
 use Rattle.dine_core.specs.Core.{SeenCore, StandsFor}
 use Rattle.dine_core.specs.Standing.{CoreStep, CorePuts}
+use Rattle.dine_run.specs.Endings.{links_at, nothing_on_links, on_links}
 use Rattle.dine_run.specs.Ports.{SeenPort, SameLinks}
 use Rattle.dine_run.specs.Running.{SeenRun, AtEach, HasState, IsRunning, IsPutting}
 use Rattle.dine_run.proofs.Lists.{get-set, set-get}
 
 along : {A B C : Type 0} (Q : A → B → C → Type 0) (a a' : A) (b b' : B) (c c' : C) → a ≡ a' → b ≡ b' → c ≡ c' → Q a' b' c' → Q a b c
 along Q a a' b b' c c' p q r h = subst (λ x. Q x b c) (sym p) (subst (λ y. Q a' y c) (sym q) (subst (λ z. Q a' b' z) (sym r) h))
+
+-- ---- what the links of a place have
+
+-- the links of a place where there is a port
+pub links_there : {Identity : Type 0} (ports : List (SeenPort Identity)) (i : ℕ) (port : SeenPort Identity) → slice_get ports i ≡ Some port → links_at ports i ≡ on_links port
+links_there ports i port at = get_or_from_slice_get (map on_links ports) i (on_links port) nothing_on_links (slice_get-map on_links ports i ∙ ap (option_map on_links) at)
 
 -- ---- one place changes
 
@@ -51,7 +59,7 @@ at-port P Q state i within ports port = at-set P Q state state i (traffic_at sta
 module _ {Identity : Type 0} (plan : SeenPlan) (given : List (SeenPort Identity)) where
   -- the core stands for another state
   pub has-core : (run : SeenRun Identity) (state new : LocalState) (core : SeenCore) (journal : List EventKind) → HasState plan given run state → core.site ≡ run.core.site → StandsFor plan new core → KeepsStreams plan core.site new
-      → is_eating new.phase ≡ false → HasState plan given (record { core = core; ports = run.ports; journal = journal }) new
+      → is_eating new.phase ≡ false → HasState plan given (record { core = core; ports = run.ports; bell = run.bell; journal = journal }) new
   has-core run state new core journal has site stands keeps rests = record {
     is_plan = has.is_plan;
     is_site = stands.is_site;
@@ -65,13 +73,13 @@ module _ {Identity : Type 0} (plan : SeenPlan) (given : List (SeenPort Identity)
 
   -- the core did a step
   pub has-step : (run : SeenRun Identity) (state : LocalState) (step : Step) (core : SeenCore) (journal : List EventKind) → HasState plan given run state → CoreStep plan state step run.core core
-      → is_eating (after plan run.core.site state step).phase ≡ false → HasState plan given (record { core = core; ports = run.ports; journal = journal }) (after plan run.core.site state step)
+      → is_eating (after plan run.core.site state step).phase ≡ false → HasState plan given (record { core = core; ports = run.ports; bell = run.bell; journal = journal }) (after plan run.core.site state step)
   has-step run state step core journal has did rests = has-core run state (after plan run.core.site state step) core journal has did.site did.stands did.keeps rests
 
   -- a port changed, and has its links still
   pub has-port : (run : SeenRun Identity) (state : LocalState) (i : ℕ) (old new : SeenPort Identity) → HasState plan given run state → slice_get run.ports i ≡ Some old
-      → new.tx.link ≡ old.tx.link → new.rx.link ≡ old.rx.link → HasState plan given (record { core = run.core; ports = set run.ports i new; journal = run.journal }) state
-  has-port run state i old new has at tx rx = record {
+      → new.tx.link ≡ old.tx.link → new.rx.link ≡ old.rx.link → new.ringer.bell ≡ old.ringer.bell → new.ringer.number ≡ old.ringer.number → HasState plan given (record { core = run.core; ports = set run.ports i new; bell = run.bell; journal = run.journal }) state
+  has-port run state i old new has at tx rx bell number = record {
     is_plan = has.is_plan;
     is_site = has.is_site;
     keeps = has.keeps;
@@ -82,7 +90,7 @@ module _ {Identity : Type 0} (plan : SeenPlan) (given : List (SeenPort Identity)
     same_links = λ j first now was is. elim (get-set run.ports i new j now is) [
       | inl w ↦
           let before : SameLinks first old = has.same_links i first old (ap (λ (n : ℕ). slice_get given n) (sym w.0) ∙ was) at in
-          record { tx = ap (λ (p : SeenPort Identity). p.tx.link) w.1 ∙ tx ∙ before.tx; rx = ap (λ (p : SeenPort Identity). p.rx.link) w.1 ∙ rx ∙ before.rx }
+          record { tx = ap (λ (p : SeenPort Identity). p.tx.link) w.1 ∙ tx ∙ before.tx; rx = ap (λ (p : SeenPort Identity). p.rx.link) w.1 ∙ rx ∙ before.rx; bell = ap (λ (p : SeenPort Identity). p.ringer.bell) w.1 ∙ bell ∙ before.bell; number = ap (λ (p : SeenPort Identity). p.ringer.number) w.1 ∙ number ∙ before.number }
       | inr w ↦ has.same_links j first now was w.1
     ];
   }
@@ -133,14 +141,14 @@ did_step grows plan given run running kind step core next is_step did =
 module _ {Identity : Type 0} (plan : SeenPlan) (given : List (SeenPort Identity)) (i : ℕ) (step : Step) (l : Letter) (opens : Opens i step) where
   -- the state once the core put the letter
   pub has-put : (run : SeenRun Identity) (core : SeenCore) (journal : List EventKind) (state : LocalState) → CorePuts i step run.core core l → HasState plan given run state
-      → HasState plan given (record { core = core; ports = run.ports; journal = journal }) (with_put i l state)
+      → HasState plan given (record { core = core; ports = run.ports; bell = run.bell; journal = journal }) (with_put i l state)
   has-put run core journal state puts has =
       let did = puts plan state has.keeps has.stands in
-      subst (λ (new : LocalState). HasState plan given (record { core = core; ports = run.ports; journal = journal }) new) did.0
+      subst (λ (new : LocalState). HasState plan given (record { core = core; ports = run.ports; bell = run.bell; journal = journal }) new) did.0
       (has-step plan given run state step core journal has did.1 (ap (λ (new : LocalState). is_eating new.phase) did.0 ∙ has.rests))
 
   pub putting : JournalsGrow → (kind : EventKind) → step_by (λ j. None) kind ≡ Some step → (run : SeenRun Identity) (core : SeenCore) (journal : List EventKind) → journal ≡ run.journal ++ kind ∷ [] → CorePuts i step run.core core l → IsRunning plan given run
-      → IsPutting i l plan given (record { core = core; ports = run.ports; journal = journal })
+      → IsPutting i l plan given (record { core = core; ports = run.ports; bell = run.bell; journal = journal })
   putting grows kind is_step run core journal noted puts running =
       let did = puts plan running.state running.has.keeps running.has.stands in
       let room = opens plan run.core.site running.state did.1.allowed.needs in
@@ -150,6 +158,7 @@ module _ {Identity : Type 0} (plan : SeenPlan) (given : List (SeenPort Identity)
         open_place = room.1;
         has = has-put run core journal running.state puts running.has;
         lists = running.lists;
+        heard = running.heard;
         did = subst (λ (kinds : List EventKind). IsJournal plan core.site kinds (with_put i l running.state)) (sym noted)
             (subst (λ (new : LocalState). IsJournal plan core.site (run.journal ++ kind ∷ []) new) did.0 (did_step grows plan given run running kind step core (λ j. None) is_step did.1));
       }

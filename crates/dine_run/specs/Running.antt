@@ -19,33 +19,42 @@ use Rattle.dine_run.specs.declared.site_end.SiteFault.TheVariants as fault
 use Rattle.dine_run.specs.declared.site_end.Stray.{Stray}
 use Rattle.dine_run.specs.declared.site_loop.running.Stop.{Stop}
 use Rattle.dine_run.specs.declared.site_loop.running.Running.{Running}
+use Rattle.dine_link.specs.Bells.{SeenBell}
 use Rattle.dine_link.specs.Links.{SeenEnd}
 use Rattle.dine_run.specs.Diners.{HasEaten}
 use Rattle.dine_run.specs.Doings.{HasDone}
-use Rattle.dine_run.specs.Ports.{SeenPort, SameLinks, PutsFit, seen_ports}
-use Rattle.dine_run.specs.Endings.{IsBreached, IsLost, breached_at, hands_back, refused_at}
+use Rattle.dine_run.specs.Ports.{HasRung, IsUnrefused, SeenPort, SameLinks, PutsFit, seen_ports}
+use Rattle.dine_run.specs.Endings.{IsBreached, IsLost, breached_at, hands_back, links_at, refused_at}
+use Rattle.dine_run.specs.SiteEnds.{HasBellRefused}
 
 -- a site on its way, but for its diner
 pub record SeenRun (Identity : Type 0) : Type 0 where
   pub core : SeenCore
   pub ports : List (SeenPort Identity)
+  pub bell : SeenBell
   pub journal : List EventKind
 
 -- so it is at each place, of what the state put and took there and of the port
 abbrev pub AtEach : {Identity : Type 0} → (ℕ → Traffic → SeenPort Identity → Type 0) → LocalState → List (SeenPort Identity) → Type 0
 AtEach {Identity} P state ports = (i : ℕ) (port : SeenPort Identity) → slice_get ports i ≡ Some port → P i (traffic_at state i) port
 
--- the links have just what the state put and took, and the end is live where the state has not put Close
+-- the links have just what the state put and took, the end is live where the state has not put Close, and for each letter put the
+-- bell was rung; nothing was refused
 pub record RunsAt {Identity : Type 0} (traffic : Traffic) (port : SeenPort Identity) : Type 0 where
   pub puts : port.tx.letters ≡ traffic.put
   pub takes : port.rx.letters ≡ traffic.taken
   pub live : port.is_live ≡ not (has_close traffic.put)
+  pub rang : port.ringer.rings ≡ length port.tx.letters
+  pub unrefused : IsUnrefused port
 
--- the same, but for a letter that the link refused, for the letter of a breach, and for a Close that the link refused
+-- The same, but for a letter that the link refused, for the letter of a breach, and for a Close that the link refused. Of the letters
+-- before that Close at most one has no ring.
 pub record StopsAt {Identity : Type 0} (refused breached : Option Letter) (traffic : Traffic) (port : SeenPort Identity) : Type 0 where
-  pub puts : PutsFit refused traffic.put port.tx.letters
+  pub puts : PutsFit port.tx.refused refused traffic.put port.tx.letters
   pub takes : port.rx.letters ≡ traffic.taken ++ option_to_list breached
   pub live : has_close traffic.put ≡ false → port.is_live ≡ true
+  pub rang : HasRung port
+  pub rang_open : has_close traffic.put ≡ false → length port.tx.letters ≤ port.ringer.rings + 1
 
 -- The core stands for a state that keeps the streams and in which the site does not eat, and the link ends are those that were
 -- handed in, one pair a place.
@@ -59,11 +68,12 @@ pub record HasState {Identity : Type 0} (plan : SeenPlan) (given : List (SeenPor
   pub places : length run.ports ≡ length run.core.places
   pub same_links : (i : ℕ) (old new : SeenPort Identity) → slice_get given i ≡ Some old → slice_get run.ports i ≡ Some new → SameLinks old new
 
--- Between two events, without a fault. The journal led to the state.
+-- Between two events, without a fault. The journal led to the state, and no wait was refused.
 pub record IsRunning {Identity : Type 0} (plan : SeenPlan) (given : List (SeenPort Identity)) (run : SeenRun Identity) : Type 0 where
   pub state : LocalState
   pub has : HasState plan given run state
   pub lists : AtEach (λ i. RunsAt) state run.ports
+  pub heard : run.bell.refused ≡ false
   pub did : IsJournal plan run.core.site run.journal state
 
 -- The core has put the letter at place i, and the link has it not yet.
@@ -73,6 +83,7 @@ pub record IsPutting {Identity : Type 0} (i : ℕ) (letter : Letter) (plan : See
   pub open_place : has_close (traffic_at before i).put ≡ false
   pub has : HasState plan given run (with_put i letter before)
   pub lists : AtEach (λ j. RunsAt) before run.ports
+  pub heard : run.bell.refused ≡ false
   pub did : IsJournal plan run.core.site run.journal (with_put i letter before)
 
 -- After the first fault. What is told is so, and the site was started.
@@ -82,7 +93,10 @@ pub record IsStopped {Identity : Type 0} (stray : Option Stray) (cause : SiteFau
   pub lists : AtEach (λ i. StopsAt (refused_at i (Some cause) stray) (breached_at i (Some cause) stray)) state run.ports
   pub did : HasDone plan run.core.site run.journal state
   pub breach : (link : ℕ) (breach : Breach) → cause ≡ fault.Breach link breach → IsBreached plan run.core.site state stray link breach
-  pub lost : (link : ℕ) → cause ≡ fault.Lost link → IsLost (length state.traffic) stray link
+  pub lost : (link : ℕ) → cause ≡ fault.Lost link → IsLost (length state.traffic) (links_at run.ports) stray link
+  pub lost_bell : cause ≡ fault.Lost (length state.traffic) → HasBellRefused run.ports run.bell
+  pub take_told : (i : ℕ) (port : SeenPort Identity) → slice_get run.ports i ≡ Some port → port.rx.refused ≡ true → cause ≡ fault.Lost i
+  pub wait_told : run.bell.refused ≡ true → cause ≡ fault.Lost (length state.traffic)
   pub no_stray : hands_back (Some cause) ≡ false → stray ≡ None
   pub started : cause ≢ fault.NotStarted
 
@@ -124,7 +138,7 @@ GoesToEnd result plan given run = MatchResult result (λ _. IsRunning plan given
 
 module _ {Lane Tx Closed Rx Identity Diner : Type 0} (live : Tx → SeenEnd Identity) (shut : Closed → SeenEnd Identity) (taking : Rx → SeenEnd Identity) where
   abbrev pub seen_run : Running Lane Diner Tx Closed Rx → SeenRun Identity
-  seen_run run = record { core = run.core; ports = seen_ports live shut taking run.ports.items; journal = run.journal.items }
+  seen_run run = record { core = run.core; ports = seen_ports live shut taking run.ports.items; bell = run.bell; journal = run.journal.items }
 
 module _ {Lane Tx Closed Rx Diner : Type 0} where
   -- The bell is that of the places, there is room for the calls of all meals to come, and no more meals failed than were begun.

@@ -10,13 +10,12 @@ ghost use Rattle.dine_run.specs.Seats.{AreSeatsOf, IsReady, LeavesSeat, seat_of,
 ghost use Rattle.dine_run.specs.SiteEnds.{IsLeft};
 
 use crate::diner::Diner;
-use crate::gate::Gate;
 use crate::opening::Stand;
 use crate::port::Port;
 use crate::site_end::{SiteEnd, SiteFault};
 use crate::site_loop::run_site;
 use dine_core::{Packed, SiteCore, site};
-use dine_link::{Bell, Lane};
+use dine_link::{Bell, Gate, Lane};
 use dine_plan::Plan;
 use dine_rules::laws;
 use std::alloc::{AllocError, Global};
@@ -202,6 +201,7 @@ pub fn seat_all<L: Lane, D: Diner>(
     ensures fresh { OnOk result (AreSeatsOf plan.now seats.new.items) }
     ensures diners { OnOk result (map (λ seat. seat.diner) seats.new.items ≡ diners.items) }
     ensures ports { OnOk result (map (λ seat. seat.ports) seats.new.items ≡ map (λ stand. stand.ports) stands.items) }
+    ensures bells { OnOk result (map (λ seat. seat.bell) seats.new.items ≡ map (λ stand. stand.bell) stands.items) }
 {
     let mut number = 0u32;
     let mut waiting = diners.into_iter();

@@ -1,5 +1,5 @@
 //! One site on its thread, from its first step to its last.
-ghost use Rattle.std.specs.Prelude.{◌≡◌, ◌≤◌, ◌+◌, All, length, vec_len};
+ghost use Rattle.std.specs.Prelude.{◌≡◌, ◌≤◌, ◌+◌, All, false, length, vec_len};
 ghost use Rattle.dine_plan.specs.Plan.{SeenPlan};
 ghost use Rattle.dine_core.specs.Standing.{IsFresh, IsFreshFor};
 ghost use Rattle.dine_run.specs.Diners.{HasEaten};
@@ -41,6 +41,7 @@ pub fn run_site<R: Wait, L: Lane, D: Diner>(
     requires ports { vec_len ports ≡ length core.places }
     requires unused { All IsFreshPort (seen_ports L.seen_tx L.seen_closed L.seen_rx ports.items) }
     requires bell { bell.degree ≡ length core.places }
+    requires unheard { bell.refused ≡ false }
     requires room { core.due ≤ D.room_left diner }
     ensures end { (plan : SeenPlan) → IsFreshFor plan core → IsSiteEnd plan core.site (seen_ports L.seen_tx L.seen_closed L.seen_rx ports.items) (record {
       site = result.site;
@@ -49,6 +50,7 @@ pub fn run_site<R: Wait, L: Lane, D: Diner>(
       tokens = result.tokens.items;
       journal = result.journal.items;
       ports = seen_ports L.seen_tx L.seen_closed L.seen_rx result.ports.items;
+      bell = result.bell;
       stray = result.stray;
       fault = result.fault;
     }) }

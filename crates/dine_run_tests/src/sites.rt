@@ -1,5 +1,7 @@
 // One site on one thread: its links and its bell are filled before it starts.
-ghost use Rattle.std.specs.Prelude.{◌≡◌, [], All, IfOk, vec_len};
+ghost use Rattle.std.specs.Prelude.{◌≡◌, false, All, IfOk, vec_len};
+ghost use Rattle.dine_link.specs.Channels as channels;
+ghost use Rattle.dine_link.specs.Links.{IsUnused};
 ghost use Rattle.dine_run.specs.Ports.{IsFreshPort, seen_ports};
 
 mod diners;
@@ -12,7 +14,7 @@ mod threads;
 use crate::orders::{HIGHER, LOWER};
 use dine_core::site::{fresh_forks, fresh_tokens};
 use dine_core::{EventKind, SiteCore, World};
-use dine_link::{Bell, ChannelLane, Lane, RingLane, Ringer, TxEnd};
+use dine_link::{Bell, ChannelLane, ChannelRx, Lane, RingLane, Ringer, TxEnd};
 use dine_plan::{Plan, read_plan};
 use dine_rules::{Breach, Kind4, Letter};
 use dine_run::{
@@ -46,6 +48,7 @@ fn run_alone<L: Lane, R: Wait + Abort>(
     fails_at: u32,
 ) -> Result<SiteEnd<L, Fixed>, Fail>
     requires degree { bell.degree ≡ vec_len ports }
+    requires unheard { bell.refused ≡ false }
     requires unused { All IsFreshPort (seen_ports L.seen_tx L.seen_closed L.seen_rx ports.items) }
 {
     assert!(rt; site < plan.sites());
@@ -60,7 +63,8 @@ fn run_alone<L: Lane, R: Wait + Abort>(
 
 // The bell of a site of that degree, and its ringers.
 fn bell_of(alloc: Global, degree: u32) -> Result<(Vec<Ringer>, Bell), Fail>
-    ensures { IfOk result (λ opened. opened.1.degree ≡ degree) }
+    ensures degree { IfOk result (λ opened. opened.1.degree ≡ degree) }
+    ensures unheard { IfOk result (λ opened. opened.1.refused ≡ false) }
 {
     let Ok(opened) = Bell::open(alloc, degree) else {
         return Err(Fail::from("no memory for a bell"));
@@ -68,9 +72,24 @@ fn bell_of(alloc: Global, degree: u32) -> Result<(Vec<Ringer>, Bell), Fail>
     Ok(opened)
 }
 
+// A ringer that never rang, and its bell.
+fn one_ringer(alloc: Global) -> Result<(Ringer, Bell), Fail>
+    ensures silent { IfOk result (λ opened. (opened.0.rings ≡ 0) × (opened.0.refused ≡ false)) }
+    ensures degree { IfOk result (λ opened. opened.1.degree ≡ 1) }
+    ensures unheard { IfOk result (λ opened. opened.1.refused ≡ false) }
+{
+    let Ok((mut ringers, bell)) = Bell::open(alloc, 1) else {
+        return Err(Fail::from("no memory for a bell"));
+    };
+    match ringers.pop() {
+        Some(ringer) => Ok((ringer, bell)),
+        None => Err(Fail::from("no ringer")),
+    }
+}
+
 // A link of an edge from that end, in which nothing lies.
 fn link_from<L: Lane>(alloc: Global, edge: u32, from: u32) -> Result<(L::Tx, L::Rx), Fail>
-    ensures { IfOk result (λ ends. ((L.seen_tx ends.0).letters ≡ []) × ((L.seen_rx ends.1).letters ≡ [])) }
+    ensures { IfOk result (λ ends. (IsUnused (L.seen_tx ends.0)) × (IsUnused (L.seen_rx ends.1))) }
 {
     let Ok(ends) = L::pair(alloc, edge, from) else {
         return Err(Fail::from("no memory for a link"));
@@ -85,8 +104,9 @@ fn one_port<L: Lane>(
     rx: L::Rx,
     ringer: Ringer,
 ) -> Result<Vec<Port<L>>, AllocError>
-    requires nothing_put { (L.seen_tx tx).letters ≡ [] }
-    requires nothing_taken { (L.seen_rx rx).letters ≡ [] }
+    requires nothing_put { IsUnused (L.seen_tx tx) }
+    requires nothing_taken { IsUnused (L.seen_rx rx) }
+    requires silent { (ringer.rings ≡ 0) × (ringer.refused ≡ false) }
     ensures count { IfOk result (λ ports. vec_len ports ≡ 1) }
     ensures unused { IfOk result (λ ports. All IsFreshPort (seen_ports L.seen_tx L.seen_closed L.seen_rx ports.items)) }
 {
@@ -146,14 +166,11 @@ fn early_closed<L: Lane, R: Wait + Abort>(
     alloc: Global,
     plan: &Plan,
 ) -> Result<(SiteEnd<L, Fixed>, L::Rx, Bell), Fail>
-    ensures untaken { IfOk result (λ it. (L.seen_rx it.1).letters ≡ []) }
-    ensures bell { IfOk result (λ it. it.2.degree ≡ 1) }
+    ensures untaken { IfOk result (λ it. IsUnused (L.seen_rx it.1)) }
+    ensures bell { IfOk result (λ it. (it.2.degree ≡ 1) × (it.2.refused ≡ false)) }
 {
-    let (mut ringers, bell) = bell_of(alloc, 1)?;
-    let (mut far_ringers, far_bell) = bell_of(alloc, 1)?;
-    let (Some(mut ringer), Some(far_ringer)) = (ringers.pop(), far_ringers.pop()) else {
-        return Err(Fail::from("no ringer"));
-    };
+    let (mut ringer, bell) = one_ringer(alloc)?;
+    let (far_ringer, far_bell) = one_ringer(alloc)?;
     let (tx, far_rx) = link_from::<L>(alloc, 0, 0)?;
     let (mut far_tx, rx) = link_from::<L>(alloc, 0, 1)?;
     assert!(rt; L::put(rt, &mut far_tx, Letter::Request(Token::open(0))).is_ok());
@@ -185,6 +202,7 @@ fn finds_early_close<L: Lane, R: Wait + Abort>(rt: &R, alloc: Global) -> Result<
     assert!(rt; journal.as_slice() == &LOWER[..6]);
     assert_eq!(rt; (site, ate, failed), (0, 1, 0));
     assert_eq!(rt; (forks.len(), tokens.len(), ports.len()), (0, 1, 1));
+    assert_eq!(rt; tokens[0].edge(), 0);
     assert_eq!(rt; fault, Some(SiteFault::Breach(0, Breach::ClosedEarly)));
     let Some(stray) = stray else {
         return Err(Fail::from("no stray"));
@@ -242,10 +260,7 @@ fn higher_eats<L: Lane, R: Wait + Abort>(rt: &R, alloc: Global) -> Result<(), Fa
     let plan = read_plan(alloc, PAIR).expect(rt, "a plan");
     let (_end, rx, bell) = early_closed::<L, R>(rt, alloc, &plan)?;
     let (tx, mut far_rx) = link_from::<L>(alloc, 0, 1)?;
-    let (mut ringers, _far_bell) = bell_of(alloc, 1)?;
-    let Some(ringer) = ringers.pop() else {
-        return Err(Fail::from("no ringer"));
-    };
+    let (ringer, _far_bell) = one_ringer(alloc)?;
     let ports = one_port::<L>(alloc, tx, rx, ringer)?;
     let SiteEnd {
         site,
@@ -297,7 +312,7 @@ fn higher_site_eats_with_the_fork_that_it_was_given(rt: HostRuntime) -> Result<(
 
 // The end of a link that nobody takes from. A channel tells so, and a ring does not.
 fn dead_end<L: Lane>(alloc: Global) -> Result<L::Tx, Fail>
-    ensures { IfOk result (λ tx. (L.seen_tx tx).letters ≡ []) }
+    ensures { IfOk result (λ tx. IsUnused (L.seen_tx tx)) }
 {
     let (tx, _rx) = link_from::<L>(alloc, 0, 0)?;
     Ok(tx)
@@ -308,10 +323,7 @@ fn refused_put_is_a_fault(rt: HostRuntime) -> Result<(), Fail> {
     let alloc = rt.alloc();
     let plan = read_plan(alloc, PAIR).expect(&rt, "a plan");
     let (_ringers, bell) = bell_of(alloc, 1)?;
-    let (mut far_ringers, _far_bell) = bell_of(alloc, 1)?;
-    let Some(ringer) = far_ringers.pop() else {
-        return Err(Fail::from("no ringer"));
-    };
+    let (ringer, _far_bell) = one_ringer(alloc)?;
     let tx = dead_end::<ChannelLane>(alloc)?;
     let (_far_tx, rx) = link_from::<ChannelLane>(alloc, 0, 1)?;
     let ports = one_port::<ChannelLane>(alloc, tx, rx, ringer)?;
@@ -329,16 +341,75 @@ fn refused_put_is_a_fault(rt: HostRuntime) -> Result<(), Fail> {
     Ok(())
 }
 
+// The lower site, whose link from the neighbour gives nothing, with its bell rung, or whose ring is refused. It has eaten and said Done
+// by then.
+fn lower_is_refused(
+    rt: HostRuntime,
+    bell: Bell,
+    rx: ChannelRx,
+    ringer: Ringer,
+) -> Result<(SiteEnd<ChannelLane, Fixed>, ChannelRx), Fail>
+    requires degree { bell.degree ≡ 1 }
+    requires unheard { bell.refused ≡ false }
+    requires nothing_taken { IsUnused (channels.seen_rx rx) }
+    requires silent { (ringer.rings ≡ 0) × (ringer.refused ≡ false) }
+    ensures { IfOk result (λ it. IsUnused (channels.seen_rx it.1)) }
+{
+    let alloc = rt.alloc();
+    let plan = read_plan(alloc, PAIR).expect(&rt, "a plan");
+    let (tx, far_rx) = link_from::<ChannelLane>(alloc, 0, 0)?;
+    let ports = one_port::<ChannelLane>(alloc, tx, rx, ringer)?;
+    let end = run_alone::<ChannelLane, HostRuntime>(&rt, alloc, &plan, 0, ports, bell, 0)?;
+    assert_eq!(rt; (end.ate, end.failed, end.ports.len()), (1, 0, 1));
+    assert!(rt; end.journal.as_slice() == &LOWER[..4]);
+    assert!(rt; end.stray.is_none());
+    Ok((end, far_rx))
+}
+
+// What the neighbour of a site that broke off finds.
+fn finds_done_and_close(rt: HostRuntime, far_rx: ChannelRx) -> Result<(), Fail>
+    requires { IsUnused (channels.seen_rx far_rx) }
+{
+    let mut far_rx = far_rx;
+    let Ok(Letter::Done) = ChannelLane::take(&rt, &mut far_rx) else {
+        return Err(Fail::from("no Done"));
+    };
+    let Ok(Letter::Close) = ChannelLane::take(&rt, &mut far_rx) else {
+        return Err(Fail::from("no Close"));
+    };
+    Ok(())
+}
+
+#[test]
+fn refused_take_is_a_fault(rt: HostRuntime) -> Result<(), Fail> {
+    let (mut ringer, bell) = one_ringer(rt.alloc())?;
+    let (far_ringer, _far_bell) = one_ringer(rt.alloc())?;
+    let (far_tx, rx) = link_from::<ChannelLane>(rt.alloc(), 0, 1)?;
+    drop(far_tx);
+    assert_eq!(rt; ringer.ring(&rt), Ok(()));
+    let (end, far_rx) = lower_is_refused(rt, bell, rx, far_ringer)?;
+    assert_eq!(rt; end.fault, Some(SiteFault::Lost(0)));
+    finds_done_and_close(rt, far_rx)
+}
+
+#[test]
+fn refused_ring_is_a_fault(rt: HostRuntime) -> Result<(), Fail> {
+    let (_ringer, bell) = one_ringer(rt.alloc())?;
+    let (far_ringer, far_bell) = one_ringer(rt.alloc())?;
+    drop(far_bell);
+    let (_far_tx, rx) = link_from::<ChannelLane>(rt.alloc(), 0, 1)?;
+    let (end, far_rx) = lower_is_refused(rt, bell, rx, far_ringer)?;
+    assert_eq!(rt; end.fault, Some(SiteFault::Lost(1)));
+    finds_done_and_close(rt, far_rx)
+}
+
 #[test]
 fn bell_that_nobody_rings_is_a_fault(rt: HostRuntime) -> Result<(), Fail> {
     let alloc = rt.alloc();
     let plan = read_plan(alloc, PAIR).expect(&rt, "a plan");
     let (ringers, bell) = bell_of(alloc, 1)?;
     drop(ringers);
-    let (mut far_ringers, _far_bell) = bell_of(alloc, 1)?;
-    let Some(ringer) = far_ringers.pop() else {
-        return Err(Fail::from("no ringer"));
-    };
+    let (ringer, _far_bell) = one_ringer(alloc)?;
     let (tx, mut far_rx) = link_from::<ChannelLane>(alloc, 0, 1)?;
     let (_far_tx, rx) = link_from::<ChannelLane>(alloc, 0, 0)?;
     let ports = one_port::<ChannelLane>(alloc, tx, rx, ringer)?;

@@ -69,3 +69,20 @@ fn meal_without_a_job_goes_well(rt: HostRuntime) -> Result<(), Fail> {
     assert!(rt; eats(&mut diner, rt.alloc(), 4));
     Ok(())
 }
+
+// The words are those of xorshift by its author's own shifts and first word.
+#[test]
+fn each_turn_of_a_job_is_taken(rt: HostRuntime) -> Result<(), Fail> {
+    let alloc = rt.alloc();
+    let mut few = diner_of(&rt, alloc, 0, 3)?;
+    assert!(rt; eats(&mut few, alloc, 1));
+    assert_eq!(rt; few.word(), 2463534242);
+    assert!(rt; eats(&mut few, alloc, 3));
+    assert_eq!(rt; few.word(), 723471715);
+    assert!(rt; eats(&mut few, alloc, 3));
+    assert_eq!(rt; few.word(), 2497366906);
+    let mut many = diner_of(&rt, alloc, 1, 1)?;
+    assert!(rt; eats(&mut many, alloc, 1));
+    assert_eq!(rt; many.word(), 2318261108);
+    Ok(())
+}

@@ -66,6 +66,7 @@ fn rings_outlive_their_ringers(rt: HostRuntime) -> Result<(), Fail> {
     drop(ringers);
     assert_eq!(rt; bell.wait(&rt), Ok(1));
     assert_eq!(rt; bell.wait(&rt), Err(Lost));
+    assert_eq!(rt; bell.wait(&rt), Err(Lost));
     Ok(())
 }
 
@@ -76,6 +77,7 @@ fn without_the_bell_no_ring_is_taken(rt: HostRuntime) -> Result<(), Fail> {
     let Some(ringer) = ringers.get_mut(0) else {
         return Err(Fail::from("no ringer"));
     };
+    assert_eq!(rt; ringer.ring(&rt), Err(Lost));
     assert_eq!(rt; ringer.ring(&rt), Err(Lost));
     Ok(())
 }
@@ -107,6 +109,20 @@ fn threads_ring_one_bell(rt: HostRuntime) -> Result<(), Fail> {
         }
     }
     assert_eq!(rt; counts, [100, 100, 100]);
+    Ok(())
+}
+
+// Of two bells each tells the rings of its own ringers.
+#[test]
+fn ringers_ring_their_own_bell(rt: HostRuntime) -> Result<(), Fail> {
+    let (mut ringers, mut bell) = opened(rt.alloc(), 2)?;
+    let (mut others, mut other) = opened(rt.alloc(), 2)?;
+    ring(&rt, &mut ringers, 0);
+    ring(&rt, &mut others, 1);
+    drop(ringers);
+    assert_eq!(rt; other.wait(&rt), Ok(1));
+    assert_eq!(rt; bell.wait(&rt), Ok(0));
+    assert_eq!(rt; bell.wait(&rt), Err(Lost));
     Ok(())
 }
 

@@ -6,12 +6,12 @@ ghost use Rattle.dine_rules.specs.Local.{traffic_at};
 ghost use Rattle.dine_core.specs.NextEvent.{can_by_itself};
 ghost use Rattle.dine_core.specs.Standing.{ForEachState};
 ghost use Rattle.dine_link.specs.Closing.{is_close};
-ghost use Rattle.dine_run.specs.Ports.{SeenPort, closed_on, seen_ports};
+ghost use Rattle.dine_run.specs.Ports.{ChangesAt, SendsClose, SeenPort, seen_ports};
 ghost use Rattle.dine_run.specs.SiteEnds.{IsSiteEnd};
 ghost use Rattle.dine_run.specs.Running.{ClosedBelow, EatsOn, ForSome, GoesOn, GoesToEnd, HasStopped, IsPutting, IsReady, IsRunning, Leads, MayEnd, SameMeals, StaysStopped, seen_run};
 
 use crate::diner::Diner;
-use crate::port::Port;
+use crate::port::{Closed, Port, Sent};
 use crate::site_end::{SiteEnd, SiteFault, Stray};
 use dine_core::SiteCore;
 use dine_link::{Bell, Lane, Lost};
@@ -200,8 +200,9 @@ impl<L: Lane, D: Diner> Running<L, D> {
     {
         laws::few_letters_are_put();
         match self.ports[i as usize].put(rt, letter) {
-            Ok(()) => self.ring(rt, i),
-            Err((letter, Lost)) => Err(Stop {
+            Sent::Heard => Ok(()),
+            Sent::Unheard => Err(self.lost_bell()),
+            Sent::Refused(letter) => Err(Stop {
                 fault: SiteFault::Lost(i),
                 stray: Some(Stray { link: i, letter }),
             }),
@@ -216,24 +217,12 @@ impl<L: Lane, D: Diner> Running<L, D> {
     {
         laws::few_letters_are_put();
         match close_at(rt, &mut self.ports, i as usize) {
-            Ok(()) => self.ring(rt, i),
-            Err(Lost) => Err(Stop {
+            Closed::Heard => Ok(()),
+            Closed::Unheard => Err(self.lost_bell()),
+            Closed::Refused => Err(Stop {
                 fault: SiteFault::Lost(i),
                 stray: None,
             }),
-        }
-    }
-
-    // Rings the neighbour's bell.
-    fn ring<R: Wait>(&mut self, rt: &R, i: u32) -> Result<(), Stop>
-        requires place { i < vec_len self.old.ports }
-        ensures way { Leads IsRunning (GoesOn result) (seen_run L.seen_tx L.seen_closed L.seen_rx self.old) (seen_run L.seen_tx L.seen_closed L.seen_rx self.new) }
-        ensures ends { seen_run L.seen_tx L.seen_closed L.seen_rx self.new ≡ seen_run L.seen_tx L.seen_closed L.seen_rx self.old }
-        ensures same { SameMeals self.old self.new }
-    {
-        match self.ports[i as usize].ring(rt) {
-            Ok(()) => Ok(()),
-            Err(Lost) => Err(self.lost_bell()),
         }
     }
 
@@ -325,15 +314,10 @@ impl<L: Lane, D: Diner> Running<L, D> {
         ensures same { SameMeals self.old self.new }
     {
         laws::few_letters_are_put();
-        match self.core.break_off(i) {
-            None => {}
-            Some(_) => match close_at(rt, &mut self.ports, i as usize) {
-                Ok(()) => {
-                    let _ = self.ring(rt, i);
-                }
-                Err(Lost) => {}
-            },
-        }
+        let Some(_) = self.core.break_off(i) else {
+            return;
+        };
+        let _ = close_at(rt, &mut self.ports, i as usize);
     }
 
     // What the site leaves.
@@ -346,6 +330,7 @@ impl<L: Lane, D: Diner> Running<L, D> {
           tokens = result.tokens.items;
           journal = result.journal.items;
           ports = seen_ports L.seen_tx L.seen_closed L.seen_rx result.ports.items;
+          bell = result.bell;
           stray = result.stray;
           fault = result.fault;
         }) }
@@ -381,15 +366,13 @@ impl<L: Lane, D: Diner> Running<L, D> {
     }
 }
 
-// Puts Close at place i, where the end is live. Where that is refused, the end stays live.
-fn close_at<R: Wait, L: Lane>(rt: &R, ports: &mut Vec<Port<L>>, i: usize) -> Result<(), Lost>
+// Puts Close at place i, where the end is live, and rings. Where the link refuses it, the end stays live.
+fn close_at<R: Wait, L: Lane>(rt: &R, ports: &mut Vec<Port<L>>, i: usize) -> Closed
     requires place { i < vec_len ports.old }
     requires live { IfSome (slice_get (seen_ports L.seen_tx L.seen_closed L.seen_rx ports.old.items) i) (λ port. port.is_live ≡ true) }
     requires room { IfSome (slice_get (seen_ports L.seen_tx L.seen_closed L.seen_rx ports.old.items) i) (λ port. length port.tx.letters < 2 ^ 61) }
     ensures count { vec_len ports.new ≡ vec_len ports.old }
-    ensures closed { IfSome (slice_get (seen_ports L.seen_tx L.seen_closed L.seen_rx ports.old.items) i) (λ port. MatchResult result
-        (λ _. seen_ports L.seen_tx L.seen_closed L.seen_rx ports.new.items ≡ slice_set (seen_ports L.seen_tx L.seen_closed L.seen_rx ports.old.items) i (closed_on port))
-        (λ _. seen_ports L.seen_tx L.seen_closed L.seen_rx ports.new.items ≡ seen_ports L.seen_tx L.seen_closed L.seen_rx ports.old.items)) }
+    ensures closed { ChangesAt i (λ old new. SendsClose old new result) (seen_ports L.seen_tx L.seen_closed L.seen_rx ports.old.items) (seen_ports L.seen_tx L.seen_closed L.seen_rx ports.new.items) }
 {
     // The last port stands in for this one until it comes back: an end has to be owned to be closed.
     let (port, closed) = ports.swap_remove(i).close(rt);

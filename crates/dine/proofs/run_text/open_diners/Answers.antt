@@ -9,7 +9,7 @@ pub loop-site-preserved : goal.loop-site-preserved
 loop-site-preserved c =
     let plan = c.args.plan.now in
     let site = c.loop-site.site in
-    let same : c.in_ok-open.field-0 ≡ diner_of plan site = diner_is plan site c.in_ok-open.field-0 c.in_ok-open.ensures.calls c.in_ok-open.ensures.marks c.in_ok-open.ensures.room in
+    let same : c.in_ok-open.field-0 ≡ diner_of plan site = diner_is plan site c.in_ok-open.field-0 c.in_ok-open.ensures.calls c.in_ok-open.ensures.marks c.in_ok-open.ensures.room c.in_ok-open.ensures.word in
     let more = map-range_with_len_more (diner_of plan) 0 site site (omega arith) in
     let grown = c.push_reserved.ensures.items in
     let was = c.loop-site.invariant.diners in

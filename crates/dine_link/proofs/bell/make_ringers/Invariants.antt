@@ -11,7 +11,7 @@ abbrev pub invariant-loop-number : goal.invariant-loop-number
 invariant-loop-number l = record {
   seated : IsSeatAt (sends_on l.sender) l.pass;
   knows : view l.pass ≡ Waits l.number [];
-  so_far : l.ringers.items ≡ map new_ringer (range_with_len 0 l.number);
+  so_far : l.ringers.items ≡ map (new_ringer (sends_on l.sender)) (range_with_len 0 l.number);
   count : vec_len l.ringers ≡ l.number;
   room : l.degree ≤ vec_capacity l.ringers;
 }

@@ -15,4 +15,4 @@ pub returns-clause-whole : goal.returns-clause-whole
 returns-clause-whole c = λ closed.
     let P : Known → Type 0 = λ view. view.put ≡ view.taken ++ c.learn_as.ensures.rule.0 in
     let e = subst P c.absorb.ensures.rule c.learn_as.ensures.rule.1 in
-    rw (c.keep.ensures, c.learn_as.ensures.channel.2, c.absorb.ensures.rule) (whole (view c.args.self.pass).put (view c.args.rx.pass).taken c.learn_as.ensures.rule.0 e closed c.requires.close_last)
+    rw (c.and_refused.ensures, c.keep-end.ensures, c.learn_as.ensures.channel.2, c.absorb.ensures.rule) (whole (view c.args.self.pass).put (view c.args.rx.pass).taken c.learn_as.ensures.rule.0 e closed c.requires.close_last)

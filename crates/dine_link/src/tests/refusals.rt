@@ -1,0 +1,83 @@
+// Steps where the other end is gone, and what is told of refusals.
+use crate::{ChannelLane, Lane, LinkFault, Lost, RingLane, TxEnd};
+use dine_rules::{Kind4, Letter};
+use dine_token::Token;
+use std::alloc::Global;
+use std::process::Abort;
+use std::sync::Wait;
+use std::test::Fail;
+
+// A refused put hands its letter back, and a refused close its end, which is then as it was: it refuses again.
+fn nobody_takes<L: Lane, R: Wait + Abort>(rt: &R, alloc: Global) -> Result<(), LinkFault> {
+    let (mut tx, rx) = L::pair(alloc, 0, 0)?;
+    drop(rx);
+    let Err((letter, Lost)) = L::put(rt, &mut tx, Letter::Request(Token::open(9))) else {
+        panic!(rt; "put with no other end");
+    };
+    let Letter::Request(token) = letter else {
+        panic!(rt; "another letter came back");
+    };
+    assert_eq!(rt; token.edge(), 9);
+    let Err((mut tx, Lost)) = L::close(rt, tx) else {
+        panic!(rt; "closed with no other end");
+    };
+    let Err((letter, Lost)) = L::put(rt, &mut tx, Letter::Request(token)) else {
+        panic!(rt; "put with no other end");
+    };
+    let Letter::Request(token) = letter else {
+        panic!(rt; "another letter came back");
+    };
+    assert_eq!(rt; token.edge(), 9);
+    let Err((_tx, Lost)) = L::close(rt, tx) else {
+        panic!(rt; "closed with no other end");
+    };
+    Ok(())
+}
+
+// What was put before its end was gone is still taken. Then a take is refused, and leaves the end as it was.
+fn nobody_puts<L: Lane, R: Wait + Abort>(rt: &R, alloc: Global) -> Result<(), LinkFault> {
+    let (mut tx, mut rx) = L::pair(alloc, 0, 0)?;
+    assert!(rt; L::put(rt, &mut tx, Letter::Done).is_ok());
+    drop(tx);
+    let Ok(letter) = L::take(rt, &mut rx) else {
+        panic!(rt; "a letter was lost");
+    };
+    assert_eq!(rt; letter.kind(), Kind4::Done);
+    if L::is_closed(&rx) {
+        panic!(rt; "closed by {:?}", letter.kind());
+    }
+    assert!(rt; L::take(rt, &mut rx).is_err());
+    assert!(rt; !L::is_closed(&rx));
+    assert!(rt; L::take(rt, &mut rx).is_err());
+    assert!(rt; !L::is_closed(&rx));
+    Ok(())
+}
+
+#[test]
+fn channel_refuses_steps_where_the_other_end_is_gone(rt: HostRuntime) -> Result<(), Fail> {
+    nobody_takes::<ChannelLane, HostRuntime>(&rt, rt.alloc())?;
+    nobody_puts::<ChannelLane, HostRuntime>(&rt, rt.alloc())?;
+    Ok(())
+}
+
+// A link tells no refusal where none was, and then those that it is told of.
+fn tells_refusals<L: Lane, R: Wait + Abort>(rt: &R, alloc: Global) -> Result<(), LinkFault> {
+    let (mut tx, rx) = L::pair(alloc, 3, 1)?;
+    assert!(rt; L::put(rt, &mut tx, Letter::Done).is_ok());
+    let end = L::reconcile(TxEnd::Live(tx), rx);
+    assert_eq!(rt; (end.put_refused(), end.take_refused()), (false, false));
+    let end = end.and_refused(true, false);
+    assert_eq!(rt; (end.put_refused(), end.take_refused()), (true, false));
+    let end = end.and_refused(false, true);
+    assert_eq!(rt; (end.put_refused(), end.take_refused()), (true, true));
+    assert_eq!(rt; (end.edge(), end.from()), (3, 1));
+    assert_eq!(rt; (end.put(), end.taken(), end.shut()), (1, 0, false));
+    Ok(())
+}
+
+#[test]
+fn link_tells_the_refusals_of_its_ends(rt: HostRuntime) -> Result<(), Fail> {
+    tells_refusals::<ChannelLane, HostRuntime>(&rt, rt.alloc())?;
+    tells_refusals::<RingLane, HostRuntime>(&rt, rt.alloc())?;
+    Ok(())
+}
