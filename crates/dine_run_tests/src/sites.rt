@@ -1,11 +1,11 @@
 // One site on one thread: its links and its bell are filled before it starts.
 ghost use Rattle.std.specs.Prelude.{◌≡◌, false, All, IfOk, vec_len};
-ghost use Rattle.dine_link.specs.Channels as channels;
 ghost use Rattle.dine_link.specs.Links.{IsUnused};
 ghost use Rattle.dine_run.specs.Ports.{IsFreshPort, seen_ports};
 
 mod diners;
 mod graphs;
+mod refusals;
 mod runs;
 mod star;
 mod tables;
@@ -14,7 +14,7 @@ mod threads;
 use crate::orders::{HIGHER, LOWER};
 use dine_core::site::{fresh_forks, fresh_tokens};
 use dine_core::{EventKind, SiteCore, World};
-use dine_link::{Bell, ChannelLane, ChannelRx, Lane, RingLane, Ringer, TxEnd};
+use dine_link::{Bell, ChannelLane, Lane, RingLane, Ringer, TxEnd};
 use dine_plan::{Plan, read_plan};
 use dine_rules::{Breach, Kind4, Letter};
 use dine_run::{
@@ -339,68 +339,6 @@ fn refused_put_is_a_fault(rt: HostRuntime) -> Result<(), Fail> {
     };
     assert_eq!(rt; (stray.link, stray.letter.kind()), (0, Kind4::Done));
     Ok(())
-}
-
-// The lower site, whose link from the neighbour gives nothing, with its bell rung, or whose ring is refused. It has eaten and said Done
-// by then.
-fn lower_is_refused(
-    rt: HostRuntime,
-    bell: Bell,
-    rx: ChannelRx,
-    ringer: Ringer,
-) -> Result<(SiteEnd<ChannelLane, Fixed>, ChannelRx), Fail>
-    requires degree { bell.degree ≡ 1 }
-    requires unheard { bell.refused ≡ false }
-    requires nothing_taken { IsUnused (channels.seen_rx rx) }
-    requires silent { (ringer.rings ≡ 0) × (ringer.refused ≡ false) }
-    ensures { IfOk result (λ it. IsUnused (channels.seen_rx it.1)) }
-{
-    let alloc = rt.alloc();
-    let plan = read_plan(alloc, PAIR).expect(&rt, "a plan");
-    let (tx, far_rx) = link_from::<ChannelLane>(alloc, 0, 0)?;
-    let ports = one_port::<ChannelLane>(alloc, tx, rx, ringer)?;
-    let end = run_alone::<ChannelLane, HostRuntime>(&rt, alloc, &plan, 0, ports, bell, 0)?;
-    assert_eq!(rt; (end.ate, end.failed, end.ports.len()), (1, 0, 1));
-    assert!(rt; end.journal.as_slice() == &LOWER[..4]);
-    assert!(rt; end.stray.is_none());
-    Ok((end, far_rx))
-}
-
-// What the neighbour of a site that broke off finds.
-fn finds_done_and_close(rt: HostRuntime, far_rx: ChannelRx) -> Result<(), Fail>
-    requires { IsUnused (channels.seen_rx far_rx) }
-{
-    let mut far_rx = far_rx;
-    let Ok(Letter::Done) = ChannelLane::take(&rt, &mut far_rx) else {
-        return Err(Fail::from("no Done"));
-    };
-    let Ok(Letter::Close) = ChannelLane::take(&rt, &mut far_rx) else {
-        return Err(Fail::from("no Close"));
-    };
-    Ok(())
-}
-
-#[test]
-fn refused_take_is_a_fault(rt: HostRuntime) -> Result<(), Fail> {
-    let (mut ringer, bell) = one_ringer(rt.alloc())?;
-    let (far_ringer, _far_bell) = one_ringer(rt.alloc())?;
-    let (far_tx, rx) = link_from::<ChannelLane>(rt.alloc(), 0, 1)?;
-    drop(far_tx);
-    assert_eq!(rt; ringer.ring(&rt), Ok(()));
-    let (end, far_rx) = lower_is_refused(rt, bell, rx, far_ringer)?;
-    assert_eq!(rt; end.fault, Some(SiteFault::Lost(0)));
-    finds_done_and_close(rt, far_rx)
-}
-
-#[test]
-fn refused_ring_is_a_fault(rt: HostRuntime) -> Result<(), Fail> {
-    let (_ringer, bell) = one_ringer(rt.alloc())?;
-    let (far_ringer, far_bell) = one_ringer(rt.alloc())?;
-    drop(far_bell);
-    let (_far_tx, rx) = link_from::<ChannelLane>(rt.alloc(), 0, 1)?;
-    let (end, far_rx) = lower_is_refused(rt, bell, rx, far_ringer)?;
-    assert_eq!(rt; end.fault, Some(SiteFault::Lost(1)));
-    finds_done_and_close(rt, far_rx)
 }
 
 #[test]
