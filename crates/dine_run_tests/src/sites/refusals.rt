@@ -24,8 +24,9 @@ const DONE_AND_CLOSE: [EventKind; 6] = [
 
 // The lower site, whose link from the neighbour gives nothing, with its bell rung, or whose ring is refused. It has eaten and said Done
 // by then.
-fn lower_is_refused(
-    rt: HostRuntime,
+fn lower_is_refused<R: Wait + Abort>(
+    rt: &R,
+    alloc: Global,
     bell: Bell,
     rx: ChannelRx,
     ringer: Ringer,
@@ -36,11 +37,10 @@ fn lower_is_refused(
     requires silent { (ringer.rings ≡ 0) × (ringer.refused ≡ false) }
     ensures { IfOk result (λ it. IsUnused (channels.seen_rx it.1)) }
 {
-    let alloc = rt.alloc();
-    let plan = read_plan(alloc, PAIR).expect(&rt, "a plan");
+    let plan = read_plan(alloc, PAIR).expect(rt, "a plan");
     let (tx, far_rx) = link_from::<ChannelLane>(alloc, 0, 0)?;
     let ports = one_port::<ChannelLane>(alloc, tx, rx, ringer)?;
-    let end = run_alone::<ChannelLane, HostRuntime>(&rt, alloc, &plan, 0, ports, bell, 0)?;
+    let end = run_alone::<ChannelLane, R>(rt, alloc, &plan, 0, ports, bell, 0)?;
     assert_eq!(rt; (end.ate, end.failed, end.ports.len()), (1, 0, 1));
     assert!(rt; end.journal.as_slice() == &LOWER[..4]);
     assert!(rt; end.stray.is_none());
@@ -48,14 +48,14 @@ fn lower_is_refused(
 }
 
 // What the neighbour of a site that broke off finds.
-fn finds_done_and_close(rt: HostRuntime, far_rx: ChannelRx) -> Result<(), Fail>
+fn finds_done_and_close<R: Wait>(rt: &R, far_rx: ChannelRx) -> Result<(), Fail>
     requires { IsUnused (channels.seen_rx far_rx) }
 {
     let mut far_rx = far_rx;
-    let Ok(Letter::Done) = ChannelLane::take(&rt, &mut far_rx) else {
+    let Ok(Letter::Done) = ChannelLane::take(rt, &mut far_rx) else {
         return Err(Fail::from("no Done"));
     };
-    let Ok(Letter::Close) = ChannelLane::take(&rt, &mut far_rx) else {
+    let Ok(Letter::Close) = ChannelLane::take(rt, &mut far_rx) else {
         return Err(Fail::from("no Close"));
     };
     Ok(())
@@ -68,9 +68,9 @@ fn refused_take_is_a_fault(rt: HostRuntime) -> Result<(), Fail> {
     let (far_tx, rx) = link_from::<ChannelLane>(rt.alloc(), 0, 1)?;
     drop(far_tx);
     assert_eq!(rt; ringer.ring(&rt), Ok(()));
-    let (end, far_rx) = lower_is_refused(rt, bell, rx, far_ringer)?;
+    let (end, far_rx) = lower_is_refused(&rt, rt.alloc(), bell, rx, far_ringer)?;
     assert_eq!(rt; end.fault, Some(SiteFault::Lost(0)));
-    finds_done_and_close(rt, far_rx)
+    finds_done_and_close(&rt, far_rx)
 }
 
 #[test]
@@ -79,9 +79,9 @@ fn refused_ring_is_a_fault(rt: HostRuntime) -> Result<(), Fail> {
     let (far_ringer, far_bell) = one_ringer(rt.alloc())?;
     drop(far_bell);
     let (_far_tx, rx) = link_from::<ChannelLane>(rt.alloc(), 0, 1)?;
-    let (end, far_rx) = lower_is_refused(rt, bell, rx, far_ringer)?;
+    let (end, far_rx) = lower_is_refused(&rt, rt.alloc(), bell, rx, far_ringer)?;
     assert_eq!(rt; end.fault, Some(SiteFault::Lost(1)));
-    finds_done_and_close(rt, far_rx)
+    finds_done_and_close(&rt, far_rx)
 }
 
 // Takes the Done of the lower site, lets that link go, and says Done.
