@@ -1,5 +1,5 @@
 -- A letter that is in turn, and that a core does not wait for, changes nothing of what the core may do by itself.
-use Rattle.std.proofs.Common.{◌≡◌, ℕ, zero, suc, ◌+◌, ◌-◌, ◌<◌, ◌==◌, ◌&&◌, ◌||◌, nat_lt, nat_le, not, Bool, true, false, cond, List, [], ◌∷◌, ◌++◌, length, map, replicate, set, get_or, count_by, find, is_some, Option, Some, None, refl, sym, ◌∙◌, ap, ap₂, subst, arith, if◌then◌else◌}
+use Rattle.std.proofs.Common.{◌≡◌, ℕ, zero, suc, ◌+◌, ◌-◌, ◌<◌, ◌==◌, ◌&&◌, ◌||◌, nat_lt, not, Bool, true, false, cond, List, [], ◌∷◌, length, map, replicate, set, get_or, count_by, find, is_some, Option, Some, None, refl, sym, ◌∙◌, ap, ap₂, arith, if◌then◌else◌}
 use Rattle.std.specs.List.{list_all, range_with_len}
 use Rattle.std.proofs.lemmas.Bool.{leb-false}
 use Rattle.std.proofs.lemmas.List.{get_or-map, get_or_append_left, length-map, length-set}
@@ -23,7 +23,7 @@ use Rattle.dine_core.specs.declared.site.places.ForkSlot.{ForkSlot}
 use Rattle.dine_core.specs.declared.site.places.ForkSlot.TheVariants.{Away, Here, InMeal}
 use Rattle.dine_core.specs.Core.{SeenCore}
 use Rattle.dine_core.specs.NextEvent.{can_by_itself, next_of, own_kinds}
-use Rattle.dine_core.specs.Places.{breach_at, can_ask_at, can_close_at, can_give_at, can_say_done_at, has_token_at, is_away_at, is_dirty_at, is_dirty_in_hand, is_held, is_open_at, is_ready_at, no_place, noted, place_at, took, with_place}
+use Rattle.dine_core.specs.Places.{can_ask_at, can_close_at, can_give_at, can_say_done_at, has_token_at, is_away_at, is_dirty_at, is_dirty_in_hand, is_held, is_open_at, is_ready_at, no_place, noted, place_at, took, with_place}
 use Rattle.dine_core.specs.Wants.{TakesUnwanted, wants_of}
 use Rattle.dine_core.proofs.NextEvents.{find_same}
 

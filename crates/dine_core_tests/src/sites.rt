@@ -557,7 +557,10 @@ fn what_a_site_waits_for_follows_its_forks(rt: HostRuntime) {
     let mut a = core_of(&rt, rt.alloc(), &plan, 0);
     let mut b = core_of(&rt, rt.alloc(), &plan, 1);
     let mut c = core_of(&rt, rt.alloc(), &plan, 2);
-    assert_eq!(rt; (waits_for(&a), waits_for(&c)), ((Some(0), 1, 0), (None, 0, 1)));
+    assert_eq!(rt;
+        (waits_for(&a), waits_for(&c)),
+        ((Some(0), 1, 0), (None, 0, 1))
+    );
     assert_eq!(rt; waits_for(&b), (Some(1), 1, 1));
     grow_hungry(&rt, &mut c);
     let letter = ask(&rt, &mut c);
