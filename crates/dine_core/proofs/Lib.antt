@@ -36,3 +36,5 @@ pub mod Counts
 pub mod Heard
 pub mod HeardPlaces
 pub mod KindsNow
+pub mod Unwanted
+pub mod WantsByLists

@@ -89,7 +89,7 @@ module _ (plan : SeenPlan) (state : LocalState) (core : SeenCore) (stands : Stan
         (fork_with plan (edge_at plan core.site i) (hand_at core.site state i)) (has_close (traffic_at state i).put)
 
     -- the fork is held, and the token is, by the place and by the whole lists
-    held_is : not (is_held (place_at core i).fork) ≡ (fork_at plan core.site state i == 0)
+    pub held_is : not (is_held (place_at core i).fork) ≡ (fork_at plan core.site state i == 0)
     held_is = ap (λ (p : Place). not (is_held p.fork)) (place_is plan state core stands i within)
         ∙ ap not (held_test (is_eating state.phase) (fork_at plan core.site state i == 1) (meals_of (neighbour_at plan core.site i) (hand_at core.site state i)) (fork_with plan (edge_at plan core.site i) (hand_at core.site state i)))
         ∙ not_one (fork_at plan core.site state i) (keeps.places i (omega (arith, stands.degree))).one_fork

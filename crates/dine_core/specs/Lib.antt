@@ -26,3 +26,4 @@ pub mod Counts
 pub mod Heard
 pub mod WorldFields
 pub mod NextEvent
+pub mod Wants

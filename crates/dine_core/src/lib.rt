@@ -3,8 +3,10 @@
 #![tactic(auto)]
 
 pub mod site;
+pub mod waking;
 pub mod world;
 
 pub use dine_rules::{Breach, Event, EventKind, Kind4, Letter, Phase, laws};
+pub use dine_set::WordSet;
 pub use site::{Packed, Parts, SiteCore};
 pub use world::{NotEnabled, World};

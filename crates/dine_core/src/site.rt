@@ -1,8 +1,9 @@
 //! One site.
 
-ghost use Rattle.std.specs.Prelude.{◌≡◌, ◌≢◌, ℕ, ◌<◌, ◌==◌, Some, None, is_some, true, false, length, map, IfOk, MatchOption, MatchResult};
+ghost use Rattle.std.specs.Prelude.{◌≡◌, ◌≢◌, ℕ, ◌<◌, ◌==◌, Some, None, is_some, true, false, length, map, count_by, IfOk, MatchOption, MatchResult};
 ghost use Rattle.std.specs.List.{list_all};
 ghost use Rattle.dine_token.specs.Fork.{eaten, moved};
+ghost use Rattle.dine_set.specs.Marks.{marks_of};
 ghost use Rattle.dine_plan.specs.Plan.{SeenPlan, site_count, edges_of};
 ghost use Rattle.dine_rules.specs.Breach.{first_breach};
 ghost use Rattle.dine_rules.specs.Letters.{has_close};
@@ -12,9 +13,10 @@ ghost use Rattle.dine_rules.specs.Holdings.{fork_at, token_at};
 ghost use Rattle.dine_rules.specs.Steps as step;
 ghost use Rattle.dine_rules.specs.Steps.{after};
 ghost use Rattle.dine_core.specs.Core.{SeenCore, StandsFor, forks_in_hand, fresh_forks, fresh_tokens};
-ghost use Rattle.dine_core.specs.Places.{place_at, hand_of, is_held, can_give, can_ask, can_hunger, can_begin, can_say_done, can_close, is_ready_at, is_over_at, is_closed_at, neighbour_of, OnHere, has_all_said, has_all_closed, breach_at, hungered, asked, gave, begun, ended, said_done, closed, took, forks_of, tokens_of, IsMealOf};
+ghost use Rattle.dine_core.specs.Places.{place_at, hand_of, is_held, is_away_at, is_dirty_at, can_give, can_ask, can_hunger, can_begin, can_say_done, can_close, is_ready_at, is_over_at, is_closed_at, neighbour_of, OnHere, has_all_said, has_all_closed, breach_at, hungered, asked, gave, begun, ended, said_done, closed, took, forks_of, tokens_of, IsMealOf};
 ghost use Rattle.dine_core.specs.LinkNumbers.{link_to, link_from};
 ghost use Rattle.dine_core.specs.Standing.{ForEachState, IsFreshFor, TellsMay, CoreStep, CoreSteps, CorePuts, TellsBreach, AreForksInHand, AreTokensInHand, all_places, has_finished, has_closed};
+ghost use Rattle.dine_core.specs.Wants.{wants_by_lists};
 
 mod marked;
 mod meals;
@@ -25,6 +27,7 @@ pub(crate) mod places;
 
 use dine_plan::Plan;
 pub use dine_rules::{Breach, Kind4, Letter, Phase};
+use dine_set::WordSet;
 use dine_token::{Fork, Held, Meal, Token};
 use marked::MarkedPlaces;
 pub use opening::{fresh_forks, fresh_tokens};
@@ -177,6 +180,22 @@ impl SiteCore {
         ensures by_lists { ForEachState self.now (λ plan state. result ≡ has_finished plan self.now.site state) }
     {
         self.phase == Phase::Thinking && self.ate == self.due && self.places.are_all_over()
+    }
+
+    /// The places where the fork is in hand and dirty, which is where a Request can have the site give it.
+    pub fn dirty_places(&self) -> WordSet
+        ensures marks { result ≡ marks_of is_dirty_at self.now.places }
+        ensures by_lists { ForEachState self.now (λ plan state. result ≡ (wants_by_lists plan self.now.site state).requests) }
+    {
+        self.places.dirty_places()
+    }
+
+    /// How many forks the site does not hold.
+    pub fn missing_forks(&self) -> u32
+        ensures count { result ≡ count_by is_away_at self.now.places }
+        ensures by_lists { ForEachState self.now (λ plan state. result ≡ (wants_by_lists plan self.now.site state).forks) }
+    {
+        self.places.count_away()
     }
 
     /// The number of the link of the world that leads to the site at place `i`.

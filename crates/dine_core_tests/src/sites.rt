@@ -30,6 +30,11 @@ const ROW: &str = "version = 1\n\
     [[site]]\nname = \"a\"\n[[site]]\nname = \"b\"\n[[site]]\nname = \"c\"\njobs = [{ name = \"x\" }]\n\
     [[edge]]\nends = [\"a\", \"b\"]\n[[edge]]\nends = [\"b\", \"c\"]\n";
 
+// The same with a job at the middle too.
+const BUSY_ROW: &str = "version = 1\n\
+    [[site]]\nname = \"a\"\n[[site]]\nname = \"b\"\njobs = [{ name = \"x\" }]\n[[site]]\nname = \"c\"\njobs = [{ name = \"y\" }]\n\
+    [[edge]]\nends = [\"a\", \"b\"]\n[[edge]]\nends = [\"b\", \"c\"]\n";
+
 // The core of a site, with the forks and tokens that it has at the start.
 fn core_of(rt: &impl Abort, alloc: Global, plan: &Plan, site: u32) -> SiteCore {
     assert!(rt; site < plan.sites());
@@ -44,9 +49,13 @@ fn grow_hungry(rt: &impl Abort, core: &mut SiteCore) {
 }
 
 fn ask(rt: &impl Abort, core: &mut SiteCore) -> Letter {
-    assert!(rt; 0 < core.degree());
-    assert!(rt; core.may_ask(0));
-    core.ask(0)
+    ask_at(rt, core, 0)
+}
+
+fn ask_at(rt: &impl Abort, core: &mut SiteCore, i: u32) -> Letter {
+    assert!(rt; i < core.degree());
+    assert!(rt; core.may_ask(i));
+    core.ask(i)
 }
 
 fn give(rt: &impl Abort, core: &mut SiteCore) -> Letter {
@@ -534,6 +543,50 @@ fn events_follow_the_phase(rt: HostRuntime) {
     let left = spend(&rt, a);
     let parts = spend(&rt, b);
     assert_eq!(rt; (left.forks.len(), parts.forks.len()), (0, 1));
+}
+
+// The first place where the fork is in hand and dirty, how many such places there are, and how many forks are missing.
+fn waits_for(core: &SiteCore) -> (Option<u32>, u32, u32) {
+    let dirty = core.dirty_places();
+    (dirty.first(), dirty.len(), core.missing_forks())
+}
+
+#[test]
+fn what_a_site_waits_for_follows_its_forks(rt: HostRuntime) {
+    let plan = read_plan(rt.alloc(), BUSY_ROW).expect(&rt, "a plan");
+    let mut a = core_of(&rt, rt.alloc(), &plan, 0);
+    let mut b = core_of(&rt, rt.alloc(), &plan, 1);
+    let mut c = core_of(&rt, rt.alloc(), &plan, 2);
+    assert_eq!(rt;
+        (waits_for(&a), waits_for(&c)),
+        ((Some(0), 1, 0), (None, 0, 1))
+    );
+    assert_eq!(rt; waits_for(&b), (Some(1), 1, 1));
+    grow_hungry(&rt, &mut c);
+    let letter = ask(&rt, &mut c);
+    take_at(&rt, &mut b, 1, letter);
+    assert_eq!(rt; waits_for(&b), (Some(1), 1, 1));
+    let letter = give_at(&rt, &mut b, 1);
+    assert_eq!(rt; waits_for(&b), (None, 0, 2));
+    take(&rt, &mut c, letter);
+    assert_eq!(rt; waits_for(&c), (None, 0, 0));
+    eat(&rt, &mut c);
+    grow_hungry(&rt, &mut b);
+    let letter = ask(&rt, &mut b);
+    take(&rt, &mut a, letter);
+    let letter = give(&rt, &mut a);
+    take(&rt, &mut b, letter);
+    assert_eq!(rt; waits_for(&b), (None, 0, 1));
+    let letter = ask_at(&rt, &mut b, 1);
+    take(&rt, &mut c, letter);
+    let letter = give(&rt, &mut c);
+    take_at(&rt, &mut b, 1, letter);
+    assert_eq!(rt; waits_for(&b), (None, 0, 0));
+    eat(&rt, &mut b);
+    assert_eq!(rt; waits_for(&b), (Some(0), 2, 0));
+    spend(&rt, a);
+    spend(&rt, b);
+    spend(&rt, c);
 }
 
 #[test]

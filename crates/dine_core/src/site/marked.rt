@@ -1,10 +1,10 @@
 // The places of a site, with the sets of those that pass each test of a place.
 
-ghost use Rattle.std.specs.Prelude.{◌≡◌, ℕ, ◌<◌, ◌≤◌, [], ◌∷◌, ◌++◌, All, IfOk, OnErr, OnOk, is_some, true, length, map, slice_index_or, slice_set, vec_capacity};
+ghost use Rattle.std.specs.Prelude.{◌≡◌, ℕ, ◌<◌, ◌≤◌, [], ◌∷◌, ◌++◌, All, IfOk, OnErr, OnOk, is_some, true, length, map, slice_index_or, slice_set, vec_capacity, count_by};
 ghost use Rattle.std.specs.List.{list_all};
 ghost use Rattle.dine_token.specs.Fork.{MayMove, moved};
 ghost use Rattle.dine_set.specs.Marks.{marks_of};
-ghost use Rattle.dine_core.specs.Places.{no_place, neighbour_of, hand_of, noted, with_fork, lifted, laid_down, forks_of, tokens_of, is_dirty_at, is_ready_at, is_over_at, is_closed_at, can_give_at, can_ask_at, can_say_done_at, can_close_at, IsLiftable, OnHere};
+ghost use Rattle.dine_core.specs.Places.{no_place, neighbour_of, hand_of, noted, with_fork, lifted, laid_down, forks_of, tokens_of, is_away_at, is_dirty_at, is_ready_at, is_over_at, is_closed_at, can_give_at, can_ask_at, can_say_done_at, can_close_at, IsLiftable, OnHere};
 
 use super::places::{ForkSlot, Place};
 use super::{Parts, meals};
@@ -150,6 +150,20 @@ impl MarkedPlaces {
         self.said
             .intersection(self.heard)
             .intersection(self.unclosed)
+    }
+
+    /// The places where the fork is in hand and dirty.
+    pub(crate) fn dirty_places(&self) -> WordSet
+        ensures { result ≡ marks_of is_dirty_at self.now }
+    {
+        self.dirty
+    }
+
+    /// At how many places the fork is away.
+    pub(crate) fn count_away(&self) -> u32
+        ensures { result ≡ count_by is_away_at self.now }
+    {
+        self.away.len()
     }
 
     /// Hands out the token of place `i`.

@@ -1,0 +1,10 @@
+use Rattle.std.proofs.Common.{◌∙◌, arith}
+use Rattle.std.proofs.lemmas.Grind.{common_steps}
+use Rattle.dine_core.proofs.WantsByLists.{away_by_lists}
+use Rattle.dine_core.proofs.site.SiteCore.missing_forks.Goals as goal
+
+pub returns-clause-count : goal.returns-clause-count
+returns-clause-count c = grind (arith, common_steps)
+
+pub returns-clause-by_lists : goal.returns-clause-by_lists
+returns-clause-by_lists c plan state keeps stands = returns-clause-count c ∙ away_by_lists plan state c.args.self.now keeps stands
