@@ -25,6 +25,7 @@ pub(crate) mod places;
 
 use dine_plan::Plan;
 pub use dine_rules::{Breach, Kind4, Letter, Phase};
+use dine_set::WordSet;
 use dine_token::{Fork, Held, Meal, Token};
 use marked::MarkedPlaces;
 pub use opening::{fresh_forks, fresh_tokens};
@@ -177,6 +178,16 @@ impl SiteCore {
         ensures by_lists { ForEachState self.now (λ plan state. result ≡ has_finished plan self.now.site state) }
     {
         self.phase == Phase::Thinking && self.ate == self.due && self.places.are_all_over()
+    }
+
+    /// The places where the fork is in hand and dirty: a Request there has the site give it.
+    pub fn dirty_places(&self) -> WordSet {
+        self.places.dirty_places()
+    }
+
+    /// How many forks the site does not hold.
+    pub fn missing_forks(&self) -> u32 {
+        self.places.count_away()
     }
 
     /// The number of the link of the world that leads to the site at place `i`.

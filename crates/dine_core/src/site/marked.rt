@@ -152,6 +152,16 @@ impl MarkedPlaces {
             .intersection(self.unclosed)
     }
 
+    /// The places where the fork is in hand and dirty.
+    pub(crate) fn dirty_places(&self) -> WordSet {
+        self.dirty
+    }
+
+    /// At how many places the fork is away.
+    pub(crate) fn count_away(&self) -> u32 {
+        self.away.len()
+    }
+
     /// Hands out the token of place `i`.
     pub(crate) fn take_token(&mut self, i: u32) -> Token
         requires place { i < length self.old }
