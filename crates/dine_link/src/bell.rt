@@ -80,9 +80,9 @@ impl Bell {
         ensures ringers { IfOk result (λ opened. opened.0.items ≡ map (new_ringer opened.1.identity) (range_with_len 0 degree)) }
         ensures bell { IfOk result (λ opened. opened.1 ≡ new_bell opened.1.identity degree) }
     {
-        let capacity = (RINGS_EACH * degree as usize).max(1);
         let Ok((sender, receiver, mut pass)) = bounded_with::<u32, Part, OfRingers, Global>(
-            alloc, capacity,
+            alloc,
+            room_of(degree),
         ) else {
             return Err(LinkFault::Memory);
         };
@@ -113,8 +113,8 @@ impl Bell {
         self.wait_for(rt, Wants::anything())
     }
 
-    /// The same, but once no ring is left to tell it sleeps until a ring that it wants, or any that is not for a letter. Rings
-    /// that it does not want lie until then, and are told in their turn.
+    /// The same, but once no ring is left to tell it sleeps until a ring that it wants, one that is not for a letter, or so many
+    /// that it has no room for more. Rings that it does not want lie until then, and are told in their turn.
     ///
     /// Fails as `wait` does.
     pub fn wait_for<R: Wait>(&mut self, rt: &R, wants: Wants) -> Result<u32, Lost>
@@ -162,10 +162,17 @@ impl Bell {
             &mut self.pass,
         );
         if heard.is_none() {
-            rest.lie_down(wants);
+            rest.lie_down(wants, room_of(self.degree));
         }
         heard
     }
+}
+
+// For how many rings that were not yet told a bell of that degree has room.
+fn room_of(degree: u32) -> usize
+    ensures { 0 < result }
+{
+    (RINGS_EACH * degree as usize).max(1)
 }
 
 // The ringers of a new bell, in the order of their numbers.

@@ -1,5 +1,5 @@
 // What a bell shares with its ringers: whether it sleeps, what wakes it, and how it is woken.
-ghost use Rattle.std.specs.Prelude.{◌≡◌, ◌&&◌, not, true, false};
+ghost use Rattle.std.specs.Prelude.{◌≡◌, ◌-◌, nat_le, ◌&&◌, ◌||◌, not, true, false};
 ghost use Rattle.dine_link.specs.Waking.{seen_wants, wakes, still_wants};
 
 use crate::wants::Wants;
@@ -9,11 +9,12 @@ use std::sync::atomic::{AtomicU64, Ordering};
 use std::sync::{Arc, Mutex, Wait};
 use std::thread::Parker;
 
-// Whether the bell sleeps, and what it wants while it does.
+// Whether the bell sleeps, what it wants while it does, and for how many rings more it has room.
 #[derive(Drop)]
 pub struct Rest {
     asleep: bool,
     wants: Wants,
+    room: usize,
 }
 
 // The bell parks, and a ringer that found it asleep unparks it.
@@ -34,16 +35,25 @@ impl Rest {
         Rest {
             asleep: false,
             wants: Wants::anything(),
+            room: 0,
         }
     }
 
-    // The bell lies down.
-    pub fn lie_down(&mut self, wants: Wants)
+    // The bell lies down, with room for so many rings.
+    pub fn lie_down(&mut self, wants: Wants, room: usize)
         ensures asleep { self.new.asleep ≡ true }
         ensures wants { self.new.wants ≡ wants }
+        ensures room { self.new.room ≡ room }
     {
         self.asleep = true;
         self.wants = wants;
+        self.room = room;
+    }
+
+    // Whether the bell sleeps.
+    #[cfg(test)]
+    pub fn is_asleep(&self) -> bool {
+        self.asleep
     }
 
     // Wakes the bell, and tells whether it slept.
@@ -56,20 +66,23 @@ impl Rest {
         slept
     }
 
-    // Notes a ring for a letter of that kind, wakes a bell that wants it, and tells whether it did.
+    // Notes a ring for a letter of that kind, and tells whether it wakes the bell: one that the bell wants does, and the last one
+    // that it has room for, so that nobody waits for room beside a bell that sleeps.
     pub fn note(&mut self, number: u32, kind: Kind4) -> bool
-        ensures woken { result ≡ (self.old.asleep && wakes (seen_wants self.old.wants) number kind) }
+        ensures woken { result ≡ (self.old.asleep && (wakes (seen_wants self.old.wants) number kind || nat_le self.old.room 1)) }
         ensures asleep { self.new.asleep ≡ (self.old.asleep && not result) }
         ensures wants { self.new.asleep ≡ true → seen_wants self.new.wants ≡ still_wants (seen_wants self.old.wants) kind }
+        ensures room { self.new.asleep ≡ true → self.new.room ≡ self.old.room - 1 }
     {
         if !self.asleep {
             return false;
         }
-        if self.wants.has(number, kind) {
+        if self.wants.has(number, kind) || self.room <= 1 {
             self.asleep = false;
             return true;
         }
         self.wants.note(kind);
+        self.room -= 1;
         false
     }
 }
