@@ -253,13 +253,14 @@ impl Ringer {
     fn sound<R: Wait>(&mut self, rt: &R, kind: Kind4) -> Result<bool, TrySendError<u32>>
         ensures { MatchResult result (λ _. self.new ≡ after_ring self.old) (λ _. self.new ≡ self.old) }
     {
+        let number = self.number;
         let mut rest = self.waker.sleeper.rest.lock(rt);
         waiting::send_now::<u32, Part, OfRingers, Sounds, R>(
             rt,
             &self.sender,
             &mut self.pass,
-            self.number,
+            number,
         )?;
-        Ok(rest.note(self.number, kind))
+        Ok(rest.note(number, kind))
     }
 }
