@@ -8,3 +8,4 @@ pub mod BellRule
 pub mod Bells
 pub mod BellFields
 pub mod Rings
+pub mod Waking

@@ -13,9 +13,11 @@ mod link_end;
 mod pausing;
 mod ring;
 mod rule;
+mod sleeper;
 #[cfg(test)]
 mod tests;
 mod waiting;
+mod wants;
 
 pub use bell::{Bell, Ringer};
 pub use channel::{ChannelClosedTx, ChannelLane, ChannelRx, ChannelTx};
@@ -24,3 +26,4 @@ pub use gate::{Gate, Signal};
 pub use lane::{Lane, TxEnd};
 pub use link_end::LinkEnd;
 pub use ring::{RingClosedTx, RingLane, RingRx, RingTx};
+pub use wants::Wants;

@@ -1,8 +1,33 @@
 // Rings of one thread and of several.
 use super::*;
+use dine_set::WordSet;
 use std::process::Abort;
+use std::sync::atomic::{AtomicU64, Ordering};
 use std::test::Fail;
 use std::thread;
+use std::thread::{JoinHandle, Parker, Threads};
+use std::time::Duration;
+
+// How often a test looks again, each time after a pause of a millisecond. After that it fails, and does not hang.
+const LOOKS: u32 = 20000;
+
+// What a bell told.
+#[derive(Drop)]
+struct Heard {
+    // How many numbers, or refusals.
+    count: AtomicU64,
+    // Each number as a digit that is one greater, in order, and 9 where the wait was refused.
+    order: AtomicU64,
+    // How often it told each number.
+    each: [AtomicU64; 4],
+}
+
+// A bell that tells in a thread of its own.
+#[derive(Drop)]
+struct Apart {
+    child: JoinHandle<()>,
+    heard: Arc<Heard, Global>,
+}
 
 // A bell of that degree, and its ringers.
 fn opened(alloc: Global, degree: u32) -> Result<(Vec<Ringer>, Bell), Fail> {
@@ -132,6 +157,202 @@ fn opens_a_bell_or_tells_of_memory(rt: HostRuntime) -> Result<(), Fail> {
     match Bell::open(rt.alloc(), 3) {
         Ok((ringers, _bell)) => assert_eq!(rt; ringers.len(), 3),
         Err(fault) => assert_eq!(rt; fault, LinkFault::Memory),
+    }
+    Ok(())
+}
+
+// A Request of ringer 1, the second of two Forks, Done and Close.
+fn few() -> Wants {
+    let mut requests = WordSet::empty();
+    requests.insert(1);
+    Wants::of(requests, 2)
+}
+
+// Notes what the bell told.
+fn note(heard: &Heard, told: Result<u32, Lost>) {
+    let digit = match told {
+        Ok(number) => {
+            if let Some(count) = heard.each.get(number as usize) {
+                count.fetch_add(1, Ordering::SeqCst);
+            }
+            u64::from(number) + 1
+        }
+        Err(Lost) => 9,
+    };
+    let before = heard.order.load(Ordering::SeqCst);
+    heard.order.store(before.wrapping_mul(10).wrapping_add(digit), Ordering::SeqCst);
+    heard.count.fetch_add(1, Ordering::SeqCst);
+}
+
+// Has the bell tell so many numbers in a thread of its own. It wants few.
+fn set_apart<R>(rt: R, alloc: Global, mut bell: Bell, count: u32) -> Result<Apart, Fail>
+where
+    R: Threads + Wait + Copy + Send + 'static,
+{
+    let heard = Heard {
+        count: AtomicU64::new(0),
+        order: AtomicU64::new(0),
+        each: [const { AtomicU64::new(0) }; 4],
+    };
+    let Ok(heard) = Arc::new(alloc, heard) else {
+        return Err(Fail::from("no memory for what is heard"));
+    };
+    let theirs = Arc::try_clone(&heard)?;
+    let child = thread::spawn(&rt, move || {
+        for _ in 0..count {
+            note(&theirs, bell.wait_for(&rt, few()));
+        }
+    })?;
+    Ok(Apart { child, heard })
+}
+
+fn pause<R: Wait>(rt: &R) {
+    Parker::new().park_timeout(rt, Duration::from_millis(1));
+}
+
+impl Apart {
+    // Whether the bell told so many numbers, by the end of the looks.
+    fn tells<R: Wait>(&self, rt: &R, count: u64) -> bool {
+        for _ in 0..LOOKS {
+            if self.heard.count.load(Ordering::SeqCst) == count {
+                return true;
+            }
+            pause(rt);
+        }
+        false
+    }
+
+    // All that the bell told, which were so many numbers, in order.
+    fn end<R: Threads + Wait>(self, rt: &R, count: u64) -> Option<u64> {
+        if !self.tells(rt, count) {
+            return None;
+        }
+        self.child.join(rt);
+        Some(self.heard.order.load(Ordering::SeqCst))
+    }
+}
+
+// Whether the ringers' bell sleeps now.
+fn sleeps<R: Wait>(rt: &R, ringers: &[Ringer]) -> bool {
+    match ringers.first() {
+        Some(ringer) => ringer.waker.sleeper.rest.lock(rt).is_asleep(),
+        None => false,
+    }
+}
+
+// Whether it sleeps by the end of the looks.
+fn falls_asleep<R: Wait>(rt: &R, ringers: &[Ringer]) -> bool {
+    for _ in 0..LOOKS {
+        if sleeps(rt, ringers) {
+            return true;
+        }
+        pause(rt);
+    }
+    false
+}
+
+// The ringer at that place rings for a letter of that kind.
+fn ring_for<R: Abort + Wait>(rt: &R, ringers: &mut Vec<Ringer>, place: usize, kind: Kind4) {
+    let rung = match ringers.get_mut(place) {
+        Some(ringer) => ringer.ring_for(rt, kind),
+        None => Err(Lost),
+    };
+    assert_eq!(rt; rung, Ok(()));
+}
+
+#[test]
+fn an_unwanted_ring_lies_until_a_wanted_one(rt: HostRuntime) -> Result<(), Fail> {
+    let (mut ringers, bell) = opened(rt.alloc(), 2)?;
+    let apart = set_apart(rt, rt.alloc(), bell, 2)?;
+    assert!(rt; falls_asleep(&rt, ringers.as_slice()));
+    ring_for(&rt, &mut ringers, 0, Kind4::Request);
+    assert!(rt; sleeps(&rt, ringers.as_slice()));
+    ring_for(&rt, &mut ringers, 1, Kind4::Request);
+    assert_eq!(rt; apart.end(&rt, 2), Some(12));
+    Ok(())
+}
+
+#[test]
+fn the_last_fork_wakes(rt: HostRuntime) -> Result<(), Fail> {
+    let (mut ringers, bell) = opened(rt.alloc(), 2)?;
+    let apart = set_apart(rt, rt.alloc(), bell, 2)?;
+    assert!(rt; falls_asleep(&rt, ringers.as_slice()));
+    ring_for(&rt, &mut ringers, 1, Kind4::Fork);
+    assert!(rt; sleeps(&rt, ringers.as_slice()));
+    ring_for(&rt, &mut ringers, 0, Kind4::Fork);
+    assert_eq!(rt; apart.end(&rt, 2), Some(21));
+    Ok(())
+}
+
+#[test]
+fn done_close_and_plain_rings_wake(rt: HostRuntime) -> Result<(), Fail> {
+    let (mut ringers, bell) = opened(rt.alloc(), 2)?;
+    let apart = set_apart(rt, rt.alloc(), bell, 3)?;
+    assert!(rt; falls_asleep(&rt, ringers.as_slice()));
+    ring_for(&rt, &mut ringers, 0, Kind4::Done);
+    assert!(rt; apart.tells(&rt, 1) && falls_asleep(&rt, ringers.as_slice()));
+    ring_for(&rt, &mut ringers, 1, Kind4::Close);
+    assert!(rt; apart.tells(&rt, 2) && falls_asleep(&rt, ringers.as_slice()));
+    ring(&rt, &mut ringers, 0);
+    assert_eq!(rt; apart.end(&rt, 3), Some(121));
+    Ok(())
+}
+
+#[test]
+fn what_lies_is_told_once_the_ringers_are_gone(rt: HostRuntime) -> Result<(), Fail> {
+    let (mut ringers, bell) = opened(rt.alloc(), 2)?;
+    let apart = set_apart(rt, rt.alloc(), bell, 3)?;
+    assert!(rt; falls_asleep(&rt, ringers.as_slice()));
+    ring_for(&rt, &mut ringers, 0, Kind4::Request);
+    assert!(rt; sleeps(&rt, ringers.as_slice()));
+    drop(ringers);
+    assert_eq!(rt; apart.end(&rt, 3), Some(199));
+    Ok(())
+}
+
+// Three unwanted rings lie, and the fourth takes the last room.
+#[test]
+fn a_bell_wakes_before_it_is_full(rt: HostRuntime) -> Result<(), Fail> {
+    let (mut ringers, bell) = opened(rt.alloc(), 1)?;
+    let apart = set_apart(rt, rt.alloc(), bell, 4)?;
+    assert!(rt; falls_asleep(&rt, ringers.as_slice()));
+    for _ in 0..3 {
+        ring_for(&rt, &mut ringers, 0, Kind4::Request);
+    }
+    assert!(rt; sleeps(&rt, ringers.as_slice()));
+    ring_for(&rt, &mut ringers, 0, Kind4::Request);
+    assert_eq!(rt; apart.end(&rt, 4), Some(1111));
+    Ok(())
+}
+
+// Rings so often, with every third ring wanted, and at last for Done.
+fn ring_often<R: Wait>(rt: &R, ringer: &mut Ringer, times: u32) {
+    for i in 1..times {
+        let kind = if i % 3 == 0 { Kind4::Done } else { Kind4::Request };
+        let _ = ringer.ring_for(rt, kind);
+    }
+    let _ = ringer.ring_for(rt, Kind4::Done);
+}
+
+// They ring faster than the bell tells, so that it is full now and then.
+#[test]
+fn four_threads_ring_often(rt: HostRuntime) -> Result<(), Fail> {
+    let (ringers, bell) = opened(rt.alloc(), 4)?;
+    let apart = set_apart(rt, rt.alloc(), bell, 40000)?;
+    let mut threads = Vec::new(rt.alloc());
+    for mut ringer in ringers {
+        let child = thread::spawn(&rt, move || ring_often(&rt, &mut ringer, 10000)).ok();
+        threads.push(child).ok();
+    }
+    assert!(rt; apart.tells(&rt, 40000));
+    for count in &apart.heard.each {
+        assert_eq!(rt; count.load(Ordering::SeqCst), 10000);
+    }
+    apart.child.join(&rt);
+    for child in threads {
+        if let Some(child) = child {
+            child.join(&rt);
+        }
     }
     Ok(())
 }

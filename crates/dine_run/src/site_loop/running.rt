@@ -14,7 +14,7 @@ use crate::diner::Diner;
 use crate::port::{Closed, Port, Sent};
 use crate::site_end::{SiteEnd, SiteFault, Stray};
 use dine_core::SiteCore;
-use dine_link::{Bell, Lane, Lost};
+use dine_link::{Bell, Lane, Lost, Wants};
 use dine_rules::{EventKind, Letter, laws};
 use std::sync::Wait;
 
@@ -236,14 +236,15 @@ impl<L: Lane, D: Diner> Running<L, D> {
         }
     }
 
-    // Waits for the bell, and takes a letter at the place that rang.
+    // Waits for the bell until the site could do something, and takes a letter at the place that rang.
     fn hear<R: Wait>(&mut self, rt: &R) -> Result<(), Stop>
         requires running { ForSome IsRunning (seen_run L.seen_tx L.seen_closed L.seen_rx self.old) }
         requires bell { self.old.bell.degree ≡ vec_len self.old.ports }
         ensures way { Leads IsRunning (GoesOn result) (seen_run L.seen_tx L.seen_closed L.seen_rx self.old) (seen_run L.seen_tx L.seen_closed L.seen_rx self.new) }
         ensures same { SameMeals self.old self.new }
     {
-        match self.bell.wait(rt) {
+        let wants = Wants::of(self.core.dirty_places(), self.core.missing_forks());
+        match self.bell.wait_for(rt, wants) {
             Ok(i) if self.core.has_taken_close(i) => Ok(()),
             Ok(i) => self.take(rt, i),
             Err(Lost) => Err(self.lost_bell()),
