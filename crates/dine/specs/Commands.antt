@@ -36,16 +36,17 @@ pub record WritesPart (text : SeenPlan → List ℕ) (left before after : Option
   pub reads : IfSome left (λ bytes. IsPlanBytes bytes plan)
   pub writes : Appends before after (take count (text plan))
 
--- the text of what is asked for was written, whole or in part; where nothing is asked for, nothing is written
+-- the text of what is asked for was written whole; where nothing is asked for, this is never so
 abbrev pub IsDone : Option Asked → Option (List ℕ) → Option (List ℕ) → Option (List ℕ) → Type 0
 IsDone None left before after = ⊥
 IsDone (Some command) left before after = Writes (text_of command) left before after
 
+-- the first bytes of the text of what is asked for were written, all of them or some; where nothing is asked for, this is never so
 abbrev pub IsPartDone : Option Asked → Option (List ℕ) → Option (List ℕ) → Option (List ℕ) → Type 0
 IsPartDone None left before after = ⊥
 IsPartDone (Some command) left before after = WritesPart (text_of command) left before after
 
--- the bytes are no plan
+-- the bytes are no plan: there is a cause to refuse them
 abbrev pub IsRefused : List ℕ → Type 0
 IsRefused bytes = (cause : PlanFault) × (fault_of_bytes bytes ≡ Some cause)
 

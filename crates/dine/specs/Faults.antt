@@ -35,11 +35,12 @@ status_of fault.ReadingFailed = status.InputOutput
 status_of fault.InputTooLong = status.InputOutput
 status_of fault.WritingFailed = status.InputOutput
 
--- the fault that a fault of the words, of the input or of the plan is
+-- the fault of the program that a fault of the words is
 abbrev pub fault_of_words : WordsFault → Fault
 fault_of_words words.Usage = fault.Usage
 fault_of_words words.Memory = fault.OutOfMemory
 
+-- the fault of the program that a fault of the input is
 abbrev pub fault_of_input : InputFault → Fault
 fault_of_input input.Failed = fault.ReadingFailed
 fault_of_input input.TooLong = fault.InputTooLong
@@ -50,7 +51,7 @@ abbrev pub fault_of_arguments : ErrorKind → Fault
 fault_of_arguments kind.OutOfMemory = fault.OutOfMemory
 fault_of_arguments _ = fault.Usage
 
--- want of memory is told apart from every other cause to refuse a text
+-- the fault of the program that a cause to refuse a text is: want of memory is told apart from all others
 abbrev pub fault_of_text : PlanFault → Fault
 fault_of_text text.Memory = fault.OutOfMemory
 fault_of_text cause = fault.NoPlan cause
@@ -71,23 +72,26 @@ fault_of_run (run.Broken site joined) = fault.RunBroken site (fault_at joined.si
 abbrev pub numbered : List ℕ → ℕ → List ℕ
 numbered words n = words ++ decimal n
 
--- how the fault of a site is told: a breach by its number, and where it was by the number of the place
+-- how a breach is told: by its number, 1 to 6, and the number of the place
 abbrev pub breach_words : ℕ → Breach → List ℕ
 breach_words link breach = numbered (codes ": Breach ") (number_of breach) ++ numbered (codes " on link ") link
 
+-- how a refused link is told: by the number of the place
 abbrev pub lost_words : ℕ → List ℕ
 lost_words link = numbered (codes ": Lost on link ") link
 
+-- how the fault of a site is told
 abbrev pub site_fault_words : SiteFault → List ℕ
 site_fault_words (site_fault.Breach link breach) = breach_words link breach
 site_fault_words (site_fault.Lost link) = lost_words link
 site_fault_words site_fault.NotStarted = codes ": NotStarted"
 site_fault_words site_fault.Memory = codes ": Memory"
 
--- the lines of a run that was refused a thread, and of one that ended early, without their line feeds
+-- the line of a run that was refused a thread, without its line feed
 abbrev pub refused_thread_line : ℕ → List ℕ
 refused_thread_line site = numbered (codes "dine: run refused: thread of site ") site
 
+-- the line of a run in which a site ended with a fault, without its line feed
 abbrev pub broken_run_line : ℕ → SiteFault → List ℕ
 broken_run_line site cause = numbered (codes "dine: run broken at site ") site ++ site_fault_words cause
 

@@ -16,10 +16,11 @@ use Rattle.dine.specs.declared.faults.Fault.{Fault}
 use Rattle.dine.specs.declared.faults.Fault.TheVariants as fault
 use Rattle.dine.specs.Faults.{fault_of_run}
 
--- how many jobs of a site fail, and so for each site in order
+-- how many jobs of a site fail
 abbrev pub failing_jobs : SeenPlan → ℕ → ℕ
 failing_jobs plan s = count_by (λ (job : SeenJob). job.fails) (jobs_of plan s)
 
+-- how many jobs fail of each site, in order
 abbrev pub failing_by_site : SeenPlan → List ℕ
 failing_by_site plan = map (failing_jobs plan) (range_with_len 0 (site_count plan))
 
@@ -29,10 +30,11 @@ abbrev pub run_text : Table → SeenPlan → List ℕ
 run_text Edges plan = edges_table plan (due_edge_rows plan)
 run_text Sites plan = sites_table plan (due_site_rows plan (failing_by_site plan))
 
--- the diner of a site before its first meal, and those of all sites in order
+-- the diner of a site before its first meal
 abbrev pub diner_of : SeenPlan → ℕ → SeenPlanDiner
 diner_of plan s = record { calls = []; marks = fails_of plan s; room = job_count plan s; word = first_word }
 
+-- the diners of all sites before their first meals, in order
 abbrev pub diners_of : SeenPlan → List SeenPlanDiner
 diners_of plan = map (diner_of plan) (range_with_len 0 (site_count plan))
 

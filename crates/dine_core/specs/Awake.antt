@@ -1,4 +1,4 @@
--- Which sites of the world may have an enabled event, and the first event of a site.
+-- Which sites of the world may have an enabled event, and the first event of a site. Contracts of private functions alone name these.
 use Rattle.std.specs.Prelude.{◌≡◌, ℕ, ◌<◌, Bool, false, true, List, length, find, slice_get, slice_index_or, slice_set, Option, option_and_then}
 use Rattle.std.specs.List.{range_with_len}
 use Rattle.dine_rules.specs.declared.letters.Letter.{Letter}
@@ -32,7 +32,7 @@ with_receiver core (Takes i) awake = awake
 with_receiver core (Puts i) awake = slice_set awake (neighbour_of core.site (place_at core i)) true
 with_receiver core Alone awake = awake
 
--- the first event that a site may do, with these letters in the links
+-- the first event that a site may do, in the fixed order, with these letters in the links
 abbrev pub first_kind : List (List Letter) → SeenCore → Option EventKind
 first_kind links core = find (can_do links core) (kinds_at (range_with_len 0 (length core.places)))
 

@@ -1,4 +1,5 @@
--- A site core as contracts see it, and the states of whole lists that it stands for.
+-- A site core as contracts see it, and the states of whole lists that it stands for. A core keeps nothing of letters that came and went, so
+-- many states of whole lists have the same core, and a core alone tells no list.
 use Rattle.std.specs.Prelude.{◌≡◌, ℕ, ◌<◌, ◌==◌, List, [], ◌∷◌, length, slice_index_or, Option, Some, None, if◌then◌else◌}
 use Rattle.dine_token.specs.Log.{meals_of}
 use Rattle.dine_token.specs.Fork.{SeenFork}
@@ -12,7 +13,7 @@ use Rattle.dine_rules.specs.Local.{LocalState, Traffic, traffic_at, edge_at, is_
 use Rattle.dine_rules.specs.Holdings.{forks_held, tokens_held, hand, fork_at, token_at, hand_at}
 use Rattle.dine_rules.specs.Steps.{fork_with}
 
--- the site, how many jobs it has, what it does, how many meals it began, and what it keeps at each place, in edge order
+-- a site core: its site, how many jobs it has, what it does, how many meals it began, and what it keeps at each place, in edge order
 pub record SeenCore : Type 0 where
   pub site : ℕ
   pub due : ℕ
@@ -33,7 +34,7 @@ module _ (plan : SeenPlan) (s : ℕ) (phase : Phase) (ate edge : ℕ) (traffic :
   abbrev pub token_kept : Option ℕ
   token_kept = if tokens_held plan s edge traffic == 1 then Some edge else None
 
-  -- all: the edge, the ends and their due meals, fork and token, and what was said
+  -- all that is kept: the edge, the ends and their due meals, fork and token, and what was said
   abbrev pub kept_of : Place
   kept_of = record {
     edge = edge;
@@ -47,7 +48,7 @@ module _ (plan : SeenPlan) (s : ℕ) (phase : Phase) (ate edge : ℕ) (traffic :
     close_taken = has_close traffic.taken;
   }
 
--- the same at place i of a state
+-- what is kept at place i of a state
 abbrev pub kept_at : SeenPlan → ℕ → LocalState → ℕ → Place
 kept_at plan s state i = kept_of plan s state.phase state.ate (edge_at plan s i) (traffic_at state i)
 
@@ -62,25 +63,26 @@ pub record StandsFor (plan : SeenPlan) (state : LocalState) (core : SeenCore) : 
   pub degree : length core.places ≡ length state.traffic
   pub places : (i : ℕ) (past : Place) → i < length core.places → slice_index_or core.places i past ≡ kept_at plan core.site state i
 
--- the forks in hand, or in the meal, of a state: those of these places, in order
+-- the forks in hand, or in the meal, of a state, each with the log in hand: those of these places, in order
 abbrev pub forks_in_hand : SeenPlan → ℕ → LocalState → List ℕ → List SeenFork
 forks_in_hand plan s state [] = []
 forks_in_hand plan s state (i ∷ places) = if fork_at plan s state i == 1
     then fork_with plan (edge_at plan s i) (hand_at s state i) ∷ forks_in_hand plan s state places
     else forks_in_hand plan s state places
 
--- the tokens held, in order
+-- the tokens that a state holds at these places, in order
 abbrev pub tokens_in_hand : SeenPlan → ℕ → LocalState → List ℕ → List ℕ
 tokens_in_hand plan s state [] = []
 tokens_in_hand plan s state (i ∷ places) = if token_at plan s state i == 1
     then edge_at plan s i ∷ tokens_in_hand plan s state places
     else tokens_in_hand plan s state places
 
--- the forks that a site has at the start, as they are opened, and its tokens: of these edges, in order
+-- the forks that a site has at the start, newly opened, of these edges: those whose lower end it is, in order
 abbrev pub fresh_forks : SeenPlan → ℕ → List ℕ → List SeenFork
 fresh_forks plan s [] = []
 fresh_forks plan s (edge ∷ edges) = if lo_of plan edge == s then fork_with plan edge [] ∷ fresh_forks plan s edges else fresh_forks plan s edges
 
+-- the tokens that a site has at the start, of these edges: those whose higher end it is, in order
 abbrev pub fresh_tokens : SeenPlan → ℕ → List ℕ → List ℕ
 fresh_tokens plan s [] = []
 fresh_tokens plan s (edge ∷ edges) = if hi_of plan edge == s then edge ∷ fresh_tokens plan s edges else fresh_tokens plan s edges

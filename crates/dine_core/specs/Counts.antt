@@ -1,4 +1,4 @@
--- How many events each site of the world can do, as far as that is known.
+-- How many events each site of the world can do, as far as that is known. Contracts of private functions alone name these.
 use Rattle.std.specs.Prelude.{◌≡◌, ℕ, Bool, false, List, [], filter, length, slice_get, slice_index_or}
 use Rattle.std.specs.List.{range_with_len}
 use Rattle.std.specs.Option.{option_map_or}
@@ -15,11 +15,11 @@ use Rattle.dine_core.specs.Worlds.{SeenWorld}
 abbrev pub kinds_now : List (List Letter) → SeenCore → List EventKind
 kinds_now links core = filter (can_do links core) (kinds_at (range_with_len 0 (length core.places)))
 
--- the same of the site with this number, and none where there is no such site
+-- the events that the site with this number can do, and none where there is no such site
 abbrev pub kinds_now_at : SeenWorld → ℕ → List EventKind
 kinds_now_at seen s = option_map_or (λ (world_site : WorldSite). kinds_now seen.links world_site.core) (slice_get seen.sites s) []
 
--- those of them for which it needs no letter
+-- the events that a site can do for which it needs no letter
 abbrev pub own_kinds_now : SeenCore → List EventKind
 own_kinds_now core = filter (can_by_itself core) (own_kinds (range_with_len 0 (length core.places)))
 

@@ -1,4 +1,4 @@
--- At which places a letter lies in the link to a site.
+-- At which places a letter lies in the link to a site. Contracts of private functions alone name these.
 use Rattle.std.specs.Prelude.{◌≡◌, ℕ, ◌<◌, ◌/◌, ◌%◌, ◌==◌, Bool, false, true, List, [], length, slice_get, slice_index_or, slice_set, Option, Some, None, is_some, option_and_then}
 use Rattle.dine_rules.specs.declared.letters.Letter.{Letter}
 use Rattle.dine_rules.specs.declared.events.EventKind.TheVariants as event
@@ -19,7 +19,7 @@ pub record HasHeard (seen : SeenWorld) (heard : List (List Bool)) : Type 0 where
 abbrev pub has_letter : List (List Letter) → ℕ → Bool
 has_letter links n = is_some (option_and_then (λ (letters : List Letter). slice_get letters 0) (slice_get links n))
 
--- the ends of no edge
+-- the ends that stand past the end of the edges; no clause asks for them
 abbrev pub no_ends : EdgeEnds
 no_ends = record { lower = 0; lower_place = 0; higher = 0; higher_place = 0 }
 

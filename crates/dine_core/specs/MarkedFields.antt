@@ -5,10 +5,11 @@ use Rattle.dine_core.specs.declared.site.marked.MarkedPlaces.TheInside.{Inside}
 use Rattle.dine_core.specs.declared.site.places.Place.{Place}
 use Rattle.dine_core.specs.Places.{is_away_at, is_dirty_at, has_token_at, is_open_at, has_put_done_at, has_taken_done_at}
 
+-- the places that the fields of the marked places stand for
 abbrev pub places_in : Inside → List Place
 places_in places = places.items.items
 
--- Each set has the places that pass its test, and a set has room for all.
+-- There are at most 64 places, and each set has those that pass its test.
 pub record IsMarked (places : Inside) : Type 0 where
   pub few : length places.items.items ≤ 64
   pub away : places.away ≡ marks_of is_away_at places.items.items

@@ -17,17 +17,19 @@ abbrev pub own_kinds : List ℕ → List EventKind
 own_kinds places = map event.Give places ++ event.End ∷ event.Begin ∷ event.Hungry ∷ []
     ++ map event.Ask places ++ map event.Done places ++ map event.Close places
 
--- the Asks, Dones and Closes alone
+-- the Asks, Dones and Closes alone, each by place
 abbrev pub own_words : List ℕ → List EventKind
 own_words places = map event.Ask places ++ map event.Done places ++ map event.Close places
 
--- What a core may do now at a place: send the fork, ask for it, and say Done.
+-- the core may now send the fork of this place [paper: release rule]
 abbrev pub may_give_at : SeenCore → Place → Bool
 may_give_at core place = not (is_eating core.phase) && can_give_at place
 
+-- the core may now ask for the fork of this place [paper: request rule]
 abbrev pub may_ask_at : SeenCore → Place → Bool
 may_ask_at core place = is_hungry core.phase && can_ask_at place
 
+-- the core may now say Done at this place
 abbrev pub may_say_done_at : SeenCore → Place → Bool
 may_say_done_at core place = is_thinking core.phase && core.ate == core.due && can_say_done_at place
 
@@ -39,7 +41,7 @@ may_by_itself plan s state kind = option_map_or (may plan s state) (step_by (λ 
 abbrev pub next_event : SeenPlan → ℕ → LocalState → Option EventKind
 next_event plan s state = find (may_by_itself plan s state) (own_kinds (all_places state))
 
--- the same, by what a core keeps
+-- the core can do the event without a letter to take
 abbrev pub can_by_itself : SeenCore → EventKind → Bool
 can_by_itself core (event.Take i) = false
 can_by_itself core (event.Give i) = nat_lt i (length core.places) && can_give core i
@@ -50,10 +52,11 @@ can_by_itself core (event.Ask i) = nat_lt i (length core.places) && can_ask core
 can_by_itself core (event.Done i) = nat_lt i (length core.places) && can_say_done core i
 can_by_itself core (event.Close i) = nat_lt i (length core.places) && can_close core i
 
+-- the first event, in the fixed order, that the core can do without a letter to take
 abbrev pub next_of : SeenCore → Option EventKind
 next_of core = find (can_by_itself core) (own_kinds (range_with_len 0 (length core.places)))
 
--- the first Ask, Done or Close by what a core keeps
+-- the first Ask, Done or Close that the core can do
 abbrev pub next_word_of : SeenCore → Option EventKind
 next_word_of core =
     let places = range_with_len 0 (length core.places) in

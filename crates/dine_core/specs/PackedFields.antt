@@ -4,8 +4,10 @@ use Rattle.dine_rules.specs.Local.{is_eating}
 use Rattle.dine_core.specs.declared.site.packed.Packed.TheInside.{Inside}
 use Rattle.dine_core.specs.Core.{SeenCore}
 
+-- the core that a `Packed` stands for
 abbrev pub core_in : Inside → SeenCore
 core_in packed = packed.core
 
+-- the packed core does not eat
 abbrev pub IsAtRest : Inside → Type 0
 IsAtRest packed = is_eating packed.core.phase ≡ false

@@ -1,4 +1,5 @@
--- What a site core reads off a place, and what it does there.
+-- What a site core reads off a place, and what it does there. The rules are those of `Steps` and `Breach` in `dine_rules`, read off what
+-- the core keeps; that they come to the same is what the contracts prove.
 use Rattle.std.specs.Prelude.{◌≡◌, ◌⊎◌, ℕ, ◌+◌, ◌<◌, ◌≤◌, ◌==◌, ◌&&◌, ◌||◌, not, nat_lt, nat_le, Bool, true, false, List, [], ◌∷◌, ◌++◌, length, map, All, slice_index_or, slice_set, Option, Some, None, is_some, option_to_list, if◌then◌else◌}
 use Rattle.std.specs.List.{list_all}
 use Rattle.dine_token.specs.Log.{is_dirty, location_of, meals_of}
@@ -17,37 +18,41 @@ use Rattle.dine_rules.specs.Local.{is_thinking, is_hungry, is_eating}
 use Rattle.dine_rules.specs.Breach.{was_sent_to}
 use Rattle.dine_core.specs.Core.{SeenCore}
 
--- a place past the end
+-- the place that stands past the end of the places
 abbrev pub no_place : Place
 no_place = record { edge = 0; ends = (0, 0); due = (0, 0); fork = Away; token = None; done_put = false; done_taken = false; close_put = false; close_taken = false }
 
+-- place i of a core
 abbrev pub place_at : SeenCore → ℕ → Place
 place_at core i = slice_index_or core.places i no_place
 
--- the site at the other end, and how many meals it has due
+-- the site at the other end of the place
 abbrev pub neighbour_of : ℕ → Place → ℕ
 neighbour_of s place = if place.ends.0 == s then place.ends.1 else place.ends.0
 
+-- how many meals the site at the other end of the place has due
 abbrev pub due_of_neighbour : ℕ → Place → ℕ
 due_of_neighbour s place = due_at place.ends place.due (neighbour_of s place)
 
--- the fork is held, in hand or in the meal; it is in hand, and dirty; how many meals of an end it has
+-- the fork is held, in hand or in the meal
 abbrev pub is_held : ForkSlot → Bool
 is_held Away = false
 is_held (Here fork) = true
 is_held (InMeal meals) = true
 
+-- the fork is in hand, and dirty
 abbrev pub is_dirty_in_hand : ForkSlot → Bool
 is_dirty_in_hand Away = false
 is_dirty_in_hand (Here fork) = is_dirty fork.log
 is_dirty_in_hand (InMeal meals) = false
 
+-- how many meals of an end the fork has; of a fork in the meal, those of the other end that the core kept
 abbrev pub meals_in : ℕ → ForkSlot → ℕ
 meals_in end Away = 0
 meals_in end (Here fork) = meals_of end fork.log
 meals_in end (InMeal meals) = meals
 
--- the fork in hand is clean, or was not asked for
+-- the fork is held, and it is not dirty in hand, or was not asked for
 abbrev pub is_ready_at : Place → Bool
 is_ready_at place = is_held place.fork && (not (is_dirty_in_hand place.fork) || not (is_some place.token))
 
@@ -55,71 +60,85 @@ is_ready_at place = is_held place.fork && (not (is_dirty_in_hand place.fork) || 
 abbrev pub has_all : ℕ → Place → Bool
 has_all s place = meals_in (neighbour_of s place) place.fork == due_of_neighbour s place
 
--- What is so of a place: the fork is not held; the fork in hand is dirty; the token is here; Close is not put; Done is put, and
--- taken.
+-- the fork of the place is not held
 abbrev pub is_away_at : Place → Bool
 is_away_at place = not (is_held place.fork)
 
+-- the fork of the place is in hand, and dirty
 abbrev pub is_dirty_at : Place → Bool
 is_dirty_at place = is_dirty_in_hand place.fork
 
+-- the token of the place is here
 abbrev pub has_token_at : Place → Bool
 has_token_at place = is_some place.token
 
+-- Close is not put at the place
 abbrev pub is_open_at : Place → Bool
 is_open_at place = not place.close_put
 
+-- Done is put at the place
 abbrev pub has_put_done_at : Place → Bool
 has_put_done_at place = place.done_put
 
+-- Done is taken at the place
 abbrev pub has_taken_done_at : Place → Bool
 has_taken_done_at place = place.done_taken
 
--- What each event needs of its place.
+-- what Give needs of its place: the fork dirty in hand, the token, and no Close put [paper: release rule]
 abbrev pub can_give_at : Place → Bool
 can_give_at place = is_dirty_at place && has_token_at place && is_open_at place
 
+-- what Ask needs of its place: the token without the fork, and no Close put [paper: request rule]
 abbrev pub can_ask_at : Place → Bool
 can_ask_at place = has_token_at place && is_away_at place && is_open_at place
 
+-- what Done needs of its place: neither Done nor Close is put
 abbrev pub can_say_done_at : Place → Bool
 can_say_done_at place = not (has_put_done_at place) && is_open_at place
 
+-- what Close needs of its place: Done is put and taken, and no Close put
 abbrev pub can_close_at : Place → Bool
 can_close_at place = has_put_done_at place && has_taken_done_at place && is_open_at place
 
 -- What each event needs.
 
+-- Give at place i needs that the core does not eat, and that of its place [paper: release rule]
 abbrev pub can_give : SeenCore → ℕ → Bool
 can_give core i = not (is_eating core.phase) && can_give_at (place_at core i)
 
+-- Ask at place i needs that the core is hungry, and that of its place [paper: request rule]
 abbrev pub can_ask : SeenCore → ℕ → Bool
 can_ask core i = is_hungry core.phase && can_ask_at (place_at core i)
 
+-- Hungry needs that the core thinks and has meals left
 abbrev pub can_hunger : SeenCore → Bool
 can_hunger core = is_thinking core.phase && nat_lt core.ate core.due
 
+-- Begin needs that the core is hungry and each place is ready [paper: all forks]
 abbrev pub can_begin : SeenCore → Bool
 can_begin core = is_hungry core.phase && list_all is_ready_at core.places
 
+-- Done at place i needs that the core thinks and ate all its meals, and that of its place
 abbrev pub can_say_done : SeenCore → ℕ → Bool
 can_say_done core i = is_thinking core.phase && core.ate == core.due && can_say_done_at (place_at core i)
 
+-- Close at place i needs that of its place alone
 abbrev pub can_close : SeenCore → ℕ → Bool
 can_close core i = can_close_at (place_at core i)
 
--- the fork is that of the place
+-- the fork has the edge, the ends and the due numbers of the place
 abbrev pub is_own_fork : Place → SeenFork → Bool
 is_own_fork place fork = fork.edge == place.edge && (fork.ends.0 == place.ends.0 && fork.ends.1 == place.ends.1)
     && (fork.due.0 == place.due.0 && fork.due.1 == place.due.1)
 
--- Why a letter is not in turn at the place: of a site that ate so many meals.
+-- why a Request is not in turn at a place of the site, where no Close was taken
 abbrev pub breach_of_request : ℕ → Place → ℕ → Option Breach
 breach_of_request s place edge =
     if is_some place.token || not (is_held place.fork) || place.done_taken || not (edge == place.edge)
     || nat_le (due_of_neighbour s place) (meals_in (neighbour_of s place) place.fork)
     then Some RequestOutOfTurn else None
 
+-- why a Fork is not in turn at a place of a site that ate so many meals, where no Close was taken
 abbrev pub breach_of_fork : ℕ → ℕ → Place → SeenFork → Option Breach
 breach_of_fork s ate place fork =
     if is_held place.fork || is_some place.token then Some ForkOutOfTurn
@@ -127,48 +146,55 @@ breach_of_fork s ate place fork =
     || (place.done_taken && not (meals_of (neighbour_of s place) fork.log == due_of_neighbour s place))
     then Some StrangeFork else None)
 
+-- why Done is not in turn at a place, where no Close was taken
 abbrev pub breach_of_done : ℕ → Place → Option Breach
 breach_of_done s place = if place.done_taken || (is_held place.fork && not (has_all s place)) then Some DoneOutOfTurn else None
 
+-- why Close is not in turn at a place, where no Close was taken
 abbrev pub breach_of_close : Place → Option Breach
 breach_of_close place = if not place.done_taken || not place.done_put then Some ClosedEarly else None
 
+-- why a letter is not in turn at a place: the first cause, and after Close that one before all others
 abbrev pub breach_at : ℕ → ℕ → Place → Letter → Option Breach
 breach_at s ate place (letter.Fork fork) = if place.close_taken then Some AfterClose else breach_of_fork s ate place fork
 breach_at s ate place (letter.Request edge) = if place.close_taken then Some AfterClose else breach_of_request s place edge
 breach_at s ate place letter.Done = if place.close_taken then Some AfterClose else breach_of_done s place
 breach_at s ate place letter.Close = if place.close_taken then Some AfterClose else breach_of_close place
 
--- the place with the letter noted
+-- the place with the letter noted: its fork or its token is here now, or Done or Close was taken [paper: arrival]
 abbrev pub noted : Letter → Place → Place
 noted (letter.Fork fork) place = record place { fork = Here fork }
 noted (letter.Request edge) place = record place { token = Some edge }
 noted letter.Done place = record place { done_taken = true }
 noted letter.Close place = record place { close_taken = true }
 
--- the fork in hand, where there is one; as a list
+-- the fork of a slot, where it is in hand
 abbrev pub hand_of : ForkSlot → Option SeenFork
 hand_of Away = None
 hand_of (Here fork) = Some fork
 hand_of (InMeal meals) = None
 
+-- the same as a list of one or none
 abbrev pub fork_in_hand : ForkSlot → List SeenFork
 fork_in_hand slot = option_to_list (hand_of slot)
 
 -- the forks in hand and the tokens of the places, in order
 
+-- the forks in hand of the places, in order
 abbrev pub forks_of : List Place → List SeenFork
 forks_of [] = []
 forks_of (place ∷ places) = fork_in_hand place.fork ++ forks_of places
 
+-- the tokens of the places, in order
 abbrev pub tokens_of : List Place → List ℕ
 tokens_of [] = []
 tokens_of (place ∷ places) = option_to_list place.token ++ tokens_of places
 
--- the slot when the fork goes into the meal
+-- the slot whose fork goes into the meal, with how many meals of that end it has
 abbrev pub in_meal : ℕ → ForkSlot → ForkSlot
 in_meal end slot = InMeal (meals_in end slot)
 
+-- the place whose fork goes into the meal, with how many meals of the other end it has
 abbrev pub lifted : ℕ → Place → Place
 lifted s place = record place { fork = in_meal (neighbour_of s place) place.fork }
 
@@ -180,25 +206,28 @@ with_fork slot place = record place { fork = slot }
 abbrev pub is_over_at : Place → Bool
 is_over_at place = place.done_put && place.done_taken && place.close_put && place.close_taken
 
--- Close was put at every place; everything was said, and all meals are eaten
+-- Close is put at the place
 abbrev pub is_closed_at : Place → Bool
 is_closed_at place = place.close_put
 
+-- Close is put at every place
 abbrev pub has_all_closed : SeenCore → Bool
 has_all_closed core = list_all is_closed_at core.places
 
+-- the core thinks, ate all its meals, and Done and Close are put and taken at every place
 abbrev pub has_all_said : SeenCore → Bool
 has_all_said core = is_thinking core.phase && core.ate == core.due && list_all is_over_at core.places
 
--- a place before the first step
+-- the slot of a fork that is there or not
 abbrev pub slot_from : Option SeenFork → ForkSlot
 slot_from None = Away
 slot_from (Some fork) = Here fork
 
+-- a place before the first step, with its fork and its token, where they are there
 abbrev pub opened : ℕ → ℕ × ℕ → ℕ × ℕ → Option SeenFork → Option ℕ → Place
 opened edge ends due fork token = record { edge = edge; ends = ends; due = due; fork = slot_from fork; token = token; done_put = false; done_taken = false; close_put = false; close_taken = false }
 
--- the number is an end of the fork in the slot, where that is in hand
+-- the number is an end of the fork in the slot, where one is in hand
 abbrev pub EndsOf : ForkSlot → ℕ → Type 0
 EndsOf Away end = Unit {0}
 EndsOf (Here fork) end = IsEnd fork end
@@ -218,7 +247,8 @@ IsLiftable s place = OnHere (λ fork. IsEnd fork (neighbour_of s place)) place.f
 abbrev pub with_place : ℕ → Place → SeenCore → SeenCore
 with_place i place core = record core { places = slice_set core.places i place }
 
--- A fork that is in hand at a place: of the place's edge, at the site, with all meals that the site ate.
+-- The fork is right in hand at the place: it has the place's edge, ends and due numbers, lies at the site, and has all meals that the site
+-- ate.
 pub record FitsPlace (s ate : ℕ) (place : Place) (fork : SeenFork) : Type 0 where
   pub edge : fork.edge ≡ place.edge
   pub ends : fork.ends ≡ place.ends
@@ -226,7 +256,7 @@ pub record FitsPlace (s ate : ℕ) (place : Place) (fork : SeenFork) : Type 0 wh
   pub here : location_of fork.ends.0 fork.log ≡ s
   pub eaten : meals_of s fork.log ≡ ate
 
--- the slot is right for a site that eats, or does not
+-- the slot is right for a site that eats (in the meal) or does not (away, or in hand and fitting)
 abbrev pub FitsSlot : ℕ → ℕ → Bool → Place → ForkSlot → Type 0
 FitsSlot s ate eating place Away = eating ≡ false
 FitsSlot s ate eating place (Here fork) = (eating ≡ false) × FitsPlace s ate place fork
@@ -266,27 +296,34 @@ laid_down [] forks = []
 laid_down (place ∷ places) [] = place ∷ places
 laid_down (place ∷ places) (fork ∷ forks) = with_fork (Here fork) place ∷ laid_down places forks
 
--- What each event changes.
+-- after Hungry: the core is hungry
 abbrev pub hungered : SeenCore → SeenCore
 hungered core = record core { phase = phase.Hungry }
 
+-- after Ask at place i: the token is gone
 abbrev pub asked : ℕ → SeenCore → SeenCore
 asked i core = let place = place_at core i in with_place i (record place { token = None }) core
 
+-- after Give at place i: the fork is gone
 abbrev pub gave : ℕ → SeenCore → SeenCore
 gave i core = let place = place_at core i in with_place i (record place { fork = Away }) core
 
+-- after Begin: the core eats, its meal is counted, and its forks are in the meal
 abbrev pub begun : SeenCore → SeenCore
 begun core = record core { phase = phase.Eating; ate = core.ate + 1; places = map (lifted core.site) core.places }
 
+-- after End: the core thinks, and the forks of the meal are back in hand
 abbrev pub ended : List SeenFork → SeenCore → SeenCore
 ended forks core = record core { phase = phase.Thinking; places = laid_down core.places forks }
 
+-- after Done at place i: Done is put there
 abbrev pub said_done : ℕ → SeenCore → SeenCore
 said_done i core = let place = place_at core i in with_place i (record place { done_put = true }) core
 
+-- after Close at place i: Close is put there
 abbrev pub closed : ℕ → SeenCore → SeenCore
 closed i core = let place = place_at core i in with_place i (record place { close_put = true }) core
 
+-- after a letter was taken at place i: it is noted there
 abbrev pub took : ℕ → Letter → SeenCore → SeenCore
 took i l core = with_place i (noted l (place_at core i)) core

@@ -6,6 +6,7 @@ use Rattle.dine_rules.specs.Local.{is_eating}
 use Rattle.dine_core.specs.Core.{SeenCore}
 use Rattle.dine_core.specs.Places.{IsSound}
 
+-- the core that the fields of a `SiteCore` stand for
 abbrev pub seen : Inside → SeenCore
 seen core = record { site = core.site; due = core.due; phase = core.phase; ate = core.ate; places = core.places }
 

@@ -38,10 +38,11 @@ pub record CoreStep (plan : SeenPlan) (state : LocalState) (step : Step) (old ne
   pub stands : StandsFor plan (after plan old.site state step) new
   pub keeps : KeepsStreams plan new.site (after plan old.site state step)
 
+-- so it did for each state that keeps the streams and for which the core stood
 abbrev pub CoreSteps : Step → SeenCore → SeenCore → Type 0
 CoreSteps step old new = ForEachState old (λ plan state. CoreStep plan state step old new)
 
--- so it did, and the step puts the letter at place i
+-- so it did, and the step puts this letter at place i
 abbrev pub CorePuts : ℕ → Step → SeenCore → SeenCore → Letter → Type 0
 CorePuts i step old new l = ForEachState old (λ plan state. (after plan old.site state step ≡ with_put i l state) × CoreStep plan state step old new)
 
@@ -49,13 +50,15 @@ CorePuts i step old new l = ForEachState old (λ plan state. (after plan old.sit
 abbrev pub TellsBreach : SeenCore → ℕ → Letter → Option Breach → Type 0
 TellsBreach core i l answer = ForEachState core (λ plan state. answer ≡ first_breach plan core.site state i l)
 
--- the forks are those in hand by the whole lists, in edge order
+-- the places of a state, from 0
 abbrev pub all_places : LocalState → List ℕ
 all_places state = range_with_len 0 (length state.traffic)
 
+-- the forks are those that the whole lists hold, in edge order
 abbrev pub AreForksInHand : SeenCore → List SeenFork → Type 0
 AreForksInHand core forks = ForEachState core (λ plan state. forks ≡ forks_in_hand plan core.site state (all_places state))
 
+-- the tokens are those that the whole lists hold, in edge order
 abbrev pub AreTokensInHand : SeenCore → List ℕ → Type 0
 AreTokensInHand core tokens = ForEachState core (λ plan state. tokens ≡ tokens_in_hand plan core.site state (all_places state))
 

@@ -8,11 +8,13 @@ use Rattle.dine_core.specs.Awake.{HasAllAwake}
 use Rattle.dine_core.specs.Counts.{HasCounts}
 use Rattle.dine_core.specs.Heard.{HasHeard}
 
+-- the world that the fields of a `World` stand for
 abbrev pub seen_world : Inside → SeenWorld
 seen_world world = record { sites = world.sites.items; links = world.links.items; edges = world.edges.items; bound = world.bound }
 
--- The world stands for some state that events reach from the start, there is room for the forks of all edges, the sites
--- with enabled events are known, and the places that letters are on their way to, and the counts of events that are kept are right.
+-- There is a plan, and a state that events reach from its start, for which the world stands. There is room for the forks of all edges; the
+-- set `awake` has each site with an enabled event; `heard` has the places at which each site can take a letter; and the count of each site
+-- that is not in `stale` is right.
 pub record IsKeptWorld (world : Inside) : Type 0 where
   pub plan : SeenPlan
   pub state : WorldState

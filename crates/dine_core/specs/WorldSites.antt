@@ -1,4 +1,4 @@
--- A site of the world, with the meal that it eats, and the links around it.
+-- A site of the world, with the meal that it eats, and the links around it. Public clauses reach these by `IsWorldOf` alone.
 use Rattle.std.specs.Prelude.{◌≡◌, ℕ, ◌<◌, ◌&&◌, not, nat_lt, Bool, false, true, List, [], ◌∷◌, ◌++◌, length, drop, slice_get, slice_index_or, slice_set, Option, Some, None, is_some, option_and_then, MatchOption, if◌then◌else◌}
 use Rattle.dine_token.specs.Meal.{SeenMeal}
 use Rattle.dine_plan.specs.Plan.{SeenPlan}
@@ -15,10 +15,11 @@ use Rattle.dine_core.specs.Places.{IsMealOf, place_at, can_give, can_ask, can_hu
 use Rattle.dine_core.specs.LinkNumbers.{link_to, link_from}
 use Rattle.dine_core.specs.Standing.{all_places}
 
--- the letters of a link, and the next of those in the link to the site at place i
+-- the letters of a link
 abbrev pub letters_in : List (List Letter) → ℕ → List Letter
 letters_in links n = slice_index_or links n []
 
+-- the first letter in the link to the site at place i
 abbrev pub next_in : List (List Letter) → SeenCore → ℕ → Option Letter
 next_in links core i = option_and_then (λ (letters : List Letter). slice_get letters 0) (slice_get links (link_to core.site (place_at core i)))
 
@@ -33,7 +34,7 @@ has_place core (Takes i) = nat_lt i (length core.places)
 has_place core (Puts i) = nat_lt i (length core.places)
 has_place core Alone = true
 
--- what each event needs there: a Take a letter, each other what its site asks
+-- what each event needs, where its place is there: a Take a letter, and each other what the test of its core asks
 abbrev pub can_there : List (List Letter) → SeenCore → EventKind → Bool
 can_there links core (event.Take i) = is_some (next_in links core i)
 can_there links core (event.Give i) = can_give core i
@@ -44,6 +45,7 @@ can_there links core (event.Ask i) = can_ask core i
 can_there links core (event.Done i) = can_say_done core i
 can_there links core (event.Close i) = can_close core i
 
+-- the site can do the event: its place is there, and what it needs
 abbrev pub can_do : List (List Letter) → SeenCore → EventKind → Bool
 can_do links core kind = has_place core (shape_of kind) && can_there links core kind
 
@@ -68,10 +70,11 @@ pub record IsSiteOf (plan : SeenPlan) (state : LocalState) (world_site : WorldSi
   pub core : StandsFor plan state world_site.core
   pub meal : world_site.meal ≡ meal_of plan world_site.core.site state
 
--- a link has one letter more behind the others, or its first letter fewer
+-- the links, where one has this letter more behind its others
 abbrev pub with_letter : List (List Letter) → ℕ → Letter → List (List Letter)
 with_letter links n l = slice_set links n (letters_in links n ++ l ∷ [])
 
+-- the links, where one has lost its first letter
 abbrev pub without_next : List (List Letter) → ℕ → List (List Letter)
 without_next links n = slice_set links n (drop 1 (letters_in links n))
 
@@ -100,10 +103,11 @@ SiteSteps kind old new links new_links = (plan : SeenPlan) (state : LocalState) 
 abbrev pub HasOwnMeal : WorldSite → Type 0
 HasOwnMeal world_site = MatchOption world_site.meal (is_eating world_site.core.phase ≡ false) (λ meal. (is_eating world_site.core.phase ≡ true) × IsMealOf world_site.core meal)
 
--- there is room in the link that leads away at place i, and where a letter is put
+-- the link that leads away at place i is there, with fewer than four letters in it
 abbrev pub HasRoomAt : List (List Letter) → SeenCore → ℕ → Type 0
 HasRoomAt links core i = (link_from core.site (place_at core i) < length links) × (length (letters_in links (link_from core.site (place_at core i))) < 4)
 
+-- where an event of this shape puts a letter, its link has room
 abbrev pub HasRoomFor : List (List Letter) → SeenCore → Shape → Type 0
 HasRoomFor links core (Takes i) = Unit {0}
 HasRoomFor links core (Puts i) = HasRoomAt links core i

@@ -1,4 +1,5 @@
--- The world as contracts see it, and the states of whole lists that it stands for.
+-- The world as contracts see it, and the states of whole lists that it stands for. A World keeps no letter that came and went, so many
+-- states have the same World, and a clause by `ForEachWorld` holds for each. That there is one is the invariant of the type.
 use Rattle.std.specs.Prelude.{◌≡◌, ℕ, ◌*◌, ◌<◌, Bool, false, List, length, map, slice_get, slice_index_or, Option, Some, None}
 use Rattle.std.specs.List.{range_with_len}
 use Rattle.dine_token.specs.Fork.{SeenFork}
@@ -18,7 +19,7 @@ use Rattle.dine_rules.specs.Precedence.{fork_log}
 use Rattle.dine_rules.specs.Bound.{bound_of}
 use Rattle.dine_rules.specs.Schedules.{Counted}
 
--- the sites, the letters in the links, where the ends of each edge are, and the bound of events
+-- a World: its sites, the letters in each link, where the ends of each edge are, and the bound of its events
 pub record SeenWorld : Type 0 where
   pub sites : List WorldSite
   pub links : List (List Letter)
@@ -79,12 +80,13 @@ can_at links kind (Some world_site) = can_do links world_site.core kind
 abbrev pub can_happen : SeenWorld → Event → Bool
 can_happen seen e = can_at seen.links e.kind (slice_get seen.sites e.site)
 
--- the world after the event
+-- The event is enabled in the state, and the new World stands for the state after it.
 pub record WorldStep (plan : SeenPlan) (world : WorldState) (e : Event) (new : SeenWorld) : Type 0 where
   pub after : WorldState
   pub happens : world_after plan world e ≡ Some after
   pub stands : IsWorldOf plan after new
 
+-- so it is for each plan and each state for which the old World stands
 abbrev pub WorldSteps : Event → SeenWorld → SeenWorld → Type 0
 WorldSteps e old new = ForEachWorld old (λ plan world. WorldStep plan world e new)
 
@@ -93,9 +95,10 @@ pub record RunsTo (plan : SeenPlan) (run : Counted) (events : ℕ) (new : SeenWo
   pub counted : run.events ≡ events
   pub stands : IsWorldOf plan run.world new
 
--- the forks of all edges, each with its log
+-- the fork of an edge in a state, with the plan's ends and due numbers and its log, wherever it lies
 abbrev pub fork_seen : SeenPlan → WorldState → ℕ → SeenFork
 fork_seen plan world e = fork_with plan e (fork_log plan world e)
 
+-- the forks of all edges, in order
 abbrev pub forks_seen : SeenPlan → WorldState → List SeenFork
 forks_seen plan world = map (fork_seen plan world) (range_with_len 0 (edge_count plan))

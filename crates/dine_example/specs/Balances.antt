@@ -10,7 +10,7 @@ abbrev pub before : SeenPlan → ℕ → ℕ
 before plan zero = site_count plan - 1
 before plan (suc s) = s
 
--- a unit came for each job of the site before, and one went for each job of its own
+-- what an account has at the end: a unit came for each job of the site before, and one went for each job of its own
 abbrev pub balance_of : SeenPlan → ℕ → ℕ
 balance_of plan s = START + job_count plan (before plan s) - job_count plan s
 

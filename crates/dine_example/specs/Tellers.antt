@@ -5,11 +5,11 @@ use Rattle.dine_run.specs.CallLogs.{no_calls}
 use Rattle.dine_run.specs.declared.gathered.SiteOut.{SiteOut}
 use Rattle.dine_example.specs.declared.teller.Teller.{Teller}
 
--- one for each site, not yet called, with room for its jobs
+-- The tellers before the run: one for each site, not yet called, with room for its jobs.
 pub record AreFresh (plan : SeenPlan) (tellers : List Teller) : Type 0 where
   pub count : length tellers ≡ site_count plan
   pub each : (s : ℕ) (teller : Teller) → slice_get tellers s ≡ Some teller → teller.log ≡ no_calls (job_count plan s)
 
--- each sent one unit for each job of its site
+-- each teller sent one unit for each job of its site
 abbrev pub HaveSent : SeenPlan → List (SiteOut Teller) → Type 0
 HaveSent plan outs = (s : ℕ) (out : SiteOut Teller) → slice_get outs s ≡ Some out → out.diner.sent ≡ job_count plan s

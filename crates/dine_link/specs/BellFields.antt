@@ -6,9 +6,11 @@ use Rattle.dine_link.specs.declared.bell.Ringer.TheInside.{Inside as InRinger}
 use Rattle.dine_link.specs.BellRule.{IsOfBell, IsOfRinger, told_by, rings_of}
 use Rattle.dine_link.specs.Bells.{SeenRinger, SeenBell}
 
+-- the ringer that the fields of a `Ringer` stand for
 abbrev pub seen_ringer : InRinger → SeenRinger
 seen_ringer ringer = record { bell = sends_on ringer.sender; number = ringer.number; rings = rings_of (view ringer.pass); refused = ringer.refused }
 
+-- the bell that the fields of a `Bell` stand for
 abbrev pub seen_bell : InBell → SeenBell
 seen_bell bell = record { identity = receives_on bell.receiver; degree = bell.degree; told = told_by (view bell.pass); refused = bell.refused }
 

@@ -1,4 +1,4 @@
--- Bells and their ringers, as contracts see them.
+-- Bells and their ringers, as contracts see them. How many rings a bell holds, and that what was rung is told, they leave out.
 use Rattle.std.specs.Prelude.{ℕ, Bool, true, false, ◌+◌, Option, List, [], ◌∷◌, ◌++◌}
 use Rattle.crossbeam_channel.specs.declared.flavors.array.Rows.{Rows}
 use Rattle.crossbeam_channel.specs.declared.flavors.array.Key.{Key}
@@ -34,10 +34,11 @@ pub record SeenBell : Type 0 where
 abbrev pub new_ringer : BellId → ℕ → SeenRinger
 new_ringer bell number = record { bell = bell; number = number; rings = 0; refused = false }
 
--- a ringer after one ring more, and after a ring that was refused
+-- the ringer after one ring more
 abbrev pub after_ring : SeenRinger → SeenRinger
 after_ring ringer = record { bell = ringer.bell; number = ringer.number; rings = ringer.rings + 1; refused = ringer.refused }
 
+-- the ringer after a ring that was refused
 abbrev pub after_refused_ring : SeenRinger → SeenRinger
 after_refused_ring ringer = record { bell = ringer.bell; number = ringer.number; rings = ringer.rings; refused = true }
 
@@ -45,9 +46,10 @@ after_refused_ring ringer = record { bell = ringer.bell; number = ringer.number;
 abbrev pub new_bell : BellId → ℕ → SeenBell
 new_bell identity degree = record { identity = identity; degree = degree; told = []; refused = false }
 
--- a bell after it told one number more, and after a wait that was refused
+-- the bell after it told one number more
 abbrev pub after_telling : ℕ → SeenBell → SeenBell
 after_telling number bell = record { identity = bell.identity; degree = bell.degree; told = bell.told ++ number ∷ []; refused = bell.refused }
 
+-- the bell after a wait that was refused
 abbrev pub after_refused_wait : SeenBell → SeenBell
 after_refused_wait bell = record { identity = bell.identity; degree = bell.degree; told = bell.told; refused = true }

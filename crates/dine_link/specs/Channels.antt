@@ -23,16 +23,18 @@ use Rattle.dine_link.specs.Links.{SeenEnd}
 abbrev pub Channel : Type 0
 Channel = Rows (Badge (Key Letter)) (Doing Letter Known) (Rounds InOrder) (Option Letter) (Key Letter) (Lockers Whole) Global
 
--- the end that letters are put in: all that was put in it, and whether it met a refusal
+-- an end that letters are put in, live or closed: all that was put in it, and whether it met a refusal
 abbrev pub seen_putting : Putting → SeenEnd Channel
 seen_putting tx = record { link = record { identity = sends_on tx.sender; edge = tx.edge; from = tx.from }; letters = (view tx.pass).put; refused = tx.refused }
 
+-- the end of a channel that letters are put in
 abbrev pub seen_tx : ChannelTx → SeenEnd Channel
 seen_tx tx = seen_putting tx.putting
 
+-- the same end after Close was put
 abbrev pub seen_closed : ChannelClosedTx → SeenEnd Channel
 seen_closed tx = seen_putting tx.putting
 
--- the end that letters are taken from: all that was taken, and whether it met a refusal
+-- the end of a channel that letters are taken from: all that was taken, and whether it met a refusal
 abbrev pub seen_rx : ChannelRx → SeenEnd Channel
 seen_rx rx = record { link = record { identity = receives_on rx.receiver; edge = rx.edge; from = rx.from }; letters = (view rx.pass).taken; refused = rx.refused }

@@ -11,11 +11,12 @@ use Rattle.dine_link.specs.declared.link_end.LinkEnd.TheInside.{Inside}
 use Rattle.dine_link.specs.Closing.{ends_in_close}
 use Rattle.dine_link.specs.Links.{SeenLink}
 
--- all that was put, and all that was taken
+-- all letters that were put in, by the two ends
 abbrev pub put_in : BothEnds → List Letter
 put_in (Channel ends) = (view ends.pass).put
 put_in (Ring ends) = sent ends.producer
 
+-- all letters that were taken, by the two ends
 abbrev pub taken_from : BothEnds → List Letter
 taken_from (Channel ends) = (view ends.pass).taken
 taken_from (Ring ends) = received ends.consumer
@@ -24,7 +25,8 @@ taken_from (Ring ends) = received ends.consumer
 abbrev pub seen_link : Inside → SeenLink
 seen_link link = record { edge = link.edge; from = link.from; put = put_in link.ends; taken = taken_from link.ends; put_refused = link.put_refused; take_refused = link.take_refused }
 
--- The numbers are those of the lists, the taken list is a prefix of the put list, and nothing was put behind Close.
+-- The numbers that are kept are the lengths of the lists, `shut` says that the put list ends in Close, the taken list is a prefix of the
+-- put list, and nothing was put behind Close.
 pub record IsKeptLink (link : Inside) : Type 0 where
   pub put : link.put ≡ length (put_in link.ends)
   pub taken : link.taken ≡ length (taken_from link.ends)

@@ -1,4 +1,6 @@
--- Links and their ends, as contracts see them. A link is one direction of an edge.
+-- Links and their ends, as contracts see them. A link is one direction of an edge. That a letter arrives, how many a link holds, when
+-- anything was put or taken, and how often or before which letter a step was refused they leave out. Two lists do not say in which order
+-- the events of two sites were.
 use Rattle.std.specs.Prelude.{◌≡◌, ℕ, Bool, true, List, [], ◌∷◌, ◌++◌, ◌||◌, false}
 use mathlib.Core.List.{IsPrefix}
 use Rattle.dine_rules.specs.declared.letters.Letter.{Letter}
@@ -20,10 +22,11 @@ pub record SeenEnd (Identity : Type 0) : Type 0 where
 abbrev pub IsUnused : {Identity : Type 0} → SeenEnd Identity → Type 0
 IsUnused end = (end.letters ≡ []) × (end.refused ≡ false)
 
--- the same end after more letters, and after one
+-- the same end after these letters more
 abbrev pub with_letters : {Identity : Type 0} → List Letter → SeenEnd Identity → SeenEnd Identity
 with_letters letters end = record { link = end.link; letters = end.letters ++ letters; refused = end.refused }
 
+-- the same end after one letter more
 abbrev pub with_letter : {Identity : Type 0} → Letter → SeenEnd Identity → SeenEnd Identity
 with_letter letter end = with_letters (letter ∷ []) end
 
@@ -31,8 +34,7 @@ with_letter letter end = with_letters (letter ∷ []) end
 abbrev pub after_refusal : {Identity : Type 0} → SeenEnd Identity → SeenEnd Identity
 after_refusal end = record { link = end.link; letters = end.letters; refused = true }
 
--- A link whose two ends were brought together: its edge, the site that put, all that was put, all that was taken, and whether
--- a put or a close and whether a take was ever refused.
+-- a link after its use: its edge, who put, all put, all taken, and whether a put (or close) and a take was ever refused
 pub record SeenLink : Type 0 where
   pub edge : ℕ
   pub from : ℕ
@@ -41,7 +43,7 @@ pub record SeenLink : Type 0 where
   pub put_refused : Bool
   pub take_refused : Bool
 
--- what was taken is a prefix of what was put: in order, each letter once, and none left out before the last one taken
+-- what was taken is a prefix of what was put: in order, each letter once
 abbrev pub IsLink : SeenLink → Type 0
 IsLink link = IsPrefix link.taken link.put
 

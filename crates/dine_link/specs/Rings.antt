@@ -14,14 +14,18 @@ use denote.RawPtr.{Ptr}
 abbrev pub Ring : Type 0
 Ring = Ptr × Ptr × Names × Global
 
+-- an end that letters are pushed in, live or closed: all that was pushed; no step of a ring is ever refused
 abbrev pub seen_pushing : Pushing → SeenEnd Ring
 seen_pushing tx = record { link = record { identity = (tx.producer.end.words, tx.producer.end.slots, tx.producer.end.names, tx.producer.end.heap); edge = tx.edge; from = tx.from }; letters = rtrb_ring.sent tx.producer; refused = false }
 
+-- the end of a ring that letters are put in
 abbrev pub seen_tx : RingTx → SeenEnd Ring
 seen_tx tx = seen_pushing tx.pushing
 
+-- the same end after Close was put
 abbrev pub seen_closed : RingClosedTx → SeenEnd Ring
 seen_closed tx = seen_pushing tx.pushing
 
+-- the end of a ring that letters are taken from: all that was popped
 abbrev pub seen_rx : RingRx → SeenEnd Ring
 seen_rx rx = record { link = record { identity = (rx.consumer.end.words, rx.consumer.end.slots, rx.consumer.end.names, rx.consumer.end.heap); edge = rx.edge; from = rx.from }; letters = rtrb_ring.received rx.consumer; refused = false }

@@ -5,7 +5,7 @@ use lib.ListN.{get_elem?}
 use Rattle.dine_rules.specs.declared.letters.Letter.{Letter}
 use Rattle.dine_link.specs.declared.rule.Known.{Known}
 
--- what a pass knows: whether it may put and whether it may take, all that was put where it may put, and all that was taken where it may take
+-- what a pass knows: whether it may put and may take, all that was put where it may put, and all that was taken where it may take
 abbrev pub known : Bool → Bool → List Letter → List Letter → Known
 known puts takes put taken = record { puts = puts; takes = takes; put = put; taken = taken }
 
@@ -23,26 +23,30 @@ pub record IsInOrder (queue : List Letter) (views : List Known) : Type 0 where
   pub in_order : put ≡ taken ++ queue
   pub fits : (pass : ℕ) (view : Known) → get_elem? views pass ≡ some view → Fits putter taker put taken pass view
 
--- the pass that may do both, before any letter; and one that may do nothing
+-- the pass that may put and take, before any letter
 abbrev pub fresh : Known
 fresh = known true true [] []
 
+-- a pass that is used up: it may do nothing
 abbrev pub spent : Known
 spent = known false false [] []
 
--- the part of a pass that may put, the part that may take, and both parts in one again
+-- the part of a pass that may put
 abbrev pub putting : Known → Known
 putting view = known true false view.put []
 
+-- the part of a pass that may take
 abbrev pub taking : Known → Known
 taking view = known false true [] view.taken
 
+-- the two parts in one pass again
 abbrev pub both : Known → Known → Known
 both putter taker = known true true putter.put taker.taken
 
--- what a pass knows after it put a letter, and after it took one
+-- what a pass knows after it put a letter
 abbrev pub after_put : Known → Letter → Known
 after_put view letter = known view.puts view.takes (view.put ++ letter ∷ []) view.taken
 
+-- what a pass knows after it took a letter
 abbrev pub after_take : Known → Letter → Known
 after_take view letter = known view.puts view.takes view.put (view.taken ++ letter ∷ [])

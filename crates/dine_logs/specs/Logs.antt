@@ -1,4 +1,4 @@
--- The text of `replay`.
+-- The text of `replay`. Numbers are plain decimal.
 use Rattle.std.specs.Prelude.{ℕ, Bool, true, false, List, [], ◌∷◌, ◌++◌, codes}
 use Rattle.std.specs.Fmt.{decimal}
 use Rattle.std.specs.List.{flat_map, range_with_len}
@@ -25,7 +25,7 @@ module _ (named : ℕ → List ℕ) where
   entries_text separator [] = []
   entries_text separator (entry ∷ log) = separator ++ entry_text entry ++ entries_text (codes ", ") log
 
-  -- the line of an edge: its number, the names of its ends and, after a colon, its log
+  -- the line of an edge: its number, the names of its ends, the lower first, a colon, and its log; without entries it ends in the colon
   abbrev pub edge_line : ℕ → ℕ × ℕ → List Entry → List ℕ
   edge_line edge ends log = codes "edge " ++ decimal edge ++ codes " " ++ named ends.0 ++ codes " " ++ named ends.1 ++ codes ":" ++ entries_text (codes " ") log ++ codes "\n"
 

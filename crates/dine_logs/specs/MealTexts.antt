@@ -1,4 +1,4 @@
--- The text of a site's meals, as the logs of all its forks take parts of it.
+-- The text of a site's meals, as the logs of all its forks take parts of it. No promise of a public call names these.
 use Rattle.std.specs.Prelude.{◌≡◌, ℕ, ◌-◌, ◌<◌, ◌≤◌, List, codes, length, map, slice_index_or}
 use Rattle.dine_token.specs.Periods.{meals_from}
 use Rattle.dine_plan.specs.Plan.{SeenPlan, SeenSite}

@@ -29,13 +29,15 @@ items_at key d = option_map_or items_in (get key d) []
 unfoldable pub text_at : List ℕ → Data → List ℕ
 text_at key d = unwrap_or (option_and_then as_str (get key d)) []
 
--- the sites and the edges of a document, and the jobs of a site
+-- the site tables of a document
 abbrev pub sites_in : Data → List Data
 sites_in = items_at (codes "site")
 
+-- the edge tables of a document
 abbrev pub edges_in : Data → List Data
 edges_in = items_at (codes "edge")
 
+-- the job tables of a site table
 abbrev pub jobs_in : Data → List Data
 jobs_in = items_at (codes "jobs")
 
@@ -48,13 +50,14 @@ abbrev pub natural : ℤ → ℕ
 natural (pos n) = n
 natural (negsuc n) = 0
 
--- the turns of a job, 0 where it names none, and whether it fails, which it doesn't where it says nothing
+-- the turns of a job, 0 where it names none
 unfoldable pub turns_in : Data → ℕ
 turns_in job = option_map_or natural (option_and_then as_integer (get (codes "turns") job)) 0
 
+-- whether a job fails, which it doesn't where it says nothing
 unfoldable pub fails_in : Data → Bool
 fails_in job = unwrap_or (option_and_then as_bool (get (codes "fails") job)) false
 
--- the name at place i of an edge's ends
+-- the name at place i, 0 or 1, of an edge's ends
 unfoldable pub end_in : ℕ → Data → List ℕ
 end_in i edge = unwrap_or (option_and_then as_str (option_and_then (at i) (get (codes "ends") edge))) []

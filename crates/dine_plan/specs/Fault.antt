@@ -3,6 +3,7 @@ use Rattle.std.specs.Prelude.{ℕ}
 use Rattle.dine_plan.specs.declared.faults.PlanFault.{PlanFault}
 use Rattle.dine_plan.specs.declared.faults.PlanFault.TheVariants.{NotToml, Version, UnknownKey, MissingKey, WrongKind, BadName, SiteTwice, NoSite, TooManySites, TooManyJobs, TurnsTooLarge, UnknownEnd, Loop, EdgeTwice, TooManyEdges, Memory}
 
+-- the number of each cause to refuse a plan, 1 to 16, in the order in which they are looked for
 abbrev pub number_of_fault : PlanFault → ℕ
 number_of_fault NotToml = 1
 number_of_fault Version = 2
@@ -21,7 +22,7 @@ number_of_fault (EdgeTwice edge) = 14
 number_of_fault TooManyEdges = 15
 number_of_fault Memory = 16
 
--- the position that a fault carries, 0 where it carries none
+-- the position, from 0, of the site or edge that a fault names; 0 where it names none
 abbrev pub position_of_fault : PlanFault → ℕ
 position_of_fault (BadName site) = site
 position_of_fault (SiteTwice site) = site

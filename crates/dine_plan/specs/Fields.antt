@@ -5,14 +5,15 @@ use Rattle.dine_plan.specs.Plan.{SeenPlan, IsPlan, site_count, edge_count, lo_of
 use Rattle.dine_plan.specs.Site.{seen_site}
 use Rattle.dine_plan.specs.declared.plans.Plan.TheInside.{Inside}
 
+-- the plan that the fields of a `Plan` stand for
 abbrev pub seen_plan : Inside → SeenPlan
 seen_plan a = record { sites = map seen_site a.sites.items; edges = a.ends.items }
 
--- the places of an edge in the lists of its two ends
+-- the places of an edge in the lists of its lower and of its higher end
 abbrev pub places_at : Inside → ℕ → ℕ × ℕ
 places_at a e = slice_index_or a.places.items e (0, 0)
 
--- The value is a plan, and beside it are kept the list of edges of each site and the places of each edge.
+-- The value is a plan, and beside it are kept the ascending list of edges of each site and the places of each edge.
 pub record IsKept (a : Inside) : Type 0 where
   pub plan : IsPlan (seen_plan a)
   pub lists : length a.edges_of.items ≡ site_count (seen_plan a)

@@ -3,40 +3,43 @@ use Rattle.std.specs.Prelude.{◌≢◌, ℕ, ◌-◌, ◌<◌, ◌≤◌, Bool,
 use Rattle.std.specs.Char.{is_ascii_alphanumeric}
 use Rattle.std.specs.List.{range_with_len, list_all}
 
--- a job: its name, the turns that it takes and whether it fails
+-- a job: its name, 1 to 32 bytes, its turns, at most 1,000,000, and whether it fails
 pub record SeenJob : Type 0 where
   pub name : List ℕ
   pub turns : ℕ
   pub fails : Bool
 
--- a site: its name and its jobs
+-- a site: its name, and at most 1,000 jobs
 pub record SeenSite : Type 0 where
   pub name : List ℕ
   pub jobs : List SeenJob
 
--- a plan: its sites, and for each edge the numbers of its lower and its higher end
+-- a plan: 1 to 64 sites, and at most 512 edges, each with its lower and its higher end, numbered from 0
 pub record SeenPlan : Type 0 where
   pub sites : List SeenSite
   pub edges : List (ℕ × ℕ)
 
--- the job and the site that stand past the end of a list
+-- the job that stands past the end of a list; no clause asks for it
 abbrev pub no_job : SeenJob
 no_job = record { name = []; turns = 0; fails = false }
 
+-- the site past the end of the list; no clause asks for it
 abbrev pub no_site : SeenSite
 no_site = record { name = []; jobs = [] }
 
--- how many sites and edges the plan has
+-- how many sites the plan has
 abbrev pub site_count : SeenPlan → ℕ
 site_count p = length p.sites
 
+-- how many edges the plan has
 abbrev pub edge_count : SeenPlan → ℕ
 edge_count p = length p.edges
 
--- a site's name, and its jobs
+-- the name of a site
 abbrev pub name_of : SeenPlan → ℕ → List ℕ
 name_of p s = (slice_index_or p.sites s no_site).name
 
+-- the jobs of a site
 abbrev pub jobs_of : SeenPlan → ℕ → List SeenJob
 jobs_of p s = (slice_index_or p.sites s no_site).jobs
 
@@ -44,17 +47,19 @@ jobs_of p s = (slice_index_or p.sites s no_site).jobs
 abbrev pub job_count : SeenPlan → ℕ → ℕ
 job_count p s = length (jobs_of p s)
 
--- job k of a site, from 1
+-- job k of a site, k from 1
 abbrev pub job_of : SeenPlan → ℕ → ℕ → SeenJob
 job_of p s k = slice_index_or (jobs_of p s) (k - 1) no_job
 
--- the ends of an edge: the lower, and the higher
+-- the two ends of an edge, the lower first
 abbrev pub ends_of : SeenPlan → ℕ → ℕ × ℕ
 ends_of p e = slice_index_or p.edges e (0, 0)
 
+-- the lower end of an edge
 abbrev pub lo_of : SeenPlan → ℕ → ℕ
 lo_of p e = (ends_of p e).0
 
+-- the higher end of an edge
 abbrev pub hi_of : SeenPlan → ℕ → ℕ
 hi_of p e = (ends_of p e).1
 
@@ -66,15 +71,15 @@ is_one_of ends s = (ends.0 == s) || (ends.1 == s)
 abbrev pub positions_at : List (ℕ × ℕ) → ℕ → List ℕ
 positions_at edges s = filter (λ e. is_one_of (slice_index_or edges e (0, 0)) s) (range_with_len 0 (length edges))
 
--- whether a site is an end of an edge
+-- the site is an end of the edge
 abbrev pub is_end : SeenPlan → ℕ → ℕ → Bool
 is_end p s e = is_one_of (ends_of p e) s
 
--- the edges that have the site as an end, ascending
+-- the edges of a site, ascending; a place is a position in this list
 abbrev pub edges_of : SeenPlan → ℕ → List ℕ
 edges_of p s = positions_at p.edges s
 
--- the other end of an edge than the site
+-- the end of an edge other than this one
 abbrev pub other_of : SeenPlan → ℕ → ℕ → ℕ
 other_of p e s = if lo_of p e == s then hi_of p e else lo_of p e
 
@@ -86,7 +91,7 @@ is_name_byte b = is_ascii_alphanumeric b || (b == 95) || (b == 45)
 abbrev pub is_name : List ℕ → Bool
 is_name bytes = nat_le 1 (length bytes) && nat_le (length bytes) 32 && list_all is_name_byte bytes
 
--- What holds of every plan. Sites and edges are named by their numbers, and jobs from 1.
+-- What holds of every plan: its limits, names that differ among sites, and edges between two sites, no two of them the same.
 pub record IsPlan (p : SeenPlan) : Type 0 where
   pub has_site : 1 ≤ site_count p
   pub few_sites : site_count p ≤ 64

@@ -30,6 +30,6 @@ ends_in names edge =
 abbrev pub plan_in : List Data → List Data → SeenPlan
 plan_in sites edges = record { sites = map site_in sites; edges = map (ends_in (map name_in sites)) edges }
 
--- p is the plan of the text
+-- The text is a document, and p is the plan of its sites and edges. Of a document that is refused this means nothing.
 abbrev pub IsPlanOf : List ℕ → SeenPlan → Type 0
 IsPlanOf text p = (doc : Members) × (parse_document text ≡ Some doc) × (p ≡ plan_in (sites_in (table doc)) (edges_in (table doc)))

@@ -11,51 +11,57 @@ use Rattle.dine_plan.specs.PlanOf.{ends_in}
 use Rattle.dine_plan.specs.declared.faults.PlanFault.{PlanFault}
 use Rattle.dine_plan.specs.declared.faults.PlanFault.TheVariants as fault
 
--- the kinds of values that the format names
+-- the value is a table
 abbrev pub is_table : Data → Bool
 is_table d = is_some (as_table d)
 
+-- the value is a text
 abbrev pub is_text : Data → Bool
 is_text d = is_some (as_str d)
 
+-- the value is true or false
 abbrev pub is_truth : Data → Bool
 is_truth d = is_some (as_bool d)
 
--- a number that is not below 0, and the number 1
+-- the number is not below 0
 abbrev pub is_natural : ℤ → Bool
 is_natural (pos n) = true
 is_natural (negsuc n) = false
 
+-- the number is 1
 abbrev pub is_one : ℤ → Bool
 is_one (pos n) = n == 1
 is_one (negsuc n) = false
 
--- a whole number that is not below 0
+-- the value is a whole number that is not below 0
 abbrev pub is_whole : Data → Bool
 is_whole d = option_map_or is_natural (as_integer d) false
 
--- the whole number 1
+-- the value is the whole number 1
 abbrev pub is_version : Data → Bool
 is_version d = option_map_or is_one (as_integer d) false
 
--- an array whose items are tables
+-- the value is an array whose items are tables
 unfoldable pub is_tables : Data → Bool
 is_tables d = is_some (as_array d) && list_all is_table (items_in d)
 
--- an array of exactly two texts; a value that is no array has no items
+-- the value is an array of exactly two texts; a value that is no array has no items
 unfoldable pub is_two_texts : Data → Bool
 is_two_texts d = (length (items_in d) == 2) && list_all is_text (items_in d)
 
--- the keys that the format names for each kind of table
+-- the keys that the format names for a document
 abbrev pub document_keys : List (List ℕ)
 document_keys = codes "version" ∷ codes "site" ∷ codes "edge" ∷ []
 
+-- the keys that the format names for a site
 abbrev pub site_keys : List (List ℕ)
 site_keys = codes "name" ∷ codes "jobs" ∷ []
 
+-- the keys that the format names for a job
 abbrev pub job_keys : List (List ℕ)
 job_keys = codes "name" ∷ codes "turns" ∷ codes "fails" ∷ []
 
+-- the keys that the format names for an edge
 abbrev pub edge_keys : List (List ℕ)
 edge_keys = codes "ends" ∷ []
 
@@ -79,56 +85,63 @@ stands_before same none xs i = list_any (same (slice_index_or xs i none)) (take 
 abbrev pub first_twice : {A : Type 0} → (A → A → Bool) → A → List A → Option ℕ
 first_twice same none xs = position (stands_before same none xs) (range_with_len 0 (length xs))
 
--- `version` is absent or is not the whole number 1
+-- cause 2: `version` is absent or is not the whole number 1
 unfoldable pub refuses_version : Data → Bool
 refuses_version doc = not (option_map_or is_version (get (codes "version") doc) false)
 
--- the document, a site, a job or an edge has a key that the format does not name for it
+-- a site or one of its jobs has a key that the format does not name for it
 unfoldable pub site_has_other_key : Data → Bool
 site_has_other_key site = has_other_key site_keys site || list_any (has_other_key job_keys) (jobs_in site)
 
+-- cause 3: the document, a site, a job or an edge has a key that the format does not name for it
 unfoldable pub refuses_unknown_key : Data → Bool
 refuses_unknown_key doc = has_other_key document_keys doc || list_any site_has_other_key (sites_in doc) || list_any (has_other_key edge_keys) (edges_in doc)
 
--- a site or a job has no name, or an edge has no ends
+-- a site or one of its jobs has no name
 unfoldable pub site_lacks_key : Data → Bool
 site_lacks_key site = lacks_key (codes "name") site || list_any (lacks_key (codes "name")) (jobs_in site)
 
+-- cause 4: a site or a job has no name, or an edge has no ends
 unfoldable pub refuses_missing_key : Data → Bool
 refuses_missing_key doc = list_any site_lacks_key (sites_in doc) || list_any (lacks_key (codes "ends")) (edges_in doc)
 
--- a value is of another kind than the format names for its key
+-- a value of a job is of another kind than the format names for its key
 unfoldable pub job_is_wrong : Data → Bool
 job_is_wrong job = is_wrong is_text (codes "name") job || is_wrong is_whole (codes "turns") job || is_wrong is_truth (codes "fails") job
 
+-- a value of a site or of one of its jobs is of another kind than the format names for its key
 unfoldable pub site_is_wrong : Data → Bool
 site_is_wrong site = is_wrong is_text (codes "name") site || is_wrong is_tables (codes "jobs") site || list_any job_is_wrong (jobs_in site)
 
+-- the ends of an edge are not two texts
 unfoldable pub edge_is_wrong : Data → Bool
 edge_is_wrong edge = is_wrong is_two_texts (codes "ends") edge
 
+-- cause 5: a value is of another kind than the format names for its key
 unfoldable pub refuses_wrong_kind : Data → Bool
 refuses_wrong_kind doc = is_wrong is_tables (codes "site") doc || is_wrong is_tables (codes "edge") doc || list_any site_is_wrong (sites_in doc) || list_any edge_is_wrong (edges_in doc)
 
--- the name of the site, or of one of its jobs, is no name
+-- the name of a site or of a job is no name by `is_name`
 abbrev pub is_unnamed : Data → Bool
 is_unnamed d = not (is_name (name_in d))
 
+-- cause 6: the name of the site, or of one of its jobs, is no name
 unfoldable pub has_bad_name : Data → Bool
 has_bad_name site = is_unnamed site || list_any is_unnamed (jobs_in site)
 
--- the site has more than 1,000 jobs
+-- cause 10: the site has more than 1,000 jobs
 unfoldable pub has_many_jobs : Data → Bool
 has_many_jobs site = nat_lt 1000 (length (jobs_in site))
 
--- a job of the site has turns above 1,000,000
+-- cause 11: a job of the site has turns above 1,000,000
 unfoldable pub has_many_turns : Data → Bool
 has_many_turns site = list_any (λ job. nat_lt 1000000 (turns_in job)) (jobs_in site)
 
--- an end of the edge is the name of no site
+-- the name is that of no site
 abbrev pub is_unknown : List (List ℕ) → List ℕ → Bool
 is_unknown names name = not (list_any (bytes_eq name) names)
 
+-- cause 12: an end of the edge is the name of no site
 unfoldable pub has_unknown_end : List (List ℕ) → Data → Bool
 has_unknown_end names edge = is_unknown names (end_in 0 edge) || is_unknown names (end_in 1 edge)
 
@@ -140,10 +153,11 @@ joined_by names edge = if has_unknown_end names edge then None else Some (ends_i
 abbrev pub is_one_site : ℕ × ℕ → Bool
 is_one_site ends = ends.0 == ends.1
 
+-- cause 13: the edge joins a site with itself; an edge with an unknown end is no loop
 unfoldable pub is_loop : List (List ℕ) → Data → Bool
 is_loop names edge = option_map_or is_one_site (joined_by names edge) false
 
--- two edges join the same two sites
+-- two edges join the same two sites; an edge with an unknown end joins none
 abbrev pub same_ends : Option (ℕ × ℕ) → Option (ℕ × ℕ) → Bool
 same_ends (Some a) (Some b) = (a.0 == b.0) && (a.1 == b.1)
 same_ends _ _ = false
@@ -152,8 +166,7 @@ same_ends _ _ = false
 abbrev pub on : Bool → PlanFault → Option PlanFault
 on holds fault = if holds then Some fault else None
 
--- what may be refused in the form of a document, in its sites, in the ends of its edges, and in the pairs of sites
--- that its edges join, each in order
+-- causes 2 to 5, in the form of the document, each where it holds, in order
 unfoldable pub form_refusals : Data → List (Option PlanFault)
 form_refusals doc =
     on (refuses_version doc) fault.Version
@@ -162,6 +175,7 @@ form_refusals doc =
     ∷ on (refuses_wrong_kind doc) fault.WrongKind
     ∷ []
 
+-- causes 6 to 11, in the sites, each where it holds, at the least position where it has one, in order
 unfoldable pub site_refusals : List Data → List (Option PlanFault)
 site_refusals sites =
     option_map fault.BadName (position has_bad_name sites)
@@ -172,12 +186,14 @@ site_refusals sites =
     ∷ option_map fault.TurnsTooLarge (position has_many_turns sites)
     ∷ []
 
+-- causes 12 and 13, in the ends of the edges, each at the least position, in order
 unfoldable pub end_refusals : List (List ℕ) → List Data → List (Option PlanFault)
 end_refusals names edges =
     option_map fault.UnknownEnd (position (has_unknown_end names) edges)
     ∷ option_map fault.Loop (position (is_loop names) edges)
     ∷ []
 
+-- causes 14 and 15, in the pairs of sites that the edges join, in order: a pair twice, and more than 512 edges
 unfoldable pub pair_refusals : List (Option (ℕ × ℕ)) → List (Option PlanFault)
 pair_refusals pairs =
     option_map fault.EdgeTwice (first_twice same_ends None pairs)
@@ -199,10 +215,11 @@ graph_refusals sites edges =
 unfoldable pub first_refusal : Data → Option PlanFault
 first_refusal doc = first_some (form_refusals doc ++ graph_refusals (sites_in doc) (edges_in doc))
 
--- the first refusal of a text that holds; the text of no document is no TOML
+-- the first refusal of a document that holds; where the text is no document, it is no TOML, cause 1
 abbrev pub fault_of : Option Members → Option PlanFault
 fault_of None = Some fault.NotToml
 fault_of (Some doc) = first_refusal (table doc)
 
+-- the first cause to refuse a text that holds, at the least position; none where no cause does
 abbrev pub first_fault : List ℕ → Option PlanFault
 first_fault text = fault_of (parse_document text)

@@ -1,4 +1,5 @@
--- The causes to refuse a document, each as a fact of the whole document, and the first of them.
+-- The causes to refuse a document, each as a fact of the whole document, and the first of them. The law `first_refusal_is_first` joins them
+-- with `first_refusal`.
 use Rattle.std.specs.Prelude.{◌≡◌, ℕ, ◌<◌, ◌≤◌, ◌⊎◌, Bool, IsTrue, List, [], map, length, slice_index_or, Option, None}
 use Rattle.std.specs.Str.{bytes_eq}
 use Rattle.toml.specs.Data.{Data, table, no_members}
@@ -8,18 +9,19 @@ use Rattle.dine_plan.specs.Refusals.{refuses_version, refuses_unknown_key, refus
 use Rattle.dine_plan.specs.declared.faults.PlanFault.{PlanFault}
 use Rattle.dine_plan.specs.declared.faults.PlanFault.TheVariants.{NotToml, Version, UnknownKey, MissingKey, WrongKind, BadName, SiteTwice, NoSite, TooManySites, TooManyJobs, TurnsTooLarge, UnknownEnd, Loop, EdgeTwice, TooManyEdges, Memory}
 
--- what stands past the end of a list
+-- the table that stands past the end of a list
 abbrev pub no_table : Data
 no_table = table no_members
 
--- there is an item at the position, and it passes the test
+-- there is an item at the position, from 0, and it passes the test
 abbrev pub PassesAt : (Data → Bool) → List Data → ℕ → Type 0
 PassesAt test items i = (i < length items) × IsTrue (test (slice_index_or items i no_table))
 
--- the names of the sites, and for each edge the two sites that it joins, where its ends are sites
+-- the names of the sites, in order
 abbrev pub site_names : Data → List (List ℕ)
 site_names doc = map name_in (sites_in doc)
 
+-- for each edge the two sites that it joins, none where an end is the name of no site
 abbrev pub joined_pairs : Data → List (Option (ℕ × ℕ))
 joined_pairs doc = map (joined_by (site_names doc)) (edges_in doc)
 

@@ -29,8 +29,8 @@ module _ (plan : SeenPlan) (s : ℕ) (state : LocalState) (i : ℕ) where
     HasFork : fork_at plan s state i ≢ 0 → IsForkOutOfTurn
     HasToken : token_at plan s state i ≢ 0 → IsForkOutOfTurn
 
-  -- A Fork is strange that names another edge, other ends or other due numbers, whose log does not end in a Move to this site or
-  -- has another number of its meals than it ate, or that comes after Done without all meals that are due to its sender.
+  -- A Fork is strange that names another edge, other ends or other due numbers, whose log does not end in a Move to this site or has
+  -- another number of its meals than it ate, or that comes after Done without all meals that are due to its sender.
   pub data IsStrangeFork (fork : SeenFork) : Type 0 where
     OfOtherEdge : fork.edge ≢ edge_at plan s i → IsStrangeFork fork
     OfOtherEnds : fork.ends ≢ ends_at_place plan s i → IsStrangeFork fork

@@ -28,7 +28,7 @@ alone = record { sites = site_with (codes "a") 2 ∷ []; edges = [] }
 abbrev pub row : ℕ → ℕ → ℕ → SeenPlan
 row a b c = record { sites = site_with (codes "a") a ∷ site_with (codes "b") b ∷ site_with (codes "c") c ∷ []; edges = (0, 1) ∷ (1, 2) ∷ [] }
 
--- with one job each
+-- three sites in a row, with one job each
 abbrev pub path : SeenPlan
 path = row 1 1 1
 
@@ -37,10 +37,11 @@ pub record Outcome : Type 0 where
   pub logs : List (List Entry)
   pub events : ℕ
 
+-- the outcome of a run in the world where it ends
 abbrev pub outcome_in : SeenPlan → Counted → Outcome
 outcome_in plan run = record { logs = map (fork_log plan run.world) (range_with_len 0 (edge_count plan)); events = run.events }
 
--- the choices are taken, and then the first enabled event each time
+-- the outcome where the choices are taken, and then the first enabled event each time
 abbrev pub outcome_of : SeenPlan → List ℕ → Outcome
 outcome_of plan choices = outcome_in plan (whole_run plan choices)
 
@@ -52,10 +53,11 @@ world_after_choices plan choices = (replay plan (from_here (start plan)) choices
 abbrev pub enabled_after : SeenPlan → List ℕ → List Event
 enabled_after plan choices = enabled_events plan (world_after_choices plan choices)
 
--- the preferred end of the first edge after the choices, and at the end of their whole run
+-- the preferred end of the first edge after the choices
 abbrev pub preferred_after : SeenPlan → List ℕ → ℕ
 preferred_after plan choices = preferred_end plan (world_after_choices plan choices) 0
 
+-- the preferred end of the first edge at the end of the whole run of the choices
 abbrev pub preferred_at_end : SeenPlan → List ℕ → ℕ
 preferred_at_end plan choices = preferred_end plan (whole_run plan choices).world 0
 

@@ -1,5 +1,6 @@
--- The two ends of an edge, by whole lists alone: what each end put and took, and how many meals it ate. So they are left when
--- threads have joined. Lists that fit need not come from an order of events, and none is asked for here.
+-- The two ends of an edge, by whole lists alone: what each end put and took, and how many meals it ate. So they are left when threads have
+-- joined. Lists that fit need not come from an order of events, and none is asked for here. Whether a letter that was put will be taken
+-- they leave out.
 use Rattle.std.specs.Prelude.{◌≡◌, ℕ, ◌+◌, ◌<◌, ◌≤◌, List, [], length, slice_get, Option, if◌then◌else◌, ◌==◌}
 use mathlib.Core.List.{IsPrefix}
 use Rattle.dine_token.specs.declared.entry.Entry.{Entry}
@@ -51,7 +52,7 @@ pub record AccountsForFork (plan : SeenPlan) (s edge ate : ℕ) (traffic : Traff
 abbrev pub AccountsForToken : SeenPlan → ℕ → ℕ → Traffic → Type 0
 AccountsForToken plan s edge traffic = requests_in traffic.put ≤ (if hi_of plan edge == s then 1 else 0) + requests_in traffic.taken
 
--- A whole log: it is lawful, and of each end it has the meals 1 to the last that this end ate, each once.
+-- A lawful log, with the meals of each end from 1 to the last that it ate, each once.
 pub record IsWholeLog (plan : SeenPlan) (edge low_ate high_ate : ℕ) (log : List Entry) : Type 0 where
   pub lawful : IsLawful (lo_of plan edge, hi_of plan edge) (job_count plan (lo_of plan edge), job_count plan (hi_of plan edge)) log
   pub lower_count : meals_of (lo_of plan edge) log ≡ low_ate
@@ -59,7 +60,7 @@ pub record IsWholeLog (plan : SeenPlan) (edge low_ate high_ate : ℕ) (log : Lis
   pub lower_each_once : numbers_of (lo_of plan edge) log ≡ count_from 1 low_ate
   pub higher_each_once : numbers_of (hi_of plan edge) log ≡ count_from 1 high_ate
 
--- Exactly one of the two ends holds the fork, and the log in its hand is whole.
+-- Exactly one of the two ends holds the fork, and the log in its hand is whole. [paper: one fork]
 pub record HaveOneWholeFork (plan : SeenPlan) (edge low_ate high_ate : ℕ) (low high : Traffic) : Type 0 where
   pub one_fork : forks_held plan (lo_of plan edge) edge low + forks_held plan (hi_of plan edge) edge high ≡ 1
   pub at_lower : forks_held plan (lo_of plan edge) edge low ≡ 1 → IsWholeLog plan edge low_ate high_ate (hand (lo_of plan edge) low_ate low)

@@ -1,4 +1,4 @@
--- Journals: the events of each site, in its order; and the orders that hold all of them in one list.
+-- Journals: the events of each site, in its order; and the orders that hold all of them in one list. The order in time they leave out.
 use Rattle.std.specs.Prelude.{◌≡◌, ◌≢◌, ℕ, ◌<◌, ◌==◌, Bool, false, List, [], ◌∷◌, ◌++◌, filter, length, map, slice_get, slice_index_or, Option, Some, None, option_and_then}
 use mathlib.Core.List.{IsPrefix}
 use Rattle.dine_plan.specs.Plan.{SeenPlan, IsPlan, edges_of, site_count}

@@ -1,4 +1,5 @@
--- Letters, and lists of letters in the order in which they were put or taken.
+-- Letters, and lists of letters in the order in which they were put or taken. The definitions of the rules speak of whole lists of letters,
+-- and know nothing of flags or slots. They compute, so laws such as `small_plans_run_as_worked` work small plans out from them.
 use Rattle.std.specs.Prelude.{ℕ, suc, Bool, true, false, List, [], ◌∷◌}
 use Rattle.dine_token.specs.declared.entry.Entry.{Entry}
 use Rattle.dine_rules.specs.declared.letters.Letter.{Letter}
@@ -6,19 +7,19 @@ use Rattle.dine_rules.specs.declared.letters.Letter.TheVariants.{Fork, Request, 
 use Rattle.dine_rules.specs.declared.letters.Kind4.{Kind4}
 use Rattle.dine_rules.specs.declared.letters.Kind4.TheVariants as kind
 
--- A letter as contracts see it: a Fork with its edge, ends, due numbers and log, a Request with its edge, Done or Close. The rule
--- of a link speaks of lists of these.
+-- A letter as contracts see it: a Fork with its edge, ends, due numbers and log, a Request with its edge, Done or Close. The rule of a link
+-- speaks of lists of these.
 abbrev pub SeenLetter : Type 0
 SeenLetter = Letter
 
--- the kind of a letter
+-- the kind of a letter, without its contents
 abbrev pub kind_of : Letter → Kind4
 kind_of (Fork fork) = kind.Fork
 kind_of (Request edge) = kind.Request
 kind_of Done = kind.Done
 kind_of Close = kind.Close
 
--- how many Forks and how many Requests are among the letters
+-- how many Forks are among the letters
 abbrev pub forks_in : List Letter → ℕ
 forks_in [] = 0
 forks_in (Fork fork ∷ letters) = suc (forks_in letters)
@@ -26,6 +27,7 @@ forks_in (Request edge ∷ letters) = forks_in letters
 forks_in (Done ∷ letters) = forks_in letters
 forks_in (Close ∷ letters) = forks_in letters
 
+-- how many Requests are among the letters
 abbrev pub requests_in : List Letter → ℕ
 requests_in [] = 0
 requests_in (Fork fork ∷ letters) = requests_in letters
@@ -33,7 +35,7 @@ requests_in (Request edge ∷ letters) = suc (requests_in letters)
 requests_in (Done ∷ letters) = requests_in letters
 requests_in (Close ∷ letters) = requests_in letters
 
--- Done, or Close, is among the letters
+-- Done is among the letters
 abbrev pub has_done : List Letter → Bool
 has_done [] = false
 has_done (Fork fork ∷ letters) = has_done letters
@@ -41,6 +43,7 @@ has_done (Request edge ∷ letters) = has_done letters
 has_done (Done ∷ letters) = true
 has_done (Close ∷ letters) = has_done letters
 
+-- Close is among the letters
 abbrev pub has_close : List Letter → Bool
 has_close [] = false
 has_close (Fork fork ∷ letters) = has_close letters
@@ -48,7 +51,7 @@ has_close (Request edge ∷ letters) = has_close letters
 has_close (Done ∷ letters) = has_close letters
 has_close (Close ∷ letters) = true
 
--- the log of the last Fork among the letters, or `log` where there is none
+-- the log of the last Fork among the letters, or `log`
 abbrev pub last_log_or : List Entry → List Letter → List Entry
 last_log_or log [] = log
 last_log_or log (Fork fork ∷ letters) = last_log_or fork.log letters
@@ -56,7 +59,7 @@ last_log_or log (Request edge ∷ letters) = last_log_or log letters
 last_log_or log (Done ∷ letters) = last_log_or log letters
 last_log_or log (Close ∷ letters) = last_log_or log letters
 
--- how many Dones and how many Closes are among the letters
+-- how many Dones are among the letters
 abbrev pub dones_in : List Letter → ℕ
 dones_in [] = 0
 dones_in (Fork fork ∷ letters) = dones_in letters
@@ -64,6 +67,7 @@ dones_in (Request edge ∷ letters) = dones_in letters
 dones_in (Done ∷ letters) = suc (dones_in letters)
 dones_in (Close ∷ letters) = dones_in letters
 
+-- how many Closes are among the letters
 abbrev pub closes_in : List Letter → ℕ
 closes_in [] = 0
 closes_in (Fork fork ∷ letters) = closes_in letters

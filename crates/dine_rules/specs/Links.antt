@@ -8,11 +8,12 @@ use Rattle.dine_rules.specs.Local.{traffic_at}
 use Rattle.dine_rules.specs.Holdings.{fork_at, token_at}
 use Rattle.dine_rules.specs.World.{WorldState, Reaches, state_of, place_of, put_to}
 
--- so it is in every world that events reach from the start, for the link to each site at each place, or for each edge
+-- so it is in every world that events reach from the start, for the link to each site at each place
 abbrev pub ForEachLink : (SeenPlan → WorldState → ℕ → ℕ → Type 0) → Type 0
 ForEachLink P = (plan : SeenPlan) (events : List Event) (world : WorldState) (s i : ℕ) → IsPlan plan → Reaches plan events world
     → s < site_count plan → i < length (edges_of plan s) → P plan world s i
 
+-- so it is in every world that events reach from the start, for each edge
 abbrev pub ForEachEdge : (SeenPlan → WorldState → ℕ → Type 0) → Type 0
 ForEachEdge P = (plan : SeenPlan) (events : List Event) (world : WorldState) (edge : ℕ) → IsPlan plan → Reaches plan events world
     → edge < edge_count plan → P plan world edge
@@ -21,16 +22,18 @@ ForEachEdge P = (plan : SeenPlan) (events : List Event) (world : WorldState) (ed
 abbrev pub queue_to : SeenPlan → WorldState → ℕ → ℕ → List Letter
 queue_to plan world s i = drop (length (traffic_at (state_of world s) i).taken) (put_to plan world s i)
 
--- the forks of an edge at one of its ends and in the link to that end; and its tokens, held or asked with
+-- how many forks of an edge are at one of its ends and in the link to that end
 abbrev pub forks_near : SeenPlan → WorldState → ℕ → ℕ → ℕ
 forks_near plan world s edge = fork_at plan s (state_of world s) (place_of plan s edge) + forks_in (queue_to plan world s (place_of plan s edge))
 
+-- how many tokens of an edge are at one of its ends and in the link to that end; in a link a token is a Request
 abbrev pub tokens_near : SeenPlan → WorldState → ℕ → ℕ → ℕ
 tokens_near plan world s edge = token_at plan s (state_of world s) (place_of plan s edge) + requests_in (queue_to plan world s (place_of plan s edge))
 
--- all forks of an edge, and all its tokens: at both ends and in both links
+-- how many forks an edge has: at both ends and in both links [paper: one fork]
 abbrev pub forks_of_edge : SeenPlan → WorldState → ℕ → ℕ
 forks_of_edge plan world edge = forks_near plan world (lo_of plan edge) edge + forks_near plan world (hi_of plan edge) edge
 
+-- how many tokens an edge has: at both ends and in both links [paper: one fork]
 abbrev pub tokens_of_edge : SeenPlan → WorldState → ℕ → ℕ
 tokens_of_edge plan world edge = tokens_near plan world (lo_of plan edge) edge + tokens_near plan world (hi_of plan edge) edge

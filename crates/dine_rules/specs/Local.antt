@@ -1,16 +1,16 @@
--- One site, by what it has put and taken.
+-- One site, by what it has put and taken. A place is a position in the list of the site's edges.
 use Rattle.std.specs.Prelude.{ℕ, Bool, true, false, List, [], map, slice_index_or}
 use Rattle.dine_plan.specs.Plan.{SeenPlan, edges_of, other_of}
 use Rattle.dine_rules.specs.declared.letters.Letter.{Letter}
 use Rattle.dine_rules.specs.declared.phase.Phase.{Phase}
 use Rattle.dine_rules.specs.declared.phase.Phase.TheVariants.{Thinking, Hungry, Eating}
 
--- all letters that a site has put, and all that it has taken, at one place
+-- all that an end has put, and all that it has taken, in order
 pub record Traffic : Type 0 where
   pub put : List Letter
   pub taken : List Letter
 
--- what the site does, how many meals it began, and its traffic at each place, in edge order
+-- a site: what it does, how many meals it began, and its traffic at each place, in edge order [paper: neighbours]
 pub record LocalState : Type 0 where
   pub phase : Phase
   pub ate : ℕ
@@ -24,25 +24,29 @@ no_traffic = record { put = []; taken = [] }
 abbrev pub traffic_at : LocalState → ℕ → Traffic
 traffic_at state i = slice_index_or state.traffic i no_traffic
 
--- a site at the start: it thinks, and all its lists are empty
+-- a site at the start: it thinks, and has put and taken nothing
 abbrev pub start_of : SeenPlan → ℕ → LocalState
 start_of plan s = record { phase = Thinking; ate = 0; traffic = map (λ edge. no_traffic) (edges_of plan s) }
 
+-- the site thinks [paper: neighbours]
 abbrev pub is_thinking : Phase → Bool
 is_thinking Thinking = true
 is_thinking _ = false
 
+-- the site is hungry [paper: neighbours]
 abbrev pub is_hungry : Phase → Bool
 is_hungry Hungry = true
 is_hungry _ = false
 
+-- the site eats [paper: neighbours]
 abbrev pub is_eating : Phase → Bool
 is_eating Eating = true
 is_eating _ = false
 
--- the edge at place i of the site, and the site at the other end of that edge
+-- the edge at place i of the site
 abbrev pub edge_at : SeenPlan → ℕ → ℕ → ℕ
 edge_at plan s i = slice_index_or (edges_of plan s) i 0
 
+-- the site at the other end of the edge at place i
 abbrev pub neighbour_at : SeenPlan → ℕ → ℕ → ℕ
 neighbour_at plan s i = other_of plan (edge_at plan s i) s

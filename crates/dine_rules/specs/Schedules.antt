@@ -1,4 +1,5 @@
--- Schedules: lists of choices among the enabled events.
+-- Schedules: lists of choices among the enabled events. That `bound_of` events are enough for any run is the law
+-- `finished_runs_are_complete`.
 use Rattle.std.specs.Prelude.{ℕ, zero, suc, ◌+◌, List, [], ◌∷◌, Option, Some, None, slice_get, unwrap_or}
 use Rattle.dine_plan.specs.Plan.{SeenPlan}
 use Rattle.dine_rules.specs.declared.events.Event.{Event}
@@ -10,19 +11,20 @@ pub record Counted : Type 0 where
   pub world : WorldState
   pub events : ℕ
 
--- a run that starts here
+-- a run that starts here, with no event yet
 abbrev pub from_here : WorldState → Counted
 from_here world = record { world = world; events = 0 }
 
--- the world after its n-th enabled event, from 0; a choice with none does nothing
+-- the run with this event more; without one it is as it was
 abbrev pub chosen : SeenPlan → Counted → Option Event → Counted
 chosen plan now None = now
 chosen plan now (Some e) = record { world = unwrap_or (world_after plan now.world e) now.world; events = now.events + 1 }
 
+-- the run with the n-th of the enabled events more, n from 0; a choice with no event does nothing
 abbrev pub choose : SeenPlan → Counted → ℕ → Counted
 choose plan now n = chosen plan now (slice_get (enabled_events plan now.world) n)
 
--- the world after the choices, one after the other
+-- the run after the choices, one after the other
 abbrev pub replay : SeenPlan → Counted → List ℕ → Counted
 replay plan now [] = now
 replay plan now (n ∷ choices) = replay plan (choose plan now n) choices
@@ -37,7 +39,7 @@ abbrev pub finish_within : ℕ → SeenPlan → Counted → Counted
 finish_within zero plan now = now
 finish_within (suc n) plan now = carried_on (finish_within n plan) plan now (slice_get (enabled_events plan now.world) 0)
 
--- the run of the choices and then of the first enabled events
+-- the run of the choices and then of the first enabled events; `bound_of` events are enough to its end
 abbrev pub whole_run : SeenPlan → List ℕ → Counted
 whole_run plan choices = finish_within (bound_of plan) plan (replay plan (from_here (start plan)) choices)
 

@@ -16,7 +16,8 @@ use Rattle.dine_rules.specs.Local.{LocalState, traffic_at, edge_at, neighbour_at
 use Rattle.dine_rules.specs.Holdings.{fork_at, token_at, hand_at}
 use Rattle.dine_rules.specs.Breach.{is_allowed}
 
--- The steps of a site. A number is a place. Take takes the letter that lies next there; Break gives the link up.
+-- The steps of a site. A number is a place. Take takes the letter that lies next there; Break gives the link up after a fault, and is no
+-- step of the world in one thread.
 pub data Step : Type 0 where
   Give : ℕ → Step
   Ask : ℕ → Step
@@ -28,7 +29,7 @@ pub data Step : Type 0 where
   Break : ℕ → Step
   Take : ℕ → Letter → Step
 
--- the fork of the edge with this log, as a letter has it
+-- the fork of the edge with this log, as the plan has it
 abbrev pub fork_with : SeenPlan → ℕ → List Entry → SeenFork
 fork_with plan edge log = record {
   edge = edge;
@@ -37,11 +38,12 @@ fork_with plan edge log = record {
   log = log;
 }
 
--- a letter more is put, or taken, at place i
+-- the state where a letter more is put at place i
 abbrev pub with_put : ℕ → Letter → LocalState → LocalState
 with_put i l state = let traffic = traffic_at state i in
     record state { traffic = slice_set state.traffic i (record traffic { put = traffic.put ++ l ∷ [] }) }
 
+-- the state where a letter more is taken at place i
 abbrev pub with_taken : ℕ → Letter → LocalState → LocalState
 with_taken i l state = let traffic = traffic_at state i in
     record state { traffic = slice_set state.traffic i (record traffic { taken = traffic.taken ++ l ∷ [] }) }
@@ -55,7 +57,8 @@ module _ (plan : SeenPlan) (s : ℕ) where
   abbrev pub is_ready : LocalState → ℕ → Bool
   is_ready state i = fork_at plan s state i == 1 && (not (is_dirty (hand_at s state i)) || token_at plan s state i == 0)
 
-  -- What each step needs. Give is the release rule, Ask the request rule.
+  -- What each step needs: Ask by the request rule, Give by the release rule, Begin with all forks.
+  -- [paper: request rule, release rule, all forks]
   abbrev pub may : LocalState → Step → Bool
   may state (Give i) = nat_lt i (length state.traffic) && (not (is_eating state.phase) && (fork_at plan s state i == 1 && token_at plan s state i == 1)
       && (is_dirty (hand_at s state i) && is_open state i))
@@ -69,7 +72,8 @@ module _ (plan : SeenPlan) (s : ℕ) where
   may state (Break i) = nat_lt i (length state.traffic) && (not (is_eating state.phase) && is_open state i)
   may state (Take i l) = nat_lt i (length state.traffic) && is_allowed plan s state i l
 
-  -- What each step changes. A given fork has the log in hand and the Move to the other end.
+  -- What each step changes. A given fork has the log in hand and the Move to the other end; a meal counts as it begins.
+  -- [paper: request rule, release rule, arrival]
   abbrev pub after : LocalState → Step → LocalState
   after state (Give i) = with_put i (letter.Fork (fork_with plan (edge_at plan s i) (hand_at s state i ++ Move (neighbour_at plan s i) ∷ []))) state
   after state (Ask i) = with_put i (letter.Request (edge_at plan s i)) state
@@ -81,7 +85,7 @@ module _ (plan : SeenPlan) (s : ℕ) where
   after state (Break i) = with_put i letter.Close state
   after state (Take i l) = with_taken i l state
 
-  -- one step of the site
+  -- One step of the site: what it needs is so, and the new state is the changed one.
   pub record LocalStep (old : LocalState) (step : Step) (new : LocalState) : Type 0 where
     pub needs : may old step ≡ true
     pub changes : new ≡ after old step
@@ -92,6 +96,7 @@ pub data Shape : Type 0 where
   Puts : ℕ → Shape
   Alone : Shape
 
+-- the shape of each event
 abbrev pub shape_of : EventKind → Shape
 shape_of (event.Take i) = Takes i
 shape_of (event.Give i) = Puts i

@@ -14,7 +14,7 @@ use Rattle.dine_rules.specs.Holdings.{forks_held, fork_at, token_at, hand_at, me
 use Rattle.dine_rules.specs.Breach.{was_sent_to, is_fork_of}
 use Rattle.dine_rules.specs.Steps.{Step, Take}
 
--- Forks and Requests, read without Done and Close, take turns. `fork_next` says which of the two is next.
+-- Forks and Requests take turns, whatever stands between them; `fork_next` says which of the two is next
 abbrev pub is_alternating : Bool → List Letter → Bool
 is_alternating fork_next [] = true
 is_alternating fork_next (Fork fork ∷ letters) = fork_next && is_alternating false letters
@@ -22,7 +22,7 @@ is_alternating fork_next (Request edge ∷ letters) = not fork_next && is_altern
 is_alternating fork_next (Done ∷ letters) = is_alternating fork_next letters
 is_alternating fork_next (Close ∷ letters) = is_alternating fork_next letters
 
--- no Done and no Request stands behind the first Done
+-- at most one Done, and no Request behind it
 abbrev pub is_done_last : List Letter → Bool
 is_done_last [] = true
 is_done_last (Done ∷ letters) = not (has_done letters) && requests_in letters == 0
@@ -39,7 +39,8 @@ is_close_last (Fork fork ∷ letters) = is_close_last letters
 is_close_last (Request edge ∷ letters) = is_close_last letters
 is_close_last (Done ∷ letters) = is_close_last letters
 
--- A lawful stream of one direction: the direction from the lower end starts with a Fork, that from the higher with a Request.
+-- The letters of one direction: Forks and Requests take turns, a Fork first from the lower end and a Request first from the higher; no
+-- Request stands behind Done, and nothing behind Close. [paper: request rule, release rule]
 pub record IsLawfulStream (from_lower : Bool) (letters : List Letter) : Type 0 where
   pub alternating : is_alternating from_lower letters ≡ true
   pub done_last : is_done_last letters ≡ true
@@ -53,7 +54,7 @@ is_orderly (Close ∷ letters) = false
 is_orderly (Fork fork ∷ letters) = is_orderly letters
 is_orderly (Request edge ∷ letters) = is_orderly letters
 
--- The stream is whole: each Close has a Done before it, and the last letter is Close.
+-- Each Close has a Done before it, and the last letter is Close.
 pub record IsClosedInOrder (letters : List Letter) : Type 0 where
   pub orderly : is_orderly letters ≡ true
   pub before_close : List Letter
@@ -67,12 +68,12 @@ logs_of (Request edge ∷ letters) = logs_of letters
 logs_of (Done ∷ letters) = logs_of letters
 logs_of (Close ∷ letters) = logs_of letters
 
--- The log is the one before, with meals of the site numbered on from those in it, and the Move to the other end.
+-- The log is the one before, with meals of the site numbered on from those in it, and the Move to the other end. [paper: release rule]
 pub record CarriesOn (s to : ℕ) (before log : List Entry) : Type 0 where
   pub meals : ℕ
   pub is : log ≡ before ++ meals_from s (meals_of s before + 1) meals ++ Move to ∷ []
 
--- The same, and at least one meal was added.
+-- The same, and at least one meal was added. [paper: clean and dirty]
 pub record CarriesOnEaten (s to : ℕ) (before log : List Entry) : Type 0 where
   pub meals : ℕ
   pub some : 1 ≤ meals
@@ -84,9 +85,9 @@ pub record CarriesOnTaken (s to : ℕ) (taken : List (List Entry)) (k : ℕ) (lo
   pub is_taken : slice_get taken k ≡ Some before
   pub carries : CarriesOnEaten s to before log
 
--- The chain of a site at an edge. Its first Fork from the lower end carries on the empty log, and may go without a meal. Each
--- other Fork that it puts carries on the Fork taken before it: from the lower end the next one the k-th taken, from the higher
--- end the k-th one the k-th. Where the fork is gone, the last Fork put has all meals that the site ate.
+-- The chain of a site at an edge. Its first Fork from the lower end carries on the empty log, and may go without a meal. Each other Fork
+-- that it puts carries on the Fork taken before it, which is there: from the lower end the next one the k-th taken, from the higher end the
+-- k-th one the k-th. Where the fork is gone, the last Fork put has all meals that the site ate. [paper: clean and dirty, release rule]
 pub record IsChained (plan : SeenPlan) (s edge ate : ℕ) (traffic : Traffic) : Type 0 where
   pub first : (lo_of plan edge == s) ≡ true → (log : List Entry) → slice_get (logs_of traffic.put) 0 ≡ Some log → CarriesOn s (other_of plan edge s) [] log
   pub next : (lo_of plan edge == s) ≡ true → (k : ℕ) (log : List Entry) → slice_get (logs_of traffic.put) (k + 1) ≡ Some log → CarriesOnTaken s (other_of plan edge s) (logs_of traffic.taken) k log
@@ -102,14 +103,15 @@ AreLawfulForks plan edge letters = (k : ℕ) (fork : SeenFork) → slice_get let
 abbrev pub AreRequestsOf : ℕ → List Letter → Type 0
 AreRequestsOf edge letters = (k e : ℕ) → slice_get letters k ≡ Some (Request e) → e ≡ edge
 
--- the lower end starts with the fork, the higher with the token
+-- the site is the lower end of the edge at place i
 abbrev pub is_lower_at : SeenPlan → ℕ → ℕ → Bool
 is_lower_at plan s i = lo_of plan (edge_at plan s i) == s
 
--- the ends of the edge at place i, and the meals due to them, as a fork has them
+-- the ends of the edge at place i, (lower, higher)
 abbrev pub ends_at_place : SeenPlan → ℕ → ℕ → ℕ × ℕ
 ends_at_place plan s i = (lo_of plan (edge_at plan s i), hi_of plan (edge_at plan s i))
 
+-- the meals due to the ends of the edge at place i, (lower, higher)
 abbrev pub due_at_place : SeenPlan → ℕ → ℕ → ℕ × ℕ
 due_at_place plan s i = (job_count plan (lo_of plan (edge_at plan s i)), job_count plan (hi_of plan (edge_at plan s i)))
 
@@ -118,7 +120,7 @@ abbrev pub has_asked_since_meal : SeenPlan → ℕ → LocalState → ℕ → Bo
 has_asked_since_meal plan s state i = (fork_at plan s state i == 0 && token_at plan s state i == 0)
     || (fork_at plan s state i == 1 && not (is_dirty (hand_at s state i)))
 
--- What a site keeps at one place, whatever letters it is offered.
+-- What a site keeps at one place, whatever letters it is offered. [paper: one fork, clean and dirty, request rule, release rule, arrival]
 pub record KeepsStreamsAt (plan : SeenPlan) (s : ℕ) (state : LocalState) (i : ℕ) : Type 0 where
   -- what it put is a lawful stream, in a chain, of lawful forks, and asks for the edge's fork
   pub put_lawful : IsLawfulStream (is_lower_at plan s i) (traffic_at state i).put
@@ -164,8 +166,8 @@ pub record KeepsStreams (plan : SeenPlan) (s : ℕ) (state : LocalState) : Type 
   pub hungry_has_left : is_hungry state.phase ≡ true → state.ate < job_count plan s
   pub eater_has_begun : is_eating state.phase ≡ true → 1 ≤ state.ate
 
--- What a site put at place i is in order, by what it ate and took there: a lawful stream, of lawful forks, in a chain, that asks for
--- the edge's fork.
+-- What a site put at place i is in order, by what it ate and took there: a lawful stream, of lawful forks, in a chain, that asks for the
+-- edge's fork.
 pub record IsPutInOrder (plan : SeenPlan) (s i ate : ℕ) (traffic : Traffic) : Type 0 where
   pub lawful : IsLawfulStream (is_lower_at plan s i) traffic.put
   pub chained : IsChained plan s (edge_at plan s i) ate traffic

@@ -1,4 +1,5 @@
--- The world of all sites in one thread.
+-- The world of all sites in one thread. Links have no limit here: that at most four letters lie in one is the law `links_hold_few_letters`.
+-- No time passes, and nothing says which of the enabled events comes next.
 use Rattle.std.specs.Prelude.{◌≡◌, ℕ, ◌<◌, ◌==◌, nat_lt, Bool, true, List, [], ◌∷◌, ◌++◌, map, filter, length, position, slice_get, slice_index_or, slice_set, Option, Some, None, is_some, unwrap_or, option_map, option_and_then, if◌then◌else◌}
 use Rattle.std.specs.List.{flat_map, range_with_len}
 use mathlib.Core.List.{IsPrefix}
@@ -12,18 +13,19 @@ use Rattle.dine_rules.specs.Local.{LocalState, traffic_at, start_of, edge_at, ne
 use Rattle.dine_rules.specs.Steps.{Step, may, after, step_by}
 use Rattle.dine_rules.specs.Streams.{IsClosedInOrder}
 
--- one local state a site
+-- the state of all sites, one local state each
 abbrev pub WorldState : Type 0
 WorldState = List LocalState
 
--- a site past the end
+-- the state of a site past the end
 abbrev pub no_state : LocalState
 no_state = record { phase = Thinking; ate = 0; traffic = [] }
 
+-- the state of a site
 abbrev pub state_of : WorldState → ℕ → LocalState
 state_of world s = slice_index_or world s no_state
 
--- at the start all sites think and nothing was put or taken
+-- all sites at the start: they think, and nothing was put or taken
 abbrev pub start : SeenPlan → WorldState
 start plan = map (start_of plan) (range_with_len 0 (site_count plan))
 
@@ -55,14 +57,16 @@ site_after plan world s kind = option_and_then (local_after plan s (state_of wor
 abbrev pub world_after : SeenPlan → WorldState → Event → Option WorldState
 world_after plan world e = if nat_lt e.site (site_count plan) then option_map (slice_set world e.site) (site_after plan world e.site e.kind) else None
 
+-- the event is enabled: its site may do it now
 abbrev pub is_enabled : SeenPlan → WorldState → Event → Bool
 is_enabled plan world e = is_some (world_after plan world e)
 
--- the events that a site of so many places can have, in the fixed order
+-- all events of a site with these places, in the fixed order: Take, Give, End, Begin, Hungry, Ask, Done, Close, each by place
 abbrev pub kinds_at : List ℕ → List EventKind
 kinds_at places = map event.Take places ++ map event.Give places ++ event.End ∷ event.Begin ∷ event.Hungry ∷ []
     ++ map event.Ask places ++ map event.Done places ++ map event.Close places
 
+-- all events of a site of the plan, in the fixed order
 abbrev pub events_at : SeenPlan → ℕ → List Event
 events_at plan s = map (λ kind. record { site = s; kind = kind }) (kinds_at (range_with_len 0 (length (edges_of plan s))))
 
@@ -84,8 +88,8 @@ abbrev pub LinksAreOrdered : SeenPlan → WorldState → Type 0
 LinksAreOrdered plan world = (s i : ℕ) → s < site_count plan → i < length (edges_of plan s)
     → IsPrefix (traffic_at (state_of world s) i).taken (put_to plan world s i)
 
--- The closed whole: every site thinks and ate all its meals, what it put on each link is orderly and ends in Close, and what it
--- took from each link is all that was put there.
+-- The closed whole: every site thinks and ate all its meals, what it put on each link is orderly and ends in Close, and what it took from
+-- each link is all that was put there.
 pub record IsComplete (plan : SeenPlan) (world : WorldState) : Type 0 where
   pub all_think : (s : ℕ) → s < site_count plan → is_thinking (state_of world s).phase ≡ true
   pub all_ate : (s : ℕ) → s < site_count plan → (state_of world s).ate ≡ job_count plan s

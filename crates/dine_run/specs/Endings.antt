@@ -17,15 +17,17 @@ use Rattle.dine_run.specs.declared.site_end.Stray.{Stray}
 use Rattle.dine_run.specs.Doings.{HasDone}
 use Rattle.dine_run.specs.Ports.{SeenPort, PutsFit}
 
--- the letter that a breach handed back at place i, and the letter that the link of place i refused
+-- the letter that was handed back at place i, where one was
 abbrev pub letter_at : ℕ → Option Stray → Option Letter
 letter_at i None = None
 letter_at i (Some stray) = if stray.link == i then Some stray.letter else None
 
+-- the letter that a breach handed back at place i
 abbrev pub breached_at : ℕ → Option SiteFault → Option Stray → Option Letter
 breached_at i (Some (fault.Breach link breach)) stray = letter_at i stray
 breached_at i _ stray = None
 
+-- the letter that the link of place i refused
 abbrev pub refused_at : ℕ → Option SiteFault → Option Stray → Option Letter
 refused_at i (Some (fault.Lost link)) stray = letter_at i stray
 refused_at i _ stray = None
@@ -51,9 +53,11 @@ pub record OnLinks : Type 0 where
   pub put_refused : Bool
   pub take_refused : Bool
 
+-- what was put in the one and taken from the other, alone
 abbrev pub traffic_on : OnLinks → Traffic
 traffic_on links = record { put = links.put; taken = links.taken }
 
+-- links with nothing on them, and nothing refused
 abbrev pub nothing_on_links : OnLinks
 nothing_on_links = record { put = []; taken = []; put_refused = false; take_refused = false }
 
@@ -65,10 +69,11 @@ pub record IsLost (places : ℕ) (links : ℕ → OnLinks) (stray : Option Stray
   pub to_place : (back : Stray) → stray ≡ Some back → (back.link ≡ link) × (link < places)
   pub no_close : (back : Stray) → stray ≡ Some back → is_close back.letter ≡ false
 
--- what the links of each place have, by the ports in order
+-- what the links of a place have, by its port
 abbrev pub on_links : {Identity : Type 0} → SeenPort Identity → OnLinks
 on_links port = record { put = port.tx.letters; taken = port.rx.letters; put_refused = port.tx.refused; take_refused = port.rx.refused }
 
+-- the same by place, by the ports in order
 abbrev pub links_at : {Identity : Type 0} → List (SeenPort Identity) → ℕ → OnLinks
 links_at ports i = slice_index_or (map on_links ports) i nothing_on_links
 
@@ -80,11 +85,11 @@ pub record Ending : Type 0 where
   pub stray : Option Stray
   pub fault : Option SiteFault
 
--- What a site tells fits a state of whole lists that keeps the streams, in which it does not eat. Its tokens are those of this state,
--- and so are its links, but for the letter of a breach, a letter that a link refused, and a Close that a link refused; what its
--- links have is in order all the same. It did the events of its journal and then it broke off, and where it was started it has put Close everywhere. Where it tells no fault it did all,
--- just those events, its links have exactly what it put, and none of them refused. A site that was not started is at its start.
--- A link that refused to give a letter is told. A fault that is told is so.
+-- What a site tells fits a state of whole lists that keeps the streams, in which it does not eat. Its tokens are those of this state, and
+-- so are its links, but for the letter of a breach, a letter that a link refused, and a Close that a link refused; what its links have is
+-- in order all the same. It did the events of its journal and then it broke off, and where it was started it has put Close everywhere.
+-- Where it tells no fault it did all, just those events, its links have exactly what it put, and none of them refused. A site that was not
+-- started is at its start. A link that refused to give a letter is told. A fault that is told is so.
 pub record HasEnded (plan : SeenPlan) (s : ℕ) (state : LocalState) (links : ℕ → OnLinks) (end : Ending) : Type 0 where
   pub keeps : KeepsStreams plan s state
   pub rests : is_eating state.phase ≡ false

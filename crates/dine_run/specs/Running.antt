@@ -1,5 +1,5 @@
--- A site on its way: what holds of its core and its link ends between two of its events, while a letter goes out, after its
--- first fault, and at its end; and what is left as it was.
+-- A site on its way: what holds of its core and its link ends between two of its events, while a letter goes out, after its first fault,
+-- and at its end; and what is left as it was. Contracts of private functions alone name these.
 use Rattle.std.specs.Prelude.{◌≡◌, ◌≢◌, ℕ, ◌+◌, ◌<◌, ◌≤◌, ◌++◌, not, Bool, true, false, List, length, slice_get, Option, Some, None, option_to_list, Result, MatchResult, vec_len}
 use Rattle.dine_plan.specs.Plan.{SeenPlan, IsPlan, site_count}
 use Rattle.dine_rules.specs.declared.breach.Breach.{Breach}
@@ -121,10 +121,11 @@ ForSome {Identity} P run = (plan : SeenPlan) × (given : List (SeenPort Identity
 abbrev pub Leads : {Identity : Type 0} → (SeenPlan → List (SeenPort Identity) → SeenRun Identity → Type 0) → (SeenPlan → List (SeenPort Identity) → SeenRun Identity → Type 0) → SeenRun Identity → SeenRun Identity → Type 0
 Leads {Identity} P Q old new = (plan : SeenPlan) (given : List (SeenPort Identity)) → P plan given old → Q plan given new
 
--- it has stopped, with some stray and some cause; and it stays so, with the same
+-- it has stopped, with some stray and some cause
 abbrev pub HasStopped : {Identity : Type 0} → SeenRun Identity → Type 0
 HasStopped run = (stray : Option Stray) × (cause : SiteFault) × ForSome (IsStopped stray cause) run
 
+-- a site that has stopped stays so, with the same stray and the same cause
 abbrev pub StaysStopped : {Identity : Type 0} → SeenRun Identity → SeenRun Identity → Type 0
 StaysStopped old new = (stray : Option Stray) (cause : SiteFault) → Leads (IsStopped stray cause) (IsStopped stray cause) old new
 
@@ -137,6 +138,7 @@ abbrev pub GoesToEnd : {Identity : Type 0} → Result (Unit {0}) Stop → SeenPl
 GoesToEnd result plan given run = MatchResult result (λ _. IsRunning plan given run × IsFinished run.core) (λ stop. IsStopped stop.stray stop.fault plan given run)
 
 module _ {Lane Tx Closed Rx Identity Diner : Type 0} (live : Tx → SeenEnd Identity) (shut : Closed → SeenEnd Identity) (taking : Rx → SeenEnd Identity) where
+  -- what is seen of a site on its way
   abbrev pub seen_run : Running Lane Diner Tx Closed Rx → SeenRun Identity
   seen_run run = record { core = run.core; ports = seen_ports live shut taking run.ports.items; bell = run.bell; journal = run.journal.items }
 

@@ -1,4 +1,4 @@
--- What a site leaves when it ends.
+-- What a site leaves when it ends. When anything happens, that a letter comes, and which number a bell tells, they leave out.
 use Rattle.std.specs.Prelude.{◌≡◌, ◌≢◌, ◌⊎◌, ℕ, true, false, List, length, slice_get, Option, Some, None}
 use Rattle.dine_token.specs.Fork.{SeenFork}
 use Rattle.dine_plan.specs.Plan.{SeenPlan}

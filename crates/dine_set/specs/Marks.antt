@@ -7,22 +7,23 @@ abbrev pub low_digits : ℕ → ℕ → List Bool
 low_digits zero n = []
 low_digits (suc k) n = (n % 2 == 1) ∷ low_digits k (n / 2)
 
--- which numbers below 64 the word holds
+-- which numbers below 64 the word holds, as 64 truth values
 unfoldable pub marks_of_word : ℕ → List Bool
 marks_of_word word = low_digits 64 word
 
--- what is marked in both lists; what is marked in the first list and not in the other
+-- number by number, what both lists mark
 abbrev pub both_marks : List Bool → List Bool → List Bool
 both_marks [] others = []
 both_marks (mark ∷ marks) [] = []
 both_marks (mark ∷ marks) (other ∷ others) = (mark && other) ∷ both_marks marks others
 
+-- number by number, what the first list marks and the other does not
 abbrev pub marks_without : List Bool → List Bool → List Bool
 marks_without [] others = []
 marks_without (mark ∷ marks) [] = []
 marks_without (mark ∷ marks) (other ∷ others) = (mark && not other) ∷ marks_without marks others
 
--- which of the elements pass the test, as 64 truth values: `false` from the list's end on
+-- which of the elements pass the test, as 64 truth values: `false` from the list's end on; a list of more than 64 has more
 unfoldable pub marks_of : {X : Type 0} → (X → Bool) → List X → List Bool
 marks_of test xs = map test xs ++ replicate (64 - length xs) false
 

@@ -6,6 +6,7 @@ use Rattle.dine_token.specs.Log.{is_dirty, location_of, meals_of}
 use Rattle.dine_token.specs.Periods.{periods_of, entries_of}
 use Rattle.dine_token.specs.Fork.{SeenFork, IsFork}
 
+-- the fork that the kept fields stand for: its log is what the kept periods tell
 abbrev pub seen_kept : Kept → SeenFork
 seen_kept fork = record {
   edge = fork.edge;
@@ -14,10 +15,12 @@ seen_kept fork = record {
   log = entries_of fork.periods.items;
 }
 
+-- the fork that the fields of a `Fork` stand for
 abbrev pub seen : Inside → SeenFork
 seen fork = seen_kept fork.kept.value
 
--- the fork is a proper one, its periods and each count are those of the log, and there is room for every period to come
+-- The fork is a proper one, its periods, its location, its dirtiness and the meals of each end are those of the log, and there is room for
+-- every period to come: one more than the meals due to both ends.
 pub record IsKept (fork : Kept) : Type 0 where
   pub proper : IsFork (seen_kept fork)
   pub periods : fork.periods.items ≡ periods_of fork.lower (entries_of fork.periods.items)
@@ -27,5 +30,6 @@ pub record IsKept (fork : Kept) : Type 0 where
   pub higher_meals : fork.higher_meals ≡ meals_of fork.higher (entries_of fork.periods.items)
   pub room : fork.lower_due + fork.higher_due + 1 ≤ vec_capacity fork.periods
 
+-- the invariant of a `Fork`: what it points to is kept so
 abbrev pub IsWellKept : Inside → Type 0
 IsWellKept fork = IsKept fork.kept.value

@@ -5,46 +5,49 @@ use Rattle.dine_token.specs.declared.entry.Entry.TheVariants.{Meal, Move}
 use Rattle.dine_token.specs.Log.{is_dirty, location_of, meals_of}
 use Rattle.dine_token.specs.Lawful.{IsLawful, due_at}
 
--- the number of its edge; its ends and how many meals each has due, as (lower, higher); and its log
+-- a fork: its edge, its ends and the meals due to them, (lower, higher), each at most 1,000, and its log
 pub record SeenFork : Type 0 where
   pub edge : ℕ
   pub ends : ℕ × ℕ
   pub due : ℕ × ℕ
   pub log : List Entry
 
--- the site is an end of the fork's edge
+-- the site is an end of the fork's edge [paper: one fork]
 abbrev pub IsEnd : SeenFork → ℕ → Type 0
 IsEnd fork site = (site ≡ fork.ends.0) ⊎ (site ≡ fork.ends.1)
 
--- the end where the fork is, or to which it is on its way
+-- the end where the fork is, or to which it is on its way [paper: one fork]
 abbrev pub location : SeenFork → ℕ
 location fork = location_of fork.ends.0 fork.log
 
--- the end other than this one
+-- the end other than this one; for a site that is no end it is the lower one, and no clause asks for that
 abbrev pub other_end : SeenFork → ℕ → ℕ
 other_end fork site = if site == fork.ends.0 then fork.ends.1 else fork.ends.0
 
--- the fork after a Move, and after a meal
+-- the fork after a Move to an end, written behind its log [paper: release rule]
 abbrev pub moved : ℕ → SeenFork → SeenFork
 moved to fork = record fork { log = fork.log ++ Move to ∷ [] }
 
+-- the fork after meal k of a site, written behind its log [paper: clean and dirty]
 abbrev pub eaten : ℕ → ℕ → SeenFork → SeenFork
 eaten site k fork = record fork { log = fork.log ++ Meal site k ∷ [] }
 
--- what is true of every fork
+-- What is true of every fork: the lower end is below the higher, at most 1,000 meals are due to each, and the log is lawful.
 pub record IsFork (fork : SeenFork) : Type 0 where
   pub ordered : fork.ends.0 < fork.ends.1
   pub lower_due : fork.due.0 ≤ 1000
   pub higher_due : fork.due.1 ≤ 1000
   pub lawful : IsLawful fork.ends fork.due fork.log
 
--- the release rule allows to send the fork: it is dirty, and `to` is the other end and has meals left
+-- The fork may be sent to an end: it is dirty, that end is the one where it is not, and has meals left. Of the token and of who eats a fork
+-- knows nothing. [paper: release rule]
 pub record MayMove (to : ℕ) (fork : SeenFork) : Type 0 where
   pub dirty : is_dirty fork.log ≡ true
   pub to_other_end : to ≡ other_end fork (location fork)
   pub hungry : meals_of to fork.log < due_at fork.ends fork.due to
 
--- meal k of the site may be eaten with the fork: it is there, and the meal is its next one
+-- Meal k of the site may be eaten with the fork: the fork is there, k is the site's next meal, and at most what is due. Of hunger and of
+-- other forks a fork knows nothing. [paper: all forks]
 pub record MayEat (site k : ℕ) (fork : SeenFork) : Type 0 where
   pub held : location fork ≡ site
   pub next : meals_of site fork.log + 1 ≡ k

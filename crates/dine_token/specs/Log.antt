@@ -3,14 +3,14 @@ use Rattle.std.specs.Prelude.{◌==◌, ℕ, Bool, true, false, List, [], ◌∷
 use Rattle.dine_token.specs.declared.entry.Entry.{Entry}
 use Rattle.dine_token.specs.declared.entry.Entry.TheVariants.{Meal, Move}
 
--- the fork is dirty: its log does not end in a Move, and the empty log is dirty
+-- the fork is dirty: its log does not end in a Move; the empty log is dirty [paper: clean and dirty, start]
 abbrev pub is_dirty : List Entry → Bool
 is_dirty [] = true
 is_dirty (Meal site k ∷ log) = is_dirty log
 is_dirty (Move to ∷ []) = false
 is_dirty (Move to ∷ entry ∷ log) = is_dirty (entry ∷ log)
 
--- where the last Move went, or `start` where there is none
+-- where the last Move went, or `start`; there already or on its way [paper: one fork]
 abbrev pub location_of : ℕ → List Entry → ℕ
 location_of start [] = start
 location_of start (Meal site k ∷ log) = location_of start log

@@ -1,4 +1,5 @@
--- The periods of a log: the stays of the fork at its two ends.
+-- The periods of a log: the stays of the fork at its two ends. That they tell a lawful log, and are at most one more than the meals due, is
+-- the law `periods_tell_the_log`.
 use Rattle.std.specs.Prelude.{ℕ, ◌+◌, List, [], ◌∷◌, ◌++◌, zero, suc}
 use Rattle.dine_token.specs.declared.entry.Entry.{Entry}
 use Rattle.dine_token.specs.declared.entry.Entry.TheVariants.{Meal, Move}
@@ -18,7 +19,7 @@ moved_periods before [] = []
 moved_periods before (Meal site k ∷ log) = moved_periods (before ++ Meal site k ∷ []) log
 moved_periods before (Move to ∷ log) = record { site = to; first = meals_of to before + 1; count = meals_until_move log } ∷ moved_periods (before ++ Move to ∷ []) log
 
--- the periods of a log: one at the start, and one for each Move
+-- the periods of a log: one at the start, whose first meal is meal 1, and one for each Move
 abbrev pub periods_of : ℕ → List Entry → List Period
 periods_of start log = record { site = start; first = 1; count = meals_until_move log } ∷ moved_periods [] log
 

@@ -4,14 +4,15 @@ use Rattle.std.specs.List.{list_all, slice_split}
 use Rattle.std.specs.Char.{is_ascii_digit}
 use Rattle.std.specs.Str.Parse.{digits_value}
 
--- the greatest number that may be chosen
+-- the greatest number that may be chosen, 2^32 - 1
 abbrev pub greatest_choice : ℕ
 greatest_choice = 4_294_967_295
 
--- a choice is 1 to 10 decimal digits, and the number that they write is not too great
+-- 1 to 10 decimal digits that write a number up to the greatest; zeros may stand in front
 abbrev pub is_choice : List ℕ → Bool
 is_choice digits = nat_le 1 (length digits) && nat_le (length digits) 10 && list_all is_ascii_digit digits && nat_le (digits_value 10 digits) greatest_choice
 
+-- the number that these digits write, where they are a choice
 abbrev pub choice_of : List ℕ → Option ℕ
 choice_of digits = if is_choice digits then Some (digits_value 10 digits) else None
 
@@ -20,6 +21,6 @@ abbrev pub choices_of_all : List (List ℕ) → Option (List ℕ)
 choices_of_all [] = Some []
 choices_of_all (text ∷ texts) = option_and_then (λ choice. option_map (λ choices. choice ∷ choices) (choices_of_all texts)) (choice_of text)
 
--- the choices of a text: those of the texts that its commas divide it into
+-- the choices of a text: those of the parts that its commas divide it into; an empty part is none
 abbrev pub choices_of : List ℕ → Option (List ℕ)
 choices_of text = choices_of_all (slice_split (λ b. b == 44) text)

@@ -36,6 +36,7 @@ table_rule = option_rule (codes "table")
 abbrev pub links_rule : Rule
 links_rule = option_rule (codes "links")
 
+-- the command `run`, with its two options
 abbrev pub run_app : App
 run_app = with_rule (with_rule (new_app (codes "run")) table_rule) links_rule
 
@@ -43,6 +44,7 @@ run_app = with_rule (with_rule (new_app (codes "run")) table_rule) links_rule
 abbrev pub choices_rule : Rule
 choices_rule = option_rule (codes "choices")
 
+-- the command `replay`, with its option
 abbrev pub replay_app : App
 replay_app = with_rule (new_app (codes "replay")) choices_rule
 
@@ -56,12 +58,13 @@ pub data Asked : Type 0 where
   Replays : List ℕ → Asked
   Checks : Asked
 
+-- what a `Command` of the code asks for
 abbrev pub asked_of : Command → Asked
 asked_of (Run table links) = Runs table links
 asked_of (Replay choices) = Replays choices.items
 asked_of Check = Checks
 
--- the table of a name
+-- the table of a name, `edges` or `sites`
 abbrev pub table_of : Text → Option Table
 table_of name =
     if bytes_eq name (codes "edges") then Some Edges
@@ -72,7 +75,7 @@ table_of name =
 abbrev pub table_in : List Row → Option Table
 table_in found = option_map_or table_of (first_of (codes "table") found) (Some Edges)
 
--- the kind of links of a name
+-- the kind of links of a name, `channel` or `ring`
 abbrev pub links_of : Text → Option Links
 links_of name =
     if bytes_eq name (codes "channel") then Some Channel
@@ -83,11 +86,12 @@ links_of name =
 abbrev pub links_in : List Row → Option Links
 links_in found = option_map_or links_of (first_of (codes "links") found) (Some Ring)
 
--- a run, where there is a table and a kind of links; and the run in what `clap` finds behind `run`
+-- a run, where there is a table and a kind of links
 abbrev pub runs_with : Option Table → Option Links → Option Asked
 runs_with (Some table) (Some links) = Some (Runs table links)
 runs_with _ _ = None
 
+-- the run in what `clap` finds behind `run`
 abbrev pub run_in : List Row → Option Asked
 run_in found = runs_with (table_in found) (links_in found)
 
@@ -124,7 +128,7 @@ are_taken app words = takes app words && is_some (command_in app words)
 abbrev pub AreRight : App → List Text → Type 0
 AreRight app words = HasNoFault app words × (is_some (command_in app words) ≡ true)
 
--- want of memory is told apart from every other cause
+-- what a fault of `clap` is: want of memory is told apart from every other cause, which is a fault of usage
 abbrev pub fault_of_kind : ErrorKind → WordsFault
 fault_of_kind OutOfMemory = Memory
 fault_of_kind _ = Usage

@@ -1,0 +1,150 @@
+"""The definitions in crates/*/specs: their names, comments and texts, and what each of them uses.
+
+A definition begins on a line of its own, at the margin or in a `module _` block, with its name behind `abbrev`, `unfoldable`,
+`record`, `data` or `pub`, or with a name and a colon. It goes on to the next one, or to a comment that does not belong to its fields."""
+import glob
+import os
+import re
+import sys
+from dataclasses import dataclass
+
+HOME = os.path.dirname(os.path.dirname(os.path.realpath(__file__)))
+STARTS = re.compile(r"((?:(?:abbrev|unfoldable|pub|record|data) )*)(\S+)( :)?")
+WORD = re.compile(r"(?<![\w.])[A-Za-z_]\w*")
+FIELD = re.compile(r"^\s+(?:pub )?(\w+) :", re.M)
+PASSES = re.compile(r"^(.*)\((?:[^()∷]+) ∷ (\w+)\)(.*?) = (.*)$")
+
+
+@dataclass
+class Definition:
+    """A definition: where it stands, the comment directly above it, the block that it stands in, and its lines, without comments."""
+    path: str
+    line: int
+    module: str
+    name: str
+    comment: list
+    block: str
+    lines: list
+
+    @property
+    def place(self):
+        return f"{self.path}:{self.line}"
+
+    @property
+    def is_record(self):
+        return self.lines[0].startswith("pub record ")
+
+
+class Module:
+    """A file of specs: its definitions by name, and what it uses from others: for each name the module and the name there."""
+
+    def __init__(self, path):
+        crate, rest = re.fullmatch(r"crates/(\w+)/specs/(.*)\.antt", path).groups()
+        self.path, self.name = path, f"Rattle.{crate}.specs.{rest.replace('/', '.')}"
+        self.definitions, self.uses, self.strange = {}, {}, []
+        with open(os.path.join(HOME, path), encoding="utf-8") as file:
+            self.read(file.read().split("\n"))
+
+    def read(self, lines):
+        level, block, now, comment = 0, "", None, []
+        for number, line in enumerate(lines, 1):
+            text = line.strip()
+            margin = len(line) - len(line.lstrip())
+            if text.startswith("--"):
+                if margin <= level:
+                    now = None
+                comment.append(text[2:].strip())
+                continue
+            above, comment = comment, []
+            if not text:
+                continue
+            if margin == 0:
+                level = 0
+            if text.startswith(("use ", "pub use ", "pub mod ")):
+                self.use(text.removeprefix("pub "))
+                now = None
+            elif text.startswith("module "):
+                level, block, now = 2, text, None
+                continue
+            elif margin == level and self.starts(text):
+                now = Definition(self.path, number, self.name, self.starts(text), above, block if level else "", [line[level:]])
+                self.definitions[now.name] = now
+            elif now and (margin > level or text.startswith((now.name + " ", "unfolding ", "}", ")"))):
+                now.lines.append(line[level:])
+            else:
+                self.strange.append(f"{self.path}:{number}: no definition and no part of one: {text}")
+
+    def starts(self, text):
+        """The name of the definition that begins here, if one does."""
+        words, name, colon = STARTS.match(text).groups()
+        return name if words or colon else None
+
+    def use(self, text):
+        names = re.fullmatch(r"use (\S+?)\.\{(.*)\}", text)
+        alias = re.fullmatch(r"use (\S+) as (\S+)", text)
+        if names:
+            for one in names.group(2).split(", "):
+                parts = one.split(" as ")
+                self.uses[parts[-1]] = (names.group(1), parts[0])
+        elif alias:
+            self.uses[alias.group(2)] = (alias.group(1), None)
+
+
+def all_modules():
+    """Every file of specs, by the name of its module."""
+    paths = sorted(glob.glob("crates/*/specs/**/*.antt", root_dir=HOME, recursive=True))
+    return {module.name: module for module in map(Module, paths)}
+
+
+def words_of(definition, left_out=()):
+    """The names in a definition, in order, without the names of its fields, and without the lines that name one that is left out."""
+    lines = [line for line in definition.lines if not any(name in re.findall(r"\w+", line) for name in left_out)]
+    return WORD.findall(definition.block + "\n" + FIELD.sub(" :", "\n".join(lines)))
+
+
+def used_by(modules, definition, left_out=()):
+    """What a definition uses, in order: definitions of the repository, and the module of each type that a crate's code declares."""
+    module, found = modules[definition.module], []
+    for word in words_of(definition, left_out):
+        if word == definition.name:
+            continue
+        if word in module.definitions:
+            one = module.definitions[word]
+        elif word in module.uses and module.uses[word][0].startswith("Rattle.dine"):
+            source, name = module.uses[word]
+            if ".declared." in source:
+                one = source.removesuffix(".TheVariants")
+            elif name is None:
+                sys.exit(f"{definition.place}: {definition.name} uses {source} by another name, which is not followed")
+            elif source in modules and name in modules[source].definitions:
+                one = modules[source].definitions[name]
+            else:
+                sys.exit(f"{definition.place}: {definition.name} uses {word}, which {source} does not define")
+        else:
+            continue
+        if one not in found:
+            found.append(one)
+    return found
+
+
+def needed_by(modules, roots, left_out=()):
+    """The roots and all that they need, in order of use, but what is only needed by lines that name one of those left out."""
+    found = []
+
+    def follow(one):
+        if one in found:
+            return
+        found.append(one)
+        if isinstance(one, Definition):
+            for other in used_by(modules, one, left_out):
+                follow(other)
+
+    for root in roots:
+        follow(root)
+    return found
+
+
+def passes_over(line):
+    """The clause only goes on behind the head of a list."""
+    found = PASSES.match(line)
+    return bool(found) and found.group(1) + found.group(2) + found.group(3) == found.group(4)
