@@ -16,10 +16,11 @@ use Rattle.dine_core.specs.Standing.{all_places}
 abbrev pub wants_of : SeenCore → SeenWants
 wants_of core = record { requests = marks_of is_dirty_at core.places; forks = count_by is_away_at core.places }
 
--- By the whole lists: the fork of place i is in hand, and dirty; the site does not hold it.
+-- by the whole lists: the fork of place i is in hand, and dirty
 abbrev pub has_dirty_fork : SeenPlan → ℕ → LocalState → ℕ → Bool
 has_dirty_fork plan s state i = not (is_eating state.phase) && fork_at plan s state i == 1 && is_dirty (hand_at s state i)
 
+-- by the whole lists: the site does not hold the fork of place i
 abbrev pub lacks_fork : SeenPlan → ℕ → LocalState → ℕ → Bool
 lacks_fork plan s state i = fork_at plan s state i == 0
 

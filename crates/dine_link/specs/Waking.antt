@@ -6,10 +6,11 @@ use Rattle.dine_rules.specs.Wants.{SeenWants, is_wanted, still_wanted}
 use Rattle.dine_link.specs.declared.wants.Wants.{Wants}
 use Rattle.dine_link.specs.declared.wants.Awaited.{Awaited}
 
--- what a bell wants: the letters that a site waits for, or none of it where any ring will do
+-- the letters that a site waits for
 abbrev pub seen_awaited : Awaited → SeenWants
 seen_awaited awaited = record { requests = awaited.requests; forks = awaited.forks }
 
+-- what a bell wants: such letters, or nothing of its own where any ring will do
 abbrev pub seen_wants : Wants → Option SeenWants
 seen_wants wants = option_map seen_awaited wants.only
 
