@@ -7,9 +7,6 @@ ghost use Rattle.dine_link.specs.BellRule.{no_ringers};
 ghost use Rattle.dine_link.specs.Bells.{BellId, new_ringer, after_ring, after_refused_ring, new_bell, after_telling, after_refused_wait};
 ghost use Rattle.dine_link.specs.declared.bell_rule.Part.TheVariants.{Waits};
 
-#[cfg(test)]
-mod tests;
-
 use crate::bell_rule::{Hears, OfRingers, OneMore, Part, Sounds};
 use crate::faults::{LinkFault, Lost};
 use crate::sleeper::{Sleeper, Waker};
@@ -246,6 +243,11 @@ impl Ringer {
                 Err(Lost)
             }
         }
+    }
+
+    /// Whether the bell sleeps now, which tests and measures may ask. By the time of the answer it may be otherwise.
+    pub fn finds_asleep<R: Wait>(&self, rt: &R) -> bool {
+        self.waker.sleeper.rest.lock(rt).is_asleep()
     }
 
     // Sends the number where there is room, and tells whether the bell has to be woken. Both under one lock: a bell that lies down

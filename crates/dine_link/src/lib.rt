@@ -14,8 +14,6 @@ mod pausing;
 mod ring;
 mod rule;
 mod sleeper;
-#[cfg(test)]
-mod tests;
 mod waiting;
 mod wants;
 

@@ -51,8 +51,9 @@ impl Rest {
     }
 
     // Whether the bell sleeps.
-    #[cfg(test)]
-    pub fn is_asleep(&self) -> bool {
+    pub fn is_asleep(&self) -> bool
+        ensures { result ≡ self.now.asleep }
+    {
         self.asleep
     }
 

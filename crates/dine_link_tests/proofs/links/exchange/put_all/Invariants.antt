@@ -1,7 +1,7 @@
 use Rattle.std.proofs.Common.{◌≡◌, ◌+◌, ◌<◌, ◌^◌, ◌++◌, length, vec_items}
 use Rattle.std.specs.Vec.Iter.{into_iter_items, into_iter_len}
 use Rattle.dine_link.specs.Links.{with_letters}
-use Rattle.dine_link.proofs.tests.exchange.put_all.Given as goal
+use Rattle.dine_link_tests.proofs.links.exchange.put_all.Given as goal
 
 abbrev pub invariant-loop-letter : goal.invariant-loop-letter
 invariant-loop-letter g l = record {

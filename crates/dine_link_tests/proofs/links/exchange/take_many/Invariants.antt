@@ -1,5 +1,5 @@
 use Rattle.std.proofs.Common.{◌≡◌, ◌≤◌, vec_len, vec_items, vec_capacity}
-use Rattle.dine_link.proofs.tests.exchange.take_many.Given as goal
+use Rattle.dine_link_tests.proofs.links.exchange.take_many.Given as goal
 
 abbrev pub invariant-loop : goal.invariant-loop
 invariant-loop g l = record {

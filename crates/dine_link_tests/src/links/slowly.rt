@@ -1,7 +1,7 @@
 // A link between two threads that each pause now and then. The other end lives, so no step may be refused.
 ghost use Rattle.std.specs.Prelude.{◌≡◌, []};
 
-use crate::{ChannelLane, Lane, RingLane};
+use dine_link::{ChannelLane, Lane, RingLane};
 use dine_rules::Letter;
 use dine_token::Token;
 use std::alloc::Global;

@@ -1,8 +1,11 @@
 // Rings of one thread and of several.
-use super::*;
+use dine_link::{Bell, LinkFault, Lost, Ringer, Wants};
+use dine_rules::Kind4;
 use dine_set::WordSet;
+use std::alloc::Global;
 use std::process::Abort;
 use std::sync::atomic::{AtomicU64, Ordering};
+use std::sync::{Arc, Wait};
 use std::test::Fail;
 use std::thread;
 use std::thread::{JoinHandle, Parker, Threads};
@@ -180,7 +183,10 @@ fn note(heard: &Heard, told: Result<u32, Lost>) {
         Err(Lost) => 9,
     };
     let before = heard.order.load(Ordering::SeqCst);
-    heard.order.store(before.wrapping_mul(10).wrapping_add(digit), Ordering::SeqCst);
+    heard.order.store(
+        before.wrapping_mul(10).wrapping_add(digit),
+        Ordering::SeqCst,
+    );
     heard.count.fetch_add(1, Ordering::SeqCst);
 }
 
@@ -235,7 +241,7 @@ impl Apart {
 // Whether the ringers' bell sleeps now.
 fn sleeps<R: Wait>(rt: &R, ringers: &[Ringer]) -> bool {
     match ringers.first() {
-        Some(ringer) => ringer.waker.sleeper.rest.lock(rt).is_asleep(),
+        Some(ringer) => ringer.finds_asleep(rt),
         None => false,
     }
 }
@@ -328,7 +334,11 @@ fn a_bell_wakes_before_it_is_full(rt: HostRuntime) -> Result<(), Fail> {
 // Rings so often, with every third ring wanted, and at last for Done.
 fn ring_often<R: Wait>(rt: &R, ringer: &mut Ringer, times: u32) {
     for i in 1..times {
-        let kind = if i % 3 == 0 { Kind4::Done } else { Kind4::Request };
+        let kind = if i % 3 == 0 {
+            Kind4::Done
+        } else {
+            Kind4::Request
+        };
         let _ = ringer.ring_for(rt, kind);
     }
     let _ = ringer.ring_for(rt, Kind4::Done);

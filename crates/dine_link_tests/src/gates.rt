@@ -1,9 +1,9 @@
 // Threads at a gate.
-use super::*;
+use dine_link::{Gate, Signal};
 use std::alloc::Global;
 use std::process::Abort;
-use std::sync::Arc;
 use std::sync::atomic::{AtomicU64, Ordering};
+use std::sync::{Arc, Wait};
 use std::test::Fail;
 use std::thread;
 use std::thread::{Parker, Threads};

@@ -1,5 +1,5 @@
 // Steps where the other end is gone, and what is told of refusals.
-use crate::{ChannelLane, Lane, LinkFault, Lost, RingLane, TxEnd};
+use dine_link::{ChannelLane, Lane, LinkFault, Lost, RingLane, TxEnd};
 use dine_rules::{Kind4, Letter};
 use dine_token::Token;
 use std::alloc::Global;

@@ -6,7 +6,7 @@ mod refusals;
 mod slowly;
 mod waits;
 
-use super::*;
+use dine_link::{ChannelLane, Lane, LinkFault, RingLane, TxEnd};
 use dine_rules::{Kind4, Letter};
 use dine_token::{Fork, Held, Meal, Token};
 use exchange::exchange;

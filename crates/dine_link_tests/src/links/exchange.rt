@@ -1,11 +1,11 @@
 // One thread puts letters in a link, and another takes them, whatever lane the link is of.
 ghost use Rattle.std.specs.Prelude.{◌≡◌, ◌+◌, ◌<◌, ◌≤◌, ◌^◌, ◌++◌, ◌∷◌, [], length, if◌then◌else◌, IfOk, OnOk, vec_len, vec_capacity};
 ghost use Rattle.dine_rules.specs.declared.letters.Letter.TheVariants.{Close};
+ghost use Rattle.dine_link.specs.Closing as closing;
 ghost use Rattle.dine_link.specs.Lanes.{seen_end};
 ghost use Rattle.dine_link.specs.Links.{IsLink, with_letters};
 
-use crate::closing::is_close;
-use crate::{Lane, LinkEnd, TxEnd};
+use dine_link::{Lane, LinkEnd, TxEnd};
 use dine_rules::Letter;
 use std::alloc::Global;
 use std::snapshot::Snapshot;
@@ -26,6 +26,13 @@ pub struct Task<L: Lane> {
     tx: L::Tx,
     letters: Vec<Letter>,
     closes: bool,
+}
+
+// Whether the letter is Close.
+fn is_close(letter: &Letter) -> bool
+    ensures { result ≡ closing.is_close letter.now }
+{
+    matches!(letter, Letter::Close)
 }
 
 // Does the task. Close is not among its letters.
