@@ -6,6 +6,11 @@ def ring(sites):
     return [(it, (it + 1) % sites) for it in range(sites)]
 
 
+def path(sites):
+    """Returns the edges of a path."""
+    return [(it - 1, it) for it in range(1, sites)]
+
+
 def star(sites):
     """Returns the edges from the first site to each other one."""
     return [(0, it) for it in range(1, sites)]
@@ -33,7 +38,7 @@ def graph_of(name):
     if kind == "grid":
         width, height = map(int, size.split("x"))
         return width * height, grid(width, height)
-    return int(size), {"ring": ring, "star": star, "complete": complete, "band": band}[kind](int(size))
+    return int(size), {"ring": ring, "path": path, "star": star, "complete": complete, "band": band}[kind](int(size))
 
 
 def plan_of(sites, edges, jobs, turns=0):

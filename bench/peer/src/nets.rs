@@ -1,6 +1,6 @@
 //! Kinds of links and bells.
 
-use crate::site::{Letter, Net, LINK};
+use crate::site::{Kind, Letter, Net, Wants, LINK};
 use std::cell::UnsafeCell;
 use std::mem::MaybeUninit;
 use std::sync::atomic::{AtomicUsize, Ordering};
@@ -29,11 +29,11 @@ impl Net for Channels {
         link.try_recv().unwrap()
     }
     #[inline]
-    fn ring(bell: &mut Self::Ringer, place: u32) {
+    fn ring(bell: &mut Self::Ringer, place: u32, _: Kind) {
         bell.try_send(place).unwrap()
     }
     #[inline]
-    fn wait(bell: &mut Self::Bell) -> u32 {
+    fn wait(bell: &mut Self::Bell, _: impl FnOnce() -> Wants) -> u32 {
         bell.recv().unwrap()
     }
 }
@@ -116,11 +116,11 @@ impl Net for Rings {
         link.pop().unwrap()
     }
     #[inline]
-    fn ring(bell: &mut Self::Ringer, place: u32) {
+    fn ring(bell: &mut Self::Ringer, place: u32, _: Kind) {
         bell.try_send(place).unwrap()
     }
     #[inline]
-    fn wait(bell: &mut Self::Bell) -> u32 {
+    fn wait(bell: &mut Self::Bell, _: impl FnOnce() -> Wants) -> u32 {
         bell.recv().unwrap()
     }
 }

@@ -1,5 +1,8 @@
 //! The plan of a run, and the forks with their logs.
 
+/// How many sites a plan has at the most, as with ours: the places of a site are bits of one word.
+const MOST: usize = 64;
+
 pub struct Plan {
     pub sites: usize,
     /// Each edge (lower, higher), in increasing order.
@@ -12,7 +15,7 @@ pub struct Plan {
 impl Plan {
     pub fn of(text: &str, jobs: u64, turns: u32) -> Option<Plan> {
         let (kind, size) = text.split_once(':')?;
-        let (sites, edges) = graph(kind, size)?;
+        let (sites, edges) = graph(kind, size).filter(|(sites, _)| (1..=MOST).contains(sites))?;
         let mut edges: Vec<_> = edges
             .into_iter()
             .map(|(one, other)| (one.min(other), one.max(other)))
@@ -44,6 +47,7 @@ fn graph(kind: &str, size: &str) -> Option<(usize, Vec<(usize, usize)>)> {
     let n: usize = size.parse().ok()?;
     let edges = match kind {
         "ring" if n >= 3 => (0..n).map(|v| (v, (v + 1) % n)).collect(),
+        "path" => (1..n).map(|v| (v - 1, v)).collect(),
         "star" => (1..n).map(|v| (0, v)).collect(),
         "complete" => (0..n).flat_map(|u| (u + 1..n).map(move |v| (u, v))).collect(),
         // each site has an edge to the eight after it, round a ring

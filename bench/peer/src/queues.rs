@@ -1,13 +1,13 @@
 //! All sites in one thread.
 
-use crate::plan::{Fork, Plan};
-use crate::site::{Letter, Net, Site, LINK};
+use crate::plan::Plan;
+use crate::site::{Kind, Letter, Net, Ran, Site, Wants, LINK};
 use std::cell::RefCell;
 use std::collections::VecDeque;
 use std::rc::Rc;
 
 /// Does the steps of the sites: whose bell rang first has the next turn.
-pub fn replay(plan: &Plan) -> (Vec<Fork>, u64) {
+pub fn replay(plan: &Plan) -> Ran {
     let mut sites = Site::<Queues>::all(plan);
     for site in &mut sites {
         while site.step() {}
@@ -48,10 +48,10 @@ impl Net for Queues {
         link.borrow_mut().pop_front().unwrap()
     }
     #[inline]
-    fn ring(bell: &mut usize, place: u32) {
+    fn ring(bell: &mut usize, place: u32, _: Kind) {
         RUNG.with_borrow_mut(|rung| rung.push_back((*bell, place)))
     }
-    fn wait(_: &mut ()) -> u32 {
+    fn wait(_: &mut (), _: impl FnOnce() -> Wants) -> u32 {
         unreachable!()
     }
 }

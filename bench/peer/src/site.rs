@@ -1,6 +1,7 @@
 //! A site, over any kind of link and bell.
 
 use crate::plan::{Fork, Plan};
+use std::sync::Barrier;
 use std::thread;
 
 pub enum Letter {
@@ -10,11 +11,53 @@ pub enum Letter {
     Close,
 }
 
+/// The kinds of letters, as far as a bell tells them apart.
+#[derive(Clone, Copy)]
+pub enum Kind {
+    Token,
+    Fork,
+    Other,
+}
+
+impl Letter {
+    #[inline]
+    fn kind(&self) -> Kind {
+        match self {
+            Letter::Token => Kind::Token,
+            Letter::Fork(_) => Kind::Fork,
+            Letter::Done | Letter::Close => Kind::Other,
+        }
+    }
+}
+
+/// What lets a site do something that can do nothing: a token for a dirty fork, the last fork that is missing, Done and Close.
+pub struct Wants {
+    /// The places of the dirty forks, a bit each.
+    dirty: u64,
+    missing: u32,
+}
+
+impl Wants {
+    /// Whether the letter that came at this place is wanted. A fork lowers the number of those that are missing.
+    pub fn are_met(&mut self, place: u32, kind: Kind) -> bool {
+        match kind {
+            Kind::Token => self.dirty & (1 << place) != 0,
+            Kind::Fork => {
+                self.missing -= 1;
+                self.missing == 0
+            }
+            Kind::Other => true,
+        }
+    }
+}
+
 /// In one direction of an edge never more than a token, the fork, Done and Close are under way.
 pub const LINK: usize = 4;
 
-/// A kind of links and bells. A bell tells its site at which place a letter lies.
+/// A kind of links and bells. A bell tells its site at which place a letter lies, once for each letter.
 pub trait Net {
+    /// Whether the sites wait at a gate until each has its thread.
+    const GATE: bool = false;
     type Sender;
     type Receiver;
     type Ringer: Clone;
@@ -23,8 +66,18 @@ pub trait Net {
     fn bell(site: usize, capacity: usize) -> (Self::Ringer, Self::Bell);
     fn send(link: &mut Self::Sender, letter: Letter);
     fn take(link: &mut Self::Receiver) -> Letter;
-    fn ring(bell: &mut Self::Ringer, place: u32);
-    fn wait(bell: &mut Self::Bell) -> u32;
+    fn ring(bell: &mut Self::Ringer, place: u32, kind: Kind);
+    /// Waits for a letter. A bell that knows what its site wants may let the others lie.
+    fn wait(bell: &mut Self::Bell, wants: impl FnOnce() -> Wants) -> u32;
+    /// Another letter that came before the wait ended, for a bell that is told of many at once.
+    #[inline]
+    fn more(_: &mut Self::Bell) -> Option<u32> {
+        None
+    }
+    /// How often the site was woken, for a bell that counts that.
+    fn wakes(_: &Self::Bell) -> u64 {
+        0
+    }
 }
 
 /// A site's end of an edge.
@@ -48,9 +101,30 @@ struct End<N: Net> {
 impl<N: Net> End<N> {
     #[inline]
     fn send(&mut self, letter: Letter) {
+        let kind = letter.kind();
         N::send(&mut self.sender, letter);
-        N::ring(&mut self.ringer, self.place);
+        N::ring(&mut self.ringer, self.place, kind);
     }
+}
+
+/// What a site with these ends wants, none of which has its token beside a dirty fork.
+fn wants_of<N: Net>(ends: &[End<N>]) -> Wants {
+    let mut wants = Wants { dirty: 0, missing: 0 };
+    for (place, end) in ends.iter().enumerate() {
+        if end.fork.is_none() {
+            wants.missing += 1;
+        } else if end.dirty {
+            wants.dirty |= 1 << place;
+        }
+    }
+    wants
+}
+
+/// What a run came to: the forks in the order of their edges, the letters taken, and how often a site was woken.
+pub struct Ran {
+    pub forks: Vec<Fork>,
+    pub letters: u64,
+    pub wakes: u64,
 }
 
 pub struct Site<N: Net> {
@@ -144,8 +218,11 @@ impl<N: Net> Site<N> {
             if self.is_finished() {
                 return;
             }
-            let place = N::wait(&mut self.bell);
+            let place = N::wait(&mut self.bell, || wants_of(&self.ends));
             self.take(place);
+            while let Some(place) = N::more(&mut self.bell) {
+                self.take(place);
+            }
         }
     }
 
@@ -206,26 +283,34 @@ impl<N: Net> Site<N> {
         sites
     }
 
-    /// The forks, in the order of their edges, and the number of letters.
-    pub fn collect(sites: Vec<Site<N>>) -> (Vec<Fork>, u64) {
+    pub fn collect(sites: Vec<Site<N>>) -> Ran {
         let letters = sites.iter().map(|site| site.letters).sum();
+        let wakes = sites.iter().map(|site| N::wakes(&site.bell)).sum();
         let ends = sites.into_iter().flat_map(|site| site.ends);
         let mut forks: Vec<(usize, Fork)> =
             ends.filter_map(|end| Some((end.edge, end.fork?))).collect();
         forks.sort_unstable_by_key(|fork| fork.0);
-        (forks.into_iter().map(|fork| fork.1).collect(), letters)
+        let forks = forks.into_iter().map(|fork| fork.1).collect();
+        Ran { forks, letters, wakes }
     }
 }
 
 /// Each site in a thread of its own.
-pub fn run<N: Net>(plan: &Plan) -> (Vec<Fork>, u64)
+pub fn run<N: Net>(plan: &Plan) -> Ran
 where
     Site<N>: Send,
 {
     let mut sites = Site::<N>::all(plan);
+    let gate = Barrier::new(plan.sites);
     thread::scope(|scope| {
         for site in &mut sites {
-            scope.spawn(move || site.run());
+            let gate = &gate;
+            scope.spawn(move || {
+                if N::GATE {
+                    gate.wait();
+                }
+                site.run()
+            });
         }
     });
     Site::collect(sites)
