@@ -1,11 +1,13 @@
 // A site on its way.
-ghost use Rattle.std.specs.Prelude.{◌≡◌, ◌<◌, ◌≤◌, ◌+◌, ◌^◌, List, OnOk, length, true, false, None, vec_capacity, vec_len, slice_get, slice_set, IfSome, MatchResult};
+ghost use Rattle.std.specs.Prelude.{◌≡◌, ◌<◌, ◌≤◌, ◌+◌, ◌^◌, List, OnOk, length, true, false, None, Some, vec_capacity, vec_len, slice_get, slice_set, IfSome, MatchResult};
 ghost use Rattle.dine_plan.specs.Plan.{SeenPlan};
 ghost use Rattle.dine_rules.specs.Letters.{has_close};
 ghost use Rattle.dine_rules.specs.Local.{traffic_at};
 ghost use Rattle.dine_core.specs.NextEvent.{can_by_itself};
 ghost use Rattle.dine_core.specs.Standing.{ForEachState};
+ghost use Rattle.dine_core.specs.Wants.{wants_of};
 ghost use Rattle.dine_link.specs.Closing.{is_close};
+ghost use Rattle.dine_link.specs.Waking.{seen_wants};
 ghost use Rattle.dine_run.specs.Ports.{ChangesAt, SendsClose, SeenPort, seen_ports};
 ghost use Rattle.dine_run.specs.SiteEnds.{IsSiteEnd};
 ghost use Rattle.dine_run.specs.Running.{ClosedBelow, EatsOn, ForSome, GoesOn, GoesToEnd, HasStopped, IsPutting, IsReady, IsRunning, Leads, MayEnd, SameMeals, StaysStopped, seen_run};
@@ -236,6 +238,13 @@ impl<L: Lane, D: Diner> Running<L, D> {
         }
     }
 
+    // The letters that the site waits for: no other gives it an event of its own (`dine_core::waking`).
+    fn wants(&self) -> Wants
+        ensures { seen_wants result ≡ Some (wants_of self.now.core) }
+    {
+        Wants::of(self.core.dirty_places(), self.core.missing_forks())
+    }
+
     // Waits for the bell until the site could do something, and takes a letter at the place that rang.
     fn hear<R: Wait>(&mut self, rt: &R) -> Result<(), Stop>
         requires running { ForSome IsRunning (seen_run L.seen_tx L.seen_closed L.seen_rx self.old) }
@@ -243,7 +252,7 @@ impl<L: Lane, D: Diner> Running<L, D> {
         ensures way { Leads IsRunning (GoesOn result) (seen_run L.seen_tx L.seen_closed L.seen_rx self.old) (seen_run L.seen_tx L.seen_closed L.seen_rx self.new) }
         ensures same { SameMeals self.old self.new }
     {
-        let wants = Wants::of(self.core.dirty_places(), self.core.missing_forks());
+        let wants = self.wants();
         match self.bell.wait_for(rt, wants) {
             Ok(i) if self.core.has_taken_close(i) => Ok(()),
             Ok(i) => self.take(rt, i),
