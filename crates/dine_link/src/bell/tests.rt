@@ -180,7 +180,10 @@ fn note(heard: &Heard, told: Result<u32, Lost>) {
         Err(Lost) => 9,
     };
     let before = heard.order.load(Ordering::SeqCst);
-    heard.order.store(before.wrapping_mul(10).wrapping_add(digit), Ordering::SeqCst);
+    heard.order.store(
+        before.wrapping_mul(10).wrapping_add(digit),
+        Ordering::SeqCst,
+    );
     heard.count.fetch_add(1, Ordering::SeqCst);
 }
 
@@ -328,7 +331,11 @@ fn a_bell_wakes_before_it_is_full(rt: HostRuntime) -> Result<(), Fail> {
 // Rings so often, with every third ring wanted, and at last for Done.
 fn ring_often<R: Wait>(rt: &R, ringer: &mut Ringer, times: u32) {
     for i in 1..times {
-        let kind = if i % 3 == 0 { Kind4::Done } else { Kind4::Request };
+        let kind = if i % 3 == 0 {
+            Kind4::Done
+        } else {
+            Kind4::Request
+        };
         let _ = ringer.ring_for(rt, kind);
     }
     let _ = ringer.ring_for(rt, Kind4::Done);
