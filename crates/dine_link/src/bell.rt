@@ -10,7 +10,6 @@ ghost use Rattle.dine_link.specs.declared.bell_rule.Part.TheVariants.{Waits};
 use crate::bell_rule::{Hears, OfRingers, OneMore, Part, Sounds};
 use crate::faults::{LinkFault, Lost};
 use crate::sleeper::{Sleeper, Waker};
-use crate::waiting;
 use crate::wants::Wants;
 use crossbeam_channel::{Pass, RuledReceiver, RuledSender, TrySendError, bounded_with};
 use dine_rules::Kind4;
@@ -125,13 +124,7 @@ impl Bell {
             return Ok(number);
         }
         self.sleeper.sleep(rt);
-        let heard = waiting::receive::<u32, Part, OfRingers, Hears, R>(
-            rt,
-            &self.receiver,
-            &mut self.pass,
-            0,
-        );
-        let Some(number) = heard else {
+        let Ok(number) = self.receiver.recv_as::<Hears, R>(rt, &mut self.pass) else {
             self.refused = true;
             return Err(Lost);
         };
@@ -143,7 +136,9 @@ impl Bell {
         ensures below { IfSome result (λ number. number < self.new.degree) }
         ensures told { MatchOption result (self.new ≡ self.old) (λ number. self.new ≡ after_telling number self.old) }
     {
-        waiting::receive_now::<u32, Part, OfRingers, Hears, R>(rt, &self.receiver, &mut self.pass)
+        self.receiver
+            .try_recv_as::<Hears, R>(rt, &mut self.pass)
+            .ok()
     }
 
     // The same, and where none is left the bell is noted as asleep. A ringer sends and looks under this lock too, so each ring is
@@ -153,11 +148,10 @@ impl Bell {
         ensures told { MatchOption result (self.new ≡ self.old) (λ number. self.new ≡ after_telling number self.old) }
     {
         let mut rest = self.sleeper.rest.lock(rt);
-        let heard = waiting::receive_now::<u32, Part, OfRingers, Hears, R>(
-            rt,
-            &self.receiver,
-            &mut self.pass,
-        );
+        let heard = self
+            .receiver
+            .try_recv_as::<Hears, R>(rt, &mut self.pass)
+            .ok();
         if heard.is_none() {
             rest.lie_down(wants, room_of(self.degree));
         }
@@ -209,12 +203,9 @@ impl Ringer {
     pub fn ring<R: Wait>(&mut self, rt: &R) -> Result<(), Lost>
         ensures { MatchResult result (λ _. self.new ≡ after_ring self.old) (λ _. self.new ≡ after_refused_ring self.old) }
     {
-        let rung = waiting::send::<u32, Part, OfRingers, Sounds, R>(
-            rt,
-            &self.sender,
-            &mut self.pass,
-            self.number,
-        );
+        let rung = self
+            .sender
+            .send_as::<Sounds, R>(rt, &mut self.pass, self.number);
         if rung.is_err() {
             self.refused = true;
             return Err(Lost);
@@ -257,12 +248,8 @@ impl Ringer {
     {
         let number = self.number;
         let mut rest = self.waker.sleeper.rest.lock(rt);
-        waiting::send_now::<u32, Part, OfRingers, Sounds, R>(
-            rt,
-            &self.sender,
-            &mut self.pass,
-            number,
-        )?;
+        self.sender
+            .try_send_as::<Sounds, R>(rt, &mut self.pass, number)?;
         Ok(rest.note(number, kind))
     }
 }

@@ -213,7 +213,6 @@ impl Lane for ChannelLane {
             rt,
             &rx.receiver,
             &mut rx.pass,
-            waiting::TRIES,
         ) else {
             rx.refused = true;
             return Err(Lost);

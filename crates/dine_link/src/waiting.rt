@@ -10,8 +10,8 @@ use crossbeam_channel::{Pass, RuledReceiver, RuledSender, TrySendError};
 use std::sync::Wait;
 use std::thread;
 
-// How often a wait tries before it sleeps, where nothing else is known.
-pub const TRIES: u32 = 10;
+// How often a wait tries before it sleeps.
+const TRIES: u32 = 10;
 
 // Sends the message, or hands it back where the other end is gone.
 pub fn send<T: Drop, V, P: Protocol<T, V>, M: Outcome<T, V> + Lesson<T, V>, R: Wait>(
@@ -40,52 +40,22 @@ pub fn send<T: Drop, V, P: Protocol<T, V>, M: Outcome<T, V> + Lesson<T, V>, R: W
     }
 }
 
-// Receives a message after at most so many tries, and then asleep, or answers None where the other end is gone.
+// Receives a message, or answers None where the other end is gone.
 pub fn receive<T: Drop, V, P: Protocol<T, V>, M: Outcome<T, V> + Lesson<T, V>, R: Wait>(
     rt: &R,
     receiver: &RuledReceiver<T, V, P>,
     pass: &mut Pass<T, V>,
-    tries: u32,
 ) -> Option<T>
     requires channel { IsSeatAt (receives_on receiver.now) pass.old }
     requires rule { Pops P.holds pass.old.id (view pass.old) (M.then (view pass.old)) × Learns P.holds pass.old.id (view pass.old) (M.fact (view pass.old)) }
     ensures channel { IsSeatAt (receives_on receiver.now) pass.new × (pass.new.id ≡ pass.old.id) }
     ensures rule { MatchOption result (view pass.new ≡ view pass.old) (λ message. M.then (view pass.old) message (view pass.new)) }
 {
-    for _ in 0..tries {
+    for _ in 0..TRIES {
         if let Ok(message) = receiver.try_recv_as::<M, R>(rt, pass) {
             return Some(message);
         }
         thread::yield_now();
     }
     receiver.recv_as::<M, R>(rt, pass).ok()
-}
-
-// Receives a message that is there, or answers None.
-pub fn receive_now<T: Drop, V, P: Protocol<T, V>, M: Outcome<T, V> + Lesson<T, V>, R: Wait>(
-    rt: &R,
-    receiver: &RuledReceiver<T, V, P>,
-    pass: &mut Pass<T, V>,
-) -> Option<T>
-    requires channel { IsSeatAt (receives_on receiver.now) pass.old }
-    requires rule { Pops P.holds pass.old.id (view pass.old) (M.then (view pass.old)) × Learns P.holds pass.old.id (view pass.old) (M.fact (view pass.old)) }
-    ensures channel { IsSeatAt (receives_on receiver.now) pass.new × (pass.new.id ≡ pass.old.id) }
-    ensures rule { MatchOption result (view pass.new ≡ view pass.old) (λ message. M.then (view pass.old) message (view pass.new)) }
-{
-    receiver.try_recv_as::<M, R>(rt, pass).ok()
-}
-
-// Sends the message where there is room now, or hands it back.
-pub fn send_now<T: Drop, V, P: Protocol<T, V>, M: Outcome<T, V> + Lesson<T, V>, R: Wait>(
-    rt: &R,
-    sender: &RuledSender<T, V, P>,
-    pass: &mut Pass<T, V>,
-    message: T,
-) -> Result<(), TrySendError<T>>
-    requires channel { IsSeatAt (sends_on sender.now) pass.old }
-    requires rule { Pushes P.holds (ruled_capacity (sends_on sender.now)) pass.old.id (view pass.old) message (M.then (view pass.old) message) × Learns P.holds pass.old.id (view pass.old) (M.fact (view pass.old)) }
-    ensures channel { IsSeatAt (sends_on sender.now) pass.new × (pass.new.id ≡ pass.old.id) }
-    ensures rule { MatchResult result (λ _. M.then (view pass.old) message (view pass.new)) (λ _. view pass.new ≡ view pass.old) }
-{
-    sender.try_send_as::<M, R>(rt, pass, message)
 }
