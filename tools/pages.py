@@ -12,7 +12,7 @@ import re
 from specs import HOME
 
 LINES = 50
-LIMITS = {"docs/ARCHITECTURE.md": 12 * 1024}
+LIMITS = {"docs/ARCHITECTURE.md": 12 * 1024, "docs/DECISIONS.md": 8 * 1024}
 LISTED = "## Proof files"
 NO_LEMMAS = {"Lib", "Answers", "Invariants"}
 LINE = re.compile(r"^- ([\w/]+): \S", re.M)
