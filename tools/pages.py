@@ -1,0 +1,91 @@
+"""The pages that a reader opens, README.md, CONTRIBUTING.md, docs/ and crates/*/README.md: whether they name what is there, and all of it.
+
+Each crate has a README, of at most 50 lines above the heading 'Proof files'. Below that heading each file of proofs/ has one line,
+'- NAME: what it proves', where NAME is its path without the ending; Lib.antt and the answers that a function needs have none. It names each
+public item of src/lib.rt in backticks, but for what that hands on from another crate. What stands in backticks on any page, where it is
+one word or a path, is a word of the sources or a file that is there, but for paths with a word that stands for others, as NAME.
+docs/BELIEVE.md is held against the sources by tools/believe."""
+import glob
+import os
+import re
+
+from specs import HOME
+
+LINES = 50
+LIMITS = {"docs/ARCHITECTURE.md": 12 * 1024, "docs/DECISIONS.md": 8 * 1024}
+LISTED = "## Proof files"
+NO_LEMMAS = {"Lib", "Answers", "Invariants"}
+LINE = re.compile(r"^- ([\w/]+): \S", re.M)
+QUOTED = re.compile(r"(?<!`)`([^`\n]+)`(?!`)")
+NAME = re.compile(r"[A-Za-z_]\w*(?:::[A-Za-z_]\w*)*")
+PATH = re.compile(r"(?:\.?[\w-]+/)+[\w.-]*|[\w-]+\.\w+")
+STANDS_FOR = re.compile(r"NAME|SUBJECT|CAUSE|WHAT_IT_DOES|FILE|FUNCTION")
+HANDED_ON = re.compile(r"^pub use (?!dine_)\w+(?:::\w+)*(?:::\{(.*?)\}|::(\w+));", re.S | re.M)
+SOURCES = ["crates/*/src/**/*.rt", "crates/*/specs/**/*.antt", "crates/*/proofs/**/*.antt", "crates.txt", "tools/*", "verify"]
+
+
+def paths(pattern):
+    return sorted(glob.glob(pattern, root_dir=HOME, recursive=True))
+
+
+def text_of(path):
+    with open(os.path.join(HOME, path), encoding="utf-8") as file:
+        return file.read()
+
+
+def lemma_files(crate):
+    """The files of lemmas of a crate, by their paths below proofs/ without the ending."""
+    folder = f"crates/{crate}/proofs/"
+    names = [path.removeprefix(folder).removesuffix(".antt") for path in paths(folder + "**/*.antt")]
+    return [name for name in names if os.path.basename(name) not in NO_LEMMAS]
+
+
+def public_items(crate):
+    """The names that src/lib.rt hands on from the crate's own modules."""
+    source = f"crates/{crate}/src/lib.rt"
+    found = HANDED_ON.findall(text_of(source)) if os.path.exists(os.path.join(HOME, source)) else []
+    return [name.strip() for many, one in found for name in (many or one).split(",") if name.strip()]
+
+
+def faults_of_crate(crate):
+    """What is wrong in a crate's README, a line each."""
+    page = f"crates/{crate}/README.md"
+    if not os.path.exists(os.path.join(HOME, page)):
+        return [f"{page}: there is none"]
+    above, _, below = text_of(page).partition(LISTED)
+    lines, there, named = above.count("\n"), lemma_files(crate), LINE.findall(below)
+    quoted = set(re.findall(r"\w+", " ".join(QUOTED.findall(above))))
+    faults = [f"{page}: {lines} lines above its proof files, and {LINES} at most"] if lines > LINES else []
+    faults += [f"{page}: no line for {name}.antt in proofs/" for name in there if name not in named]
+    faults += [f"{page}: {name} is no file in proofs/" for name in named if name not in there]
+    faults += [f"{page}: {name} has two lines" for name in sorted(set(named)) if named.count(name) > 1]
+    return faults + [f"{page}: the public item {name} is not named" for name in public_items(crate) if name not in quoted]
+
+
+def is_there(path):
+    """A file or folder of this name is at the top, or in some crate, or is one of its modules."""
+    places = [path, f"crates/*/{path}", f"crates/*/src/{path}", f"crates/*/src/{path}.rt"]
+    return any(glob.glob(os.path.join(HOME, place)) for place in places)
+
+
+def faults_of_page(page, words):
+    """What stands in backticks on a page and is nowhere else, and how much too long the page is, a line each."""
+    text = text_of(page)
+    faults, size, limit = [], len(text.encode()), LIMITS.get(page)
+    if limit and size > limit:
+        faults.append(f"{page}: {size} bytes, and {limit} at most")
+    for quoted in dict.fromkeys(QUOTED.findall(text)):
+        if NAME.fullmatch(quoted):
+            faults += [f"{page}: nothing is named {name}" for name in quoted.split("::") if name not in words]
+        elif PATH.fullmatch(quoted) and not STANDS_FOR.search(quoted) and not is_there(quoted.removeprefix("./")):
+            faults.append(f"{page}: there is no {quoted}")
+    return faults
+
+
+def all_faults():
+    """What is wrong, by crate and by page."""
+    words = set(re.findall(r"\w+", " ".join(text_of(path) for pattern in SOURCES for path in paths(pattern))))
+    crates = [os.path.basename(path) for path in paths("crates/*")]
+    pages = [page for page in ["README.md", "CONTRIBUTING.md", *paths("docs/*.md"), *paths("crates/*/README.md")] if page != "docs/BELIEVE.md"]
+    found = {crate: faults_of_crate(crate) for crate in crates}
+    return found | {page: faults_of_page(page, words) for page in pages}
