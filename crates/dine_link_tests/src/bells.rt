@@ -171,6 +171,19 @@ fn few() -> Wants {
     Wants::of(requests, 2)
 }
 
+fn nothing() -> Heard {
+    Heard {
+        count: AtomicU64::new(0),
+        order: AtomicU64::new(0),
+        each: [
+            AtomicU64::new(0),
+            AtomicU64::new(0),
+            AtomicU64::new(0),
+            AtomicU64::new(0),
+        ],
+    }
+}
+
 // Notes what the bell told.
 fn note(heard: &Heard, told: Result<u32, Lost>) {
     let digit = match told {
@@ -190,25 +203,24 @@ fn note(heard: &Heard, told: Result<u32, Lost>) {
     heard.count.fetch_add(1, Ordering::SeqCst);
 }
 
-// Has the bell tell so many numbers in a thread of its own. It wants few.
-fn set_apart<R>(rt: R, alloc: Global, mut bell: Bell, count: u32) -> Result<Apart, Fail>
+// Has the bell tell so many numbers. It wants few.
+fn tell<R: Wait>(rt: &R, mut bell: Bell, heard: Arc<Heard, Global>, count: u32) {
+    for _ in 0..count {
+        let told = bell.wait_for(rt, few());
+        note(&heard, told);
+    }
+}
+
+// The same in a thread of its own.
+fn set_apart<R>(rt: R, alloc: Global, bell: Bell, count: u32) -> Result<Apart, Fail>
 where
     R: Threads + Wait + Copy + Send + 'static,
 {
-    let heard = Heard {
-        count: AtomicU64::new(0),
-        order: AtomicU64::new(0),
-        each: [const { AtomicU64::new(0) }; 4],
-    };
-    let Ok(heard) = Arc::new(alloc, heard) else {
+    let Ok(heard) = Arc::new(alloc, nothing()) else {
         return Err(Fail::from("no memory for what is heard"));
     };
     let theirs = Arc::try_clone(&heard)?;
-    let child = thread::spawn(&rt, move || {
-        for _ in 0..count {
-            note(&theirs, bell.wait_for(&rt, few()));
-        }
-    })?;
+    let child = thread::spawn(&rt, move || tell(&rt, bell, theirs, count))?;
     Ok(Apart { child, heard })
 }
 
