@@ -171,6 +171,7 @@ fn few() -> Wants {
     Wants::of(requests, 2)
 }
 
+// Nothing was heard yet.
 fn nothing() -> Heard {
     Heard {
         count: AtomicU64::new(0),
