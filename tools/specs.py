@@ -102,28 +102,34 @@ def words_of(definition, left_out=()):
     return WORD.findall(definition.block + "\n" + FIELD.sub(" :", "\n".join(lines)))
 
 
+def defined(modules, source, name):
+    """The definition of that name in the module, or the data type there of which it is a constructor, if there is one."""
+    there = modules[source].definitions if source in modules else {}
+    if name in there:
+        return there[name]
+    of = [one for one in there.values() if "data " in one.lines[0] and any(re.match(rf"\s+(?:pub )?{name}\b", line) for line in one.lines)]
+    return of[0] if of else None
+
+
 def used_by(modules, definition, left_out=()):
     """What a definition uses, in order: definitions of the repository, and the module of each type that a crate's code declares."""
     module, found = modules[definition.module], []
     for word in words_of(definition, left_out):
+        ones = []
         if word == definition.name:
             continue
         if word in module.definitions:
-            one = module.definitions[word]
+            ones = [module.definitions[word]]
         elif word in module.uses and module.uses[word][0].startswith("Rattle.dine"):
             source, name = module.uses[word]
+            names = [name] if name else re.findall(rf"(?<![\w.]){word}\.(\w+)", "\n".join(definition.lines))
             if ".declared." in source:
-                one = source.removesuffix(".TheVariants")
-            elif name is None:
-                sys.exit(f"{definition.place}: {definition.name} uses {source} by another name, which is not followed")
-            elif source in modules and name in modules[source].definitions:
-                one = modules[source].definitions[name]
+                ones = [source.removesuffix(".TheVariants")]
             else:
+                ones = [defined(modules, source, it) for it in names]
+            if None in ones:
                 sys.exit(f"{definition.place}: {definition.name} uses {word}, which {source} does not define")
-        else:
-            continue
-        if one not in found:
-            found.append(one)
+        found += [one for one in ones if one not in found]
     return found
 
 
