@@ -1,7 +1,8 @@
 """The pages that a reader opens, README.md, CONTRIBUTING.md, docs/ and crates/*/README.md: whether they name what is there, and all of it.
 
-Each crate has a README, of at most 50 lines above the heading 'Proof files'. Below that heading each file of proofs/ has one line,
-'- NAME: what it proves', where NAME is its path without the ending; Lib.antt and the answers that a function needs have none. It names each
+Each crate has a README, of at most 50 lines above the heading 'Proof files'. Below that heading each folder and each file of lemmas at the
+top of proofs/ has one line, '- NAME: what it proves'. A folder NAME has a file NAME.antt beside it, which names the files in it. Each file
+of lemmas begins with a comment that says what it proves. Lib.antt and the answers that a function needs are none of these. The README names each
 public item of src/lib.rt in backticks, but for what that hands on from another crate. What stands in backticks on any page, where it is
 one word or a path, is a word of the sources or a file that is there, but for paths with a word that stands for others, as NAME.
 docs/BELIEVE.md is held against the sources by tools/believe."""
@@ -9,7 +10,7 @@ import glob
 import os
 import re
 
-from specs import HOME
+from trying import HOME, text_of
 
 LINES = 50
 LIMITS = {"docs/ARCHITECTURE.md": 12 * 1024, "docs/DECISIONS.md": 8 * 1024}
@@ -28,16 +29,23 @@ def paths(pattern):
     return sorted(glob.glob(pattern, root_dir=HOME, recursive=True))
 
 
-def text_of(path):
-    with open(os.path.join(HOME, path), encoding="utf-8") as file:
-        return file.read()
-
-
 def lemma_files(crate):
     """The files of lemmas of a crate, by their paths below proofs/ without the ending."""
     folder = f"crates/{crate}/proofs/"
     names = [path.removeprefix(folder).removesuffix(".antt") for path in paths(folder + "**/*.antt")]
     return [name for name in names if os.path.basename(name) not in NO_LEMMAS]
+
+
+def faults_of_lemmas(crate, names):
+    """Which of these files of lemmas do not say what they prove, or are named by no file above them, a line each."""
+    faults = []
+    for name in names:
+        file, (above, _, last) = f"crates/{crate}/proofs/{name}.antt", name.rpartition("/")
+        if not text_of(file).startswith("-- "):
+            faults.append(f"{file}: no comment at its head says what it proves")
+        if f"mod {last}\n" not in text_of(f"crates/{crate}/proofs/{above or 'Lib'}.antt"):
+            faults.append(f"{file}: {above or 'Lib'}.antt does not name it")
+    return faults
 
 
 def public_items(crate):
@@ -53,9 +61,11 @@ def faults_of_crate(crate):
     if not os.path.exists(os.path.join(HOME, page)):
         return [f"{page}: there is none"]
     above, _, below = text_of(page).partition(LISTED)
-    lines, there, named = above.count("\n"), lemma_files(crate), LINE.findall(below)
+    lines, lemmas, named = above.count("\n"), lemma_files(crate), LINE.findall(below)
+    there = [name for name in lemmas if "/" not in name]
     quoted = set(re.findall(r"\w+", " ".join(QUOTED.findall(above))))
     faults = [f"{page}: {lines} lines above its proof files, and {LINES} at most"] if lines > LINES else []
+    faults += faults_of_lemmas(crate, lemmas)
     faults += [f"{page}: no line for {name}.antt in proofs/" for name in there if name not in named]
     faults += [f"{page}: {name} is no file in proofs/" for name in named if name not in there]
     faults += [f"{page}: {name} has two lines" for name in sorted(set(named)) if named.count(name) > 1]
@@ -84,7 +94,9 @@ def faults_of_page(page, words):
 
 def all_faults():
     """What is wrong, by crate and by page."""
-    words = set(re.findall(r"\w+", " ".join(text_of(path) for pattern in SOURCES for path in paths(pattern))))
+    # Python keeps a folder of its own in tools/.
+    sources = [path for pattern in SOURCES for path in paths(pattern) if os.path.isfile(os.path.join(HOME, path))]
+    words = set(re.findall(r"\w+", " ".join(map(text_of, sources))))
     crates = [os.path.basename(path) for path in paths("crates/*")]
     pages = [page for page in ["README.md", "CONTRIBUTING.md", *paths("docs/*.md"), *paths("crates/*/README.md")] if page != "docs/BELIEVE.md"]
     found = {crate: faults_of_crate(crate) for crate in crates}

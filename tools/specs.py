@@ -3,12 +3,12 @@
 A definition begins on a line of its own, at the margin or in a `module _` block, with its name behind `abbrev`, `unfoldable`,
 `record`, `data` or `pub`, or with a name and a colon. It goes on to the next one, or to a comment that does not belong to its fields."""
 import glob
-import os
 import re
 import sys
 from dataclasses import dataclass
 
-HOME = os.path.dirname(os.path.dirname(os.path.realpath(__file__)))
+from trying import HOME, text_of
+
 STARTS = re.compile(r"((?:(?:abbrev|unfoldable|pub|record|data) )*)(\S+)( :)?")
 WORD = re.compile(r"(?<![\w.])[A-Za-z_]\w*")
 FIELD = re.compile(r"^\s+(?:pub )?(\w+) :", re.M)
@@ -42,8 +42,7 @@ class Module:
         crate, rest = re.fullmatch(r"crates/(\w+)/specs/(.*)\.antt", path).groups()
         self.path, self.name = path, f"Rattle.{crate}.specs.{rest.replace('/', '.')}"
         self.definitions, self.uses, self.strange = {}, {}, []
-        with open(os.path.join(HOME, path), encoding="utf-8") as file:
-            self.read(file.read().split("\n"))
+        self.read(text_of(path).split("\n"))
 
     def read(self, lines):
         level, block, now, comment = 0, "", None, []

@@ -11,7 +11,7 @@ use Rattle.std.proofs.lemmas.Str.Parse.{numerals_by_value, tells_all_ascii_digit
 use Rattle.csv.specs.Quoting.{needs_byte}
 use Rattle.csv.specs.Writing.{default_writer, field_text, fields_text, is_blank, needs_quotes, quoted, row_body, row_text}
 use Rattle.dine_plan.specs.Plan.{SeenPlan, IsPlan, is_name_byte, name_of, site_count}
-use Rattle.dine.specs.Records.{is_plain}
+use Rattle.dine.specs.private.Records.{is_plain}
 use Rattle.dine.specs.Tables.{record_text}
 
 -- a byte that no name has is another than a byte of a name

@@ -16,8 +16,8 @@ use Rattle.dine_run.specs.Gathered.{AreFinishedOuts, AreOutsOf}
 use Rattle.dine_run.specs.Headline.{IsHeadline}
 use Rattle.dine_run.specs.declared.tables.SiteRow.{SiteRow}
 use Rattle.dine_run.specs.Tables.{due_edge_rows, due_site_rows, edge_row}
-use Rattle.dine_run.proofs.Rows.{edge_rows-due, headline_gathered, site_rows-due}
-use Rattle.dine_run.proofs.Seen.{there_is}
+use Rattle.dine_run.proofs.all_sites.Rows.{edge_rows-due, headline_gathered, site_rows-due}
+use Rattle.dine_run.proofs.lists.Seen.{there_is}
 use Rattle.dine.specs.PlanDiners.{SeenPlanDiner, fails_of, first_word, fits_marks, mark_of}
 use Rattle.dine.specs.Tables.{IsEdgeRowOf, IsSiteRowOf}
 use Rattle.dine.specs.Run.{HasDueRows, diner_of, diners_of, failing_by_site, failing_jobs}

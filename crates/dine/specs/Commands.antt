@@ -66,7 +66,7 @@ pub record FailsRun (asked : Asked) (plan : SeenPlan) (told : Fault) : Type 0 wh
   pub names : NamesSite plan told
   pub tells : TellsRun plan told
 
--- a run was asked for and a plan was read, and the fault tells at which site of the plan the run failed, as `run` answered it
+-- a run was asked for and a plan was read, and the fault tells at which site of the plan the run failed, by an answer that `run` may give
 pub record IsFailedRun (command : Option Asked) (told : Fault) (left : Option (List ℕ)) : Type 0 where
   pub table : Table
   pub links : Links

@@ -51,7 +51,7 @@ NamesSite plan (fault.ThreadRefused site) = site < site_count plan
 NamesSite plan (fault.RunBroken site cause) = site < site_count plan
 NamesSite plan _ = ⊥
 
--- The fault is told as `run` answered it, when it was handed the diners of the plan: there is such an answer.
+-- The fault tells an answer that `run` may give where it is handed the diners of the plan: there is such an answer.
 pub record TellsRun (plan : SeenPlan) (told : Fault) : Type 0 where
   pub diners : Vec SeenPlanDiner
   pub of_plan : diners.items ≡ diners_of plan

@@ -1,7 +1,7 @@
 //! From words and input to bytes and status.
 ghost use Rattle.std.specs.Prelude.{◌≡◌, ◌≢◌, ◌<◌, ◌≤◌, IfErr, IfOk, IfSome, IsErrOf, None, OnErr, OnOk, Some, false, length, map, true, string_bytes};
 ghost use Rattle.std.specs.Io.KnownBytes.{IsAtEnd};
-ghost use Rattle.dine.specs.Commands.{EndsByFault, FailsRun, IsDone, IsFailedRun, IsPartDone, IsPlanLeft, IsRefused, TellsCause, Writes, WritesPart, text_of};
+ghost use Rattle.dine.specs.Commands.{EndsByFault, FailsRun, IsDone, IsFailedRun, IsPartDone, IsPlanLeft, IsRefused, TellsCause, text_of};
 ghost use Rattle.dine.specs.Faults.{status_of};
 ghost use Rattle.dine_words.specs.Input.{input_limit};
 ghost use Rattle.dine_words.specs.Words.{AreRight, HasNoFault, are_taken, asked_of, command_in, dine_app};
@@ -60,7 +60,7 @@ pub fn run_cmd<H: Threads + Wait + Copy + Send + 'static, R: Read, W: Write, F: 
     }
 }
 
-// Does the command that the words name.
+// Reads a plan, and writes the text that the command makes of it which the words name.
 fn command<H: Threads + Wait + Copy + Send + 'static, R: Read, W: Write>(
     rt: &H,
     alloc: Global,
@@ -85,30 +85,6 @@ fn command<H: Threads + Wait + Copy + Send + 'static, R: Read, W: Write>(
     ensures part { IsErrOf result Fault.WritingFailed → IsPartDone (command_in dine_app (map string_bytes words.now)) (R.remaining input.old) (W.contents output.old) (W.contents output.new) }
 {
     let command = command_of(alloc, words)?;
-    apply(rt, alloc, command, input, output)
-}
-
-// Reads a plan, and writes the text that the command makes of it.
-fn apply<H: Threads + Wait + Copy + Send + 'static, R: Read, W: Write>(
-    rt: &H,
-    alloc: Global,
-    command: Command,
-    input: &mut R,
-    output: &mut W,
-) -> Result<(), Fault>
-    ensures done { OnOk result (Writes (text_of (asked_of command)) (R.remaining input.old) (W.contents output.old) (W.contents output.new)) }
-    ensures end { OnOk result (IsAtEnd (R.remaining input.new)) }
-    ensures within { OnOk result (IfSome (R.remaining input.old) (λ bytes. length bytes ≤ input_limit)) }
-    ensures too_long { IsErrOf result Fault.InputTooLong → IfSome (R.remaining input.old) (λ bytes. input_limit < length bytes) }
-    ensures words { result ≢ Err Fault.Usage }
-    ensures refused { IfErr result (λ fault. status_of fault ≡ Status.PlanRefused → IfSome (R.remaining input.old) IsRefused) }
-    ensures cause { IfErr result (λ fault. TellsCause fault (R.remaining input.old)) }
-    ensures refused_end { IfErr result (λ fault. status_of fault ≡ Status.PlanRefused → IsAtEnd (R.remaining input.new)) }
-    ensures failed_run { IfErr result (λ fault. status_of fault ≡ Status.RunFailed → IsFailedRun (Some (asked_of command)) fault (R.remaining input.old)) }
-    ensures refused_within { IfErr result (λ fault. status_of fault ≡ Status.PlanRefused → IfSome (R.remaining input.old) (λ bytes. length bytes ≤ input_limit)) }
-    ensures unwritten { result ≢ Err Fault.WritingFailed → OnErr result (output.new ≡ output.old) }
-    ensures part { IsErrOf result Fault.WritingFailed → WritesPart (text_of (asked_of command)) (R.remaining input.old) (W.contents output.old) (W.contents output.new) }
-{
     let bytes = read_input(alloc, input)?;
     let plan = match plan_of_bytes(alloc, bytes.as_slice()) {
         Ok(plan) => plan,

@@ -1,7 +1,7 @@
 //! The tables of a run.
 ghost use Rattle.std.specs.Prelude.{◌≡◌, ◌≤◌, ◌++◌, [], All, IfOk, IsTrue, OnOk, length, map};
 ghost use Rattle.std.specs.List.{list_all};
-ghost use Rattle.dine.specs.Records.{IsBetweenRecords, is_plain, text_so_far};
+ghost use Rattle.dine.specs.private.Records.{IsBetweenRecords, is_plain, text_so_far};
 ghost use Rattle.dine.specs.Tables.{IsEdgeRowOf, IsSiteRowOf, edge_record, edges_header, edges_table, record_text, site_record, sites_header, sites_table};
 
 use csv::Writer;

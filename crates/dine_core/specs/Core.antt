@@ -54,7 +54,7 @@ kept_at plan s state i = kept_of plan s state.phase state.ate (edge_at plan s i)
 
 -- The core stands for the state: it is a site of the plan, the phase and the meals are the state's, and at each place is kept
 -- what the state gives.
-pub record StandsFor (plan : SeenPlan) (state : LocalState) (core : SeenCore) : Type 0 where
+pub record Refines (plan : SeenPlan) (state : LocalState) (core : SeenCore) : Type 0 where
   pub is_plan : IsPlan plan
   pub is_site : core.site < site_count plan
   pub due : core.due ≡ job_count plan core.site

@@ -10,13 +10,13 @@ use Rattle.dine_rules.specs.Local.{LocalState, start_of, traffic_at, is_thinking
 use Rattle.dine_rules.specs.Breach.{first_breach}
 use Rattle.dine_rules.specs.Steps.{Step, LocalStep, may, after, with_put}
 use Rattle.dine_rules.specs.Streams.{KeepsStreams}
-use Rattle.dine_core.specs.Core.{SeenCore, StandsFor, forks_in_hand, tokens_in_hand}
+use Rattle.dine_core.specs.Core.{SeenCore, Refines, forks_in_hand, tokens_in_hand}
 
 -- The core is that of one of the plan's sites, before its first step.
 pub record IsFreshFor (plan : SeenPlan) (core : SeenCore) : Type 0 where
   pub is_plan : IsPlan plan
   pub is_site : core.site < site_count plan
-  pub stands : StandsFor plan (start_of plan core.site) core
+  pub stands : Refines plan (start_of plan core.site) core
 
 -- so it is for some plan
 abbrev pub IsFresh : SeenCore → Type 0
@@ -24,7 +24,7 @@ IsFresh core = (plan : SeenPlan) × IsFreshFor plan core
 
 -- so it is for each state that keeps the streams and for which the core stands
 abbrev pub ForEachState : SeenCore → (SeenPlan → LocalState → Type 0) → Type 0
-ForEachState core P = (plan : SeenPlan) (state : LocalState) → KeepsStreams plan core.site state → StandsFor plan state core → P plan state
+ForEachState core P = (plan : SeenPlan) (state : LocalState) → KeepsStreams plan core.site state → Refines plan state core → P plan state
 
 -- the test tells whether the site may do the step
 abbrev pub TellsMay : SeenCore → Step → Bool → Type 0
@@ -35,7 +35,7 @@ TellsMay core step test = ForEachState core (λ plan state. test ≡ may plan co
 pub record CoreStep (plan : SeenPlan) (state : LocalState) (step : Step) (old new : SeenCore) : Type 0 where
   pub allowed : LocalStep plan old.site state step (after plan old.site state step)
   pub site : new.site ≡ old.site
-  pub stands : StandsFor plan (after plan old.site state step) new
+  pub stands : Refines plan (after plan old.site state step) new
   pub keeps : KeepsStreams plan new.site (after plan old.site state step)
 
 -- so it did for each state that keeps the streams and for which the core stood

@@ -10,7 +10,7 @@ use Rattle.dine_rules.specs.Local.{LocalState, is_eating}
 use Rattle.dine_rules.specs.Holdings.{EatsWithAll}
 use Rattle.dine_rules.specs.Steps.{Step, Shape, Takes, Puts, Alone, after, shape_of, step_by, with_put}
 use Rattle.dine_rules.specs.Streams.{KeepsStreams}
-use Rattle.dine_core.specs.Core.{SeenCore, StandsFor, forks_in_hand}
+use Rattle.dine_core.specs.Core.{SeenCore, Refines, forks_in_hand}
 use Rattle.dine_core.specs.Places.{IsMealOf, place_at, can_give, can_ask, can_hunger, can_begin, can_say_done, can_close, breach_at}
 use Rattle.dine_core.specs.LinkNumbers.{link_to, link_from}
 use Rattle.dine_core.specs.Standing.{all_places}
@@ -67,7 +67,7 @@ step_in links core = step_by (next_in links core)
 
 -- A site of the world stands for a state: the core does, and the meal is the state's.
 pub record IsSiteOf (plan : SeenPlan) (state : LocalState) (world_site : WorldSite) : Type 0 where
-  pub core : StandsFor plan state world_site.core
+  pub core : Refines plan state world_site.core
   pub meal : world_site.meal ≡ meal_of plan world_site.core.site state
 
 -- the links, where one has this letter more behind its others
@@ -114,6 +114,6 @@ HasRoomFor links core (Puts i) = HasRoomAt links core i
 HasRoomFor links core Alone = Unit {0}
 
 -- the site does not eat, and there is no meal
-pub record IsAwake (world_site : WorldSite) : Type 0 where
+pub record IsNotEating (world_site : WorldSite) : Type 0 where
   pub not_eating : is_eating world_site.core.phase ≡ false
   pub no_meal : world_site.meal ≡ None

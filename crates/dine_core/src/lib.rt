@@ -7,6 +7,6 @@ pub mod waking;
 pub mod world;
 
 pub use dine_rules::{Breach, Event, EventKind, Kind4, Letter, Phase, laws};
-pub use dine_set::WordSet;
+pub use dine_set::BitSet64;
 pub use site::{Packed, Parts, SiteCore};
 pub use world::{NotEnabled, World};

@@ -12,7 +12,7 @@ ghost use Rattle.dine_rules.specs.Local.{LocalState, start_of, traffic_at, is_ea
 ghost use Rattle.dine_rules.specs.Holdings.{fork_at, token_at};
 ghost use Rattle.dine_rules.specs.Steps as step;
 ghost use Rattle.dine_rules.specs.Steps.{after};
-ghost use Rattle.dine_core.specs.Core.{SeenCore, StandsFor, forks_in_hand, fresh_forks, fresh_tokens};
+ghost use Rattle.dine_core.specs.Core.{SeenCore, Refines, forks_in_hand, fresh_forks, fresh_tokens};
 ghost use Rattle.dine_core.specs.Places.{place_at, hand_of, is_held, is_away_at, is_dirty_at, can_give, can_ask, can_hunger, can_begin, can_say_done, can_close, is_ready_at, is_over_at, is_closed_at, neighbour_of, OnHere, has_all_said, has_all_closed, breach_at, hungered, asked, gave, begun, ended, said_done, closed, took, forks_of, tokens_of, IsMealOf};
 ghost use Rattle.dine_core.specs.LinkNumbers.{link_to, link_from};
 ghost use Rattle.dine_core.specs.Standing.{ForEachState, IsFreshFor, TellsMay, CoreStep, CoreSteps, CorePuts, TellsBreach, AreForksInHand, AreTokensInHand, all_places, has_finished, has_closed};
@@ -27,7 +27,7 @@ pub(crate) mod places;
 
 use dine_plan::Plan;
 pub use dine_rules::{Breach, Kind4, Letter, Phase};
-use dine_set::WordSet;
+use dine_set::BitSet64;
 use dine_token::{Fork, Held, Meal, Token};
 use marked::MarkedPlaces;
 pub use opening::{fresh_forks, fresh_tokens};
@@ -67,7 +67,7 @@ impl Model for SiteCore {
 
     ghost Value = { SeenCore };
 
-    ghost use Rattle.dine_core.specs.SiteFields.{seen, IsKept};
+    ghost use Rattle.dine_core.specs.private.SiteFields.{seen, IsKept};
 
     ghost view = { seen };
 
@@ -91,7 +91,7 @@ impl SiteCore {
         requires forks { forks.items ≡ fresh_forks plan.now site (edges_of plan.now site) }
         requires tokens { tokens.items ≡ fresh_tokens plan.now site (edges_of plan.now site) }
         ensures site { IfOk result (λ core. core.site ≡ site) }
-        ensures start { IfOk result (λ core. StandsFor plan.now (start_of plan.now site) core) }
+        ensures start { IfOk result (λ core. Refines plan.now (start_of plan.now site) core) }
         ensures fresh { IfOk result (IsFreshFor plan.now) }
     {
         let places = opening::places_of(alloc, plan, site, forks, tokens)?;
@@ -183,7 +183,7 @@ impl SiteCore {
     }
 
     /// The places where the fork is in hand and dirty, which is where a Request can have the site give it.
-    pub fn dirty_places(&self) -> WordSet
+    pub fn dirty_places(&self) -> BitSet64
         ensures marks { result ≡ marks_of is_dirty_at self.now.places }
         ensures by_lists { ForEachState self.now (λ plan state. result ≡ (wants_by_lists plan self.now.site state).requests) }
     {

@@ -3,11 +3,11 @@
 ghost use Rattle.std.specs.Prelude.{◌≡◌, IfOk, MatchOption, MatchResult, None, Some, is_ok, option_map, slice_get, true};
 
 mod acts;
-mod awake;
 mod counts;
 mod enabled;
+mod first;
 mod forks;
-mod heard;
+mod inboxes;
 mod opening;
 mod queue;
 mod schedules;
@@ -17,7 +17,7 @@ use crate::site::SiteCore;
 use dine_plan::Plan;
 use dine_rules::Phase;
 pub use dine_rules::{Event, EventKind};
-use dine_set::WordSet;
+use dine_set::BitSet64;
 use dine_token::Fork;
 use queue::Queue;
 use sites::WorldSite;
@@ -48,12 +48,12 @@ pub struct World {
     // Empty, with room for the forks of all edges.
     forks: Vec<Fork>,
     // Each site that has an enabled event is in it, and others may be.
-    awake: WordSet,
+    may_be_enabled: BitSet64,
     // At which places of each site a letter lies in the link to it.
-    heard: Vec<WordSet>,
-    // How many events each site has enabled, but for the sites in `stale`, whose counts may be wrong.
+    nonempty_inboxes: Vec<BitSet64>,
+    // How many events each site has enabled, but for the sites in `outdated_counts`, whose counts may be wrong.
     counts: Vec<u32>,
-    stale: WordSet,
+    outdated_counts: BitSet64,
 }
 
 impl Model for World {
@@ -61,7 +61,7 @@ impl Model for World {
 
     ghost Value = { SeenWorld };
 
-    ghost use Rattle.dine_core.specs.WorldFields.{IsKeptWorld, seen_world};
+    ghost use Rattle.dine_core.specs.private.WorldFields.{IsKeptWorld, seen_world};
 
     ghost view = { seen_world };
 
@@ -71,7 +71,7 @@ impl Model for World {
 impl World {
     ghost use Rattle.dine_rules.specs.Bound.{bound_of};
     ghost use Rattle.dine_rules.specs.World.{is_enabled, start, state_of};
-    ghost use Rattle.dine_core.specs.Core.{StandsFor};
+    ghost use Rattle.dine_core.specs.Core.{Refines};
     ghost use Rattle.dine_core.specs.Worlds.{ForEachWorld, WorldSteps, IsOpened, IsWorldOf, can_happen};
 
     /// The world of the plan before its first event. It takes memory for all that comes, once, and fails where that is refused.
@@ -81,7 +81,7 @@ impl World {
         let edges = opening::ends_of(alloc, plan)?;
         let links = opening::links_of(alloc, plan)?;
         let forks = Vec::with_capacity(alloc, plan.edges() as usize)?;
-        let heard = opening::no_letters(alloc, plan)?;
+        let nonempty_inboxes = opening::no_letters(alloc, plan)?;
         let counts = opening::no_counts(alloc, plan)?;
         let sites = opening::sites_of(alloc, plan)?;
         let bound = opening::bound_of(plan);
@@ -91,10 +91,10 @@ impl World {
             edges,
             bound,
             forks,
-            awake: WordSet::full(),
-            heard,
+            may_be_enabled: BitSet64::full(),
+            nonempty_inboxes,
             counts,
-            stale: WordSet::full(),
+            outdated_counts: BitSet64::full(),
         })
     }
 
@@ -136,7 +136,7 @@ impl World {
 
     // The core of the site. None where there is no such site.
     fn core(&self, site: u32) -> Option<&SiteCore>
-        ensures { ForEachWorld self.now (λ plan world. MatchOption result (slice_get world site ≡ None) (λ core. (slice_get world site ≡ Some (state_of world site)) × StandsFor plan (state_of world site) core.now)) }
+        ensures { ForEachWorld self.now (λ plan world. MatchOption result (slice_get world site ≡ None) (λ core. (slice_get world site ≡ Some (state_of world site)) × Refines plan (state_of world site) core.now)) }
     {
         let world_site = self.sites.get(site as usize)?;
         Some(&world_site.core)
@@ -148,13 +148,21 @@ impl World {
         ensures { WorldSteps event self.old self.new }
     {
         let world_site = &mut self.sites[event.site as usize];
-        self.awake = acts::with_receiver(self.awake, &world_site.core, event.kind);
-        self.stale = acts::with_receiver(self.stale, &world_site.core, event.kind);
-        self.stale.insert(event.site);
-        let link = heard::changed_link(&world_site.core, event.kind);
+        self.may_be_enabled = acts::with_receiver(
+            self.may_be_enabled,
+            &world_site.core,
+            event.kind,
+        );
+        self.outdated_counts = acts::with_receiver(
+            self.outdated_counts,
+            &world_site.core,
+            event.kind,
+        );
+        self.outdated_counts.insert(event.site);
+        let link = inboxes::changed_link(&world_site.core, event.kind);
         acts::act(world_site, self.links.as_mut_slice(), event.kind);
-        heard::note(
-            self.heard.as_mut_slice(),
+        inboxes::note(
+            self.nonempty_inboxes.as_mut_slice(),
             self.links.as_slice(),
             self.edges.as_slice(),
             link,

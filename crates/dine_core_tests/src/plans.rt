@@ -1,4 +1,4 @@
-// The reader of plan texts, and what a plan tells. The texts that it refuses are in plans/texts/, which tools/texts tries.
+// The reader of plan texts, and what a plan tells. The texts that it refuses are in tests/texts/, which tools/texts tries.
 ghost use Rattle.std.specs.Prelude.{◌<◌};
 ghost use Rattle.dine_plan.specs.Plan.{site_count};
 

@@ -9,7 +9,7 @@ use Rattle.crossbeam_channel.specs.Fifo.{Pushes, Pops, Forks}
 use Rattle.atomic_table.proofs.Lists.{at_snoc}
 use Rattle.dine_link.specs.declared.bell_rule.Part.{Part}
 use Rattle.dine_link.specs.declared.bell_rule.Part.TheVariants.{Waits, Rings}
-use Rattle.dine_link.specs.BellRule.{IsOfRinger, Fits, AreOfRingers, no_ringers, one_more, next_ringer, IsKnown, after_sound, after_hearing, rings_of}
+use Rattle.dine_link.specs.private.BellRule.{IsOfRinger, Fits, AreOfRingers, no_ringers, one_more, next_ringer, IsKnown, after_sound, after_hearing, rings_of}
 use Rattle.dine_link.specs.Bells.{BellId, SeenRinger, new_ringer}
 use Rattle.dine_link.proofs.Passes.{Each, each_set}
 

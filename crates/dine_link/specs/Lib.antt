@@ -1,11 +1,10 @@
 pub mod Closing
 pub mod Links
 pub mod Lanes
-pub mod Rule
 pub mod Channels
+pub mod FaultLanes
 pub mod Ends
-pub mod BellRule
 pub mod Bells
-pub mod BellFields
 pub mod Rings
 pub mod Waking
+pub mod private

@@ -3,7 +3,7 @@ ghost use Rattle.std.specs.Prelude.{◌≡◌, ◌<◌, [], IfOk, IfSome, MatchO
 ghost use Rattle.std.specs.List.{range_with_len};
 ghost use Rattle.crossbeam_channel.specs.Claims.{view, IsSeatAt};
 ghost use Rattle.crossbeam_channel.specs.Ends.{sends_on};
-ghost use Rattle.dine_link.specs.BellRule.{no_ringers};
+ghost use Rattle.dine_link.specs.private.BellRule.{no_ringers};
 ghost use Rattle.dine_link.specs.Bells.{BellId, new_ringer, after_ring, after_refused_ring, new_bell, after_telling, after_refused_wait};
 ghost use Rattle.dine_link.specs.declared.bell_rule.Part.TheVariants.{Waits};
 
@@ -36,7 +36,7 @@ impl Model for Ringer {
 
     ghost Value = { SeenRinger };
 
-    ghost use Rattle.dine_link.specs.BellFields.{seen_ringer, IsRinger};
+    ghost use Rattle.dine_link.specs.private.BellFields.{seen_ringer, IsRinger};
 
     ghost view = { seen_ringer };
 
@@ -59,7 +59,7 @@ impl Model for Bell {
 
     ghost Value = { SeenBell };
 
-    ghost use Rattle.dine_link.specs.BellFields.{seen_bell, IsBell};
+    ghost use Rattle.dine_link.specs.private.BellFields.{seen_bell, IsBell};
 
     ghost view = { seen_bell };
 

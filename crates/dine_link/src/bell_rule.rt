@@ -15,7 +15,7 @@ pub enum Part {
 pub struct OfRingers;
 
 impl Protocol<u32, Part> for OfRingers {
-    ghost use Rattle.dine_link.specs.BellRule.{AreOfRingers, no_ringers};
+    ghost use Rattle.dine_link.specs.private.BellRule.{AreOfRingers, no_ringers};
 
     ghost holds = { AreOfRingers };
 
@@ -26,7 +26,7 @@ impl Protocol<u32, Part> for OfRingers {
 pub struct OneMore;
 
 impl Split<Part> for OneMore {
-    ghost use Rattle.dine_link.specs.BellRule.{one_more, next_ringer};
+    ghost use Rattle.dine_link.specs.private.BellRule.{one_more, next_ringer};
 
     ghost left = { one_more };
 
@@ -38,7 +38,7 @@ pub struct Sounds;
 
 impl Outcome<u32, Part> for Sounds {
     ghost use Rattle.std.specs.Prelude.{◌≡◌};
-    ghost use Rattle.dine_link.specs.BellRule.{IsOfRinger, after_sound};
+    ghost use Rattle.dine_link.specs.private.BellRule.{IsOfRinger, after_sound};
 
     ghost then = { λ before number after. IsOfRinger number before × (after ≡ after_sound before) };
 }
@@ -54,7 +54,7 @@ pub struct Hears;
 
 impl Outcome<u32, Part> for Hears {
     ghost use Rattle.std.specs.Prelude.{◌≡◌};
-    ghost use Rattle.dine_link.specs.BellRule.{IsKnown, after_hearing};
+    ghost use Rattle.dine_link.specs.private.BellRule.{IsKnown, after_hearing};
 
     ghost then = { λ before number after. IsKnown number before × (after ≡ after_hearing before number) };
 }

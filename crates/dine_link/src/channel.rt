@@ -6,12 +6,12 @@ ghost use Rattle.dine_rules.specs.Letters.{has_close};
 ghost use Rattle.dine_rules.specs.Streams.{is_close_last};
 ghost use Rattle.dine_link.specs.Closing.{is_close, ends_in_close};
 
+use crate::backoff;
 use crate::closing::is_close;
 use crate::faults::{LinkFault, Lost};
 use crate::lane::{Lane, TxEnd};
 use crate::link_end::{BothEnds, LinkEnd};
 use crate::rule::{Ends, InOrder, Known, Puts, Reconciles, Takes};
-use crate::waiting;
 use crossbeam_channel::{Pass, RuledReceiver, RuledSender, bounded_with};
 use dine_rules::Letter;
 use std::alloc::Global;
@@ -71,6 +71,30 @@ pub struct ChannelRx {
     pub ghost told: { closed ≡ has_close (view pass).taken },
 }
 
+impl ChannelTx {
+    ghost use Rattle.dine_link.specs.Channels.{seen_tx};
+    ghost use Rattle.dine_link.specs.Links.{after_refusal};
+
+    // Keeps that a step was refused, for a lane that wraps this one.
+    pub(crate) fn refuse(&mut self)
+        ensures { seen_tx self.new ≡ after_refusal (seen_tx self.old) }
+    {
+        self.putting.refused = true;
+    }
+}
+
+impl ChannelRx {
+    ghost use Rattle.dine_link.specs.Channels.{seen_rx};
+    ghost use Rattle.dine_link.specs.Links.{after_refusal};
+
+    // Keeps that a step was refused, for a lane that wraps this one.
+    pub(crate) fn refuse(&mut self)
+        ensures { seen_rx self.new ≡ after_refusal (seen_rx self.old) }
+    {
+        self.refused = true;
+    }
+}
+
 // Both ends of a channel, and the one pass of both.
 #[derive(Drop)]
 pub struct ChannelEnds {
@@ -88,7 +112,7 @@ impl Putting {
         requires room { length (seen_putting self.old).letters < 2 ^ 61 }
         ensures { MatchResult result (λ _. seen_putting self.new ≡ with_letter letter (seen_putting self.old)) (λ back. (back ≡ letter) × (seen_putting self.new ≡ after_refusal (seen_putting self.old))) }
     {
-        match waiting::send::<Letter, Known, InOrder, Puts, R>(
+        match backoff::send::<Letter, Known, InOrder, Puts, R>(
             rt,
             &self.sender,
             &mut self.pass,
@@ -209,7 +233,7 @@ impl Lane for ChannelLane {
     }
 
     fn take<R: Wait>(rt: &R, rx: &mut ChannelRx) -> Result<Letter, Lost> {
-        let Some(letter) = waiting::receive::<Letter, Known, InOrder, Takes, R>(
+        let Some(letter) = backoff::receive::<Letter, Known, InOrder, Takes, R>(
             rt,
             &rx.receiver,
             &mut rx.pass,

@@ -2,23 +2,24 @@
 //! threads wait for the start.
 #![tactic(auto)]
 
+mod backoff;
 mod bell;
 mod bell_rule;
 mod channel;
 mod closing;
+mod fault_lane;
 mod faults;
 mod gate;
 mod lane;
 mod link_end;
-mod pausing;
 mod ring;
 mod rule;
 mod sleeper;
-mod waiting;
 mod wants;
 
 pub use bell::{Bell, Ringer};
 pub use channel::{ChannelClosedTx, ChannelLane, ChannelRx, ChannelTx};
+pub use fault_lane::{FaultLane, FaultRx, FaultTx, fault_rx, fault_tx};
 pub use faults::{LinkFault, Lost};
 pub use gate::{Gate, Signal};
 pub use lane::{Lane, TxEnd};

@@ -6,11 +6,11 @@ ghost use Rattle.dine_rules.specs.Letters.{has_close};
 ghost use Rattle.dine_rules.specs.Streams.{is_close_last};
 ghost use Rattle.dine_link.specs.Closing.{is_close, ends_in_close};
 
+use crate::backoff::Backoff;
 use crate::closing::is_close;
 use crate::faults::{LinkFault, Lost};
 use crate::lane::{Lane, TxEnd};
 use crate::link_end::{BothEnds, LinkEnd};
-use crate::pausing::Pauses;
 use dine_rules::Letter;
 use rtrb::{Consumer, Producer, PushError, RingBuffer};
 use std::alloc::Global;
@@ -73,7 +73,7 @@ impl Pushing {
         ensures { seen_pushing self.new ≡ with_letter letter (seen_pushing self.old) }
     {
         let mut letter = letter;
-        let mut pauses = Pauses::new();
+        let mut backoff = Backoff::new();
         for _ in rt.forever() {
             match self.producer.push(letter) {
                 Ok(()) => {
@@ -82,7 +82,7 @@ impl Pushing {
                 }
                 Err(PushError::Full(back)) => letter = back,
             }
-            pauses.pause(rt);
+            backoff.pause(rt);
         }
         unreachable!()
     }
@@ -187,14 +187,14 @@ impl Lane for RingLane {
         ensures taken { IfOk result (λ letter. rings.seen_rx rx.new ≡ with_letter letter (rings.seen_rx rx.old)) }
         ensures never_lost { IsOk result }
     {
-        let mut pauses = Pauses::new();
+        let mut backoff = Backoff::new();
         for _ in rt.forever() {
             if let Ok(letter) = rx.consumer.pop() {
                 rx.taken += 1;
                 rx.closed = is_close(&letter);
                 return Ok(letter);
             }
-            pauses.pause(rt);
+            backoff.pause(rt);
         }
         unreachable!()
     }

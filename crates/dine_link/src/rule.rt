@@ -17,7 +17,7 @@ pub struct Known {
 pub struct InOrder;
 
 impl Protocol<Letter, Known> for InOrder {
-    ghost use Rattle.dine_link.specs.Rule.{IsInOrder, fresh};
+    ghost use Rattle.dine_link.specs.private.Rule.{IsInOrder, fresh};
 
     ghost holds = { IsInOrder };
 
@@ -28,7 +28,7 @@ impl Protocol<Letter, Known> for InOrder {
 pub struct Ends;
 
 impl Split<Known> for Ends {
-    ghost use Rattle.dine_link.specs.Rule.{putting, taking};
+    ghost use Rattle.dine_link.specs.private.Rule.{putting, taking};
 
     ghost left = { putting };
 
@@ -36,7 +36,7 @@ impl Split<Known> for Ends {
 }
 
 impl Join<Known> for Ends {
-    ghost use Rattle.dine_link.specs.Rule.{both, spent};
+    ghost use Rattle.dine_link.specs.private.Rule.{both, spent};
 
     ghost both = { both };
 
@@ -48,7 +48,7 @@ pub struct Puts;
 
 impl Outcome<Letter, Known> for Puts {
     ghost use Rattle.std.specs.Prelude.{◌≡◌};
-    ghost use Rattle.dine_link.specs.Rule.{after_put};
+    ghost use Rattle.dine_link.specs.private.Rule.{after_put};
 
     ghost then = { λ before letter after. after ≡ after_put before letter };
 }
@@ -64,7 +64,7 @@ pub struct Takes;
 
 impl Outcome<Letter, Known> for Takes {
     ghost use Rattle.std.specs.Prelude.{◌≡◌};
-    ghost use Rattle.dine_link.specs.Rule.{after_take};
+    ghost use Rattle.dine_link.specs.private.Rule.{after_take};
 
     ghost then = { λ before letter after. after ≡ after_take before letter };
 }

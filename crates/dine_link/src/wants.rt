@@ -4,7 +4,7 @@ ghost use Rattle.dine_rules.specs.Wants.{is_wanted, still_wanted};
 ghost use Rattle.dine_link.specs.Waking.{seen_awaited, seen_wants, wakes, still_wants};
 
 use dine_rules::Kind4;
-use dine_set::WordSet;
+use dine_set::BitSet64;
 
 /// The rings that wake a bell: any ring, or those for the letters that a site waits for.
 #[derive(Clone, Copy)]
@@ -15,7 +15,7 @@ pub struct Wants {
 // A Request at one of these places, the last of so many Forks, each Done and each Close.
 #[derive(Clone, Copy)]
 pub struct Awaited {
-    requests: WordSet,
+    requests: BitSet64,
     forks: u32,
 }
 
@@ -29,7 +29,7 @@ impl Wants {
 
     /// A ring for a Request by one of these ringers wakes the bell, for the last of so many Forks, for each Done and for each
     /// Close. Where no fork is lacking, each Fork does. A ringer whose number is 64 or more always wakes it.
-    pub fn of(requests: WordSet, forks: u32) -> Wants
+    pub fn of(requests: BitSet64, forks: u32) -> Wants
         ensures { seen_wants result ≡ Some (record { requests = requests; forks = forks }) }
     {
         Wants {

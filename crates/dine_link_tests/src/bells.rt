@@ -1,7 +1,7 @@
 // Rings of one thread and of several.
 use dine_link::{Bell, LinkFault, Lost, Ringer, Wants};
 use dine_rules::Kind4;
-use dine_set::WordSet;
+use dine_set::BitSet64;
 use std::alloc::Global;
 use std::process::Abort;
 use std::sync::atomic::{AtomicU64, Ordering};
@@ -166,7 +166,7 @@ fn opens_a_bell_or_tells_of_memory(rt: HostRuntime) -> Result<(), Fail> {
 
 // A Request of ringer 1, the second of two Forks, Done and Close.
 fn few() -> Wants {
-    let mut requests = WordSet::empty();
+    let mut requests = BitSet64::empty();
     requests.insert(1);
     Wants::of(requests, 2)
 }

@@ -6,7 +6,7 @@ mod refusals;
 mod slowly;
 mod waits;
 
-use dine_link::{ChannelLane, Lane, LinkFault, RingLane, TxEnd};
+use dine_link::{ChannelLane, FaultLane, Lane, LinkFault, RingLane, TxEnd};
 use dine_rules::{Kind4, Letter};
 use dine_token::{Fork, Held, Meal, Token};
 use exchange::exchange;
@@ -45,6 +45,7 @@ fn done_and_close<L: Lane, R: Wait + Abort>(rt: &R, alloc: Global) -> Result<(),
 fn done_and_close_go_over_a_link(rt: HostRuntime) -> Result<(), Fail> {
     done_and_close::<ChannelLane, HostRuntime>(&rt, rt.alloc())?;
     done_and_close::<RingLane, HostRuntime>(&rt, rt.alloc())?;
+    done_and_close::<FaultLane, HostRuntime>(&rt, rt.alloc())?;
     Ok(())
 }
 

@@ -8,7 +8,7 @@ use Rattle.std.proofs.Math.Seq.{get_or-append_seam}
 use Rattle.dine_token.specs.Periods.{meals_from}
 use Rattle.dine_logs.specs.Logs.{entries_text}
 use Rattle.dine_plan.specs.Plan.{SeenPlan, SeenSite, name_of, job_count, no_site}
-use Rattle.dine_logs.specs.MealTexts.{SeenMealTexts, meals_text, texts_of, IsMealTexts}
+use Rattle.dine_logs.specs.private.MealTexts.{SeenMealTexts, meals_text, texts_of, IsMealTexts}
 
 -- the meals of a site have the same text under each naming that gives it that name
 pub same_meals : (named other : ℕ → List ℕ) (site at : ℕ) → named site ≡ other at → (separator : List ℕ) (first count : ℕ)

@@ -1,3 +1,3 @@
 pub mod Logs
-pub mod MealTexts
 pub mod Replay
+pub mod private

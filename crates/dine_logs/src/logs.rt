@@ -8,7 +8,7 @@ ghost use Rattle.dine_plan.specs.Plan.{name_of};
 ghost use Rattle.dine_core.specs.World.{WorldState};
 ghost use Rattle.dine_core.specs.Worlds.{IsWorldOf, IsOpenedFor};
 ghost use Rattle.dine_logs.specs.Logs.{edge_line, edge_lines, entries_text, events_line, separator, world_text};
-ghost use Rattle.dine_logs.specs.MealTexts.{texts_of};
+ghost use Rattle.dine_logs.specs.private.MealTexts.{texts_of};
 
 use crate::logs::meal_texts::{MealTexts, push_meal, separator};
 use dine_core::World;

@@ -1,9 +1,8 @@
 pub mod Plan
 pub mod Job
-pub mod Site
-pub mod Fields
 pub mod Document
 pub mod Fault
 pub mod Refusals
 pub mod Refuses
 pub mod PlanOf
+pub mod private

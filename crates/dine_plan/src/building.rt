@@ -4,7 +4,7 @@ ghost use Rattle.std.specs.List.{list_any};
 ghost use Rattle.toml.specs.View.{view};
 ghost use Rattle.dine_plan.specs.Plan.{IsPlan};
 ghost use Rattle.dine_plan.specs.Job.{seen_job};
-ghost use Rattle.dine_plan.specs.Site.{seen_site};
+ghost use Rattle.dine_plan.specs.private.Site.{seen_site};
 ghost use Rattle.dine_plan.specs.Document.{turns_in};
 ghost use Rattle.dine_plan.specs.PlanOf.{job_in, site_in};
 ghost use Rattle.dine_plan.specs.Refusals.{has_many_turns};

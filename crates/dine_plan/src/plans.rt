@@ -42,7 +42,7 @@ impl Model for Plan {
 
     ghost Value = { SeenPlan };
 
-    ghost use Rattle.dine_plan.specs.Fields.{seen_plan, IsKept};
+    ghost use Rattle.dine_plan.specs.private.Fields.{seen_plan, IsKept};
 
     ghost view = { seen_plan };
 
@@ -51,7 +51,7 @@ impl Model for Plan {
 
 impl Plan {
     ghost use Rattle.dine_plan.specs.Job.{seen_job};
-    ghost use Rattle.dine_plan.specs.Site.{seen_site};
+    ghost use Rattle.dine_plan.specs.private.Site.{seen_site};
 
     /// The plan of these sites and these ends of edges.
     pub(crate) fn new(

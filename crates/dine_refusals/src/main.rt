@@ -3,14 +3,44 @@
 //!
 //! usage: dine_refusals CALL
 //!
-//! CALL is `site`: the lower site of a pair, over rings that are filled before it starts.
+//! CALL is `plan`, `fork`, `core`, `world`, `channel`, `ring`, `bell` or `order`, each a call that answers at once; or `site`: the lower site
+//! of a pair, over rings that are filled before it starts.
 #![tactic(auto)]
 
+mod calls;
+mod pair;
 mod site;
 
-use dine_link::RingLane;
-use std::env;
+use calls::Told;
+use dine_link::{ChannelLane, RingLane};
+use std::alloc::{AllocError, Global};
 use std::process::ExitCode;
+use std::{env, io};
+
+// What the call of this name answers, where one has it.
+fn told(alloc: Global, name: &str) -> Result<Option<Told>, AllocError> {
+    let told = match name {
+        "plan" => calls::plan(alloc),
+        "fork" => calls::fork(alloc),
+        "core" => calls::core(alloc)?,
+        "world" => calls::world(alloc)?,
+        "channel" => calls::link::<ChannelLane>(alloc),
+        "ring" => calls::link::<RingLane>(alloc),
+        "bell" => calls::bell(alloc),
+        "order" => calls::one_order(alloc)?,
+        _ => return Ok(None),
+    };
+    Ok(Some(told))
+}
+
+// Makes the call and tells what it answers. False where there is none of that name.
+fn tell<R: Print>(rt: &R, alloc: Global, name: &str) -> io::Result<bool> {
+    let Some(told) = told(alloc, name)? else {
+        return Ok(false);
+    };
+    println!(rt; "{told:?}")?;
+    Ok(true)
+}
 
 fn main(rt: HostRuntime) -> ExitCode {
     let mut words = match env::args(&rt) {
@@ -18,14 +48,16 @@ fn main(rt: HostRuntime) -> ExitCode {
         Err(_) => return ExitCode::from(5),
     };
     let _program = words.next();
-    let told = match words.next() {
-        Some(call) if call.as_str() == "site" => {
-            site::tell::<RingLane, HostRuntime>(&rt, rt.alloc())
+    let done = match words.next() {
+        Some(name) if name.as_str() == "site" => {
+            site::tell::<RingLane, HostRuntime>(&rt, rt.alloc()).map(|()| true)
         }
-        _ => return ExitCode::from(2),
+        Some(name) => tell(&rt, rt.alloc(), name.as_str()),
+        None => Ok(false),
     };
-    match told {
-        Ok(()) => ExitCode::SUCCESS,
+    match done {
+        Ok(true) => ExitCode::SUCCESS,
+        Ok(false) => ExitCode::from(2),
         Err(_) => ExitCode::from(5),
     }
 }

@@ -3,21 +3,17 @@ ghost use Rattle.std.specs.Prelude.{◌≡◌, ◌<◌, ◌≤◌, ◌+◌, ◌^
 ghost use Rattle.dine_link.specs.Links.{IsUnused};
 ghost use Rattle.dine_run.specs.Ports.{IsFreshPort, seen_ports};
 
+use crate::pair::pair;
 use dine_core::SiteCore;
 use dine_core::site::{fresh_forks, fresh_tokens};
 use dine_link::{Bell, Lane, Ringer, TxEnd};
-use dine_plan::{Plan, read_plan};
+use dine_plan::Plan;
 use dine_rules::{Kind4, Letter};
 use dine_run::{CallLog, Diner, JobFault, Port, SiteEnd, SiteFault, run_site};
 use dine_token::{Meal, Token};
 use std::alloc::{AllocError, Global};
 use std::io;
 use std::sync::Wait;
-
-// Two sites with one job each, and an edge between them.
-const PAIR: &str = "version = 1\n\
-    [[site]]\nname = \"a\"\njobs = [{ name = \"x\" }]\n[[site]]\nname = \"b\"\njobs = [{ name = \"x\" }]\n\
-    [[edge]]\nends = [\"a\", \"b\"]\n";
 
 // Eats, and no more.
 #[derive(Drop)]
@@ -111,9 +107,7 @@ fn run_lower<L: Lane, R: Wait>(
 fn lower_of_pair<L: Lane, R: Wait>(rt: &R, alloc: Global) -> Result<Left<L>, AllocError>
     ensures { IfOk result (λ left. IsUnused (L.seen_rx left.1)) }
 {
-    let Ok(plan) = read_plan(alloc, PAIR) else {
-        return Err(AllocError);
-    };
+    let plan = pair(alloc)?;
     let (Ok((tx, far_rx)), Ok((mut far_tx, rx))) = (L::pair(alloc, 0, 0), L::pair(alloc, 0, 1))
     else {
         return Err(AllocError);

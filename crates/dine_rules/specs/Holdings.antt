@@ -8,7 +8,7 @@ use Rattle.dine_plan.specs.Plan.{SeenPlan, lo_of, hi_of}
 use Rattle.dine_rules.specs.Letters.{forks_in, requests_in, last_log_or}
 use Rattle.dine_rules.specs.Local.{LocalState, Traffic, traffic_at, edge_at, is_eating}
 
--- how many forks an end holds: at the start the lower one, one more for a Fork taken, one fewer for one put [paper: one fork, arrival]
+-- forks that an end holds: one at the start if lower, and the Forks taken, less those put [paper: one fork, arrival]
 abbrev pub forks_held : SeenPlan → ℕ → ℕ → Traffic → ℕ
 forks_held plan s edge traffic = (if lo_of plan edge == s then 1 else 0) + forks_in traffic.taken - forks_in traffic.put
 
@@ -25,7 +25,7 @@ meals_from s first (suc n) = Meal s first ∷ meals_from s (first + 1) n
 abbrev pub with_meals_to : ℕ → ℕ → List Entry → List Entry
 with_meals_to s ate log = log ++ meals_from s (meals_of s log + 1) (ate - meals_of s log)
 
--- the log in hand: that of the last Fork taken, or the empty one, and the site's meals since [paper: clean and dirty]
+-- the log in hand: that of the last Fork taken, or none, and the site's meals since [paper: clean and dirty]
 abbrev pub hand : ℕ → ℕ → Traffic → List Entry
 hand s ate traffic = with_meals_to s ate (last_log_or [] traffic.taken)
 

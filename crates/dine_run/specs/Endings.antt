@@ -89,7 +89,7 @@ pub record Ending : Type 0 where
 -- so are its links, but for the letter of a breach, a letter that a link refused, and a Close that a link refused; what its links have is
 -- in order all the same. It did the events of its journal and then it broke off, and where it was started it has put Close everywhere.
 -- Where it tells no fault it did all, just those events, its links have exactly what it put, and none of them refused. A site that was not
--- started is at its start. A link that refused to give a letter is told. A fault that is told is so.
+-- started is at its start. A link that refused to give a letter is told. A breach that is told is so, and a link that is told lost.
 pub record HasEnded (plan : SeenPlan) (s : ℕ) (state : LocalState) (links : ℕ → OnLinks) (end : Ending) : Type 0 where
   pub keeps : KeepsStreams plan s state
   pub rests : is_eating state.phase ≡ false

@@ -10,7 +10,7 @@ use Rattle.dine_rules.specs.Letters.{has_close}
 use Rattle.dine_rules.specs.Local.{LocalState, Traffic, is_eating, traffic_at}
 use Rattle.dine_rules.specs.Steps.{with_put}
 use Rattle.dine_rules.specs.Streams.{KeepsStreams}
-use Rattle.dine_core.specs.Core.{SeenCore, StandsFor}
+use Rattle.dine_core.specs.Core.{SeenCore, Refines}
 use Rattle.dine_core.specs.Places.{place_at}
 use Rattle.dine_core.specs.Standing.{ForEachState, has_finished}
 use Rattle.dine_run.specs.declared.diner.Call.{Call}
@@ -62,7 +62,7 @@ pub record HasState {Identity : Type 0} (plan : SeenPlan) (given : List (SeenPor
   pub is_plan : IsPlan plan
   pub is_site : run.core.site < site_count plan
   pub keeps : KeepsStreams plan run.core.site state
-  pub stands : StandsFor plan state run.core
+  pub stands : Refines plan state run.core
   pub rests : is_eating state.phase ≡ false
   pub count : length run.ports ≡ length given
   pub places : length run.ports ≡ length run.core.places

@@ -1,9 +1,9 @@
 // What the sites left is brought together: their link ends by edge, their forks by edge, and the rest by site.
 ghost use Rattle.std.specs.Prelude.{◌≡◌, ◌<◌, ◌≤◌, ◌*◌, All, IfOk, Some, None, is_some, length, map, position, replicate, slice_get, vec_len, vec_capacity};
 ghost use Rattle.dine_plan.specs.Plan.{edge_count, edges_of, site_count};
-ghost use Rattle.dine_run.specs.Collecting.{AreForksOf, AreJoined, AreLinksLeft, AreWholeEnds, IsRoomFor, IsTakenToClose, forks_left, found, laid, links_left, out_of, rows_left};
+ghost use Rattle.dine_run.specs.private.Collecting.{AreForksOf, AreJoined, AreLinksLeft, AreWholeEnds, IsRoomFor, IsTakenToClose, forks_left, found, laid, links_left, out_of, rows_left};
 ghost use Rattle.dine_run.specs.Gathered.{IsTakenInOrder};
-ghost use Rattle.dine_run.specs.Wirings.{AreWired};
+ghost use Rattle.dine_run.specs.private.Wirings.{AreWired};
 
 use crate::diner::Diner;
 use crate::gathered::SiteOut;

@@ -5,8 +5,8 @@ ghost use Rattle.dine_plan.specs.Plan.{SeenPlan, job_count, site_count};
 ghost use Rattle.dine_core.specs.Standing.{IsFresh, IsFreshFor};
 ghost use Rattle.dine_run.specs.Diners.{HasEaten};
 ghost use Rattle.dine_run.specs.Ports.{IsFreshPort, seen_ports};
-ghost use Rattle.dine_run.specs.Openings.{AreStands};
-ghost use Rattle.dine_run.specs.Seats.{AreSeatsOf, IsReady, LeavesSeat, seat_of, seen_site_end};
+ghost use Rattle.dine_run.specs.private.Openings.{AreStands};
+ghost use Rattle.dine_run.specs.private.Seats.{AreSeatsOf, IsReady, LeavesSeat, seat_of, seen_site_end};
 ghost use Rattle.dine_run.specs.SiteEnds.{IsLeft};
 
 use crate::diner::Diner;
@@ -123,11 +123,12 @@ where
     thread::spawn_with(rt, promise, run).ok()
 }
 
-/// Starts a thread for each seat. Answers the first that was refused.
+/// Starts a thread for each seat, at most `threads` of them. Answers the first seat that has none.
 pub fn start_all<R: Threads + Wait + Copy + Send + 'static, L: Lane + 'static, D: Diner + 'static>(
     rt: &R,
     seats: Vec<Seat<L, D>>,
     children: &mut Vec<Child<L, D>>,
+    threads: u32,
 ) -> Option<u32>
 where
     L::Tx: 'static,
@@ -141,9 +142,14 @@ where
     ensures all { IfNone result (map seat_of children.new.items ≡ seats.items) }
     ensures some { IfSome result (λ site. site < vec_len seats) }
     ensures first { IfSome result (λ site. site ≡ vec_len children.new) }
+    ensures all_within { IfNone result (vec_len seats ≤ threads) }
+    ensures some_within { IfSome result (λ site. site ≤ threads) }
 {
     let mut started = 0u32;
     for seat in seats {
+        if started == threads {
+            return Some(started);
+        }
         let Some(child) = start(rt, seat) else {
             return Some(started);
         };

@@ -15,7 +15,7 @@ use Rattle.std.proofs.lemmas.Simd.{bit_mask_l, mask_l-lt, ones-mask_l, first_set
 use Rattle.std.proofs.Math.Nat.{two-pow-succ}
 use lib.Lanes.{mask_l}
 use Rattle.dine_set.specs.Marks.{low_digits, marks_of_word, both_marks, marks_without}
-use Rattle.dine_set.specs.WordFromMarks.{word_from_marks}
+use Rattle.dine_set.specs.private.BitsFromMarks.{word_from_marks}
 
 -- ---- a word from its marks and back
 length-low_digits : (k n : ℕ) → length (low_digits k n) ≡ k

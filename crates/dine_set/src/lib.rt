@@ -1,8 +1,8 @@
 //! Sets of numbers below 64, each kept in one word.
 #![tactic(auto)]
 
+mod bit_set;
 #[cfg(test)]
 mod tests;
-mod word_set;
 
-pub use word_set::WordSet;
+pub use bit_set::BitSet64;

@@ -1,10 +1,10 @@
 // Each public function on sets worked out by hand.
 
-use super::WordSet;
+use super::BitSet64;
 
 #[test]
 fn keeps_numbers(rt: HostRuntime) {
-    let mut set = WordSet::empty();
+    let mut set = BitSet64::empty();
     assert!(rt; set.is_empty());
     assert_eq!(rt; set.first(), None);
     set.insert(63);
@@ -20,7 +20,7 @@ fn keeps_numbers(rt: HostRuntime) {
 
 #[test]
 fn the_full_set_has_each_number(rt: HostRuntime) {
-    let mut set = WordSet::full();
+    let mut set = BitSet64::full();
     for i in 0..64 {
         assert_eq!(rt; set.first(), Some(i));
         set.remove(i);
@@ -30,7 +30,7 @@ fn the_full_set_has_each_number(rt: HostRuntime) {
 
 #[test]
 fn numbers_are_counted_and_found_in_order(rt: HostRuntime) {
-    let mut set = WordSet::empty();
+    let mut set = BitSet64::empty();
     assert_eq!(rt; (set.len(), set.nth(0)), (0, None));
     set.insert(63);
     set.insert(5);
@@ -41,18 +41,18 @@ fn numbers_are_counted_and_found_in_order(rt: HostRuntime) {
         (Some(5), Some(40), Some(63), None)
     );
     assert_eq!(rt;
-        (WordSet::full().len(), WordSet::full().nth(63)),
+        (BitSet64::full().len(), BitSet64::full().nth(63)),
         (64, Some(63))
     );
 }
 
 #[test]
 fn two_sets_are_compared(rt: HostRuntime) {
-    let mut few = WordSet::empty();
+    let mut few = BitSet64::empty();
     few.insert(0);
     few.insert(5);
     few.insert(63);
-    let mut others = WordSet::full();
+    let mut others = BitSet64::full();
     others.remove(5);
     let both = few.intersection(others);
     assert_eq!(rt;

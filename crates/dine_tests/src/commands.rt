@@ -66,6 +66,8 @@ fn a_run_reads_and_writes_as_the_other_commands(rt: HostRuntime) -> Result<(), F
     for line in ["dine", "dine run", "dine run --links channel"] {
         let mut failing = stutters(PAIR.as_bytes(), 8192, 1, io::ErrorKind::Other);
         leaves(&rt, line, &mut failing, 6, "", "dine: reading failed\n")?;
+        let mut failing = stutters(PAIR.as_bytes(), 1, 2, io::ErrorKind::Other);
+        leaves(&rt, line, &mut failing, 6, "", "dine: reading failed\n")?;
         let mut no_plan = "".as_bytes();
         leaves(
             &rt,

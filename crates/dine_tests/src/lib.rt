@@ -1,5 +1,5 @@
 //! The tests of `dine`, by what anyone can see of it. There is nothing else here, so that it is not proved a second time for them. What
-//! is printed for a plan stands in the plans' heads, which `tools/plans` tries with the program, and below `plans/texts/`, which
+//! is printed for a plan stands in the plans' heads, which `tools/plans` tries with the program, and below `tests/texts/`, which
 //! `tools/texts` tries.
 #![tactic(auto)]
 

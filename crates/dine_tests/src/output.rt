@@ -102,6 +102,19 @@ fn an_output_that_fails_is_told(rt: HostRuntime) -> Result<(), Fail> {
 }
 
 #[test]
+fn what_went_out_before_a_failed_write_is_the_beginning(rt: HostRuntime) -> Result<(), Fail> {
+    let mut output = takes_pieces(rt.alloc(), 10);
+    output.bad_write = 2;
+    let mut told = Vec::new(rt.alloc());
+    let mut input = PAIR.as_bytes();
+    let status = run_into(&rt, "dine replay", &mut input, &mut output, &mut told)?;
+    assert_eq!(rt; status, 6);
+    assert_eq!(rt; output.held.as_slice(), b"edge 0 a b".as_slice());
+    assert_eq!(rt; told.as_slice(), WRITING_FAILED);
+    Ok(())
+}
+
+#[test]
 fn an_interrupted_write_is_tried_again(rt: HostRuntime) -> Result<(), Fail> {
     for bad_write in 1..=3 {
         let mut output = takes_pieces(rt.alloc(), 10);

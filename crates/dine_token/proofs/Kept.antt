@@ -8,7 +8,7 @@ use Rattle.dine_token.specs.Log.{is_dirty, location_of, meals_of}
 use Rattle.dine_token.specs.Lawful.{IsLawful}
 use Rattle.dine_token.specs.Periods.{periods_of, entries_of}
 use Rattle.dine_token.specs.Fork.{SeenFork, IsFork, MayMove, MayEat, moved, eaten}
-use Rattle.dine_token.specs.Fields.{seen_kept, IsKept}
+use Rattle.dine_token.specs.private.Fields.{seen_kept, IsKept}
 use Rattle.dine_token.proofs.Logs.{is_dirty-push_meal, is_dirty-push_move, location_of-push_meal, location_of-push_move, meals_of-push_own, meals_of-push_other, meals_of-push_move}
 use Rattle.dine_token.proofs.Lawfulness.{IsLawful-none}
 use Rattle.dine_token.proofs.Periods.{period, length-periods_of, one_more, last_one_more, last_one_more-append, set-last, periods_of-push_move, periods_of-push_meal, entries_of-opened, entries_of-one_more}

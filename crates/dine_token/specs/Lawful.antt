@@ -21,7 +21,7 @@ count_from first (suc n) = first ∷ count_from (first + 1) n
 abbrev pub due_at : ℕ × ℕ → ℕ × ℕ → ℕ → ℕ
 due_at ends due end = if end == ends.0 then due.0 else due.1
 
--- A lawful log, by the ends of its fork and the meals due to them. [paper: release rule, all forks, clean and dirty, request rule]
+-- A lawful log of one fork, by its ends and the meals due to them; not that a Move was asked for. [paper: release rule, clean and dirty]
 pub record IsLawful (ends due : ℕ × ℕ) (log : List Entry) : Type 0 where
   -- the fork starts at its lower end, and moves to the higher, the lower, the higher, .. in turn [paper: release rule]
   pub alternates : destinations_of log ≡ in_turn ends.1 ends.0 (moves_of log)

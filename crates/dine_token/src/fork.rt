@@ -38,7 +38,7 @@ impl Model for Fork {
 
     ghost Value = { SeenFork };
 
-    ghost use Rattle.dine_token.specs.Fields.{seen, IsWellKept};
+    ghost use Rattle.dine_token.specs.private.Fields.{seen, IsWellKept};
 
     ghost view = { seen };
 

@@ -1,7 +1,7 @@
 use Rattle.std.proofs.Common.{◌≡◌, ◌≤◌, length, vec_items, subst, arith}
 use Rattle.dine_plan.specs.Plan.{job_count}
 use Rattle.dine.specs.PlanDiners.{SeenPlanDiner}
-use Rattle.dine_run.proofs.Collected.{each_more, each_of_none}
+use Rattle.dine_run.proofs.all_sites.Collected.{each_more, each_of_none}
 use Rattle.dine_bench.proofs.diners.Goals as goal
 
 pub loop-site-init : goal.loop-site-init

@@ -9,7 +9,7 @@ ghost use Rattle.dine_core.specs.Places.{no_place, neighbour_of, hand_of, noted,
 use super::places::{ForkSlot, Place};
 use super::{Parts, meals};
 use dine_rules::Letter;
-use dine_set::WordSet;
+use dine_set::BitSet64;
 use dine_token::{Fork, Held, Token};
 use std::alloc::{AllocError, Global};
 use std::marker::Model;
@@ -20,12 +20,12 @@ use std::marker::Model;
 #[derive(Drop)]
 pub(crate) struct MarkedPlaces {
     items: Vec<Place>,
-    away: WordSet,
-    dirty: WordSet,
-    tokens: WordSet,
-    unclosed: WordSet,
-    said: WordSet,
-    heard: WordSet,
+    away: BitSet64,
+    dirty: BitSet64,
+    tokens: BitSet64,
+    unclosed: BitSet64,
+    said: BitSet64,
+    heard: BitSet64,
 }
 
 impl Model for MarkedPlaces {
@@ -34,7 +34,7 @@ impl Model for MarkedPlaces {
 
     ghost Value = { List Place };
 
-    ghost use Rattle.dine_core.specs.MarkedFields.{places_in, IsMarked};
+    ghost use Rattle.dine_core.specs.private.MarkedFields.{places_in, IsMarked};
 
     ghost view = { places_in };
 
@@ -49,12 +49,12 @@ impl MarkedPlaces {
     {
         Ok(MarkedPlaces {
             items: Vec::with_capacity(alloc, places)?,
-            away: WordSet::empty(),
-            dirty: WordSet::empty(),
-            tokens: WordSet::empty(),
-            unclosed: WordSet::empty(),
-            said: WordSet::empty(),
-            heard: WordSet::empty(),
+            away: BitSet64::empty(),
+            dirty: BitSet64::empty(),
+            tokens: BitSet64::empty(),
+            unclosed: BitSet64::empty(),
+            said: BitSet64::empty(),
+            heard: BitSet64::empty(),
         })
     }
 
@@ -115,7 +115,7 @@ impl MarkedPlaces {
     }
 
     /// The places whose fork the release rule would have sent, for a site that does not eat.
-    pub(crate) fn gives(&self) -> WordSet
+    pub(crate) fn gives(&self) -> BitSet64
         ensures marks { result ≡ marks_of can_give_at self.now }
         ensures few { length self.now ≤ 64 }
     {
@@ -125,7 +125,7 @@ impl MarkedPlaces {
     }
 
     /// The places whose fork a hungry site may ask for.
-    pub(crate) fn asks(&self) -> WordSet
+    pub(crate) fn asks(&self) -> BitSet64
         ensures marks { result ≡ marks_of can_ask_at self.now }
         ensures few { length self.now ≤ 64 }
     {
@@ -135,7 +135,7 @@ impl MarkedPlaces {
     }
 
     /// The places at which Done may be said once all meals are eaten.
-    pub(crate) fn dones(&self) -> WordSet
+    pub(crate) fn dones(&self) -> BitSet64
         ensures marks { result ≡ marks_of can_say_done_at self.now }
         ensures few { length self.now ≤ 64 }
     {
@@ -143,7 +143,7 @@ impl MarkedPlaces {
     }
 
     /// The places that may be closed in order.
-    pub(crate) fn closes(&self) -> WordSet
+    pub(crate) fn closes(&self) -> BitSet64
         ensures marks { result ≡ marks_of can_close_at self.now }
         ensures few { length self.now ≤ 64 }
     {
@@ -153,7 +153,7 @@ impl MarkedPlaces {
     }
 
     /// The places where the fork is in hand and dirty.
-    pub(crate) fn dirty_places(&self) -> WordSet
+    pub(crate) fn dirty_places(&self) -> BitSet64
         ensures { result ≡ marks_of is_dirty_at self.now }
     {
         self.dirty
@@ -251,7 +251,7 @@ impl MarkedPlaces {
         ensures hands { hands.new.items ≡ forks_of self.old }
     {
         meals::lift(site, self.items.as_mut_slice(), hands);
-        self.dirty = WordSet::empty();
+        self.dirty = BitSet64::empty();
     }
 
     /// Lays the forks down at their places, in order.
@@ -262,7 +262,7 @@ impl MarkedPlaces {
         ensures room { vec_capacity hands.new ≡ vec_capacity hands.old }
     {
         meals::lay_down(self.items.as_mut_slice(), hands);
-        self.away = WordSet::empty();
+        self.away = BitSet64::empty();
         self.dirty = dirty_places(self.items.as_slice());
     }
 
@@ -290,11 +290,11 @@ impl MarkedPlaces {
 
 // The places whose fork is in hand and dirty.
 #[tactic(auto, using(dine_set::proofs::MarksOf::marks_laws))]
-fn dirty_places(places: &[Place]) -> WordSet
+fn dirty_places(places: &[Place]) -> BitSet64
     requires { length places.now ≤ 64 }
     ensures { result ≡ marks_of is_dirty_at places.now }
 {
-    let mut dirty = WordSet::empty();
+    let mut dirty = BitSet64::empty();
     for (i, place) in places.iter().enumerate() {
         dirty.set(i as u32, place.fork.is_dirty_in_hand());
     }

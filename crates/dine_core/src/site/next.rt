@@ -8,7 +8,7 @@ ghost use Rattle.dine_core.specs.Standing.{ForEachState};
 
 use super::SiteCore;
 use dine_rules::{EventKind, Phase};
-use dine_set::WordSet;
+use dine_set::BitSet64;
 
 impl SiteCore {
     /// The first event other than Take that the site may do now, in the fixed order: Give by place, End, Begin, Hungry, Ask by
@@ -23,7 +23,7 @@ impl SiteCore {
         if let Some(kind) = self.next_phase() {
             return Some(kind);
         }
-        self.next_word()
+        self.next_announcement()
     }
 
     // The first of End, Begin and Hungry that the site may do.
@@ -43,7 +43,7 @@ impl SiteCore {
     }
 
     // The first of Ask, Done and Close that the site may do.
-    fn next_word(&self) -> Option<EventKind>
+    fn next_announcement(&self) -> Option<EventKind>
         ensures { result ≡ next_word_of self.now }
     {
         if let Some(i) = self.first_ask() {
@@ -85,34 +85,34 @@ impl SiteCore {
     }
 
     // The places at which the site may give the fork now.
-    fn gives_now(&self) -> WordSet
+    fn gives_now(&self) -> BitSet64
         ensures { result ≡ marks_of (may_give_at self.now) self.now.places }
     {
         let gives = self.places.gives();
         if self.phase == Phase::Eating {
-            return WordSet::empty();
+            return BitSet64::empty();
         }
         gives
     }
 
     // The places at which it may ask for the fork now.
-    fn asks_now(&self) -> WordSet
+    fn asks_now(&self) -> BitSet64
         ensures { result ≡ marks_of (may_ask_at self.now) self.now.places }
     {
         let asks = self.places.asks();
         if self.phase != Phase::Hungry {
-            return WordSet::empty();
+            return BitSet64::empty();
         }
         asks
     }
 
     // The places at which it may say Done now.
-    fn dones_now(&self) -> WordSet
+    fn dones_now(&self) -> BitSet64
         ensures { result ≡ marks_of (may_say_done_at self.now) self.now.places }
     {
         let dones = self.places.dones();
         if self.phase != Phase::Thinking || self.ate != self.due {
-            return WordSet::empty();
+            return BitSet64::empty();
         }
         dones
     }

@@ -16,7 +16,7 @@ impl Model for Packed {
 
     ghost Value = { SeenCore };
 
-    ghost use Rattle.dine_core.specs.PackedFields.{core_in, IsAtRest};
+    ghost use Rattle.dine_core.specs.private.PackedFields.{core_in, IsAtRest};
 
     ghost view = { core_in };
 

@@ -3,23 +3,23 @@ ghost use Rattle.std.specs.Prelude.{◌≡◌, ℕ, ◌<◌, ◌+◌, ◌-◌, I
 ghost use Rattle.std.specs.Option.{option_or};
 ghost use Rattle.dine_rules.specs.declared.letters.Letter.{Letter};
 ghost use Rattle.dine_rules.specs.Local.{is_eating};
-ghost use Rattle.dine_core.specs.Forks.{woken};
-ghost use Rattle.dine_core.specs.Awake.{HasReceiver, with_receiver};
+ghost use Rattle.dine_core.specs.private.Forks.{meal_ended};
+ghost use Rattle.dine_core.specs.private.EnabledSites.{HasReceiver, with_receiver};
 ghost use Rattle.dine_core.specs.LinkNumbers.{link_to};
 ghost use Rattle.dine_core.specs.NextEvent.{next_of};
-ghost use Rattle.dine_core.specs.Counts.{own_kinds_now};
+ghost use Rattle.dine_core.specs.private.Counts.{own_kinds_now};
 ghost use Rattle.dine_set.specs.Marks.{nth_position};
 ghost use Rattle.dine_rules.specs.Steps.{Begin, End, Puts, Step, Take, after, shape_of, step_by};
 ghost use Rattle.dine_core.specs.Core.{forks_in_hand};
 ghost use Rattle.dine_core.specs.Places.{begun, can_begin, ended, place_at, took};
-ghost use Rattle.dine_core.specs.WorldSites.{SiteSteps, HasOwnMeal, HasRoomAt, HasRoomFor, IsAwake, TakesAllowed, can_do, meets_no_breach, next_in, without_next};
+ghost use Rattle.dine_core.specs.WorldSites.{SiteSteps, HasOwnMeal, HasRoomAt, HasRoomFor, IsNotEating, TakesAllowed, can_do, meets_no_breach, next_in, without_next};
 ghost use Rattle.dine_core.specs.Standing.{ForEachState, CorePuts, CoreStep, CoreSteps, all_places};
 
 use super::queue::Queue;
 use super::sites::WorldSite;
 use crate::site::SiteCore;
 use dine_rules::{EventKind, Letter};
-use dine_set::WordSet;
+use dine_set::BitSet64;
 use std::mem;
 
 /// Does that, where it may be done.
@@ -106,8 +106,8 @@ fn begin(world_site: &mut WorldSite)
 /// Ends the meal, where the site eats.
 pub(crate) fn wake(world_site: &mut WorldSite)
     requires { HasOwnMeal world_site.old }
-    ensures woken { world_site.new ≡ woken world_site.old }
-    ensures awake { IsAwake world_site.new }
+    ensures meal_ended { world_site.new ≡ meal_ended world_site.old }
+    ensures not_eating { IsNotEating world_site.new }
 {
     match world_site.meal.take() {
         Some(meal) => world_site.core.end(meal),
@@ -131,39 +131,39 @@ fn end(world_site: &mut WorldSite)
 }
 
 /// The set with the site that gets the letter of the event, where it puts one.
-pub(crate) fn with_receiver(awake: WordSet, core: &SiteCore, kind: EventKind) -> WordSet
+pub(crate) fn with_receiver(sites: BitSet64, core: &SiteCore, kind: EventKind) -> BitSet64
     requires { HasReceiver core.now (shape_of kind) }
-    ensures { result ≡ with_receiver core.now (shape_of kind) awake }
+    ensures { result ≡ with_receiver core.now (shape_of kind) sites }
 {
     match kind {
         EventKind::Give(i) | EventKind::Ask(i) | EventKind::Done(i) | EventKind::Close(i) => {
-            let mut woken = awake;
-            woken.insert(core.neighbour(i));
-            woken
+            let mut more = sites;
+            more.insert(core.neighbour(i));
+            more
         }
-        EventKind::Take(_) | EventKind::End | EventKind::Begin | EventKind::Hungry => awake,
+        EventKind::Take(_) | EventKind::End | EventKind::Begin | EventKind::Hungry => sites,
     }
 }
 
-/// The first event that the site may do now, in the fixed order. A letter lies in the link to it at just the places in `heard`.
-pub(crate) fn first_kind(heard: WordSet, core: &SiteCore) -> Option<EventKind>
-    ensures { result ≡ option_or (option_map EventKind.Take (position (λ is_in. is_in) heard)) (next_of core.now) }
+/// The first event that the site may do now, in the fixed order. A letter lies in the link to it at just the places in `nonempty_inboxes`.
+pub(crate) fn first_kind(nonempty_inboxes: BitSet64, core: &SiteCore) -> Option<EventKind>
+    ensures { result ≡ option_or (option_map EventKind.Take (position (λ is_in. is_in) nonempty_inboxes)) (next_of core.now) }
 {
-    if let Some(i) = heard.first() {
+    if let Some(i) = nonempty_inboxes.first() {
         return Some(EventKind::Take(i));
     }
     core.next_event()
 }
 
 /// The `n`-th event that the site may do now, in the fixed order, from 0. A letter lies in the link to it at just the places in
-/// `heard`.
-pub(crate) fn nth_kind(heard: WordSet, core: &SiteCore, n: u32) -> Option<EventKind>
-    ensures { result ≡ option_or (option_map EventKind.Take (nth_position (λ is_in. is_in) n heard)) (slice_get (own_kinds_now core.now) (n - count_by (λ is_in. is_in) heard)) }
+/// `nonempty_inboxes`.
+pub(crate) fn nth_kind(nonempty_inboxes: BitSet64, core: &SiteCore, n: u32) -> Option<EventKind>
+    ensures { result ≡ option_or (option_map EventKind.Take (nth_position (λ is_in. is_in) n nonempty_inboxes)) (slice_get (own_kinds_now core.now) (n - count_by (λ is_in. is_in) nonempty_inboxes)) }
 {
-    if let Some(i) = heard.nth(n) {
+    if let Some(i) = nonempty_inboxes.nth(n) {
         return Some(EventKind::Take(i));
     }
-    core.own_event(n - heard.len())
+    core.own_event(n - nonempty_inboxes.len())
 }
 
 /// Whether the site may do that now, with these letters in the links.

@@ -5,17 +5,17 @@ use super::World;
 
 impl World {
     ghost use Rattle.dine_rules.specs.World.{events_at, is_enabled};
-    ghost use Rattle.dine_core.specs.Counts.{kinds_now_at};
+    ghost use Rattle.dine_core.specs.private.Counts.{kinds_now_at};
     ghost use Rattle.dine_core.specs.Worlds.{ForEachWorld};
 
     /// Counts anew the events of the sites whose counts may be wrong. To its callers the world is as it was.
     pub(crate) fn refresh(&mut self)
         ensures { self.new ≡ self.old }
     {
-        let mut stale = self.stale;
-        while let Some(site) = stale.first() {
+        let mut outdated_counts = self.outdated_counts;
+        while let Some(site) = outdated_counts.first() {
             self.refresh_at(site);
-            stale.remove(site);
+            outdated_counts.remove(site);
         }
     }
 
@@ -25,12 +25,12 @@ impl World {
         ensures { self.new ≡ self.old }
     {
         if site >= self.site_count() {
-            self.stale.remove(site);
+            self.outdated_counts.remove(site);
             return;
         }
         let count = self.count_at(site);
         self.counts[site as usize] = count;
-        self.stale.remove(site);
+        self.outdated_counts.remove(site);
     }
 
     /// How many events of the site are enabled, by the count that is kept, or counted where that may be wrong.
@@ -39,7 +39,7 @@ impl World {
         ensures count { ForEachWorld self.now (λ plan world. result ≡ length (filter (is_enabled plan world) (events_at plan site))) }
         ensures few { result ≤ 2563 }
     {
-        if self.stale.has(site) {
+        if self.outdated_counts.has(site) {
             self.count_at(site)
         } else {
             self.counts[site as usize]
@@ -52,8 +52,8 @@ impl World {
         ensures kinds { result ≡ length (kinds_now_at self.now site) }
         ensures few { result ≤ 2563 }
     {
-        let heard = self.heard[site as usize];
+        let nonempty_inboxes = self.nonempty_inboxes[site as usize];
         let world_site = &self.sites[site as usize];
-        heard.len() + world_site.core.count_own()
+        nonempty_inboxes.len() + world_site.core.count_own()
     }
 }

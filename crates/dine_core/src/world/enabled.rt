@@ -6,7 +6,7 @@ use dine_rules::{Event, EventKind};
 
 impl World {
     ghost use Rattle.dine_rules.specs.World.{enabled_events, events_at, is_enabled};
-    ghost use Rattle.dine_core.specs.Counts.{kinds_now_at};
+    ghost use Rattle.dine_core.specs.private.Counts.{kinds_now_at};
     ghost use Rattle.dine_core.specs.Worlds.{ForEachWorld};
 
     /// How many events are enabled.
@@ -49,9 +49,9 @@ impl World {
         requires { site < length self.now.sites }
         ensures { result ≡ slice_get (kinds_now_at self.now site) n }
     {
-        let heard = self.heard[site as usize];
+        let nonempty_inboxes = self.nonempty_inboxes[site as usize];
         let world_site = &self.sites[site as usize];
-        acts::nth_kind(heard, &world_site.core, n)
+        acts::nth_kind(nonempty_inboxes, &world_site.core, n)
     }
 
     // How many sites there are.

@@ -1,7 +1,7 @@
 // The forks of the world, wherever they lie.
 ghost use Rattle.std.specs.Prelude.{◌≡◌, ◌+◌, ◌*◌, ◌<◌, ◌≤◌, [], All, length, map, option_map, slice_get, vec_capacity};
-ghost use Rattle.dine_core.specs.Forks.{AreForksOf, HasAllForks, IsEdgeAt, emptied_at, fork_of_edge, without_fork, woken};
-ghost use Rattle.dine_core.specs.WorldSites.{HasOwnMeal, IsAwake};
+ghost use Rattle.dine_core.specs.private.Forks.{AreForksOf, HasAllForks, IsEdgeAt, emptied_at, fork_of_edge, without_fork, meal_ended};
+ghost use Rattle.dine_core.specs.WorldSites.{HasOwnMeal, IsNotEating};
 
 use super::queue::Queue;
 use super::sites::WorldSite;
@@ -36,12 +36,12 @@ impl World {
             edges,
             bound: _,
             mut forks,
-            awake: _,
-            heard: _,
+            may_be_enabled: _,
+            nonempty_inboxes: _,
             counts: _,
-            stale: _,
+            outdated_counts: _,
         } = self;
-        wake_all(sites.as_mut_slice());
+        end_meals(sites.as_mut_slice());
         collect(
             sites.as_mut_slice(),
             links.as_mut_slice(),
@@ -54,9 +54,9 @@ impl World {
 }
 
 // Ends all meals.
-fn wake_all(sites: &mut [WorldSite])
+fn end_meals(sites: &mut [WorldSite])
     requires { All HasOwnMeal sites.old }
-    ensures { sites.new ≡ map woken sites.old }
+    ensures { sites.new ≡ map meal_ended sites.old }
 {
     for world_site in sites.iter_mut() {
         acts::wake(world_site);
@@ -65,11 +65,11 @@ fn wake_all(sites: &mut [WorldSite])
 
 // Takes the forks of all edges out, in edge order.
 fn collect(sites: &mut [WorldSite], links: &mut [Queue], edges: &[EdgeEnds], forks: &mut Vec<Fork>)
-    requires awake { All IsAwake sites.old }
+    requires not_eating { All IsNotEating sites.old }
     requires all { HasAllForks sites.old links.old edges.now }
     requires none { forks.old.items ≡ [] }
     requires room { length edges.now ≤ vec_capacity forks.old }
-    ensures awake { All IsAwake sites.new }
+    ensures not_eating { All IsNotEating sites.new }
     ensures forks { AreForksOf sites.old links.old edges.now forks.new.items }
 {
     for (edge, ends) in edges.iter().enumerate() {
@@ -85,7 +85,7 @@ fn take_out(
     ends: &EdgeEnds,
     edge: usize,
 ) -> Option<Fork>
-    requires awake { All IsAwake sites.old }
+    requires not_eating { All IsNotEating sites.old }
     requires edge { IsEdgeAt sites.old links.old ends.now edge }
     ensures fork { result ≡ fork_of_edge sites.old links.old ends.now edge }
     ensures sites { sites.new ≡ emptied_at ends.now.higher ends.now.higher_place (emptied_at ends.now.lower ends.now.lower_place sites.old) }

@@ -5,7 +5,7 @@ ghost use Rattle.dine_plan.specs.Plan.{edge_count, edges_of, job_count, site_cou
 ghost use Rattle.dine_rules.specs.Bound.{bound_of, meals_due};
 ghost use Rattle.dine_rules.specs.declared.letters.Letter.{Letter};
 ghost use Rattle.dine_rules.specs.Local.{start_of};
-ghost use Rattle.dine_core.specs.WorldSites.{IsAwake, IsSiteOf};
+ghost use Rattle.dine_core.specs.WorldSites.{IsNotEating, IsSiteOf};
 ghost use Rattle.dine_rules.specs.World.{start};
 ghost use Rattle.dine_core.specs.Worlds.{SitesStand, ends_seen};
 
@@ -14,7 +14,7 @@ use super::queue::Queue;
 use super::sites::WorldSite;
 use crate::site::{SiteCore, fresh_forks, fresh_tokens};
 use dine_plan::Plan;
-use dine_set::WordSet;
+use dine_set::BitSet64;
 use std::alloc::{AllocError, Global};
 
 /// Where the ends of all edges are.
@@ -47,11 +47,11 @@ pub(super) fn links_of(alloc: Global, plan: &Plan) -> Result<Vec<Queue>, AllocEr
     Ok(links)
 }
 
-/// A set of places for each site, in which no letter was heard of yet.
-pub(super) fn no_letters(alloc: Global, plan: &Plan) -> Result<Vec<WordSet>, AllocError>
-    ensures { IfOk result (λ heard. heard.items ≡ replicate (site_count plan.now) (replicate 64 false)) }
+/// A set of places for each site, in which no letter was nonempty_inboxes of yet.
+pub(super) fn no_letters(alloc: Global, plan: &Plan) -> Result<Vec<BitSet64>, AllocError>
+    ensures { IfOk result (λ nonempty_inboxes. nonempty_inboxes.items ≡ replicate (site_count plan.now) (replicate 64 false)) }
 {
-    vec![in alloc; WordSet::empty(); plan.sites() as usize]
+    vec![in alloc; BitSet64::empty(); plan.sites() as usize]
 }
 
 /// A count for each site, of no events.
@@ -83,7 +83,7 @@ fn site_of(alloc: Global, plan: &Plan, site: u32) -> Result<WorldSite, AllocErro
     requires { site < site_count plan.now }
     ensures site { IfOk result (λ world_site. world_site.core.site ≡ site) }
     ensures start { IfOk result (IsSiteOf plan.now (start_of plan.now site)) }
-    ensures awake { IfOk result IsAwake }
+    ensures not_eating { IfOk result IsNotEating }
 {
     let forks = fresh_forks(alloc, plan, site)?;
     let tokens = fresh_tokens(alloc, plan, site)?;
@@ -93,7 +93,7 @@ fn site_of(alloc: Global, plan: &Plan, site: u32) -> Result<WorldSite, AllocErro
 
 /// Lets the sites go, with all that they hold. None of them eats.
 pub(super) fn spend(sites: Vec<WorldSite>)
-    requires { All IsAwake sites.items }
+    requires { All IsNotEating sites.items }
 {
     let mut sites = sites;
     while !sites.is_empty() {

@@ -1,6 +1,6 @@
 // A link of the world.
 ghost use Rattle.std.specs.Prelude.{◌≡◌, ◌<◌, ◌++◌, ◌∷◌, [], IfOk, drop, length, slice_get, option_map};
-ghost use Rattle.dine_core.specs.Forks.{behind_fork, first_fork};
+ghost use Rattle.dine_core.specs.private.Forks.{behind_fork, first_fork};
 
 use dine_rules::Letter;
 use dine_token::Fork;

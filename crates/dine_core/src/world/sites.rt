@@ -12,7 +12,7 @@ pub(crate) struct WorldSite {
 }
 
 impl WorldSite {
-    ghost use Rattle.dine_core.specs.Forks.{fork_at_site};
+    ghost use Rattle.dine_core.specs.private.Forks.{fork_at_site};
     ghost use Rattle.dine_core.specs.WorldSites.{HasOwnMeal};
 
     /// The fork of place `i`, in hand or in the meal.

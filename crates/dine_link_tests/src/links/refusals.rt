@@ -1,5 +1,7 @@
 // Steps where the other end is gone, and what is told of refusals.
-use dine_link::{ChannelLane, Lane, LinkFault, Lost, RingLane, TxEnd};
+use dine_link::{
+    ChannelLane, FaultLane, Lane, LinkFault, Lost, RingLane, TxEnd, fault_rx, fault_tx,
+};
 use dine_rules::{Kind4, Letter};
 use dine_token::Token;
 use std::alloc::Global;
@@ -57,6 +59,38 @@ fn nobody_puts<L: Lane, R: Wait + Abort>(rt: &R, alloc: Global) -> Result<(), Li
 fn channel_refuses_steps_where_the_other_end_is_gone(rt: HostRuntime) -> Result<(), Fail> {
     nobody_takes::<ChannelLane, HostRuntime>(&rt, rt.alloc())?;
     nobody_puts::<ChannelLane, HostRuntime>(&rt, rt.alloc())?;
+    Ok(())
+}
+
+// Ends that refuse after one step hand back what they were given, and then refuse each step, though the other end is there.
+fn refuses_after_one_step<R: Wait + Abort>(rt: &R, alloc: Global) -> Result<(), LinkFault> {
+    let (tx, rx) = ChannelLane::pair(alloc, 4, 2)?;
+    let (mut tx, mut rx) = (fault_tx(tx, Some(1)), fault_rx(rx, Some(1)));
+    assert!(rt; FaultLane::put(rt, &mut tx, Letter::Done).is_ok());
+    let Err((letter, Lost)) = FaultLane::put(rt, &mut tx, Letter::Request(Token::open(4))) else {
+        panic!(rt; "a put too many");
+    };
+    assert_eq!(rt; letter.kind(), Kind4::Request);
+    let Err((tx, Lost)) = FaultLane::close(rt, tx) else {
+        panic!(rt; "a close too many");
+    };
+    let Err((tx, Lost)) = FaultLane::close(rt, tx) else {
+        panic!(rt; "a close behind a refused one");
+    };
+    let Ok(letter) = FaultLane::take(rt, &mut rx) else {
+        panic!(rt; "the first take was refused");
+    };
+    assert_eq!(rt; letter.kind(), Kind4::Done);
+    assert!(rt; FaultLane::take(rt, &mut rx).is_err());
+    let end = FaultLane::reconcile(TxEnd::Live(tx), rx);
+    assert_eq!(rt; (end.put(), end.taken(), end.shut()), (1, 1, false));
+    assert_eq!(rt; (end.put_refused(), end.take_refused()), (true, true));
+    Ok(())
+}
+
+#[test]
+fn fault_lane_refuses_after_its_steps(rt: HostRuntime) -> Result<(), Fail> {
+    refuses_after_one_step(&rt, rt.alloc())?;
     Ok(())
 }
 

@@ -22,7 +22,7 @@ pub(super) struct MealTexts<'p> {
 
 impl<'p> Model for MealTexts<'p> {
     ghost use Rattle.std.specs.Prelude.{◌-◌, length, string_bytes};
-    ghost use Rattle.dine_logs.specs.MealTexts.{SeenMealTexts, IsMealTexts};
+    ghost use Rattle.dine_logs.specs.private.MealTexts.{SeenMealTexts, IsMealTexts};
 
     ghost Value = { SeenMealTexts };
 

@@ -11,7 +11,7 @@ ghost use Rattle.dine_run.specs.Orders.{FindsNext, IsFound, IsSearched, IsSearch
 use dine_core::{Event, EventKind, World};
 use dine_plan::Plan;
 use dine_rules::laws;
-use dine_set::WordSet;
+use dine_set::BitSet64;
 use std::alloc::{AllocError, Global};
 
 // Places events until no site is ready, and counts those of each site.
@@ -29,7 +29,7 @@ pub(super) fn place_all(
 {
     laws::events_are_bounded();
     let mut placed = Vec::new(alloc);
-    let mut untried = WordSet::full();
+    let mut untried = BitSet64::full();
     while let Some(event) = place_next(journals, counts, world, &mut untried) {
         placed.push(event)?;
         note(plan, event, counts, &mut untried);
@@ -42,7 +42,7 @@ fn place_next(
     journals: &[Vec<EventKind>],
     counts: &[u32],
     world: &mut World,
-    untried: &mut WordSet,
+    untried: &mut BitSet64,
 ) -> Option<Event>
     ensures { FindsNext (lists_in journals.now) counts.now untried.old world.old result untried.new world.new }
 {
@@ -68,7 +68,7 @@ fn next_kind(journals: &[Vec<EventKind>], counts: &[u32], site: u32) -> Option<E
 }
 
 // Counts an event that was placed, and puts the site into the set that gets a letter by it.
-fn note(plan: &Plan, event: Event, counts: &mut [u32], untried: &mut WordSet)
+fn note(plan: &Plan, event: Event, counts: &mut [u32], untried: &mut BitSet64)
     requires { (lists : List (List EventKind)) × (placed : List Event) × (seen : SeenWorld) × IsFound plan.now lists placed counts.old untried.old event seen }
     ensures { (lists : List (List EventKind)) (placed : List Event) (seen : SeenWorld) → IsFound plan.now lists placed counts.old untried.old event seen
         → IsSearching plan.now lists (placed ++ event ∷ []) counts.new untried.new seen }

@@ -3,7 +3,7 @@ use Rattle.std.proofs.lemmas.List.{length-map}
 use Rattle.csv.specs.Writing.{default_writer, row_text, writer_setup}
 use Rattle.csv.specs.declared.writer.QuoteStyle.TheVariants as style
 use Rattle.csv.specs.declared.writer.WriterBuilder.{WriterBuilder}
-use Rattle.dine.specs.Records.{text_so_far}
+use Rattle.dine.specs.private.Records.{text_so_far}
 use Rattle.dine.proofs.PlainFields.{plain_record}
 use Rattle.dine.proofs.tables.push_record.Goals as goal
 

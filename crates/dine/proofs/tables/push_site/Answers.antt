@@ -1,5 +1,5 @@
 use Rattle.std.proofs.Common.{◌≡◌, true, ◌∙◌, ap, arith}
-use Rattle.dine.specs.Records.{is_plain}
+use Rattle.dine.specs.private.Records.{is_plain}
 use Rattle.dine.proofs.PlainFields.{plain_decimal, plain_name}
 use Rattle.dine.proofs.tables.push_site.Goals as goal
 

@@ -1,6 +1,6 @@
 use Rattle.std.proofs.Common.{◌≡◌, ◌++◌, take}
 use Rattle.std.specs.List.{flat_map}
-use Rattle.dine.specs.Records.{IsBetweenRecords, text_so_far}
+use Rattle.dine.specs.private.Records.{IsBetweenRecords, text_so_far}
 use Rattle.dine.specs.Tables.{edge_record, edges_header}
 use Rattle.dine.proofs.tables.write_edges.Given as goal
 

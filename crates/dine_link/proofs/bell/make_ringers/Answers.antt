@@ -2,7 +2,7 @@ use Rattle.std.proofs.Common.{ap, ◌∙◌, arith}
 use Rattle.std.proofs.lemmas.Grind.{common_steps}
 use Rattle.crossbeam_channel.specs.Claims.{view}
 use Rattle.crossbeam_channel.specs.Ends.{sends_on}
-use Rattle.dine_link.specs.BellRule.{one_more, next_ringer}
+use Rattle.dine_link.specs.private.BellRule.{one_more, next_ringer}
 use Rattle.dine_link.proofs.BellSteps.{forks, ringer_more}
 use Rattle.dine_link.proofs.bell.make_ringers.Goals as goal
 

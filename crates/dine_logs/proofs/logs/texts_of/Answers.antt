@@ -1,5 +1,5 @@
 use Rattle.std.proofs.Common.{◌++◌, ◌∷◌, [], ap, arith, ◌∙◌}
-use Rattle.dine_logs.specs.MealTexts.{SeenMealTexts}
+use Rattle.dine_logs.specs.private.MealTexts.{SeenMealTexts}
 use Rattle.dine_logs.proofs.MealParts.{text_more, texts_all}
 use Rattle.dine_logs.proofs.logs.texts_of.Goals as goal
 

@@ -1,5 +1,5 @@
 use Rattle.std.proofs.Common.{◌≡◌, take}
-use Rattle.dine_logs.specs.MealTexts.{texts_of}
+use Rattle.dine_logs.specs.private.MealTexts.{texts_of}
 use Rattle.dine_logs.proofs.logs.texts_of.Given as goal
 
 -- the texts so far are those of the first sites

@@ -1,4 +1,4 @@
-use Rattle.dine_rules.proofs.PutBounds.{requests_within, forks_within, dones_within, closes_within, puts_few}
+use Rattle.dine_rules.proofs.one_site.PutBounds.{requests_within, forks_within, dones_within, closes_within, puts_few}
 use Rattle.dine_rules.proofs.laws.few_letters_are_put.Goals as goal
 
 pub returns : goal.returns

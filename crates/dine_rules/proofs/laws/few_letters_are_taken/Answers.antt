@@ -1,4 +1,4 @@
-use Rattle.dine_rules.proofs.TakenBounds.{forks_taken_within, requests_taken_within, dones_taken_within, closes_taken_within, takes_few}
+use Rattle.dine_rules.proofs.one_site.TakenBounds.{forks_taken_within, requests_taken_within, dones_taken_within, closes_taken_within, takes_few}
 use Rattle.dine_rules.proofs.laws.few_letters_are_taken.Goals as goal
 
 pub returns : goal.returns

@@ -1,4 +1,4 @@
-use Rattle.dine_rules.proofs.RunCounts.{bound_is_small, whole_run_bounded, whole_run_counted}
+use Rattle.dine_rules.proofs.ends_of_runs.RunCounts.{bound_is_small, whole_run_bounded, whole_run_counted}
 use Rattle.dine_rules.proofs.laws.whole_runs_are_bounded.Goals as goal
 
 pub returns : goal.returns

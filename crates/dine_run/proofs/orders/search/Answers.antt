@@ -1,7 +1,7 @@
 use Rattle.std.proofs.Common.{◌∙◌, sym}
 use Rattle.std.proofs.lemmas.List.{length-map}
 use Rattle.dine_run.specs.Orders.{lists_in}
-use Rattle.dine_run.proofs.Answering.{not_closed, stuck_at, whole_order}
+use Rattle.dine_run.proofs.one_order.Answering.{not_closed, stuck_at, whole_order}
 use Rattle.dine_run.proofs.orders.search.Goals as goal
 
 pub returns-in-Some-clause-fault : goal.returns-in-Some-clause-fault

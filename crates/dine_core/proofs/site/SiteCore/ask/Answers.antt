@@ -4,9 +4,9 @@ use Rattle.dine_rules.specs.declared.letters.Letter.TheVariants.{Request}
 use Rattle.dine_core.specs.Places.{place_at, no_place, IsSound}
 use Rattle.dine_rules.specs.Local.{edge_at}
 use Rattle.dine_rules.specs.Steps.{Ask}
-use Rattle.dine_core.proofs.CoreSteps.{puts, stepped}
-use Rattle.dine_core.proofs.SiteTests.{may_ask}
-use Rattle.dine_core.proofs.Stands.{stands-asked, token_held}
+use Rattle.dine_core.proofs.one_site.CoreSteps.{puts, stepped}
+use Rattle.dine_core.proofs.one_site.SiteTests.{may_ask}
+use Rattle.dine_core.proofs.one_site.Stands.{stands-asked, token_held}
 use Rattle.dine_core.proofs.site.SiteCore.ask.Goals as goal
 
 pub returns-clause-core : goal.returns-clause-core

@@ -3,7 +3,7 @@ use Rattle.std.proofs.lemmas.Grind.{common_steps}
 use Rattle.dine_set.specs.Marks.{marks_of}
 use Rattle.dine_rules.specs.Local.{is_hungry}
 use Rattle.dine_core.specs.Places.{can_ask_at}
-use Rattle.dine_core.proofs.MarkedEvents.{marked_now, none_now}
+use Rattle.dine_core.proofs.own_events.MarkedEvents.{marked_now, none_now}
 use Rattle.dine_core.proofs.site.SiteCore.asks_now.Goals as goal
 
 pub returns-then-ne : goal.returns-then-ne

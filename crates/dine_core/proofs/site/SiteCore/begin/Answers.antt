@@ -5,13 +5,13 @@ use Rattle.std.proofs.lemmas.List.{length-map}
 use Rattle.std.proofs.lemmas.Grind.{common_steps}
 use Rattle.dine_token.specs.Fork.{MayEat, eaten}
 use Rattle.dine_core.specs.declared.site.places.Place.{Place}
-use Rattle.dine_core.specs.SiteFields.{seen, HasRoom}
+use Rattle.dine_core.specs.private.SiteFields.{seen, HasRoom}
 use Rattle.dine_core.specs.Core.{SeenCore}
 use Rattle.dine_rules.specs.Steps.{Begin}
 use Rattle.dine_core.specs.Places.{can_begin, forks_of, lifted, begun, IsMealOf, IsSound}
-use Rattle.dine_core.proofs.CoreSteps.{stepped}
-use Rattle.dine_core.proofs.SiteTests.{may_begin}
-use Rattle.dine_core.proofs.Eating.{all_may_eat, forks_are_all, fork_at_place, is_meal, sound_begun, stands_begun, in_hand_begun}
+use Rattle.dine_core.proofs.one_site.CoreSteps.{stepped}
+use Rattle.dine_core.proofs.one_site.SiteTests.{may_begin}
+use Rattle.dine_core.proofs.one_site.Eating.{all_may_eat, forks_are_all, fork_at_place, is_meal, sound_begun, stands_begun, in_hand_begun}
 use Rattle.dine_core.proofs.site.SiteCore.begin.Goals as goal
 
 pub begin-requires-clause-may_eat : goal.begin-requires-clause-may_eat

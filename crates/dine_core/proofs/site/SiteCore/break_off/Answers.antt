@@ -2,9 +2,9 @@ use Rattle.std.proofs.Common.{refl, arith}
 use Rattle.std.proofs.lemmas.Grind.{common_steps}
 use Rattle.dine_rules.specs.declared.letters.Letter.TheVariants as letter
 use Rattle.dine_rules.specs.Steps.{Break}
-use Rattle.dine_core.proofs.CoreSteps.{puts, stepped}
-use Rattle.dine_core.proofs.SiteTests.{may_break}
-use Rattle.dine_core.proofs.Stands.{stands-closed}
+use Rattle.dine_core.proofs.one_site.CoreSteps.{puts, stepped}
+use Rattle.dine_core.proofs.one_site.SiteTests.{may_break}
+use Rattle.dine_core.proofs.one_site.Stands.{stands-closed}
 use Rattle.dine_core.proofs.site.SiteCore.break_off.Goals as goal
 
 pub returns-clause-core : goal.returns-clause-core

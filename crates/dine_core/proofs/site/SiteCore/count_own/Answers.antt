@@ -2,7 +2,7 @@ use Rattle.std.proofs.Common.{◌≡◌, cond, is_some, arith}
 use Rattle.std.proofs.lemmas.Grind.{common_steps}
 use Rattle.dine_set.specs.Marks.{marks_of}
 use Rattle.dine_core.specs.Places.{can_close_at}
-use Rattle.dine_core.proofs.OwnEvents.{count_is}
+use Rattle.dine_core.proofs.own_events.OwnEvents.{count_is}
 use Rattle.dine_core.proofs.site.SiteCore.count_own.Goals as goal
 
 pub returns-clause-count : goal.returns-clause-count

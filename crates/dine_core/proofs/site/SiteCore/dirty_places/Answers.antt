@@ -1,6 +1,6 @@
 use Rattle.std.proofs.Common.{◌∙◌, arith}
 use Rattle.std.proofs.lemmas.Grind.{common_steps}
-use Rattle.dine_core.proofs.WantsByLists.{dirty_by_lists}
+use Rattle.dine_core.proofs.own_events.WantsByLists.{dirty_by_lists}
 use Rattle.dine_core.proofs.site.SiteCore.dirty_places.Goals as goal
 
 pub returns-clause-marks : goal.returns-clause-marks

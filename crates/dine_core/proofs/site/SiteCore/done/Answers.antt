@@ -2,9 +2,9 @@ use Rattle.std.proofs.Common.{refl, arith}
 use Rattle.std.proofs.lemmas.Grind.{common_steps}
 use Rattle.dine_rules.specs.declared.letters.Letter.TheVariants as letter
 use Rattle.dine_rules.specs.Steps as step
-use Rattle.dine_core.proofs.CoreSteps.{puts, stepped}
-use Rattle.dine_core.proofs.SiteTests.{may_done}
-use Rattle.dine_core.proofs.Stands.{stands-said_done}
+use Rattle.dine_core.proofs.one_site.CoreSteps.{puts, stepped}
+use Rattle.dine_core.proofs.one_site.SiteTests.{may_done}
+use Rattle.dine_core.proofs.one_site.Stands.{stands-said_done}
 use Rattle.dine_core.proofs.site.SiteCore.done.Goals as goal
 
 pub returns-clause-core : goal.returns-clause-core

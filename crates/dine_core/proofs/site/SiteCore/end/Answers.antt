@@ -2,14 +2,14 @@ use Rattle.std.proofs.Common.{◌≡◌, ◌∙◌, ℕ, true, List, length, vec
 use Rattle.std.proofs.lemmas.Grind.{common_steps}
 use Rattle.dine_core.specs.declared.site.places.Place.{Place}
 use Rattle.dine_rules.specs.Local.{is_eating}
-use Rattle.dine_core.specs.SiteFields.{seen, HasRoom}
+use Rattle.dine_core.specs.private.SiteFields.{seen, HasRoom}
 use Rattle.dine_core.specs.Core.{SeenCore}
 use Rattle.dine_rules.specs.Steps.{End}
 use Rattle.dine_core.specs.Places.{laid_down, ended, IsMealOf, IsSound}
-use Rattle.dine_core.proofs.CoreSteps.{stepped}
-use Rattle.dine_core.proofs.Marked.{length-laid_down}
-use Rattle.dine_core.proofs.SiteTests.{may_end}
-use Rattle.dine_core.proofs.Ending.{sound_ended, stands_ended}
+use Rattle.dine_core.proofs.one_site.CoreSteps.{stepped}
+use Rattle.dine_core.proofs.own_events.Marked.{length-laid_down}
+use Rattle.dine_core.proofs.one_site.SiteTests.{may_end}
+use Rattle.dine_core.proofs.one_site.Ending.{sound_ended, stands_ended}
 use Rattle.dine_core.proofs.site.SiteCore.end.Goals as goal
 
 pub returns-clause-core : goal.returns-clause-core

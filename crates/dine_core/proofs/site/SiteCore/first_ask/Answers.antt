@@ -1,6 +1,6 @@
 use Rattle.std.proofs.Common.{◌∙◌}
 use Rattle.dine_core.specs.NextEvent.{may_ask_at}
-use Rattle.dine_core.proofs.MarkedEvents.{first_marked}
+use Rattle.dine_core.proofs.own_events.MarkedEvents.{first_marked}
 use Rattle.dine_core.proofs.site.SiteCore.first_ask.Goals as goal
 
 pub returns : goal.returns

@@ -2,7 +2,7 @@ use Rattle.std.proofs.Common.{◌≡◌, ◌∙◌, arith}
 use Rattle.std.proofs.lemmas.Grind.{common_steps}
 use Rattle.dine_set.specs.Marks.{marks_of}
 use Rattle.dine_core.specs.Places.{can_close_at}
-use Rattle.dine_core.proofs.MarkedEvents.{first_marked}
+use Rattle.dine_core.proofs.own_events.MarkedEvents.{first_marked}
 use Rattle.dine_core.proofs.site.SiteCore.first_close.Goals as goal
 
 pub returns : goal.returns

@@ -4,15 +4,15 @@ use Rattle.dine_token.specs.Fork.{moved}
 use Rattle.dine_rules.specs.declared.letters.Letter.TheVariants.{Fork}
 use Rattle.dine_core.specs.declared.site.places.Place.{Place}
 use Rattle.dine_rules.specs.Local.{is_eating}
-use Rattle.dine_core.specs.SiteFields.{seen}
+use Rattle.dine_core.specs.private.SiteFields.{seen}
 use Rattle.dine_core.specs.Places.{place_at, neighbour_of, no_place, with_fork, OnHere}
 use Rattle.dine_core.specs.Core.{SeenCore}
 use Rattle.dine_core.specs.declared.site.places.ForkSlot.TheVariants.{Away}
-use Rattle.dine_core.proofs.Sound.{kept_with, sound_away}
+use Rattle.dine_core.proofs.one_site.Sound.{kept_with, sound_away}
 use Rattle.dine_rules.specs.Steps.{Give}
-use Rattle.dine_core.proofs.CoreSteps.{puts, stepped}
-use Rattle.dine_core.proofs.SiteTests.{may_give}
-use Rattle.dine_core.proofs.Stands.{stands-gave, fork_held}
+use Rattle.dine_core.proofs.one_site.CoreSteps.{puts, stepped}
+use Rattle.dine_core.proofs.one_site.SiteTests.{may_give}
+use Rattle.dine_core.proofs.one_site.Stands.{stands-gave, fork_held}
 use Rattle.dine_core.proofs.site.SiteCore.give.Goals as goal
 
 pub returns-clause-core : goal.returns-clause-core

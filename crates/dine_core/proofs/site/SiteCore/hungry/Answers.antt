@@ -2,9 +2,9 @@ use Rattle.std.proofs.Common.{refl, arith}
 use Rattle.std.proofs.lemmas.Bool.{and_parts}
 use Rattle.std.proofs.lemmas.Grind.{common_steps}
 use Rattle.dine_rules.specs.Steps.{Hungry}
-use Rattle.dine_core.proofs.CoreSteps.{stepped}
-use Rattle.dine_core.proofs.SiteTests.{may_hunger}
-use Rattle.dine_core.proofs.Stands.{stands-hungered}
+use Rattle.dine_core.proofs.one_site.CoreSteps.{stepped}
+use Rattle.dine_core.proofs.one_site.SiteTests.{may_hunger}
+use Rattle.dine_core.proofs.one_site.Stands.{stands-hungered}
 use Rattle.dine_core.proofs.site.SiteCore.hungry.Goals as goal
 
 pub returns-clause-hungry : goal.returns-clause-hungry

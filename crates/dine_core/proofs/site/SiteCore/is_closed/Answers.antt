@@ -1,6 +1,6 @@
 use Rattle.std.proofs.Common.{◌∙◌, arith}
 use Rattle.std.proofs.lemmas.Grind.{common_steps}
-use Rattle.dine_core.proofs.Ranges.{closed_by}
+use Rattle.dine_core.proofs.lists.Ranges.{closed_by}
 use Rattle.dine_core.proofs.site.SiteCore.is_closed.Goals as goal
 
 pub returns-clause-closed : goal.returns-clause-closed

@@ -1,6 +1,6 @@
 use Rattle.std.proofs.Common.{◌∙◌, arith}
 use Rattle.std.proofs.lemmas.Grind.{common_steps}
-use Rattle.dine_core.proofs.Ranges.{finished_by}
+use Rattle.dine_core.proofs.lists.Ranges.{finished_by}
 use Rattle.dine_core.proofs.site.SiteCore.is_finished.Goals as goal
 
 pub returns-then-self-clause-finished : goal.returns-then-self-clause-finished

@@ -1,6 +1,6 @@
 use Rattle.std.proofs.Common.{◌∙◌, arith}
 use Rattle.std.proofs.lemmas.Grind.{common_steps}
-use Rattle.dine_core.proofs.WantsByLists.{away_by_lists}
+use Rattle.dine_core.proofs.own_events.WantsByLists.{away_by_lists}
 use Rattle.dine_core.proofs.site.SiteCore.missing_forks.Goals as goal
 
 pub returns-clause-count : goal.returns-clause-count

@@ -1,5 +1,5 @@
 use Rattle.std.proofs.Common.{Some, None, refl, ◌∙◌}
-use Rattle.dine_core.proofs.NextEvents.{next_by_lists, next_from}
+use Rattle.dine_core.proofs.own_events.NextEvents.{next_by_lists, next_from}
 use Rattle.dine_core.proofs.site.SiteCore.next_event.Goals as goal
 
 pub returns-in-Some-clause-next : goal.returns-in-Some-clause-next
@@ -16,7 +16,7 @@ pub returns-in-Some-next_phase-clause-by_lists : goal.returns-in-Some-next_phase
 returns-in-Some-next_phase-clause-by_lists c plan state keeps stands = returns-in-Some-next_phase-clause-next c ∙ next_by_lists plan state c.args.self.now keeps stands
 
 pub returns-clause-next : goal.returns-clause-next
-returns-clause-next c = next_from c.args.self.now None None _ c.in_default.ensures c.in_default-next_phase.ensures c.next_word.ensures
+returns-clause-next c = next_from c.args.self.now None None _ c.in_default.ensures c.in_default-next_phase.ensures c.next_announcement.ensures
 
 pub returns-clause-by_lists : goal.returns-clause-by_lists
 returns-clause-by_lists c plan state keeps stands = returns-clause-next c ∙ next_by_lists plan state c.args.self.now keeps stands

@@ -1,6 +1,6 @@
 use Rattle.std.proofs.Common.{arith}
 use Rattle.std.proofs.lemmas.Grind.{common_steps}
-use Rattle.dine_core.proofs.Opened.{sound_start, places_few}
+use Rattle.dine_core.proofs.one_site.Opened.{sound_start, places_few}
 use Rattle.dine_core.proofs.site.SiteCore.open.Goals as goal
 
 pub invariant_of-result : goal.invariant_of-result

@@ -1,5 +1,5 @@
 use Rattle.std.proofs.Common.{◌∙◌}
-use Rattle.dine_core.proofs.OwnEvents.{event_behind, event_give, event_phase, event_word}
+use Rattle.dine_core.proofs.own_events.OwnEvents.{event_behind, event_give, event_phase, event_word}
 use Rattle.dine_core.proofs.site.SiteCore.own_event.Goals as goal
 
 pub returns-in-Some : goal.returns-in-Some

@@ -2,7 +2,7 @@ use Rattle.std.proofs.Common.{◌≡◌, ◌∙◌, Some, None, arith}
 use Rattle.std.proofs.lemmas.Grind.{common_steps}
 use Rattle.dine_set.specs.Marks.{marks_of}
 use Rattle.dine_core.specs.Places.{can_close_at}
-use Rattle.dine_core.proofs.OwnEvents.{word_ask, word_close, word_done}
+use Rattle.dine_core.proofs.own_events.OwnEvents.{word_ask, word_close, word_done}
 use Rattle.dine_core.proofs.site.SiteCore.own_word.Goals as goal
 
 pub returns-in-Some : goal.returns-in-Some

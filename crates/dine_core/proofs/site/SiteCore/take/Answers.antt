@@ -2,12 +2,12 @@ use Rattle.std.proofs.Common.{◌≡◌, Some, None, refl, sym, ◌∙◌, subst
 use Rattle.std.proofs.lemmas.Grind.{common_steps}
 use Rattle.dine_core.specs.Core.{SeenCore}
 use Rattle.dine_rules.specs.Steps.{Take}
-use Rattle.dine_core.specs.SiteFields.{seen}
+use Rattle.dine_core.specs.private.SiteFields.{seen}
 use Rattle.dine_core.specs.Places.{place_at, no_place, breach_at, noted, IsSoundPlace}
-use Rattle.dine_core.proofs.Sound.{kept_with, sound_noted}
-use Rattle.dine_core.proofs.CoreSteps.{stepped}
-use Rattle.dine_core.proofs.Breaches.{breach_is, may_take, stands-took}
-use Rattle.dine_core.proofs.Options.{none_from}
+use Rattle.dine_core.proofs.one_site.Sound.{kept_with, sound_noted}
+use Rattle.dine_core.proofs.one_site.CoreSteps.{stepped}
+use Rattle.dine_core.proofs.one_site.Breaches.{breach_is, may_take, stands-took}
+use Rattle.dine_core.proofs.lists.Options.{none_from}
 use Rattle.dine_core.proofs.site.SiteCore.take.Goals as goal
 
 pub returns-in-Some-clause-taken : goal.returns-in-Some-clause-taken

@@ -1,11 +1,11 @@
 use Rattle.std.proofs.Common.{◌≡◌, false, arith, ◌<◌, length}
 use Rattle.std.proofs.lemmas.Grind.{common_steps}
 use Rattle.dine_rules.specs.Local.{is_eating}
-use Rattle.dine_core.specs.SiteFields.{seen}
+use Rattle.dine_core.specs.private.SiteFields.{seen}
 use Rattle.dine_core.specs.Places.{place_at, no_place, with_fork}
 use Rattle.dine_core.specs.declared.site.places.Place.{Place}
 use Rattle.dine_core.specs.declared.site.places.ForkSlot.TheVariants.{Away}
-use Rattle.dine_core.proofs.Sound.{kept_with, sound_away}
+use Rattle.dine_core.proofs.one_site.Sound.{kept_with, sound_away}
 use Rattle.dine_core.proofs.site.SiteCore.take_fork.Goals as goal
 
 pub invariant_of-self : goal.invariant_of-self

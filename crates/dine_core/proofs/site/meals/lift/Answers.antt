@@ -4,7 +4,7 @@ use Rattle.std.proofs.lemmas.List.Edits.{map_over_more}
 use Rattle.dine_token.specs.Fork.{SeenFork}
 use Rattle.dine_core.specs.declared.site.places.Place.{Place}
 use Rattle.dine_core.specs.Places.{lifted, forks_of, OnHere}
-use Rattle.dine_core.proofs.Lists.{get_or-map_over, forks_of-few, forks_of-more, fork_is}
+use Rattle.dine_core.proofs.lists.Lists.{get_or-map_over, forks_of-few, forks_of-more, fork_is}
 use Rattle.dine_core.proofs.site.meals.lift.Goals as goal
 
 pub push_reserved-requires : goal.push_reserved-requires

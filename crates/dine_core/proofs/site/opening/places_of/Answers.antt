@@ -3,7 +3,7 @@ use Rattle.std.proofs.lemmas.List.{length-map, length-take-le}
 use Rattle.dine_rules.specs.declared.phase.Phase.TheVariants.{Thinking}
 use Rattle.dine_rules.specs.Local.{no_traffic}
 use Rattle.dine_core.specs.Core.{kept_of}
-use Rattle.dine_core.proofs.Degrees.{degree_few}
+use Rattle.dine_core.proofs.one_site.Degrees.{degree_few}
 use Rattle.dine_core.proofs.site.opening.places_of.Goals as goal
 
 pub push-requires : goal.push-requires

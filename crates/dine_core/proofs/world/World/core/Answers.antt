@@ -1,6 +1,6 @@
 use Rattle.std.proofs.Common.{◌≡◌, ◌<◌, ◌≤◌, length, get_or, ap, ◌∙◌, arith}
-use Rattle.dine_core.proofs.Options.{match_none}
-use Rattle.dine_core.proofs.WorldOpened.{past_the_sites, a_state, a_core}
+use Rattle.dine_core.proofs.lists.Options.{match_none}
+use Rattle.dine_core.proofs.all_sites.WorldOpened.{past_the_sites, a_state, a_core}
 use Rattle.dine_core.proofs.world.World.core.Goals as goal
 
 pub returns-in_err-world_site : goal.returns-in_err-world_site

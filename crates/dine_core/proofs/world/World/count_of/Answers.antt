@@ -1,7 +1,7 @@
 use Rattle.std.proofs.Common.{◌≡◌, ◌<◌, false, Some, slice_get, length, sym, ◌∙◌, ap, subst, arith}
-use Rattle.dine_core.specs.WorldFields.{seen_world}
+use Rattle.dine_core.specs.private.WorldFields.{seen_world}
 use Rattle.dine_core.specs.Worlds.{IsWorldOf, SeenWorld}
-use Rattle.dine_core.proofs.Counts.{count_few, count_is, kept_count}
+use Rattle.dine_core.proofs.enabled_events.Counts.{count_few, count_is, kept_count}
 use Rattle.dine_core.proofs.world.World.count_of.Goals as goal
 
 pub returns-then-has-clause-count : goal.returns-then-has-clause-count
@@ -11,9 +11,9 @@ pub returns-else-has-clause-count : goal.returns-else-has-clause-count
 returns-else-has-clause-count c plan world is =
     let seen = seen_world c.self.inside in
     let within : c.args.site < length seen.sites = omega (arith, c.requires, ap (λ (w : SeenWorld). length w.sites) c.self.view_is) in
-    let out : slice_get c.self.inside.stale c.args.site ≡ Some false = c.has.ensures ∙ ap Some c.if-has.false in
+    let out : slice_get c.self.inside.outdated_counts c.args.site ≡ Some false = c.has.ensures ∙ ap Some c.if-has.false in
     c.index.ensures
-    ∙ kept_count seen c.self.inside.counts.items c.self.inside.stale c.args.site c.index.result.now c.self.invariant.counts within out
+    ∙ kept_count seen c.self.inside.counts.items c.self.inside.outdated_counts c.args.site c.index.result.now c.self.invariant.counts within out
     ∙ count_is plan world seen (subst (IsWorldOf plan world) (sym c.self.view_is) is) c.args.site within
 
 pub returns-else-has-clause-few : goal.returns-else-has-clause-few

@@ -1,6 +1,6 @@
 use Rattle.std.proofs.Common.{option_map, sym, ◌∙◌, ap}
-use Rattle.dine_core.proofs.Counts.{event_is}
-use Rattle.dine_core.proofs.FirstEvents.{event_of}
+use Rattle.dine_core.proofs.enabled_events.Counts.{event_is}
+use Rattle.dine_core.proofs.enabled_events.FirstEvents.{event_of}
 use Rattle.dine_core.proofs.world.World.event_at.Goals as goal
 
 pub returns-in_err-kind : goal.returns-in_err-kind

@@ -3,7 +3,7 @@ use Rattle.dine_plan.specs.Plan.{SeenPlan}
 use Rattle.dine_rules.specs.Bound.{bound_of}
 use Rattle.dine_rules.specs.World.{WorldState}
 use Rattle.dine_core.specs.Worlds.{IsWorldOf}
-use Rattle.dine_core.proofs.WorldSchedules.{IsUnderWay}
+use Rattle.dine_core.proofs.all_sites.WorldSchedules.{IsUnderWay}
 use Rattle.dine_core.proofs.world.World.finish.Given as goal
 
 -- A run that is under way from each state that the world stood for, and there is such a state.

@@ -2,9 +2,9 @@ use Rattle.std.proofs.Common.{◌≡◌, ℕ, ◌+◌, ◌*◌, ◌<◌, length,
 use Rattle.std.specs.Option.{option_map, option_or}
 use Rattle.dine_token.specs.declared.fork.Fork.{Fork}
 use Rattle.dine_core.specs.declared.world.sites.WorldSite.{WorldSite}
-use Rattle.dine_core.specs.Forks.{first_fork, fork_at_site}
+use Rattle.dine_core.specs.private.Forks.{first_fork, fork_at_site}
 use Rattle.dine_core.specs.Worlds.{IsWorldOf}
-use Rattle.dine_core.proofs.ForkPlaces.{edge_read, fork_read, letters_read, meals_fit, place_fits, world_site_read}
+use Rattle.dine_core.proofs.all_sites.ForkPlaces.{edge_read, fork_read, letters_read, meals_fit, place_fits, world_site_read}
 use Rattle.dine_core.proofs.world.World.fork.Goals as goal
 
 pub index-lower-requires : goal.index-lower-requires

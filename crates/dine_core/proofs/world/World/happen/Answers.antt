@@ -3,16 +3,16 @@ use Rattle.std.proofs.lemmas.Grind.{common_steps}
 use Rattle.dine_rules.specs.declared.letters.Letter.{Letter}
 use Rattle.dine_rules.specs.Steps.{shape_of}
 use Rattle.dine_core.specs.WorldSites.{SiteSteps, HasRoomFor, TakesAllowed, can_do, has_place}
-use Rattle.dine_core.specs.WorldFields.{seen_world}
+use Rattle.dine_core.specs.private.WorldFields.{seen_world}
 use Rattle.dine_core.specs.Worlds.{WorldStep, IsWorldOf, SeenWorld, can_happen}
-use Rattle.dine_core.specs.Awake.{HasAllAwake}
-use Rattle.dine_core.specs.Counts.{HasCounts}
-use Rattle.dine_core.specs.Heard.{HasHeard, LeadsToSet, changed_link, noted}
+use Rattle.dine_core.specs.private.EnabledSites.{HasAllEnabled}
+use Rattle.dine_core.specs.private.Counts.{HasCounts}
+use Rattle.dine_core.specs.private.Inboxes.{HasInboxes, LeadsToSet, changed_link, noted}
 use Rattle.dine_core.specs.declared.world.EdgeEnds.{EdgeEnds}
 use Rattle.dine_core.specs.declared.world.sites.WorldSite.{WorldSite}
-use Rattle.dine_core.proofs.Heard.{event_changes, heard_after, leads}
-use Rattle.dine_core.proofs.Awake.{awake_after, counts_after, has_its_place, receiver_fits}
-use Rattle.dine_core.proofs.WorldStepped.{site_can, site_done, site_fits, site_allowed, site_moved, site_room, site_within}
+use Rattle.dine_core.proofs.enabled_events.Inboxes.{event_changes, heard_after, leads}
+use Rattle.dine_core.proofs.enabled_events.EnabledSites.{may_be_enabled_after, counts_after, has_its_place, receiver_fits}
+use Rattle.dine_core.proofs.all_sites.WorldStepped.{site_can, site_done, site_fits, site_allowed, site_moved, site_room, site_within}
 use Rattle.dine_core.proofs.world.World.happen.Goals as goal
 
 pub index_mut-world_site-requires : goal.index_mut-world_site-requires
@@ -69,10 +69,10 @@ note-requires c =
     let next = site_done seen c.args.event can kept.plan kept.state kept.stands world_site here changed c.act.new.links does in
     let change = event_changes seen c.args.event can kept.plan kept.state kept.stands world_site here moved.0 c.act.new.links moved.1 in
     let after : SeenWorld = record { sites = slice_set c.self.inside.sites.items c.args.event.site changed; links = c.act.new.links; edges = c.self.inside.edges.items; bound = c.self.inside.bound } in
-    let fits = leads kept.plan kept.state next.after seen after kept.stands next.stands refl c.self.inside.heard.items kept.heard (changed_link world_site.core (shape_of c.args.event.kind)) change in
+    let fits = leads kept.plan kept.state next.after seen after kept.stands next.stands refl c.self.inside.nonempty_inboxes.items kept.nonempty_inboxes (changed_link world_site.core (shape_of c.args.event.kind)) change in
     subst (λ (edges : List EdgeEnds). LeadsToSet edges c.as_mut_slice-2.result.now c.changed_link-link.result) (sym c.as_slice-2.ensures.value)
-    (subst (λ (heard : List (List Bool)). LeadsToSet seen.edges heard c.changed_link-link.result) (sym c.as_mut_slice-2.ensures.value)
-    (subst (LeadsToSet seen.edges c.self.inside.heard.items) (sym c.changed_link-link.ensures) fits))
+    (subst (λ (nonempty_inboxes : List (List Bool)). LeadsToSet seen.edges nonempty_inboxes c.changed_link-link.result) (sym c.as_mut_slice-2.ensures.value)
+    (subst (LeadsToSet seen.edges c.self.inside.nonempty_inboxes.items) (sym c.changed_link-link.ensures) fits))
 
 pub act-requires-clause-meal : goal.act-requires-clause-meal
 act-requires-clause-meal c =
@@ -110,31 +110,31 @@ invariant_of-self c =
     let does = subst (λ (links : List (List Letter)). SiteSteps c.args.event.kind world_site changed links c.act.new.links) c.as_mut_slice.ensures.value c.act.ensures.does in
     let moved = site_moved seen c.args.event can kept.plan kept.state kept.stands world_site here changed c.act.new.links does in
     let next = site_done seen c.args.event can kept.plan kept.state kept.stands world_site here changed c.act.new.links does in
-    let awake = awake_after seen c.args.event can kept.plan kept.state kept.stands world_site here moved.0 changed c.act.new.links c.self.inside.awake moved.1 kept.awake in
+    let may_be_enabled = may_be_enabled_after seen c.args.event can kept.plan kept.state kept.stands world_site here moved.0 changed c.act.new.links c.self.inside.may_be_enabled moved.1 kept.may_be_enabled in
     let change = event_changes seen c.args.event can kept.plan kept.state kept.stands world_site here moved.0 c.act.new.links moved.1 in
-    let counts = counts_after seen c.args.event can kept.plan kept.state kept.stands world_site here moved.0 changed c.act.new.links c.self.inside.stale moved.1 c.self.inside.counts.items kept.counts in
-    let stale = c.insert.ensures ∙ ap (λ (set : List Bool). slice_set set c.args.event.site true) c.with_receiver-self-inside-2.ensures in
+    let counts = counts_after seen c.args.event can kept.plan kept.state kept.stands world_site here moved.0 changed c.act.new.links c.self.inside.outdated_counts moved.1 c.self.inside.counts.items kept.counts in
+    let outdated_counts = c.insert.ensures ∙ ap (λ (set : List Bool). slice_set set c.args.event.site true) c.with_receiver-self-inside-2.ensures in
     let whole : take c.self.inside.links.len (c.act.new.links ++ drop (length c.act.new.links) c.self.inside.links.items) ≡ c.act.new.links = grind (arith, common_steps) in
     let new : List (List Letter) → SeenWorld = λ links. record { sites = slice_set c.self.inside.sites.items c.args.event.site changed; links = links; edges = c.self.inside.edges.items; bound = c.self.inside.bound } in
     let shape = shape_of c.args.event.kind in
-    let heard = heard_after kept.plan kept.state next.after seen (new c.act.new.links) kept.stands next.stands refl c.self.inside.heard.items kept.heard (changed_link world_site.core shape) change in
-    let rows : c.note.new.heard ≡ noted c.act.new.links seen.edges (changed_link world_site.core shape) c.self.inside.heard.items =
+    let nonempty_inboxes = heard_after kept.plan kept.state next.after seen (new c.act.new.links) kept.stands next.stands refl c.self.inside.nonempty_inboxes.items kept.nonempty_inboxes (changed_link world_site.core shape) change in
+    let rows : c.note.new.nonempty_inboxes ≡ noted c.act.new.links seen.edges (changed_link world_site.core shape) c.self.inside.nonempty_inboxes.items =
     c.note.ensures.noted
     ∙ ap (λ (links : List (List Letter)). noted links c.as_slice-2.result.now c.changed_link-link.result c.as_mut_slice-2.result.now) (c.as_slice.ensures.value ∙ whole)
     ∙ ap (λ (edges : List EdgeEnds). noted c.act.new.links edges c.changed_link-link.result c.as_mut_slice-2.result.now) c.as_slice-2.ensures.value
     ∙ ap (λ (link : Option ℕ). noted c.act.new.links seen.edges link c.as_mut_slice-2.result.now) c.changed_link-link.ensures
     ∙ ap (noted c.act.new.links seen.edges (changed_link world_site.core shape)) c.as_mut_slice-2.ensures.value in
-    let all_rows : take c.self.inside.heard.len (c.note.new.heard ++ drop (length c.note.new.heard) c.self.inside.heard.items) ≡ c.note.new.heard = grind (arith, common_steps) in
+    let all_rows : take c.self.inside.nonempty_inboxes.len (c.note.new.nonempty_inboxes ++ drop (length c.note.new.nonempty_inboxes) c.self.inside.nonempty_inboxes.items) ≡ c.note.new.nonempty_inboxes = grind (arith, common_steps) in
     record {
       plan = kept.plan;
       state = next.after;
       stands = subst (λ (links : List (List Letter)). IsWorldOf kept.plan next.after (new links)) (sym whole) next.stands;
       no_forks = kept.no_forks;
       room = kept.room;
-      awake = subst (λ (links : List (List Letter)). HasAllAwake (new links) c.with_receiver-self-inside.result) (sym whole) (subst (HasAllAwake (new c.act.new.links)) (sym c.with_receiver-self-inside.ensures) awake);
-      heard = subst (λ (links : List (List Letter)). HasHeard (new links) (take c.self.inside.heard.len (c.note.new.heard ++ drop (length c.note.new.heard) c.self.inside.heard.items))) (sym whole)
-          (subst (HasHeard (new c.act.new.links)) (sym (all_rows ∙ rows)) heard);
-      counts = subst (λ (links : List (List Letter)). HasCounts (new links) c.self.inside.counts.items c.insert.new.self) (sym whole) (subst (HasCounts (new c.act.new.links) c.self.inside.counts.items) (sym stale) counts);
+      may_be_enabled = subst (λ (links : List (List Letter)). HasAllEnabled (new links) c.with_receiver-self-inside.result) (sym whole) (subst (HasAllEnabled (new c.act.new.links)) (sym c.with_receiver-self-inside.ensures) may_be_enabled);
+      nonempty_inboxes = subst (λ (links : List (List Letter)). HasInboxes (new links) (take c.self.inside.nonempty_inboxes.len (c.note.new.nonempty_inboxes ++ drop (length c.note.new.nonempty_inboxes) c.self.inside.nonempty_inboxes.items))) (sym whole)
+          (subst (HasInboxes (new c.act.new.links)) (sym (all_rows ∙ rows)) nonempty_inboxes);
+      counts = subst (λ (links : List (List Letter)). HasCounts (new links) c.self.inside.counts.items c.insert.new.self) (sym whole) (subst (HasCounts (new c.act.new.links) c.self.inside.counts.items) (sym outdated_counts) counts);
     }
 
 pub returns : goal.returns

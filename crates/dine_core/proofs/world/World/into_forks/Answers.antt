@@ -5,37 +5,37 @@ use Rattle.dine_token.specs.Fork.{SeenFork}
 use Rattle.dine_rules.specs.declared.letters.Letter.{Letter}
 use Rattle.dine_core.specs.declared.world.sites.WorldSite.{WorldSite}
 use Rattle.dine_core.specs.declared.world.EdgeEnds.{EdgeEnds}
-use Rattle.dine_core.specs.Forks.{HasAllForks, AreForksOf, woken}
-use Rattle.dine_core.specs.WorldSites.{HasOwnMeal, IsAwake}
-use Rattle.dine_core.specs.WorldFields.{seen_world}
+use Rattle.dine_core.specs.private.Forks.{HasAllForks, AreForksOf, meal_ended}
+use Rattle.dine_core.specs.WorldSites.{HasOwnMeal, IsNotEating}
+use Rattle.dine_core.specs.private.WorldFields.{seen_world}
 use Rattle.dine_core.specs.Worlds.{IsWorldOf}
-use Rattle.dine_core.proofs.ForkPlaces.{meals_fit}
-use Rattle.dine_core.proofs.Woken.{all_awake, woken_has_all, woken_forks}
+use Rattle.dine_core.proofs.all_sites.ForkPlaces.{meals_fit}
+use Rattle.dine_core.proofs.all_sites.MealsEnded.{none_eats, meal_ended_has_all, meal_ended_forks}
 use Rattle.dine_core.proofs.world.World.into_forks.Goals as goal
 
-pub wake_all-requires : goal.wake_all-requires
-wake_all-requires c = subst (All HasOwnMeal) (sym c.as_mut_slice.ensures.value) (meals_fit c.self.inside c.self.invariant)
+pub end_meals-requires : goal.end_meals-requires
+end_meals-requires c = subst (All HasOwnMeal) (sym c.as_mut_slice.ensures.value) (meals_fit c.self.inside c.self.invariant)
 
-pub collect-requires-clause-awake : goal.collect-requires-clause-awake
-collect-requires-clause-awake c =
-    let sites : c.as_mut_slice-2.result.now ≡ map woken c.self.inside.sites.items = grind (arith, common_steps) in
-    subst (All IsAwake) (sym sites) (all_awake c.self.inside.sites.items (meals_fit c.self.inside c.self.invariant))
+pub collect-requires-clause-not_eating : goal.collect-requires-clause-not_eating
+collect-requires-clause-not_eating c =
+    let sites : c.as_mut_slice-2.result.now ≡ map meal_ended c.self.inside.sites.items = grind (arith, common_steps) in
+    subst (All IsNotEating) (sym sites) (none_eats c.self.inside.sites.items (meals_fit c.self.inside c.self.invariant))
 
 pub collect-requires-clause-all : goal.collect-requires-clause-all
 collect-requires-clause-all c =
     let seen = seen_world c.self.inside in
-    let sites : c.as_mut_slice-2.result.now ≡ map woken seen.sites = grind (arith, common_steps) in
+    let sites : c.as_mut_slice-2.result.now ≡ map meal_ended seen.sites = grind (arith, common_steps) in
     subst (λ (x : List WorldSite). HasAllForks x c.as_mut_slice-3.result.now c.as_slice.result.now) (sym sites)
-    (subst (λ (x : List (List Letter)). HasAllForks (map woken seen.sites) x c.as_slice.result.now) (sym c.as_mut_slice-3.ensures.value)
-    (subst (λ (x : List EdgeEnds). HasAllForks (map woken seen.sites) seen.links x) (sym c.as_slice.ensures.value)
-    (woken_has_all c.self.invariant.plan c.self.invariant.state seen c.self.invariant.stands)))
+    (subst (λ (x : List (List Letter)). HasAllForks (map meal_ended seen.sites) x c.as_slice.result.now) (sym c.as_mut_slice-3.ensures.value)
+    (subst (λ (x : List EdgeEnds). HasAllForks (map meal_ended seen.sites) seen.links x) (sym c.as_slice.ensures.value)
+    (meal_ended_has_all c.self.invariant.plan c.self.invariant.state seen c.self.invariant.stands)))
 
 pub returns : goal.returns
 returns c plan world is =
     let seen = seen_world c.self.inside in
     let forks : List SeenFork = c.collect.new.forks.items in
-    let sites : c.as_mut_slice-2.result.now ≡ map woken seen.sites = grind (arith, common_steps) in
-    let are : AreForksOf (map woken seen.sites) seen.links seen.edges forks = subst (λ (x : List EdgeEnds). AreForksOf (map woken seen.sites) seen.links x forks) c.as_slice.ensures.value
-    (subst (λ (x : List (List Letter)). AreForksOf (map woken seen.sites) x c.as_slice.result.now forks) c.as_mut_slice-3.ensures.value
+    let sites : c.as_mut_slice-2.result.now ≡ map meal_ended seen.sites = grind (arith, common_steps) in
+    let are : AreForksOf (map meal_ended seen.sites) seen.links seen.edges forks = subst (λ (x : List EdgeEnds). AreForksOf (map meal_ended seen.sites) seen.links x forks) c.as_slice.ensures.value
+    (subst (λ (x : List (List Letter)). AreForksOf (map meal_ended seen.sites) x c.as_slice.result.now forks) c.as_mut_slice-3.ensures.value
     (subst (λ (x : List WorldSite). AreForksOf x c.as_mut_slice-3.result.now c.as_slice.result.now forks) sites c.collect.ensures.forks)) in
-    woken_forks plan world seen (subst (IsWorldOf plan world) (sym c.self.view_is) is) forks are
+    meal_ended_forks plan world seen (subst (IsWorldOf plan world) (sym c.self.view_is) is) forks are

@@ -7,4 +7,4 @@ invariant-loop-site l = l.self ≡ l.fn.self
 
 -- each site that is counted leaves fewer
 abbrev pub decreases-loop-site : goal.decreases-loop-site
-decreases-loop-site l = count_by (λ b. b) l.stale
+decreases-loop-site l = count_by (λ b. b) l.outdated_counts

@@ -1,8 +1,8 @@
 use Rattle.std.proofs.Common.{◌≤◌, length, sym, ap, subst, arith}
-use Rattle.dine_core.specs.Counts.{HasCounts}
-use Rattle.dine_core.specs.WorldFields.{seen_world}
+use Rattle.dine_core.specs.private.Counts.{HasCounts}
+use Rattle.dine_core.specs.private.WorldFields.{seen_world}
 use Rattle.dine_core.specs.Worlds.{SeenWorld}
-use Rattle.dine_core.proofs.Counts.{past_counted}
+use Rattle.dine_core.proofs.enabled_events.Counts.{past_counted}
 use Rattle.dine_core.proofs.world.World.refresh_at.Goals as goal
 
 pub invariant_of-self : goal.invariant_of-self
@@ -16,7 +16,7 @@ invariant_of-self c =
       stands = kept.stands;
       no_forks = kept.no_forks;
       room = kept.room;
-      awake = kept.awake;
-      heard = kept.heard;
-      counts = subst (HasCounts seen c.self.inside.counts.items) (sym c.remove.ensures) (past_counted seen c.self.inside.counts.items c.self.inside.stale c.args.site past kept.counts);
+      may_be_enabled = kept.may_be_enabled;
+      nonempty_inboxes = kept.nonempty_inboxes;
+      counts = subst (HasCounts seen c.self.inside.counts.items) (sym c.remove.ensures) (past_counted seen c.self.inside.counts.items c.self.inside.outdated_counts c.args.site past kept.counts);
     }

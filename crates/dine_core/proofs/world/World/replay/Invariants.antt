@@ -2,7 +2,7 @@ use Rattle.std.proofs.Common.{◌≤◌, drop}
 use Rattle.dine_plan.specs.Plan.{SeenPlan}
 use Rattle.dine_rules.specs.World.{WorldState}
 use Rattle.dine_core.specs.Worlds.{IsWorldOf}
-use Rattle.dine_core.proofs.WorldSchedules.{IsReplaying}
+use Rattle.dine_core.proofs.all_sites.WorldSchedules.{IsReplaying}
 use Rattle.dine_core.proofs.world.World.replay.Given as goal
 
 -- A replay that is under way from each state that the world stood for, and there is such a state.

@@ -1,5 +1,5 @@
 use Rattle.std.proofs.Common.{sym, ◌∙◌}
-use Rattle.dine_core.proofs.CanHappen.{can_happen_is}
+use Rattle.dine_core.proofs.all_sites.CanHappen.{can_happen_is}
 use Rattle.dine_core.proofs.world.World.step.Goals as goal
 
 pub returns-then-not-can_happen-clause-exact : goal.returns-then-not-can_happen-clause-exact

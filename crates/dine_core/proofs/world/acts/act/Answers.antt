@@ -10,9 +10,9 @@ use Rattle.dine_core.specs.Core.{SeenCore, forks_in_hand}
 use Rattle.dine_core.specs.Places.{breach_at, place_at}
 use Rattle.dine_core.specs.WorldSites.{SiteStep, SiteSteps, TakesAllowed, can_do, meets_no_breach, meal_of, next_in, step_in}
 use Rattle.dine_core.specs.Standing.{all_places}
-use Rattle.dine_core.proofs.Breaches.{breach_is, may_take}
-use Rattle.dine_core.proofs.OpenedSites.{none_applies, meal-taken, meal_is, within_of}
-use Rattle.dine_core.proofs.Options.{some_of}
+use Rattle.dine_core.proofs.one_site.Breaches.{breach_is, may_take}
+use Rattle.dine_core.proofs.all_sites.OpenedSites.{none_applies, meal-taken, meal_is, within_of}
+use Rattle.dine_core.proofs.lists.Options.{some_of}
 use Rattle.dine_core.proofs.world.acts.act.Goals as goal
 
 pub returns-in-Begin-clause-does : goal.returns-in-Begin-clause-does

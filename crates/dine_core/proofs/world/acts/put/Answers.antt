@@ -4,7 +4,7 @@ use Rattle.dine_rules.specs.Steps.{Shape, after, shape_of, step_by}
 use Rattle.dine_core.specs.LinkNumbers.{link_from}
 use Rattle.dine_core.specs.Places.{place_at}
 use Rattle.dine_core.specs.WorldSites.{MovesLetters, meal_of, next_in, with_letter}
-use Rattle.dine_core.proofs.Shapes.{meal-after, puts_not_takes, step_alike}
+use Rattle.dine_core.proofs.all_sites.Shapes.{meal-after, puts_not_takes, step_alike}
 use Rattle.dine_core.proofs.world.acts.put.Goals as goal
 
 pub returns-clause-does : goal.returns-clause-does

@@ -1,5 +1,5 @@
 use Rattle.std.proofs.Common.{sym, ◌∙◌, ap, is_some}
-use Rattle.dine_core.proofs.ForksOut.{edge_there, next_is, one_more_as}
+use Rattle.dine_core.proofs.all_sites.ForksOut.{edge_there, next_is, one_more_as}
 use Rattle.dine_core.proofs.world.forks.collect.Goals as goal
 
 pub take_out-requires-clause-edge : goal.take_out-requires-clause-edge

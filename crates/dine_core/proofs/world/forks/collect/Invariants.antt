@@ -1,5 +1,5 @@
 use Rattle.std.proofs.Common.{◌≡◌, vec_capacity}
-use Rattle.dine_core.proofs.ForksOut.{AreOut}
+use Rattle.dine_core.proofs.all_sites.ForksOut.{AreOut}
 use Rattle.dine_core.proofs.world.forks.collect.Given as goal
 
 -- the forks of the edges before this one are out, and the other forks lie where they lay

@@ -1,5 +1,5 @@
 use Rattle.std.proofs.Common.{arith}
-use Rattle.dine_core.proofs.WorldOpened.{ends_are, ends_more}
+use Rattle.dine_core.proofs.all_sites.WorldOpened.{ends_are, ends_more}
 use Rattle.dine_core.proofs.world.opening.ends_of.Goals as goal
 
 pub loop-edge-preserved : goal.loop-edge-preserved

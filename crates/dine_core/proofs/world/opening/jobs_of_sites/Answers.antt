@@ -1,6 +1,6 @@
 use Rattle.std.proofs.Common.{arith}
 use Rattle.dine_plan.specs.Plan.{job_count}
-use Rattle.dine_core.proofs.WorldOpened.{sum_more}
+use Rattle.dine_core.proofs.all_sites.WorldOpened.{sum_more}
 use Rattle.dine_core.proofs.world.opening.jobs_of_sites.Goals as goal
 
 pub loop-site-preserved : goal.loop-site-preserved

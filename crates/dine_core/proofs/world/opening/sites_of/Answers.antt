@@ -1,11 +1,11 @@
 use Rattle.std.proofs.Common.{◌≡◌, arith, subst}
 use Rattle.dine_plan.specs.Plan.{site_count}
-use Rattle.dine_core.proofs.WorldOpened.{AreFresh, fresh_more, fresh_stand}
+use Rattle.dine_core.proofs.all_sites.WorldOpened.{AreFresh, fresh_more, fresh_stand}
 use Rattle.dine_core.proofs.world.opening.sites_of.Goals as goal
 
 pub loop-site-preserved : goal.loop-site-preserved
 loop-site-preserved c = record {
-  so_far = fresh_more _ _ _ _ c.in-Ok.world_site c.loop-site.invariant.so_far (record { site = c.in-Ok.ensures.site; stands = c.in-Ok.ensures.start; awake = c.in-Ok.ensures.awake }) c.push_reserved.ensures.items;
+  so_far = fresh_more _ _ _ _ c.in-Ok.world_site c.loop-site.invariant.so_far (record { site = c.in-Ok.ensures.site; stands = c.in-Ok.ensures.start; not_eating = c.in-Ok.ensures.not_eating }) c.push_reserved.ensures.items;
   room = omega arith;
 }
 

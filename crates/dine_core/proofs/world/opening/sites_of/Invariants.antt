@@ -1,6 +1,6 @@
 use Rattle.std.proofs.Common.{◌≤◌, vec_capacity}
 use Rattle.dine_plan.specs.Plan.{site_count}
-use Rattle.dine_core.proofs.WorldOpened.{AreFresh}
+use Rattle.dine_core.proofs.all_sites.WorldOpened.{AreFresh}
 use Rattle.dine_core.proofs.world.opening.sites_of.Given as goal
 
 -- the first sites are there, and there is room for all

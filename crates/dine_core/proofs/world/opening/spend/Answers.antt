@@ -1,5 +1,5 @@
-use Rattle.dine_core.proofs.WorldOpened.{still_awake}
+use Rattle.dine_core.proofs.all_sites.WorldOpened.{still_not_eating}
 use Rattle.dine_core.proofs.world.opening.spend.Goals as goal
 
 pub loop-sites-preserved : goal.loop-sites-preserved
-loop-sites-preserved c = still_awake _ _ _ c.take_last-core.ensures.items c.loop-sites.invariant
+loop-sites-preserved c = still_not_eating _ _ _ c.take_last-core.ensures.items c.loop-sites.invariant

@@ -2,7 +2,7 @@ use Rattle.std.proofs.Common.{◌≡◌, ◌<◌, ◌≤◌, length, map, sym, a
 use Rattle.std.proofs.lemmas.List.{get_or-map, length-map}
 use Rattle.dine_plan.specs.Plan.{SeenSite, SeenPlan, no_site}
 use Rattle.dine_plan.specs.Job.{seen_job}
-use Rattle.dine_plan.specs.Site.{seen_site}
+use Rattle.dine_plan.specs.private.Site.{seen_site}
 use Rattle.dine_plan.proofs.plans.Plan.jobs.Goals as goal
 
 pub overflow_cast-result : goal.overflow_cast-result

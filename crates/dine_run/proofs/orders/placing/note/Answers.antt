@@ -1,7 +1,7 @@
 use Rattle.std.proofs.Common.{◌+◌, List, ◌++◌, ◌∷◌, [], sym, ◌∙◌, subst, slice_set, slice_index_or, arith}
 use Rattle.dine_run.specs.Orders.{IsSearching}
-use Rattle.dine_run.proofs.Outcomes.{none_from}
-use Rattle.dine_run.proofs.Placing.{few_placed, is_site, place_within, search_with, search_without}
+use Rattle.dine_run.proofs.lists.Outcomes.{none_from}
+use Rattle.dine_run.proofs.one_order.Placing.{few_placed, is_site, place_within, search_with, search_without}
 use Rattle.dine_run.proofs.orders.placing.note.Goals as goal
 
 pub overflow_add-counts : goal.overflow_add-counts

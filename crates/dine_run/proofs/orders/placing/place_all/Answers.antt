@@ -1,7 +1,7 @@
 use Rattle.std.proofs.Common.{length, ◌∙◌, ap, arith}
 use Rattle.std.proofs.lemmas.List.{length-map, length_push}
 use Rattle.dine_run.specs.Orders.{lists_in}
-use Rattle.dine_run.proofs.Placing.{fewer_left, starts_as}
+use Rattle.dine_run.proofs.one_order.Placing.{fewer_left, starts_as}
 use Rattle.dine_run.proofs.orders.placing.place_all.Goals as goal
 
 pub loop-event-init : goal.loop-event-init

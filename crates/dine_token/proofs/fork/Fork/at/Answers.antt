@@ -1,7 +1,7 @@
 use Rattle.std.proofs.Common.{sym, ◌∙◌, ap, subst, ℕ}
 use Rattle.dine_token.specs.declared.fork.Kept.{Kept}
 use Rattle.dine_token.specs.Fork.{SeenFork, IsEnd}
-use Rattle.dine_token.specs.Fields.{seen}
+use Rattle.dine_token.specs.private.Fields.{seen}
 use Rattle.dine_token.proofs.Forks.{IsEnd-location}
 use Rattle.dine_token.proofs.fork.Fork.at.Goals as goal
 

@@ -7,7 +7,7 @@ use Rattle.dine_token.specs.declared.fork.Kept.{Kept}
 use Rattle.dine_token.specs.declared.period.Period.{Period}
 use Rattle.dine_token.specs.Periods.{entries_of}
 use Rattle.dine_token.specs.Fork.{SeenFork, MayEat, eaten}
-use Rattle.dine_token.specs.Fields.{seen_kept, IsKept}
+use Rattle.dine_token.specs.private.Fields.{seen_kept, IsKept}
 use Rattle.dine_token.proofs.Periods.{length-periods_of}
 use Rattle.dine_token.proofs.Forks.{periods_small}
 use Rattle.dine_token.proofs.Kept.{kept_eaten, items_eaten}

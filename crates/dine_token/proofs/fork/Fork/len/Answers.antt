@@ -2,7 +2,7 @@ use Rattle.std.proofs.Common.{length, ap, arith}
 use Rattle.dine_token.specs.declared.fork.Kept.{Kept}
 use Rattle.dine_token.specs.Fork.{SeenFork}
 use Rattle.dine_token.specs.Log.{moves_of}
-use Rattle.dine_token.specs.Fields.{seen}
+use Rattle.dine_token.specs.private.Fields.{seen}
 use Rattle.dine_token.proofs.Bounds.{counted_lawful}
 use Rattle.dine_token.proofs.Forks.{length-fork}
 use Rattle.dine_token.proofs.fork.Fork.len.Goals as goal

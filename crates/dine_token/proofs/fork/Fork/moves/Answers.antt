@@ -2,7 +2,7 @@ use Rattle.std.proofs.Common.{ap, arith, length}
 use Rattle.dine_token.specs.declared.fork.Kept.{Kept}
 use Rattle.dine_token.specs.Fork.{SeenFork}
 use Rattle.dine_token.specs.Log.{moves_of}
-use Rattle.dine_token.specs.Fields.{seen}
+use Rattle.dine_token.specs.private.Fields.{seen}
 use Rattle.dine_token.proofs.Periods.{length-periods_of}
 use Rattle.dine_token.proofs.Forks.{moves-fork}
 use Rattle.dine_token.proofs.fork.Fork.moves.Goals as goal

@@ -6,7 +6,7 @@ use Rattle.dine_token.specs.declared.fork.Kept.{Kept}
 use Rattle.dine_token.specs.declared.period.Period.{Period}
 use Rattle.dine_token.specs.Fork.{SeenFork}
 use Rattle.dine_token.specs.Periods.{periods_of}
-use Rattle.dine_token.specs.Fields.{seen}
+use Rattle.dine_token.specs.private.Fields.{seen}
 use Rattle.dine_token.proofs.Forks.{periods_small}
 use Rattle.dine_token.proofs.Places.{used_between}
 use Rattle.dine_token.proofs.fork.Fork.period.Goals as goal

@@ -4,7 +4,7 @@ use Rattle.dine_set.specs.Marks.{both_marks, marks_of}
 use Rattle.dine_set.proofs.MarksOf.{both-marks_of, position-marks_of}
 use Rattle.dine_core.specs.declared.site.places.Place.{Place}
 use Rattle.dine_core.specs.Places.{is_away_at, is_dirty_at, has_token_at, is_ready_at}
-use Rattle.dine_core.proofs.Marked.{ready_by_sets}
+use Rattle.dine_core.proofs.own_events.Marked.{ready_by_sets}
 use Rattle.dine_core.proofs.site.marked.MarkedPlaces.are_all_ready.Goals as goal
 
 none_in : (marks : List Bool) (test : Place → Bool) (xs : List Place) → marks ≡ marks_of test xs → is_none (position (λ b. b) marks) ≡ is_none (position test xs)

@@ -1,7 +1,7 @@
 use Rattle.std.proofs.Common.{◌<◌, false, true, length, length-set, sym, ◌∙◌, ap, arith}
 use Rattle.dine_core.specs.declared.site.places.Place.{Place}
 use Rattle.dine_core.specs.Places.{is_away_at, is_dirty_at, has_token_at, is_open_at, has_put_done_at, has_taken_done_at}
-use Rattle.dine_core.proofs.Marked.{kept, put}
+use Rattle.dine_core.proofs.own_events.Marked.{kept, put}
 use Rattle.dine_core.proofs.site.marked.MarkedPlaces.give.Goals as goal
 
 pub invariant_of-self : goal.invariant_of-self

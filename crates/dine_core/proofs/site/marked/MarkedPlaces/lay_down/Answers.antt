@@ -3,7 +3,7 @@ use Rattle.std.proofs.lemmas.Grind.{common_steps}
 use Rattle.dine_set.specs.Marks.{marks_of}
 use Rattle.dine_core.specs.declared.site.places.Place.{Place}
 use Rattle.dine_core.specs.Places.{is_away_at, is_dirty_at, has_token_at, is_open_at, has_put_done_at, has_taken_done_at, laid_down}
-use Rattle.dine_core.proofs.Marked.{laid_away, laid_same, length-laid_down}
+use Rattle.dine_core.proofs.own_events.Marked.{laid_away, laid_same, length-laid_down}
 use Rattle.dine_core.proofs.site.marked.MarkedPlaces.lay_down.Goals as goal
 
 pub invariant_of-self : goal.invariant_of-self

@@ -5,7 +5,7 @@ use Rattle.std.proofs.lemmas.List.{length-map}
 use Rattle.dine_set.specs.Marks.{marks_of}
 use Rattle.dine_core.specs.declared.site.places.Place.{Place}
 use Rattle.dine_core.specs.Places.{is_away_at, is_dirty_at, has_token_at, is_open_at, has_put_done_at, has_taken_done_at, lifted, IsLiftable}
-use Rattle.dine_core.proofs.Marked.{lifted_away, lifted_dirty, lifted_same}
+use Rattle.dine_core.proofs.own_events.Marked.{lifted_away, lifted_dirty, lifted_same}
 use Rattle.dine_core.proofs.site.marked.MarkedPlaces.lift.Goals as goal
 
 pub invariant_of-self : goal.invariant_of-self

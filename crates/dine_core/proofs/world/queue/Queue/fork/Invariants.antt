@@ -1,6 +1,6 @@
 use Rattle.std.proofs.Common.{◌≡◌}
 use Rattle.std.specs.VecDeque.Iter.{deque_iter_rest}
-use Rattle.dine_core.specs.Forks.{first_fork}
+use Rattle.dine_core.specs.private.Forks.{first_fork}
 use Rattle.dine_core.proofs.world.queue.Queue.fork.Given as goal
 
 -- the letters that were passed over have no fork

@@ -1,5 +1,5 @@
 use Rattle.std.proofs.Common.{◌≡◌, length}
-use Rattle.dine_core.specs.Forks.{behind_fork, first_fork}
+use Rattle.dine_core.specs.private.Forks.{behind_fork, first_fork}
 use Rattle.dine_core.proofs.world.queue.Queue.take_fork.Given as goal
 
 -- the letters that were passed over have no fork

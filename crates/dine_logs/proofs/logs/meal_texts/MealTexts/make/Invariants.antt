@@ -1,5 +1,5 @@
 use Rattle.std.proofs.Common.{◌≡◌, ◌+◌, string_bytes, length}
-use Rattle.dine_logs.specs.MealTexts.{IsMealTexts}
+use Rattle.dine_logs.specs.private.MealTexts.{IsMealTexts}
 use Rattle.dine_logs.proofs.logs.meal_texts.MealTexts.make.Given as goal
 
 -- the meals so far are in the text

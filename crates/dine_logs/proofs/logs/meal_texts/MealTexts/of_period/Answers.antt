@@ -1,7 +1,7 @@
 use Rattle.std.proofs.Common.{◌∙◌, ap, sym, Bool, List, ℕ, codes, arith}
 use Rattle.dine_token.specs.Periods.{meals_in}
 use Rattle.dine_logs.specs.Logs.{entries_text, separator}
-use Rattle.dine_logs.specs.MealTexts.{SeenMealTexts, IsMealTexts}
+use Rattle.dine_logs.specs.private.MealTexts.{SeenMealTexts, IsMealTexts}
 use Rattle.dine_logs.proofs.MealParts.{part_between, cut_behind_comma, meals_at_first, meals_behind}
 use Rattle.dine_logs.proofs.logs.meal_texts.MealTexts.of_period.Goals as goal
 

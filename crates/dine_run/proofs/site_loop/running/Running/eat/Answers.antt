@@ -2,8 +2,8 @@ use mir.Val.{bool_byte}
 use Rattle.std.proofs.Common.{◌≡◌, Bool, true, false, not, ◌+◌, ℕ, refl, ◌∙◌, ap}
 use Rattle.dine_run.specs.Running.{SeenRun, seen_run}
 use Rattle.dine_core.specs.Core.{SeenCore}
-use Rattle.dine_run.proofs.Meals.{eaten_more, failed_by}
-use Rattle.dine_run.proofs.Ways.{eat_runs}
+use Rattle.dine_run.proofs.one_site.Meals.{eaten_more, failed_by}
+use Rattle.dine_run.proofs.one_site.Ways.{eat_runs}
 use Rattle.dine_run.proofs.site_loop.running.Running.eat.Goals as goal
 
 byte_of : (ok : Bool) → bool_byte (not ok) ≡ failed_by ok

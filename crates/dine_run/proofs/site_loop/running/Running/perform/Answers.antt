@@ -5,8 +5,8 @@ use Rattle.dine_rules.specs.declared.letters.Letter.TheVariants as letter
 use Rattle.dine_run.specs.Running.{SeenRun, seen_run}
 use Rattle.dine_core.specs.Standing.{CorePuts}
 use Rattle.dine_rules.specs.Steps.{Give, Ask, Done, Close}
-use Rattle.dine_run.proofs.AtPlaces.{opens-give, opens-ask, opens-done, opens-close, putting}
-use Rattle.dine_run.proofs.Ways.{hungry_runs}
+use Rattle.dine_run.proofs.one_site.AtPlaces.{opens-give, opens-ask, opens-done, opens-close, putting}
+use Rattle.dine_run.proofs.one_site.Ways.{hungry_runs}
 use Rattle.dine_run.proofs.site_loop.running.Running.perform.Goals as goal
 
 pub put-requires-clause-putting : goal.put-requires-clause-putting

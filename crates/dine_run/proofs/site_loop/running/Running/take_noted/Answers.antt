@@ -5,10 +5,10 @@ use Rattle.dine_run.specs.declared.site_end.SiteFault.TheVariants as fault
 use Rattle.dine_run.specs.Ports.{SeenPort, seen_port, seen_ports, taken_on, untaken_on}
 use Rattle.dine_run.specs.Running.{SeenRun, IsRunning, IsStopped, seen_run}
 use Rattle.dine_rules.specs.Letters.{has_close}
-use Rattle.dine_run.proofs.Seen.{seen_at, seen_set}
+use Rattle.dine_run.proofs.lists.Seen.{seen_at, seen_set}
 use Rattle.dine_core.specs.Core.{SeenCore}
-use Rattle.dine_run.proofs.Stops.{breach_stops, take_stops}
-use Rattle.dine_run.proofs.Ways.{take_runs, take_room}
+use Rattle.dine_run.proofs.one_site.Stops.{breach_stops, take_stops}
+use Rattle.dine_run.proofs.one_site.Ways.{take_runs, take_room}
 use Rattle.dine_run.proofs.site_loop.running.Running.take_noted.Goals as goal
 
 pub take-requires-clause-open : goal.take-requires-clause-open

@@ -1,0 +1,140 @@
+// Links whose ends refuse after so many steps, so that what a user does then can be tried.
+ghost use Rattle.std.specs.Prelude.{◌≡◌, true};
+ghost use Rattle.dine_rules.specs.Letters.{has_close};
+ghost use Rattle.dine_rules.specs.Streams.{is_close_last};
+ghost use Rattle.dine_link.specs.FaultLanes.{lets_through, spent};
+
+use crate::channel::{ChannelClosedTx, ChannelLane, ChannelRx, ChannelTx};
+use crate::faults::{LinkFault, Lost};
+use crate::lane::{Lane, TxEnd};
+use crate::link_end::LinkEnd;
+use dine_rules::Letter;
+use std::alloc::Global;
+use std::sync::Wait;
+
+/// The end of a [`FaultLane`]'s link that letters are put in: the end of a channel, and how many puts and closes it still lets through.
+#[derive(Drop)]
+pub struct FaultTx {
+    tx: ChannelTx,
+    left: Option<u32>,
+}
+
+/// The end of a [`FaultLane`]'s link that letters are taken from: the end of a channel, and how many takes it still lets through.
+#[derive(Drop)]
+pub struct FaultRx {
+    rx: ChannelRx,
+    left: Option<u32>,
+}
+
+// Whether one step more is let through. It counts it then.
+fn spend(left: &mut Option<u32>) -> bool
+    ensures counted { left.new ≡ spent left.old }
+    ensures told { result ≡ lets_through left.old }
+{
+    match *left {
+        None => true,
+        Some(0) => false,
+        Some(steps) => {
+            *left = Some(steps - 1);
+            true
+        }
+    }
+}
+
+/// The end, which from now on lets `left` puts and closes through and then refuses each; with None it refuses none by itself.
+///
+/// A step that the channel refuses counts too.
+pub fn fault_tx(tx: ChannelTx, left: Option<u32>) -> FaultTx
+    ensures end { result.tx ≡ tx }
+    ensures left { result.left ≡ left }
+{
+    FaultTx { tx, left }
+}
+
+/// The end, which from now on lets `left` takes through and then refuses each; with None it refuses none by itself.
+///
+/// A step that the channel refuses counts too.
+pub fn fault_rx(rx: ChannelRx, left: Option<u32>) -> FaultRx
+    ensures end { result.rx ≡ rx }
+    ensures left { result.left ≡ left }
+{
+    FaultRx { rx, left }
+}
+
+/// Links over channels whose ends refuse steps though the other end is there, for tests of what is done after a refusal. Those of
+/// [`Lane::pair`] refuse none by themselves: [`fault_tx`] and [`fault_rx`] make an end of a channel one that does. What they refuse they keep
+/// as a channel's ends do.
+pub struct FaultLane;
+
+impl Lane for FaultLane {
+    type Tx = FaultTx;
+
+    type ClosedTx = ChannelClosedTx;
+
+    type Rx = FaultRx;
+
+    ghost use Rattle.dine_link.specs.Channels as channels;
+    ghost use Rattle.dine_link.specs.FaultLanes as faults;
+    ghost use Rattle.dine_link.specs.Lanes.{seen_end};
+    ghost use Rattle.dine_link.specs.Links.{IsLink, link_of};
+
+    ghost Identity = { channels.Channel };
+
+    ghost seen_tx = { faults.seen_tx };
+
+    ghost seen_closed = { channels.seen_closed };
+
+    ghost seen_rx = { faults.seen_rx };
+
+    fn pair(alloc: Global, edge: u32, from: u32) -> Result<(FaultTx, FaultRx), LinkFault> {
+        let (tx, rx) = ChannelLane::pair(alloc, edge, from)?;
+        Ok((fault_tx(tx, None), fault_rx(rx, None)))
+    }
+
+    fn put<R: Wait>(rt: &R, tx: &mut FaultTx, letter: Letter) -> Result<(), (Letter, Lost)> {
+        if !spend(&mut tx.left) {
+            tx.tx.refuse();
+            return Err((letter, Lost));
+        }
+        ChannelLane::put(rt, &mut tx.tx, letter)
+    }
+
+    fn close<R: Wait>(rt: &R, tx: FaultTx) -> Result<ChannelClosedTx, (FaultTx, Lost)> {
+        let FaultTx { mut tx, mut left } = tx;
+        if !spend(&mut left) {
+            tx.refuse();
+            return Err((FaultTx { tx, left }, Lost));
+        }
+        match ChannelLane::close(rt, tx) {
+            Ok(closed) => Ok(closed),
+            Err((tx, lost)) => Err((FaultTx { tx, left }, lost)),
+        }
+    }
+
+    fn take<R: Wait>(rt: &R, rx: &mut FaultRx) -> Result<Letter, Lost> {
+        if !spend(&mut rx.left) {
+            rx.rx.refuse();
+            return Err(Lost);
+        }
+        ChannelLane::take(rt, &mut rx.rx)
+    }
+
+    fn is_closed(rx: &FaultRx) -> bool {
+        ChannelLane::is_closed(&rx.rx)
+    }
+
+    fn reconcile(tx: TxEnd<FaultLane>, rx: FaultRx) -> LinkEnd
+        requires pair { (faults.seen_rx rx).link ≡ (seen_end faults.seen_tx channels.seen_closed tx).link }
+        ensures lists { result ≡ link_of (seen_end faults.seen_tx channels.seen_closed tx) (faults.seen_rx rx) }
+        ensures prefix { IsLink result }
+        ensures whole { has_close (faults.seen_rx rx).letters ≡ true → result.taken ≡ result.put }
+        ensures close_last { is_close_last result.put ≡ true }
+    {
+        match tx {
+            TxEnd::Live(FaultTx { tx, left: _ }) => {
+                ChannelLane::reconcile(TxEnd::Live(tx), rx.rx)
+            }
+            TxEnd::Shut(closed) => ChannelLane::reconcile(TxEnd::Shut(closed), rx.rx),
+        }
+    }
+}

@@ -1,0 +1,118 @@
+// Calls that take memory and answer where it is refused.
+use crate::pair::{PAIR, pair};
+use dine_core::site::{fresh_forks, fresh_tokens};
+use dine_core::{EventKind, SiteCore, World};
+use dine_link::{Bell, Lane};
+use dine_plan::{PlanFault, read_plan};
+use dine_run::{OrderFault, order};
+use dine_token::Fork;
+use std::alloc::{AllocError, Global};
+
+// What the lower site of the pair does where it eats first, and what the higher one does.
+const LOWER: [EventKind; 9] = [
+    EventKind::Hungry,
+    EventKind::Begin,
+    EventKind::End,
+    EventKind::Done(0),
+    EventKind::Take(0),
+    EventKind::Give(0),
+    EventKind::Take(0),
+    EventKind::Close(0),
+    EventKind::Take(0),
+];
+
+const HIGHER: [EventKind; 9] = [
+    EventKind::Hungry,
+    EventKind::Ask(0),
+    EventKind::Take(0),
+    EventKind::Take(0),
+    EventKind::Begin,
+    EventKind::End,
+    EventKind::Done(0),
+    EventKind::Close(0),
+    EventKind::Take(0),
+];
+
+/// What a call answered: all, want of memory, or something else.
+#[derive(Clone, Copy, Debug, PartialEq, Eq)]
+pub enum Told {
+    Whole,
+    Memory,
+    Another,
+}
+
+/// The pair is read.
+pub fn plan(alloc: Global) -> Told {
+    match read_plan(alloc, PAIR) {
+        Ok(_) => Told::Whole,
+        Err(PlanFault::Memory) => Told::Memory,
+        Err(_) => Told::Another,
+    }
+}
+
+/// A fork with six meals due.
+pub fn fork(alloc: Global) -> Told {
+    match Fork::open(alloc, 0, 0, 1, 3, 3) {
+        Ok(_) => Told::Whole,
+        Err(_) => Told::Memory,
+    }
+}
+
+/// The core of the lower site of the pair. Memory that is refused before it is asked for makes no answer.
+pub fn core(alloc: Global) -> Result<Told, AllocError> {
+    let plan = pair(alloc)?;
+    if plan.sites() == 0 {
+        return Ok(Told::Another);
+    }
+    let forks = fresh_forks(alloc, &plan, 0)?;
+    let tokens = fresh_tokens(alloc, &plan, 0)?;
+    match SiteCore::open(alloc, &plan, 0, forks, tokens) {
+        Ok(core) => {
+            core.into_parts();
+            Ok(Told::Whole)
+        }
+        Err(_) => Ok(Told::Memory),
+    }
+}
+
+/// The world of the pair.
+pub fn world(alloc: Global) -> Result<Told, AllocError> {
+    let plan = pair(alloc)?;
+    match World::open(alloc, &plan) {
+        Ok(world) => {
+            world.into_forks();
+            Ok(Told::Whole)
+        }
+        Err(_) => Ok(Told::Memory),
+    }
+}
+
+/// A link of a lane.
+pub fn link<L: Lane>(alloc: Global) -> Told {
+    match L::pair(alloc, 0, 0) {
+        Ok(_) => Told::Whole,
+        Err(_) => Told::Memory,
+    }
+}
+
+/// A bell with three ringers.
+pub fn bell(alloc: Global) -> Told {
+    match Bell::open(alloc, 3) {
+        Ok(_) => Told::Whole,
+        Err(_) => Told::Memory,
+    }
+}
+
+/// One order of the journals of the pair.
+pub fn one_order(alloc: Global) -> Result<Told, AllocError> {
+    let plan = pair(alloc)?;
+    let mut journals = Vec::new(alloc);
+    for journal in [LOWER.as_slice(), HIGHER.as_slice()] {
+        journals.push(journal.to_vec(alloc)?)?;
+    }
+    match order(alloc, &plan, journals.as_slice()) {
+        Ok(_) => Ok(Told::Whole),
+        Err(OrderFault::Memory) => Ok(Told::Memory),
+        Err(_) => Ok(Told::Another),
+    }
+}

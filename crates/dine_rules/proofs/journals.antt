@@ -1,0 +1,6 @@
+-- Journals: the states that they lead through, and the orders that put them together.
+pub mod Parts
+pub mod JournalStates
+pub mod Growing
+pub mod Waiting
+pub mod OneOrder

@@ -1,0 +1,8 @@
+-- One place of a site: which edge is there, the fork and the token, the log in hand, and the letters that were put and taken.
+pub mod Placed
+pub mod Hands
+pub mod Owned
+pub mod Held
+pub mod Chains
+pub mod Sent
+pub mod Keeping

@@ -1,0 +1,8 @@
+-- One site's loop: its letters at each place, each event and each fault, and what it leaves.
+pub mod Letters
+pub mod AtPlaces
+pub mod Meals
+pub mod Ways
+pub mod Stops
+pub mod Ends
+pub mod Leaving

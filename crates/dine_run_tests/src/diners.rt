@@ -1,0 +1,130 @@
+// Diners for tests.
+ghost use Rattle.std.specs.Prelude.{◌≡◌, ◌≤◌, ◌∷◌, [], Some, true, slice_get, IfOk};
+ghost use Rattle.dine_plan.specs.Plan.{job_count};
+
+use dine_plan::Plan;
+use dine_run::{CallLog, Diner, JobFault};
+use dine_token::Meal;
+use std::alloc::{AllocError, Global};
+use std::sync::Arc;
+use std::sync::atomic::{AtomicU32, Ordering};
+use std::thread;
+
+// The jobs of those meals fail whose number is a multiple of `fails_each`, or of none where that is 0.
+#[derive(Drop)]
+pub struct Taster {
+    pub log: CallLog,
+    pub fails_each: u32,
+}
+
+impl Diner for Taster {
+    ghost calls = { λ diner. diner.log.calls };
+
+    ghost marks = { λ diner. [] };
+
+    ghost fits = { λ marks k ok. true };
+
+    ghost room_left = { λ diner. diner.log.room };
+
+    fn room(&self) -> u32 {
+        self.log.room()
+    }
+
+    fn eat(&mut self, k: u32, _meal: &Meal) -> Result<(), JobFault> {
+        if self.fails_each > 0 && k % self.fails_each == 0 {
+            self.log.note(k, false);
+            return Err(JobFault);
+        }
+        self.log.note(k, true);
+        Ok(())
+    }
+}
+
+// One for each site, with room for its jobs.
+pub fn tasters(alloc: Global, plan: &Plan, fails_each: u32) -> Result<Vec<Taster>, AllocError>
+    ensures { IfOk result (λ diners. (s : _) (diner : _) → slice_get diners.items s ≡ Some diner → job_count plan.now s ≤ diner.log.room) }
+{
+    let mut diners = Vec::new(alloc);
+    for site in 0..plan.sites() {
+        let log = CallLog::open(alloc, plan.jobs(site))?;
+        diners.push(Taster { log, fails_each })?;
+    }
+    Ok(diners)
+}
+
+// Waits in its first meal until `all` diners have entered theirs, for so many turns, and else its job fails. It does not wait
+// where `all` is 0.
+#[derive(Drop)]
+pub struct Waiter {
+    pub log: CallLog,
+    pub entered: Arc<AtomicU32, Global>,
+    pub all: u32,
+}
+
+impl Waiter {
+    // Whether all have entered, in time.
+    fn meets(&self) -> bool {
+        if self.all == 0 {
+            return true;
+        }
+        self.entered.fetch_add(1, Ordering::SeqCst);
+        for _ in 0..1_000_000_000u32 {
+            if self.entered.load(Ordering::SeqCst) >= self.all {
+                return true;
+            }
+            thread::yield_now();
+        }
+        false
+    }
+}
+
+impl Diner for Waiter {
+    ghost calls = { λ diner. diner.log.calls };
+
+    ghost marks = { λ diner. [] };
+
+    ghost fits = { λ marks k ok. true };
+
+    ghost room_left = { λ diner. diner.log.room };
+
+    fn room(&self) -> u32 {
+        self.log.room()
+    }
+
+    fn eat(&mut self, k: u32, _meal: &Meal) -> Result<(), JobFault> {
+        if k == 1 && !self.meets() {
+            self.log.note(k, false);
+            return Err(JobFault);
+        }
+        self.log.note(k, true);
+        Ok(())
+    }
+}
+
+// One for each site: those of the even sites wait until `all` have entered, or all do where there are no edges.
+pub fn waiters(alloc: Global, plan: &Plan, all: u32) -> Result<Vec<Waiter>, AllocError>
+    ensures { IfOk result (λ diners. (s : _) (diner : _) → slice_get diners.items s ≡ Some diner → job_count plan.now s ≤ diner.log.room) }
+{
+    let entered = Arc::new(alloc, AtomicU32::new(0))?;
+    waiters_of(alloc, plan, all, &entered)
+}
+
+// The same, which count at `entered` how many have entered their first meal, where they wait at all.
+pub fn waiters_of(
+    alloc: Global,
+    plan: &Plan,
+    all: u32,
+    entered: &Arc<AtomicU32, Global>,
+) -> Result<Vec<Waiter>, AllocError>
+    ensures { IfOk result (λ diners. (s : _) (diner : _) → slice_get diners.items s ≡ Some diner → job_count plan.now s ≤ diner.log.room) }
+{
+    let mut diners = Vec::new(alloc);
+    for site in 0..plan.sites() {
+        let log = CallLog::open(alloc, plan.jobs(site))?;
+        let entered = Arc::try_clone(entered)?;
+        let is_one = plan.edges() == 0 || site % 2 == 0;
+        let all = if is_one { all } else { 0 };
+        diners.push(Waiter { log, entered, all })?;
+    }
+    Ok(diners)
+}

@@ -1,0 +1,256 @@
+// Graphs, the plans of them, and what is left of a run on one: it is held against the graph, and each fork's log against the rules,
+// entry by entry.
+use crate::diners::Taster;
+use dine_link::LinkEnd;
+use dine_run::{Call, SiteOut};
+use dine_token::{Entry, Fork};
+use std::alloc::{AllocError, Global};
+use std::process::Abort;
+
+// How many jobs each site has, and the two ends of each edge, the lower one first.
+#[derive(Drop)]
+pub struct Graph {
+    pub jobs: Vec<u32>,
+    pub edges: Vec<(u32, u32)>,
+}
+
+// Sites with as many jobs each, and no edges.
+pub fn apart(alloc: Global, sites: u32, jobs: u32) -> Result<Graph, AllocError> {
+    let mut all = Vec::new(alloc);
+    for _ in 0..sites {
+        all.push(jobs)?;
+    }
+    Ok(Graph {
+        jobs: all,
+        edges: Vec::new(alloc),
+    })
+}
+
+// Each site has an edge with the next, and the last with the first.
+pub fn ring(alloc: Global, sites: u32, jobs: u32) -> Result<Graph, AllocError> {
+    let mut graph = apart(alloc, sites, jobs)?;
+    let mut last = 0;
+    for site in 1..sites {
+        graph.edges.push((last, site))?;
+        last = site;
+    }
+    graph.edges.push((0, last))?;
+    Ok(graph)
+}
+
+// The first site has an edge with each other one.
+pub fn star(alloc: Global, sites: u32, jobs: u32) -> Result<Graph, AllocError> {
+    let mut graph = apart(alloc, sites, jobs)?;
+    for leaf in 1..sites {
+        graph.edges.push((0, leaf))?;
+    }
+    Ok(graph)
+}
+
+// Each of 16 sites has an edge with each other one.
+pub fn complete(alloc: Global, jobs: u32) -> Result<Graph, AllocError> {
+    let mut graph = apart(alloc, 16, jobs)?;
+    for pair in 0..256u32 {
+        let (lower, higher) = (pair % 16, pair / 16);
+        if lower < higher {
+            graph.edges.push((lower, higher))?;
+        }
+    }
+    Ok(graph)
+}
+
+// Eight rows of eight sites, each of which has an edge with those beside, above and below it.
+pub fn grid(alloc: Global, jobs: u32) -> Result<Graph, AllocError> {
+    let mut graph = apart(alloc, 64, jobs)?;
+    for site in 0..64u32 {
+        if site % 8 < 7 {
+            graph.edges.push((site, site + 1))?;
+        }
+        if site < 56 {
+            graph.edges.push((site, site + 8))?;
+        }
+    }
+    Ok(graph)
+}
+
+// Numbers below 65,536 that look random, and are the same from the same start.
+#[derive(Drop)]
+pub struct Dice {
+    pub state: u32,
+}
+
+impl Dice {
+    fn roll(&mut self) -> u32 {
+        self.state = self
+            .state
+            .wrapping_mul(1_664_525)
+            .wrapping_add(1_013_904_223);
+        self.state >> 16
+    }
+}
+
+// 2 to 12 sites with 0 to 8 jobs each, and about a third of all edges.
+pub fn random(alloc: Global, seed: u32) -> Result<Graph, AllocError> {
+    let mut dice = Dice { state: seed };
+    let sites = 2 + dice.roll() % 11;
+    let mut graph = apart(alloc, 0, 0)?;
+    for _ in 0..sites {
+        graph.jobs.push(dice.roll() % 9)?;
+    }
+    for pair in 0..144u32 {
+        let (lower, higher) = (pair % 12, pair / 12);
+        if lower < higher && higher < sites && dice.roll() % 3 == 0 {
+            graph.edges.push((lower, higher))?;
+        }
+    }
+    Ok(graph)
+}
+
+// So many jobs, as a plan has them.
+fn push_jobs(text: &mut String, jobs: u32) -> Result<(), AllocError> {
+    text.push_str("jobs = [")?;
+    for _ in 0..jobs {
+        text.push_str("{ name = \"x\" },")?;
+    }
+    text.push_str("]\n")
+}
+
+// The plan of the graph.
+pub fn plan_text(alloc: Global, graph: &Graph) -> Result<String, AllocError> {
+    let mut text = String::from_str(alloc, "version = 1\n")?;
+    for (site, jobs) in (0..64u32).zip(graph.jobs.as_slice()) {
+        write!(&mut text, "[[site]]\nname = \"s{site}\"\n")?;
+        push_jobs(&mut text, *jobs)?;
+    }
+    for (lower, higher) in graph.edges.as_slice() {
+        write!(
+            &mut text,
+            "[[edge]]\nends = [\"s{lower}\", \"s{higher}\"]\n"
+        )?;
+    }
+    Ok(text)
+}
+
+// An end of a fork, and how many meals it had with it.
+#[derive(Clone, Copy)]
+struct Ate {
+    site: u32,
+    meals: u32,
+}
+
+// The two ends of a fork by its log: where it is and where it is not, and whether it was eaten with since it was last sent.
+#[derive(Clone, Copy)]
+struct Told {
+    here: Ate,
+    there: Ate,
+    is_used: bool,
+    moves: u32,
+}
+
+// What the log tells: the fork goes to and fro, from the lower end first. Only the end where it is eats with it, and its meals are numbered
+// from 1. From then on it is eaten with before it is sent again.
+fn told_by(rt: &impl Abort, fork: &Fork, lower: u32, higher: u32) -> Told {
+    let mut told = Told {
+        here: Ate {
+            site: lower,
+            meals: 0,
+        },
+        there: Ate {
+            site: higher,
+            meals: 0,
+        },
+        is_used: true,
+        moves: 0,
+    };
+    for i in 0..fork.len() {
+        match fork.entry(i) {
+            Entry::Move { to } => {
+                assert!(rt; told.is_used);
+                assert_eq!(rt; to, told.there.site);
+                told = Told {
+                    here: told.there,
+                    there: told.here,
+                    is_used: false,
+                    moves: told.moves.wrapping_add(1),
+                };
+            }
+            Entry::Meal { site, k } => {
+                assert_eq!(rt; site, told.here.site);
+                assert_eq!(rt; Some(k), told.here.meals.checked_add(1));
+                told.here.meals = k;
+                told.is_used = true;
+            }
+        }
+    }
+    told
+}
+
+// One fork an edge, in order. By its log each end had all its meals, and the fork says no more than its log.
+pub fn holds_forks(rt: &impl Abort, graph: &Graph, forks: &[Fork]) {
+    assert_eq!(rt; forks.len(), graph.edges.len());
+    for (edge, fork) in (0..512u32).zip(forks) {
+        let Some((lower, higher)) = graph.edges.get(edge as usize).copied() else {
+            panic!(rt; "no edge {edge}");
+        };
+        assert_eq!(rt; (fork.edge(), fork.ends()), (edge, (lower, higher)));
+        let told = told_by(rt, fork, lower, higher);
+        for end in [told.here, told.there] {
+            let due = graph.jobs.get(end.site as usize).copied();
+            assert_eq!(rt; due, Some(end.meals), "site {} at edge {edge}", end.site);
+        }
+        assert_eq!(rt;
+            (fork.at(), fork.is_dirty(), fork.moves()),
+            (told.here.site, told.is_used, told.moves)
+        );
+    }
+}
+
+// The two links of each edge in order, that from the lower end first. All that was put was taken, and Close is the last of it. Each time
+// that the fork was sent it was asked for before: so both links had a letter each time, and then Done and Close.
+pub fn holds_links(rt: &impl Abort, graph: &Graph, forks: &[Fork], links: &[LinkEnd]) {
+    assert_eq!(rt; (links.len() / 2, links.len() % 2), (graph.edges.len(), 0));
+    for (number, link) in (0..1024u32).zip(links) {
+        let edge = number / 2;
+        let (Some((lower, higher)), Some(fork)) = (
+            graph.edges.get(edge as usize).copied(),
+            forks.get(edge as usize),
+        ) else {
+            panic!(rt; "no edge {edge}");
+        };
+        let from = if number % 2 == 0 { lower } else { higher };
+        assert_eq!(rt; (link.edge(), link.from()), (edge, from));
+        assert_eq!(rt; (link.put(), link.shut()), (link.taken(), true));
+        assert_eq!(rt;
+            link.put(),
+            2 + u64::from(fork.moves()),
+            "edge {edge} from {from}"
+        );
+    }
+}
+
+// The diner was called for each meal in order, and the jobs that were to fail did.
+fn holds_calls(rt: &impl Abort, diner: &Taster, jobs: u32) {
+    let calls = diner.log.calls();
+    assert_eq!(rt; calls.len(), jobs as usize);
+    for (k, call) in (1..1001u32).zip(calls) {
+        let ok = diner.fails_each == 0 || k % diner.fails_each != 0;
+        assert_eq!(rt; *call, Call { k, ok });
+    }
+}
+
+// Each site in order, which ate all its jobs.
+pub fn holds_sites(rt: &impl Abort, graph: &Graph, fails_each: u32, sites: &[SiteOut<Taster>]) {
+    assert_eq!(rt; sites.len(), graph.jobs.len());
+    let mut tokens = 0usize;
+    for (number, site) in (0..64u32).zip(sites) {
+        let Some(jobs) = graph.jobs.get(number as usize).copied() else {
+            panic!(rt; "no site {number}");
+        };
+        let failed = jobs.checked_div(fails_each).unwrap_or(0);
+        assert_eq!(rt; (site.site, site.ate, site.failed), (number, jobs, failed));
+        assert!(rt; site.stray.is_none() && site.fault.is_none());
+        holds_calls(rt, &site.diner, jobs);
+        tokens = tokens.wrapping_add(site.tokens.len());
+    }
+    assert_eq!(rt; tokens, graph.edges.len());
+}

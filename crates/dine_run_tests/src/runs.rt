@@ -1,0 +1,158 @@
+// Whole runs on graphs of many kinds.
+use crate::diners::{Taster, tasters};
+use crate::graphs::*;
+use dine_core::{EventKind, World};
+use dine_link::{ChannelLane, Lane, RingLane};
+use dine_plan::{Plan, read_plan};
+use dine_run::{Gathered, SiteOut, order, run};
+use dine_token::Fork;
+use std::alloc::{AllocError, Global};
+use std::process::Abort;
+use std::sync::Wait;
+use std::test::Fail;
+use std::thread::Threads;
+
+// Runs the plan of the graph over links of a lane. All that is left is as it has to be.
+fn runs_over<L: Lane + 'static, R: Threads + Wait + Abort + Copy + Send + 'static>(
+    rt: &R,
+    alloc: Global,
+    graph: &Graph,
+    plan: &Plan,
+    fails_each: u32,
+) -> Result<(), Fail>
+where
+    L::Tx: 'static,
+    L::ClosedTx: 'static,
+    L::Rx: 'static,
+{
+    let diners = tasters(alloc, plan, fails_each)?;
+    let Ok(gathered) = run::<L, Taster, R>(rt, alloc, plan, diners) else {
+        return Err(Fail::new("no run"));
+    };
+    let Gathered {
+        forks,
+        sites,
+        links,
+    } = gathered;
+    holds_sites(rt, graph, fails_each, sites.as_slice());
+    holds_forks(rt, graph, forks.as_slice());
+    holds_links(rt, graph, forks.as_slice(), links.as_slice());
+    let mut journals = Vec::with_capacity(alloc, sites.len())?;
+    for out in sites {
+        let SiteOut { journal, .. } = out;
+        journals.push(journal)?;
+    }
+    holds_order(rt, alloc, plan, journals.as_slice(), forks.as_slice())
+}
+
+// The journals have an order, and a world that is stepped through it has the logs that were gathered.
+fn holds_order(
+    rt: &impl Abort,
+    alloc: Global,
+    plan: &Plan,
+    journals: &[Vec<EventKind>],
+    forks: &[Fork],
+) -> Result<(), Fail> {
+    let Ok(events) = order(alloc, plan, journals) else {
+        return Err(Fail::new("no order"));
+    };
+    let mut world = World::open(alloc, plan)?;
+    for event in events.iter() {
+        assert_eq!(rt; world.step(*event), Ok(()));
+    }
+    assert_eq!(rt; world.count(), 0);
+    let stepped = world.into_forks();
+    assert_eq!(rt; stepped.len(), forks.len());
+    for (gathered, fork) in forks.iter().zip(stepped.iter()) {
+        assert_eq!(rt; gathered.periods(), fork.periods());
+        for i in 0..gathered.periods() {
+            assert!(rt; i < gathered.periods() && i < fork.periods());
+            assert_eq!(rt; gathered.period(i), fork.period(i));
+        }
+    }
+    Ok(())
+}
+
+// The plan of the graph runs once over links of a lane.
+fn runs_once<L: Lane + 'static, R: Threads + Wait + Abort + Copy + Send + 'static>(
+    rt: &R,
+    alloc: Global,
+    graph: Result<Graph, AllocError>,
+    fails_each: u32,
+) -> Result<(), Fail>
+where
+    L::Tx: 'static,
+    L::ClosedTx: 'static,
+    L::Rx: 'static,
+{
+    let graph = graph?;
+    let text = plan_text(alloc, &graph)?;
+    let plan = read_plan(alloc, text.as_str()).expect(rt, "a plan");
+    runs_over::<L, R>(rt, alloc, &graph, &plan, fails_each)
+}
+
+#[test]
+fn rings_eat_all_their_meals(rt: HostRuntime) -> Result<(), Fail> {
+    let alloc = rt.alloc();
+    runs_once::<ChannelLane, HostRuntime>(&rt, alloc, ring(alloc, 5, 1000), 0)?;
+    runs_once::<ChannelLane, HostRuntime>(&rt, alloc, ring(alloc, 64, 1000), 0)
+}
+
+#[test]
+fn stars_eat_all_their_meals(rt: HostRuntime) -> Result<(), Fail> {
+    let alloc = rt.alloc();
+    runs_once::<ChannelLane, HostRuntime>(&rt, alloc, star(alloc, 64, 1000), 0)
+}
+
+#[test]
+fn sites_that_are_all_neighbours_eat_all_their_meals(rt: HostRuntime) -> Result<(), Fail> {
+    let alloc = rt.alloc();
+    runs_once::<ChannelLane, HostRuntime>(&rt, alloc, complete(alloc, 1000), 0)
+}
+
+#[test]
+fn grids_eat_all_their_meals(rt: HostRuntime) -> Result<(), Fail> {
+    let alloc = rt.alloc();
+    runs_once::<ChannelLane, HostRuntime>(&rt, alloc, grid(alloc, 1000), 7)
+}
+
+#[test]
+fn random_graphs_eat_all_their_meals(rt: HostRuntime) -> Result<(), Fail> {
+    let alloc = rt.alloc();
+    for seed in 0..30u32 {
+        runs_once::<ChannelLane, HostRuntime>(&rt, alloc, random(alloc, seed), seed % 4)?;
+    }
+    Ok(())
+}
+
+// The same graphs, with fewer jobs, over links that are rings.
+#[test]
+fn all_meals_are_eaten_over_rings(rt: HostRuntime) -> Result<(), Fail> {
+    let alloc = rt.alloc();
+    for graph in [
+        ring(alloc, 5, 1000),
+        ring(alloc, 64, 100),
+        star(alloc, 64, 100),
+        complete(alloc, 100),
+        grid(alloc, 100),
+    ] {
+        runs_once::<RingLane, HostRuntime>(&rt, alloc, graph, 7)?;
+    }
+    for seed in 0..30u32 {
+        runs_once::<RingLane, HostRuntime>(&rt, alloc, random(alloc, seed), seed % 4)?;
+    }
+    Ok(())
+}
+
+#[test]
+fn many_small_runs_end(rt: HostRuntime) -> Result<(), Fail> {
+    let alloc = rt.alloc();
+    let graph = ring(alloc, 5, 2)?;
+    let text = plan_text(alloc, &graph)?;
+    let plan = read_plan(alloc, text.as_str()).expect(&rt, "a plan");
+    for round in 0..200u32 {
+        runs_over::<ChannelLane, HostRuntime>(&rt, alloc, &graph, &plan, round % 3)?;
+        runs_over::<RingLane, HostRuntime>(&rt, alloc, &graph, &plan, round % 3)?;
+    }
+    Ok(())
+}

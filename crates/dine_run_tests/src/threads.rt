@@ -1,0 +1,139 @@
+// Runs with real threads.
+use crate::diners::{Taster, Waiter, waiters, waiters_of};
+use crate::graphs::{apart, plan_text};
+use dine_link::{ChannelLane, Lane, RingLane};
+use dine_plan::read_plan;
+use dine_run::{CallLog, RunFault, run, run_within};
+use std::alloc::Global;
+use std::process::Abort;
+use std::sync::atomic::{AtomicU32, Ordering};
+use std::sync::{Arc, Wait};
+use std::test::Fail;
+use std::thread::Threads;
+
+const SIXTEEN: &str = "version = 1\n\
+    [[site]]\nname = \"a\"\njobs = [{ name = \"x\" }]\n[[site]]\nname = \"b\"\njobs = [{ name = \"x\" }]\n\
+    [[site]]\nname = \"c\"\njobs = [{ name = \"x\" }]\n[[site]]\nname = \"d\"\njobs = [{ name = \"x\" }]\n\
+    [[site]]\nname = \"e\"\njobs = [{ name = \"x\" }]\n[[site]]\nname = \"f\"\njobs = [{ name = \"x\" }]\n\
+    [[site]]\nname = \"g\"\njobs = [{ name = \"x\" }]\n[[site]]\nname = \"h\"\njobs = [{ name = \"x\" }]\n\
+    [[site]]\nname = \"i\"\njobs = [{ name = \"x\" }]\n[[site]]\nname = \"j\"\njobs = [{ name = \"x\" }]\n\
+    [[site]]\nname = \"k\"\njobs = [{ name = \"x\" }]\n[[site]]\nname = \"l\"\njobs = [{ name = \"x\" }]\n\
+    [[site]]\nname = \"m\"\njobs = [{ name = \"x\" }]\n[[site]]\nname = \"n\"\njobs = [{ name = \"x\" }]\n\
+    [[site]]\nname = \"o\"\njobs = [{ name = \"x\" }]\n[[site]]\nname = \"p\"\njobs = [{ name = \"x\" }]\n";
+
+const PATH: &str = "version = 1\n\
+    [[site]]\nname = \"a\"\njobs = [{ name = \"x\" }]\n[[site]]\nname = \"b\"\njobs = [{ name = \"x\" }]\n\
+    [[site]]\nname = \"c\"\njobs = [{ name = \"x\" }]\n\
+    [[edge]]\nends = [\"a\", \"b\"]\n[[edge]]\nends = [\"b\", \"c\"]\n";
+
+// Runs with waiting diners, none of which fails, over links of a lane.
+fn meet_over<L: Lane + 'static, R: Threads + Wait + Abort + Copy + Send + 'static>(
+    rt: &R,
+    alloc: Global,
+    text: &str,
+    all: u32,
+) -> Result<(), Fail>
+where
+    L::Tx: 'static,
+    L::ClosedTx: 'static,
+    L::Rx: 'static,
+{
+    let plan = read_plan(alloc, text).expect(rt, "a plan");
+    let Ok(gathered) = run::<L, Waiter, R>(rt, alloc, &plan, waiters(alloc, &plan, all)?) else {
+        return Err(Fail::new("no run"));
+    };
+    assert_eq!(rt; gathered.sites.len(), plan.sites() as usize);
+    for site in gathered.sites.as_slice() {
+        assert_eq!(rt; (site.ate, site.failed), (1, 0));
+    }
+    Ok(())
+}
+
+// The same over channels and over rings.
+fn meet<R: Threads + Wait + Abort + Copy + Send + 'static>(
+    rt: &R,
+    alloc: Global,
+    text: &str,
+    all: u32,
+) -> Result<(), Fail> {
+    meet_over::<ChannelLane, R>(rt, alloc, text, all)?;
+    meet_over::<RingLane, R>(rt, alloc, text, all)
+}
+
+#[test]
+fn sites_that_share_no_edge_eat_at_the_same_time(rt: HostRuntime) -> Result<(), Fail> {
+    meet(&rt, rt.alloc(), SIXTEEN, 16)
+}
+
+#[test]
+fn ends_of_a_path_eat_at_the_same_time(rt: HostRuntime) -> Result<(), Fail> {
+    meet(&rt, rt.alloc(), PATH, 2)
+}
+
+// Two sites are not run with so many diners, at most 3 and not 2. They come back in order, and none was called.
+fn handed_back<R: Threads + Wait + Abort + Copy + Send + 'static>(
+    rt: &R,
+    alloc: Global,
+    count: usize,
+) -> Result<(), Fail> {
+    let text = plan_text(alloc, &apart(alloc, 2, 1)?)?;
+    let plan = read_plan(alloc, text.as_str()).expect(rt, "a plan");
+    let mut diners = Vec::new(alloc);
+    for each in 1..4u32 {
+        if diners.len() < count {
+            let log = CallLog::open(alloc, 1)?;
+            diners.push(Taster {
+                log,
+                fails_each: each,
+            })?;
+        }
+    }
+    assert!(rt; diners.len() != plan.sites() as usize);
+    let Err(RunFault::DinersDiffer { given, diners }) = run::<ChannelLane, Taster, R>(
+        rt, alloc, &plan, diners,
+    ) else {
+        return Err(Fail::new("a run"));
+    };
+    assert_eq!(rt; (given, diners.len()), (count, count));
+    for (each, diner) in (1..4u32).zip(diners.as_slice()) {
+        assert_eq!(rt; (diner.fails_each, diner.log.calls().len()), (each, 0));
+    }
+    Ok(())
+}
+
+#[test]
+fn too_few_or_too_many_diners_come_back(rt: HostRuntime) -> Result<(), Fail> {
+    handed_back(&rt, rt.alloc(), 1)?;
+    handed_back(&rt, rt.alloc(), 0)?;
+    handed_back(&rt, rt.alloc(), 3)
+}
+
+// A path of three sites on fewer threads than sites: the one that would need one more is told, and no diner is called.
+fn falls_short<L: Lane + 'static, R: Threads + Wait + Abort + Copy + Send + 'static>(
+    rt: &R,
+    alloc: Global,
+    threads: u32,
+) -> Result<(), Fail>
+where
+    L::Tx: 'static,
+    L::ClosedTx: 'static,
+    L::Rx: 'static,
+{
+    let plan = read_plan(alloc, PATH).expect(rt, "a plan");
+    let entered = Arc::new(alloc, AtomicU32::new(0))?;
+    let waiters = waiters_of(alloc, &plan, 1, &entered)?;
+    let ended = run_within::<L, Waiter, R>(rt, alloc, &plan, waiters, threads);
+    assert!(rt; matches!(ended, Err(RunFault::Thread(site)) if site == threads));
+    assert_eq!(rt; entered.load(Ordering::SeqCst), 0);
+    // Each diner held it, so the threads that were started have ended.
+    assert_eq!(rt; Arc::strong_count(&entered), 1);
+    Ok(())
+}
+
+#[test]
+fn fewer_threads_than_sites_are_told_and_nobody_eats(rt: HostRuntime) -> Result<(), Fail> {
+    falls_short::<ChannelLane, HostRuntime>(&rt, rt.alloc(), 1)?;
+    falls_short::<RingLane, HostRuntime>(&rt, rt.alloc(), 1)?;
+    falls_short::<ChannelLane, HostRuntime>(&rt, rt.alloc(), 0)?;
+    falls_short::<RingLane, HostRuntime>(&rt, rt.alloc(), 0)
+}

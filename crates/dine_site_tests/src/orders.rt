@@ -1,0 +1,114 @@
+// One order of the journals of two sites.
+use dine_core::{Event, EventKind, World};
+use dine_plan::{Plan, read_plan};
+use dine_run::{OrderFault, order};
+use std::alloc::Global;
+use std::process::Abort;
+use std::test::Fail;
+
+const PAIR: &str = "version = 1\n\
+    [[site]]\nname = \"a\"\njobs = [{ name = \"x\" }]\n\
+    [[site]]\nname = \"b\"\njobs = [{ name = \"y\" }]\n\
+    [[edge]]\nends = [\"a\", \"b\"]\n";
+
+// What the lower site did where it ate first, and what the higher did.
+pub const LOWER: [EventKind; 9] = [
+    EventKind::Hungry,
+    EventKind::Begin,
+    EventKind::End,
+    EventKind::Done(0),
+    EventKind::Take(0),
+    EventKind::Give(0),
+    EventKind::Take(0),
+    EventKind::Close(0),
+    EventKind::Take(0),
+];
+
+pub const HIGHER: [EventKind; 9] = [
+    EventKind::Hungry,
+    EventKind::Ask(0),
+    EventKind::Take(0),
+    EventKind::Take(0),
+    EventKind::Begin,
+    EventKind::End,
+    EventKind::Done(0),
+    EventKind::Close(0),
+    EventKind::Take(0),
+];
+
+fn pair(rt: &impl Abort, alloc: Global) -> Plan {
+    read_plan(alloc, PAIR).expect(rt, "a plan")
+}
+
+// The order of the journals of two sites with these events.
+fn order_of(
+    rt: &impl Abort,
+    alloc: Global,
+    plan: &Plan,
+    lower: &[EventKind],
+    higher: &[EventKind],
+) -> Result<Vec<Event>, OrderFault> {
+    let mut journals = Vec::new(alloc);
+    for events in [lower, higher] {
+        let journal = events.to_vec(alloc).expect(rt, "memory");
+        journals.push(journal).expect(rt, "memory");
+    }
+    order(alloc, plan, journals.as_slice())
+}
+
+#[test]
+fn each_event_is_that_of_the_lowest_site_that_was_ready(rt: HostRuntime) -> Result<(), Fail> {
+    let alloc = rt.alloc();
+    let plan = pair(&rt, alloc);
+    let events = order_of(&rt, alloc, &plan, LOWER.as_slice(), HIGHER.as_slice())?;
+    let sites = [0, 0, 0, 0, 1, 1, 0, 0, 1, 1, 1, 1, 1, 0, 0, 1, 0, 1];
+    assert_eq!(rt; events.len(), sites.len());
+    for (event, site) in events.iter().zip(sites.iter()) {
+        assert_eq!(rt; event.site, *site);
+    }
+    let mut world = World::open(alloc, &plan)?;
+    for event in events.iter() {
+        assert_eq!(rt; world.step(*event), Ok(()));
+    }
+    assert_eq!(rt; world.count(), 0);
+    assert_eq!(rt; world.into_forks().len(), 1);
+    Ok(())
+}
+
+#[test]
+fn events_that_wait_for_ever_are_stuck(rt: HostRuntime) {
+    let alloc = rt.alloc();
+    let plan = pair(&rt, alloc);
+    let higher = [EventKind::Take(0), EventKind::Take(0)];
+    let lower = LOWER.as_slice();
+    let stuck = order_of(&rt, alloc, &plan, &lower[..4], higher.as_slice());
+    assert_eq!(rt; stuck.err(), Some(OrderFault::Stuck { site: 1, placed: 1 }));
+}
+
+#[test]
+fn line_of_what_is_stuck_names_its_site(rt: HostRuntime) -> Result<(), Fail> {
+    let stuck = OrderFault::Stuck { site: 3, placed: 7 };
+    let line = format!(in rt.alloc(); "{stuck}")?;
+    assert_eq!(rt; line.as_str(), "2 Stuck at site 3, 7 placed");
+    Ok(())
+}
+
+#[test]
+fn journals_of_nothing_are_not_closed(rt: HostRuntime) {
+    let alloc = rt.alloc();
+    let plan = pair(&rt, alloc);
+    let none: [EventKind; 0] = [];
+    let open = order_of(&rt, alloc, &plan, none.as_slice(), none.as_slice());
+    assert_eq!(rt; open.err(), Some(OrderFault::NotClosed));
+}
+
+#[test]
+fn one_journal_for_two_sites_is_refused(rt: HostRuntime) -> Result<(), Fail> {
+    let alloc = rt.alloc();
+    let plan = pair(&rt, alloc);
+    let mut journals = Vec::new(alloc);
+    journals.push(LOWER.as_slice().to_vec(alloc)?)?;
+    let one = order(alloc, &plan, journals.as_slice());
+    assert_eq!(rt; one.err(), Some(OrderFault::CountDiffers));
+    Ok(())
+}

@@ -1,0 +1,267 @@
+// One site that nothing refuses but a dead end, alone and over links that were filled before it starts.
+ghost use Rattle.std.specs.Prelude.{◌≡◌, false};
+ghost use Rattle.dine_link.specs.Links.{IsUnused};
+
+use super::diners::Marked;
+use super::*;
+
+// The site without edges; the job of one of its meals may fail.
+fn eats_alone<R: Wait + Abort>(
+    rt: &R,
+    alloc: Global,
+    fails_at: u32,
+) -> SiteEnd<ChannelLane, Fixed> {
+    let plan = read_plan(alloc, ALONE).expect(rt, "a plan");
+    let (_ringers, bell) = bell_of(rt, alloc, 0);
+    let ports = Vec::new(alloc);
+    run_alone::<ChannelLane, R>(rt, alloc, &plan, 0, ports, bell, fails_at)
+}
+
+#[test]
+fn site_alone_eats_all_its_meals(rt: HostRuntime) {
+    let end = eats_alone(&rt, rt.alloc(), 0);
+    assert_eq!(rt; (end.site, end.ate, end.failed), (0, 2, 0));
+    assert_eq!(rt;
+        (end.forks.len(), end.tokens.len(), end.ports.len()),
+        (0, 0, 0)
+    );
+    assert!(rt; end.stray.is_none() && end.fault.is_none());
+    assert_eq!(rt;
+        end.diner.log.calls(),
+        [Call { k: 1, ok: true }, Call { k: 2, ok: true }].as_slice()
+    );
+}
+
+#[test]
+fn failed_job_is_counted_and_the_site_goes_on(rt: HostRuntime) {
+    let end = eats_alone(&rt, rt.alloc(), 2);
+    assert_eq!(rt; (end.site, end.ate, end.failed), (0, 2, 1));
+    assert!(rt; end.stray.is_none() && end.fault.is_none());
+    assert_eq!(rt;
+        end.diner.log.calls(),
+        [Call { k: 1, ok: true }, Call { k: 2, ok: false }].as_slice()
+    );
+}
+
+// What is left of the lower site of the pair, where the higher one asked and closed at once: its end, the link to the higher
+// site with all that it put, and the bell that it rang.
+fn early_closed<L: Lane, R: Wait + Abort>(
+    rt: &R,
+    alloc: Global,
+    plan: &Plan,
+) -> (SiteEnd<L, Fixed>, L::Rx, Bell)
+    ensures untaken { IsUnused (L.seen_rx result.1) }
+    ensures bell { (result.2.degree ≡ 1) × (result.2.refused ≡ false) }
+{
+    let (mut ringer, bell) = one_ringer(rt, alloc);
+    let (far_ringer, far_bell) = one_ringer(rt, alloc);
+    let (tx, far_rx) = link_from::<L>(rt, alloc, 0, 0);
+    let (mut far_tx, rx) = link_from::<L>(rt, alloc, 0, 1);
+    assert!(rt; L::put(rt, &mut far_tx, Letter::Request(Token::open(0))).is_ok());
+    assert_eq!(rt; ringer.ring(rt), Ok(()));
+    assert!(rt; L::close(rt, far_tx).is_ok());
+    assert_eq!(rt; ringer.ring(rt), Ok(()));
+    let ports = one_port::<L>(rt, alloc, tx, rx, far_ringer);
+    let end = run_alone::<L, R>(rt, alloc, plan, 0, ports, bell, 0);
+    (end, far_rx, far_bell)
+}
+
+// The lower site eats, says Done, gives its fork, finds the early Close, and closes.
+fn finds_early_close<L: Lane, R: Wait + Abort>(rt: &R, alloc: Global) {
+    let plan = read_plan(alloc, PAIR).expect(rt, "a plan");
+    let (end, _rx, mut bell) = early_closed::<L, R>(rt, alloc, &plan);
+    let SiteEnd {
+        site,
+        ate,
+        failed,
+        diner: _,
+        forks,
+        tokens,
+        journal,
+        ports,
+        bell: _,
+        stray,
+        fault,
+    } = end;
+    assert!(rt; journal.as_slice() == &LOWER[..6]);
+    assert_eq!(rt; (site, ate, failed), (0, 1, 0));
+    assert_eq!(rt; (forks.len(), tokens.len(), ports.len()), (0, 1, 1));
+    assert_eq!(rt; tokens[0].edge(), 0);
+    assert_eq!(rt; fault, Some(SiteFault::Breach(0, Breach::ClosedEarly)));
+    let Some(stray) = stray else {
+        panic!(rt; "no stray");
+    };
+    assert_eq!(rt; (stray.link, stray.letter.kind()), (0, Kind4::Close));
+    for _ in 0..3 {
+        assert_eq!(rt; bell.wait(rt), Ok(0));
+    }
+}
+
+#[test]
+fn early_close_is_a_breach(rt: HostRuntime) {
+    finds_early_close::<ChannelLane, HostRuntime>(&rt, rt.alloc());
+    finds_early_close::<RingLane, HostRuntime>(&rt, rt.alloc())
+}
+
+// What it put is Done, the fork with its log, and Close.
+fn puts_done_fork_close<L: Lane, R: Wait + Abort>(rt: &R, alloc: Global) {
+    let plan = read_plan(alloc, PAIR).expect(rt, "a plan");
+    let (_end, mut rx, _bell) = early_closed::<L, R>(rt, alloc, &plan);
+    let Ok(Letter::Done) = L::take(rt, &mut rx) else {
+        panic!(rt; "no Done");
+    };
+    let Ok(Letter::Fork(fork)) = L::take(rt, &mut rx) else {
+        panic!(rt; "no fork");
+    };
+    has_log(
+        rt,
+        &fork,
+        &[Entry::Meal { site: 0, k: 1 }, Entry::Move { to: 1 }],
+    );
+    let Ok(Letter::Close) = L::take(rt, &mut rx) else {
+        panic!(rt; "no Close");
+    };
+}
+
+#[test]
+fn site_of_an_early_close_puts_done_fork_close(rt: HostRuntime) {
+    puts_done_fork_close::<ChannelLane, HostRuntime>(&rt, rt.alloc());
+    puts_done_fork_close::<RingLane, HostRuntime>(&rt, rt.alloc())
+}
+
+// The higher site, over the link that the lower one left after the early Close.
+fn higher_eats<L: Lane, R: Wait + Abort>(rt: &R, alloc: Global) {
+    let plan = read_plan(alloc, PAIR).expect(rt, "a plan");
+    let (_end, rx, bell) = early_closed::<L, R>(rt, alloc, &plan);
+    let (tx, mut far_rx) = link_from::<L>(rt, alloc, 0, 1);
+    let (ringer, _far_bell) = one_ringer(rt, alloc);
+    let ports = one_port::<L>(rt, alloc, tx, rx, ringer);
+    let SiteEnd {
+        site,
+        ate,
+        failed,
+        diner: _,
+        mut forks,
+        tokens,
+        journal,
+        ports,
+        bell: _,
+        stray,
+        fault,
+    } = run_alone::<L, R>(rt, alloc, &plan, 1, ports, bell, 0);
+    assert!(rt; journal.as_slice() == HIGHER.as_slice());
+    assert_eq!(rt; (site, ate, failed), (1, 1, 0));
+    assert_eq!(rt; (tokens.len(), ports.len()), (0, 1));
+    assert!(rt; stray.is_none() && fault.is_none());
+    let Some(fork) = forks.pop() else {
+        panic!(rt; "no fork");
+    };
+    assert!(rt; forks.is_empty());
+    has_log(
+        rt,
+        &fork,
+        &[
+            Entry::Meal { site: 0, k: 1 },
+            Entry::Move { to: 1 },
+            Entry::Meal { site: 1, k: 1 },
+        ],
+    );
+    let Ok(Letter::Request(_)) = L::take(rt, &mut far_rx) else {
+        panic!(rt; "no request");
+    };
+    let Ok(Letter::Done) = L::take(rt, &mut far_rx) else {
+        panic!(rt; "no Done");
+    };
+    let Ok(Letter::Close) = L::take(rt, &mut far_rx) else {
+        panic!(rt; "no Close");
+    };
+}
+
+#[test]
+fn higher_site_eats_with_the_fork_that_it_was_given(rt: HostRuntime) {
+    higher_eats::<ChannelLane, HostRuntime>(&rt, rt.alloc());
+    higher_eats::<RingLane, HostRuntime>(&rt, rt.alloc())
+}
+
+// The end of a link that nobody takes from. A channel tells so, and a ring does not.
+fn dead_end<L: Lane>(rt: &impl Abort, alloc: Global) -> L::Tx
+    ensures { IsUnused (L.seen_tx result) }
+{
+    let (tx, _rx) = link_from::<L>(rt, alloc, 0, 0);
+    tx
+}
+
+#[test]
+fn refused_put_is_a_fault(rt: HostRuntime) {
+    let alloc = rt.alloc();
+    let plan = read_plan(alloc, PAIR).expect(&rt, "a plan");
+    let (_ringers, bell) = bell_of(&rt, alloc, 1);
+    let (ringer, _far_bell) = one_ringer(&rt, alloc);
+    let tx = dead_end::<ChannelLane>(&rt, alloc);
+    let (_far_tx, rx) = link_from::<ChannelLane>(&rt, alloc, 0, 1);
+    let ports = one_port::<ChannelLane>(&rt, alloc, tx, rx, ringer);
+    let end = run_alone::<ChannelLane, HostRuntime>(&rt, alloc, &plan, 0, ports, bell, 0);
+    assert_eq!(rt;
+        (end.ate, end.failed, end.forks.len(), end.ports.len()),
+        (1, 0, 1, 1)
+    );
+    assert_eq!(rt; end.fault, Some(SiteFault::Lost(0)));
+    assert!(rt; end.journal.as_slice() == &LOWER[..4]);
+    let Some(stray) = &end.stray else {
+        panic!(rt; "no stray");
+    };
+    assert_eq!(rt; (stray.link, stray.letter.kind()), (0, Kind4::Done));
+}
+
+#[test]
+fn bell_that_nobody_rings_is_a_fault(rt: HostRuntime) {
+    let alloc = rt.alloc();
+    let plan = read_plan(alloc, PAIR).expect(&rt, "a plan");
+    let (ringers, bell) = bell_of(&rt, alloc, 1);
+    drop(ringers);
+    let (ringer, _far_bell) = one_ringer(&rt, alloc);
+    let (tx, mut far_rx) = link_from::<ChannelLane>(&rt, alloc, 0, 1);
+    let (_far_tx, rx) = link_from::<ChannelLane>(&rt, alloc, 0, 0);
+    let ports = one_port::<ChannelLane>(&rt, alloc, tx, rx, ringer);
+    let end = run_alone::<ChannelLane, HostRuntime>(&rt, alloc, &plan, 1, ports, bell, 0);
+    assert_eq!(rt;
+        (end.ate, end.failed, end.tokens.len(), end.ports.len()),
+        (0, 0, 0, 1)
+    );
+    assert_eq!(rt; end.fault, Some(SiteFault::Lost(1)));
+    assert!(rt; end.stray.is_none());
+    let Ok(Letter::Request(_)) = ChannelLane::take(&rt, &mut far_rx) else {
+        panic!(rt; "no request");
+    };
+    let Ok(Letter::Close) = ChannelLane::take(&rt, &mut far_rx) else {
+        panic!(rt; "no Close");
+    };
+}
+
+#[test]
+fn answers_of_a_marked_diner_fit_its_marks(rt: HostRuntime) {
+    let alloc = rt.alloc();
+    let plan = read_plan(alloc, ALONE).expect(&rt, "a plan");
+    assert!(rt; plan.sites() > 0);
+    assert!(rt; plan.jobs(0) <= 2);
+    let (_ringers, bell) = bell_of(&rt, alloc, 0);
+    let log = CallLog::open(alloc, 2).expect(&rt, "memory");
+    let diner = Marked {
+        log,
+        goes_well: false,
+    };
+    let forks = fresh_forks(alloc, &plan, 0).expect(&rt, "memory");
+    let tokens = fresh_tokens(alloc, &plan, 0).expect(&rt, "memory");
+    let core = SiteCore::open(alloc, &plan, 0, forks, tokens).expect(&rt, "memory");
+    assert!(rt; core.degree() == 0);
+    let end = run_site::<HostRuntime, ChannelLane, Marked>(
+        &rt,
+        alloc,
+        core,
+        Vec::new(alloc),
+        bell,
+        diner,
+    );
+    assert_eq!(rt; (end.ate, end.failed), (2, 2));
+    assert!(rt; !end.diner.goes_well && end.fault.is_none());
+}

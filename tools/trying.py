@@ -1,0 +1,123 @@
+"""What the tools that try things share: where all stands, a program's answer and how it differs from the one that is wanted, copies of
+crates, and the lines and the count at the end."""
+import os
+import shutil
+import subprocess
+import sys
+from typing import NamedTuple
+
+HOME = os.path.dirname(os.path.dirname(os.path.realpath(__file__)))
+DINE = os.path.join(HOME, "dine")
+REFUSED = "dine: plan refused: "
+# How long an answer may take, where nothing else is said.
+SECONDS = 120
+# How much of a text is shown before and behind the place where it goes wrong.
+SHOWN = 100
+
+
+def text_of(path):
+    """Returns the text of a file, whose path goes from the top."""
+    with open(os.path.join(HOME, path), encoding="utf-8") as file:
+        return file.read()
+
+
+class Answer(NamedTuple):
+    """The status that a program ended with, None where it did not end, and what it wrote to standard output and to standard error."""
+    status: int
+    output: str
+    error: str
+
+
+def answer_of(words, program=DINE, seconds=SECONDS, **how):
+    """Runs a program with words, as subprocess.run takes `how`, and returns its answer."""
+    try:
+        ran = subprocess.run([program, *words], capture_output=True, timeout=seconds, check=False, **how)
+    except subprocess.TimeoutExpired:
+        return Answer(None, "", f"no end within {seconds} seconds")
+    # A byte that is no UTF-8 becomes a character of its own, so that texts are the same only where all bytes are.
+    return Answer(ran.returncode, *(it.decode(errors="surrogateescape") for it in (ran.stdout, ran.stderr)))
+
+
+def answer_with(lines):
+    """Returns the answer to a plan that has these lines: they say that it is refused, or are what was asked for."""
+    text = "".join(f"{line}\n" for line in lines)
+    return Answer(3, "", text) if text.startswith(REFUSED) else Answer(0, text, "")
+
+
+def first_difference(wanted, got):
+    """Returns where two texts first differ, and what each of them has there."""
+    place = len(os.path.commonprefix([wanted, got]))
+    above = wanted[:place].split("\n")
+    begin = max(place - len(above[-1]), place - SHOWN)
+    return f"line {len(above)}: {got[begin : place + SHOWN]!r}, wanted {wanted[begin : place + SHOWN]!r}"
+
+
+def difference(wanted, got):
+    """Returns in a line how an answer differs from the one that is wanted, which is empty where it does not."""
+    if got.status is None:
+        return got.error
+    told = [f"status {got.status}, wanted {wanted.status}"] if got.status != wanted.status else []
+    for name, there, here in (("output", wanted.output, got.output), ("error", wanted.error, got.error)):
+        if there != here:
+            told.append(f"standard {name}, {first_difference(there, here)}")
+    return "; ".join(told)
+
+
+def need_program(tool):
+    """Has ./dine build the program where it must, and ends the tool where that fails."""
+    answer = answer_of(["check"], seconds=None, stdin=subprocess.DEVNULL)
+    # The program itself never ends with 1.
+    if answer.status == 1:
+        sys.stderr.write(answer.error)
+        print(f"{tool}: the program can't be built")
+        sys.exit(ended(0, 1))
+
+
+def crates():
+    """Returns the lines of crates.txt, by crate."""
+    lines = [line.partition("#")[0] for line in text_of("crates.txt").split("\n")]
+    return {line.split(":")[0].split()[0]: line for line in lines if ":" in line}
+
+
+def with_those_below(name, known):
+    """Returns the names of a crate and of all that it stands on."""
+    lower = [it for it in known[name].split(":")[1].split() if it in known]
+    return {name}.union(*(with_those_below(it, known) for it in lower))
+
+
+def copy_crates(name, folder):
+    """Copies a crate and those below it into a folder, as a repository without what is built."""
+    known = crates()
+    copied = with_those_below(name, known)
+    for it in copied:
+        shutil.copytree(f"{HOME}/crates/{it}", f"{folder}/crates/{it}", ignore=shutil.ignore_patterns("out"))
+    with open(f"{folder}/crates.txt", "w", encoding="utf-8") as file:
+        file.writelines(f"{line}\n" for it, line in known.items() if it in copied)
+    shutil.copy(f"{HOME}/HANDLES", folder)
+
+
+def in_a_line(name, fault):
+    """Returns a try as `counted` takes it, told in one line: of what has this fault, or, where that is empty, none."""
+    return (f"{name}: FAILED: {fault}", False) if fault else (f"{name}: ok", True)
+
+
+def a_line_each(tool, faults):
+    """Returns a try as `counted` takes it, told in a line for each fault."""
+    return "\n".join(f"{tool}: {fault}" for fault in faults), not faults
+
+
+def counted(tries):
+    """Prints what is told of each try, where that is anything, and last the count. A try is that text and whether all was right. Returns
+    the exit status."""
+    passed = failed = 0
+    for text, is_right in tries:
+        if text:
+            print(text, flush=True)
+        passed, failed = passed + is_right, failed + (not is_right)
+    return ended(passed, failed)
+
+
+def ended(passed, failed):
+    """Prints the count, and returns the exit status: 0 where something was tried and nothing failed."""
+    print(f"{passed} passed, {failed} failed")
+    return 0 if passed and not failed else 1
