@@ -106,14 +106,15 @@ pub fn waiters(alloc: Global, plan: &Plan, all: u32) -> Result<Vec<Waiter>, Allo
     ensures { IfOk result (λ diners. (s : _) (diner : _) → slice_get diners.items s ≡ Some diner → job_count plan.now s ≤ diner.log.room) }
 {
     let entered = Arc::new(alloc, AtomicU32::new(0))?;
-    waiters_of(alloc, plan, all, &entered)
+    waiters_of(alloc, plan, all, plan.edges() == 0, &entered)
 }
 
-// The same, which count at `entered` how many have entered their first meal, where they wait at all.
+// The same, of every site or of each second one, which count at `entered` how many have entered their first meal.
 pub fn waiters_of(
     alloc: Global,
     plan: &Plan,
     all: u32,
+    everyone: bool,
     entered: &Arc<AtomicU32, Global>,
 ) -> Result<Vec<Waiter>, AllocError>
     ensures { IfOk result (λ diners. (s : _) (diner : _) → slice_get diners.items s ≡ Some diner → job_count plan.now s ≤ diner.log.room) }
@@ -122,7 +123,7 @@ pub fn waiters_of(
     for site in 0..plan.sites() {
         let log = CallLog::open(alloc, plan.jobs(site))?;
         let entered = Arc::try_clone(entered)?;
-        let is_one = plan.edges() == 0 || site % 2 == 0;
+        let is_one = everyone || site % 2 == 0;
         let all = if is_one { all } else { 0 };
         diners.push(Waiter { log, entered, all })?;
     }

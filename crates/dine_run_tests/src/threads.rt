@@ -121,7 +121,7 @@ where
 {
     let plan = read_plan(alloc, PATH).expect(rt, "a plan");
     let entered = Arc::new(alloc, AtomicU32::new(0))?;
-    let waiters = waiters_of(alloc, &plan, 1, &entered)?;
+    let waiters = waiters_of(alloc, &plan, 1, true, &entered)?;
     let ended = run_within::<L, Waiter, R>(rt, alloc, &plan, waiters, threads);
     assert!(rt; matches!(ended, Err(RunFault::Thread(site)) if site == threads));
     assert_eq!(rt; entered.load(Ordering::SeqCst), 0);

@@ -183,7 +183,7 @@ fn put_that_its_end_refuses_is_a_fault(rt: HostRuntime) {
     let plan = read_plan(alloc, PAIR).expect(&rt, "a plan");
     let (_ringer, bell) = one_ringer(&rt, alloc);
     let (far_ringer, _far_bell) = one_ringer(&rt, alloc);
-    let (tx, _far_rx) = link_from::<ChannelLane>(&rt, alloc, 0, 0);
+    let (tx, mut far_rx) = link_from::<ChannelLane>(&rt, alloc, 0, 0);
     let (_far_tx, rx) = link_from::<ChannelLane>(&rt, alloc, 0, 1);
     let ports = one_port::<FaultLane>(
         &rt,
@@ -201,4 +201,7 @@ fn put_that_its_end_refuses_is_a_fault(rt: HostRuntime) {
     assert_eq!(rt; end.ports.len(), 1);
     assert!(rt; matches!(end.ports[0].tx, TxEnd::Live(_)));
     has_own_fork(&rt, &end);
+    // Nothing was put: with the site's end gone, the link has no letter to take.
+    drop(end);
+    assert!(rt; ChannelLane::take(&rt, &mut far_rx).is_err());
 }
