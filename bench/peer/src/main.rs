@@ -1,19 +1,21 @@
 //! The hygienic solution of the dining philosophers (Chandy and Misra, ACM TOPLAS 6(4), 1984) written by hand in Rust, without
 //! proofs, to measure `run` and `replay` beside it.
 //!
-//!     peer channel|ring|quiet|queue GRAPH JOBS TURNS RUNS
+//!     peer channel|ring|quiet|queue|mutex|parking_lot GRAPH JOBS TURNS RUNS
 //!
 //! channel: a thread a site, over `crossbeam_channel`s of four letters, and such a channel as the bell of each site.
 //! ring: the same over rings of four letters with one producer and one consumer, with such bells.
 //! quiet: over the same rings, with a door behind a mutex as the bell of each site. It wakes the site only for a letter that lets
 //! it do something, and then the site takes all that lie. These sites start at a gate.
 //! queue: all sites in one thread.
+//! mutex, parking_lot: other rules. A site takes the locks of all its edges, which are one of these, in their order.
 //! GRAPH: ring:N path:N star:N complete:N grid:WxH band:N, of at most 64 sites. JOBS: the meals of each site. TURNS: the steps of
 //! xorshift of each.
 //! After the runs each fork's log was checked. It prints the median, the least and the most of the times in microseconds, in
 //! which the start and the end of the threads are, and not the check, and of the last run the events, the letters, and how often
 //! a site was woken, which quiet alone counts.
 
+mod locks;
 mod nets;
 mod plan;
 mod queues;
@@ -28,7 +30,7 @@ use std::time::Instant;
 fn main() -> ExitCode {
     let words: Vec<String> = std::env::args().skip(1).collect();
     let Some((kind, plan, runs)) = read(&words) else {
-        eprintln!("usage: peer channel|ring|quiet|queue GRAPH JOBS TURNS RUNS");
+        eprintln!("usage: peer channel|ring|quiet|queue|mutex|parking_lot GRAPH JOBS TURNS RUNS");
         return ExitCode::from(2);
     };
     let mut times = Vec::new();
@@ -65,6 +67,8 @@ fn read(words: &[String]) -> Option<(Kind, Plan, usize)> {
         "ring" => site::run::<nets::Rings>,
         "quiet" => site::run::<quiet::Quiet>,
         "queue" => queues::replay,
+        "mutex" => locks::run::<std::sync::Mutex<plan::Fork>>,
+        "parking_lot" => locks::run::<parking_lot::Mutex<plan::Fork>>,
         _ => return None,
     };
     let runs = runs.parse().ok().filter(|runs| *runs > 0)?;

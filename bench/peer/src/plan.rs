@@ -80,6 +80,19 @@ impl Fork {
         self.log.push(Entry::Move { to: to as u32 });
     }
 
+    /// A meal of a site that comes for the fork where it lies, at first at the lower end.
+    #[inline]
+    pub fn eat_from(&mut self, site: usize, lower: usize) {
+        let at = match self.log.last() {
+            None => lower as u32,
+            Some(&(Entry::Meal { site } | Entry::Move { to: site })) => site,
+        };
+        if at != site as u32 {
+            self.go(site);
+        }
+        self.eat(site);
+    }
+
     /// Checks the log: each end ate all its jobs, each where the fork was.
     pub fn check(&self, (lower, higher): (usize, usize), jobs: u64) {
         let (mut at, mut ate) = (lower as u32, [0, 0]);

@@ -1,2 +1,3 @@
 pub mod PlainFields
+pub mod OneTable
 pub mod RunLemmas

@@ -12,39 +12,43 @@ use Rattle.dine.specs.Faults.{TellsLine, line_of, status_of}
 use Rattle.dine_words.specs.Check.{check_text}
 use Rattle.dine_words.specs.PlanBytes.{IsPlanBytes, fault_of_bytes}
 use Rattle.dine_logs.specs.Replay.{replay_text}
-use Rattle.dine.specs.Run.{NamesSite, TellsRun, run_text}
+use Rattle.dine.specs.Run.{IsRunText, NamesSite, TellsRun}
 use Rattle.dine_words.specs.Words.{Asked, Runs, Replays, Checks}
 use Rattle.dine_words.specs.declared.words.Links.{Links}
 use Rattle.dine_words.specs.declared.words.Table.{Table}
 
--- the text that is made of a plan, by what is asked for; that of a run is the same over links of any kind
-abbrev pub text_of : Asked → SeenPlan → List ℕ
-text_of (Runs table links) = run_text table
-text_of (Replays choices) = replay_text choices
-text_of Checks = check_text
+-- the bytes are a text that is made of a plan, by what is asked for; that of a run is the same over links of any kind
+abbrev pub IsTextOf : Asked → SeenPlan → List ℕ → Type 0
+IsTextOf (Runs table links) plan text = IsRunText table plan text
+IsTextOf (Replays choices) plan text = text ≡ replay_text choices plan
+IsTextOf Checks plan text = text ≡ check_text plan
 
--- a plan was read, and its text was written whole
-pub record Writes (text : SeenPlan → List ℕ) (left before after : Option (List ℕ)) : Type 0 where
+-- a plan was read, and a text of it was written whole
+pub record Writes (IsText : SeenPlan → List ℕ → Type 0) (left before after : Option (List ℕ)) : Type 0 where
   pub plan : SeenPlan
+  pub text : List ℕ
   pub reads : IfSome left (λ bytes. IsPlanBytes bytes plan)
-  pub writes : Appends before after (text plan)
+  pub is_text : IsText plan text
+  pub writes : Appends before after text
 
--- a plan was read, and the first bytes of its text were written
-pub record WritesPart (text : SeenPlan → List ℕ) (left before after : Option (List ℕ)) : Type 0 where
+-- a plan was read, and the first bytes of a text of it were written
+pub record WritesPart (IsText : SeenPlan → List ℕ → Type 0) (left before after : Option (List ℕ)) : Type 0 where
   pub plan : SeenPlan
+  pub text : List ℕ
   pub count : ℕ
   pub reads : IfSome left (λ bytes. IsPlanBytes bytes plan)
-  pub writes : Appends before after (take count (text plan))
+  pub is_text : IsText plan text
+  pub writes : Appends before after (take count text)
 
--- the text of what is asked for was written whole; where nothing is asked for, this is never so
+-- a text of what is asked for was written whole; where nothing is asked for, this is never so
 abbrev pub IsDone : Option Asked → Option (List ℕ) → Option (List ℕ) → Option (List ℕ) → Type 0
 IsDone None left before after = ⊥
-IsDone (Some command) left before after = Writes (text_of command) left before after
+IsDone (Some command) left before after = Writes (IsTextOf command) left before after
 
--- the first bytes of the text of what is asked for were written, all of them or some; where nothing is asked for, this is never so
+-- the first bytes of a text of what is asked for were written, all of them or some; where nothing is asked for, this is never so
 abbrev pub IsPartDone : Option Asked → Option (List ℕ) → Option (List ℕ) → Option (List ℕ) → Type 0
 IsPartDone None left before after = ⊥
-IsPartDone (Some command) left before after = WritesPart (text_of command) left before after
+IsPartDone (Some command) left before after = WritesPart (IsTextOf command) left before after
 
 -- the bytes are no plan: there is a cause to refuse them
 abbrev pub IsRefused : List ℕ → Type 0

@@ -1,13 +1,13 @@
 -- What the command `run` writes.
-use Rattle.std.specs.Prelude.{◌≡◌, ◌<◌, ℕ, List, [], map, count_by}
+use Rattle.std.specs.Prelude.{◌≡◌, ◌<◌, ℕ, ◌+◌, List, [], ◌∷◌, map, count_by, take, if◌then◌else◌}
 use Rattle.std.specs.Global.{Vec}
 use Rattle.std.specs.List.{range_with_len}
-use Rattle.dine_plan.specs.Plan.{SeenPlan, SeenJob, IsPlan, site_count, job_count, jobs_of}
+use Rattle.dine_plan.specs.Plan.{SeenPlan, SeenJob, IsPlan, site_count, job_count, jobs_of, resigns}
 use Rattle.dine_token.specs.Fork.{SeenFork}
 use Rattle.dine_run.specs.declared.gathered.RunFault.{RunFault}
 use Rattle.dine_run.specs.declared.gathered.SiteOut.{SiteOut}
 use Rattle.dine_run.specs.Headline.{FaultIs}
-use Rattle.dine_run.specs.Tables.{IsGatheredOf, edge_rows, site_rows, due_edge_rows, due_site_rows}
+use Rattle.dine_run.specs.Tables.{AreDueValues, IsGatheredOf, edge_rows, site_rows, due_edge_rows, due_site_rows}
 use Rattle.dine.specs.PlanDiners.{SeenPlanDiner, fails_of, first_word, fits_marks}
 use Rattle.dine.specs.Tables.{edges_table, sites_table}
 use Rattle.dine_words.specs.declared.words.Table.{Table}
@@ -16,19 +16,28 @@ use Rattle.dine.specs.declared.faults.Fault.{Fault}
 use Rattle.dine.specs.declared.faults.Fault.TheVariants as fault
 use Rattle.dine.specs.Faults.{fault_of_run}
 
--- how many jobs of a site fail
-abbrev pub failing_jobs : SeenPlan → ℕ → ℕ
-failing_jobs plan s = count_by (λ (job : SeenJob). job.fails) (jobs_of plan s)
+-- how many of these jobs a site does that drops those behind one that failed
+abbrev pub done_to_failed : List SeenJob → ℕ
+done_to_failed [] = 0
+done_to_failed (job ∷ jobs) = 1 + (if job.fails then 0 else done_to_failed jobs)
 
--- how many jobs fail of each site, in order
+-- how many meals a site eats: one for each job, and where it resigns none behind one whose job failed
+abbrev pub meals_at : SeenPlan → ℕ → ℕ
+meals_at plan s = if resigns plan s then done_to_failed (jobs_of plan s) else job_count plan s
+
+-- in how many of them its job fails
+abbrev pub failing_jobs : SeenPlan → ℕ → ℕ
+failing_jobs plan s = count_by (λ (job : SeenJob). job.fails) (take (meals_at plan s) (jobs_of plan s))
+
+-- how many fail at each site, in order
 abbrev pub failing_by_site : SeenPlan → List ℕ
 failing_by_site plan = map (failing_jobs plan) (range_with_len 0 (site_count plan))
 
--- the table of a run, which the plan alone gives: for each edge the jobs of its two ends, or for each site its jobs and how
--- many of them fail
-abbrev pub run_text : Table → SeenPlan → List ℕ
-run_text Edges plan = edges_table plan (due_edge_rows plan)
-run_text Sites plan = sites_table plan (due_site_rows plan (failing_by_site plan))
+-- The text is a table of a run: for each edge the meals of its two ends and a value that it may have after them, or for each site its meals
+-- and how many of them fail. Where no job sets a value there is one such text: the law `tables_without_set_are_of_the_plan`.
+abbrev pub IsRunText : Table → SeenPlan → List ℕ → Type 0
+IsRunText Edges plan text = (values : List ℕ) × AreDueValues plan (meals_at plan) values × (text ≡ edges_table plan (due_edge_rows plan (meals_at plan) values))
+IsRunText Sites plan text = text ≡ sites_table plan (due_site_rows plan (meals_at plan) (failing_by_site plan))
 
 -- the diner of a site before its first meal
 abbrev pub diner_of : SeenPlan → ℕ → SeenPlanDiner
@@ -38,12 +47,14 @@ diner_of plan s = record { calls = []; marks = fails_of plan s; room = job_count
 abbrev pub diners_of : SeenPlan → List SeenPlanDiner
 diners_of plan = map (diner_of plan) (range_with_len 0 (site_count plan))
 
--- What was gathered is of the plan, and its rows are those that the plan alone gives.
+-- What was gathered is of the plan, and its rows are those of the plan, with values that its edges may have then.
 pub record HasDueRows (plan : SeenPlan) (forks : List SeenFork) (outs : List (SiteOut SeenPlanDiner)) : Type 0 where
   pub is_plan : IsPlan plan
   pub gathered : IsGatheredOf plan forks outs
-  pub edges : edge_rows plan forks ≡ due_edge_rows plan
-  pub sites : site_rows outs ≡ due_site_rows plan (failing_by_site plan)
+  pub values : List ℕ
+  pub due : AreDueValues plan (meals_at plan) values
+  pub edges : edge_rows plan forks ≡ due_edge_rows plan (meals_at plan) values
+  pub sites : site_rows outs ≡ due_site_rows plan (meals_at plan) (failing_by_site plan)
 
 -- the fault tells of a run that failed at a site of the plan
 abbrev pub NamesSite : SeenPlan → Fault → Type 0

@@ -1,5 +1,5 @@
 -- The tables of a run, as text. Numbers are plain decimal.
-use Rattle.std.specs.Prelude.{ℕ, ◌<◌, List, [], ◌∷◌, ◌++◌, codes}
+use Rattle.std.specs.Prelude.{ℕ, ◌==◌, if◌then◌else◌, ◌<◌, List, [], ◌∷◌, ◌++◌, codes}
 use Rattle.std.specs.Fmt.{decimal}
 use Rattle.std.specs.List.{flat_map, join_with_byte}
 use Rattle.dine_plan.specs.Plan.{SeenPlan, site_count, edge_count, name_of}
@@ -20,17 +20,21 @@ pub record IsEdgeRowOf (plan : SeenPlan) (row : EdgeRow) : Type 0 where
 abbrev pub IsSiteRowOf : SeenPlan → SiteRow → Type 0
 IsSiteRowOf plan row = row.site < site_count plan
 
--- the first record of the table of edges
-abbrev pub edges_header : List ℕ
-edges_header = record_text (codes "edge" ∷ codes "lo" ∷ codes "hi" ∷ codes "lo_meals" ∷ codes "hi_meals" ∷ [])
+-- the last column of the table of edges, which a plan of version 2 has and one of version 1 has not
+abbrev pub value_column : SeenPlan → List ℕ → List (List ℕ)
+value_column plan field = if plan.version == 2 then field ∷ [] else []
 
--- the record of an edge: its number, the names of its ends, and how many meals each of them ate
+-- the first record of the table of edges
+abbrev pub edges_header : SeenPlan → List ℕ
+edges_header plan = record_text (codes "edge" ∷ codes "lo" ∷ codes "hi" ∷ codes "lo_meals" ∷ codes "hi_meals" ∷ value_column plan (codes "value"))
+
+-- the record of an edge: its number, the names of its ends, how many meals each of them ate, and in version 2 its value
 abbrev pub edge_record : SeenPlan → EdgeRow → List ℕ
-edge_record plan row = record_text (decimal row.edge ∷ name_of plan row.lo ∷ name_of plan row.hi ∷ decimal row.lo_meals ∷ decimal row.hi_meals ∷ [])
+edge_record plan row = record_text (decimal row.edge ∷ name_of plan row.lo ∷ name_of plan row.hi ∷ decimal row.lo_meals ∷ decimal row.hi_meals ∷ value_column plan (decimal row.value))
 
 -- the table of edges
 abbrev pub edges_table : SeenPlan → List EdgeRow → List ℕ
-edges_table plan rows = edges_header ++ flat_map (edge_record plan) rows
+edges_table plan rows = edges_header plan ++ flat_map (edge_record plan) rows
 
 -- the first record of the table of sites
 abbrev pub sites_header : List ℕ

@@ -1,7 +1,7 @@
 //! From words and input to bytes and status.
 ghost use Rattle.std.specs.Prelude.{◌≡◌, ◌≢◌, ◌<◌, ◌≤◌, IfErr, IfOk, IfSome, IsErrOf, None, OnErr, OnOk, Some, false, length, map, true, string_bytes};
 ghost use Rattle.std.specs.Io.KnownBytes.{IsAtEnd};
-ghost use Rattle.dine.specs.Commands.{EndsByFault, FailsRun, IsDone, IsFailedRun, IsPartDone, IsPlanLeft, IsRefused, TellsCause, text_of};
+ghost use Rattle.dine.specs.Commands.{EndsByFault, FailsRun, IsDone, IsFailedRun, IsPartDone, IsPlanLeft, IsRefused, TellsCause, IsTextOf};
 ghost use Rattle.dine.specs.Faults.{status_of};
 ghost use Rattle.dine_words.specs.Input.{input_limit};
 ghost use Rattle.dine_words.specs.Words.{AreRight, HasNoFault, are_taken, asked_of, command_in, dine_app};
@@ -101,7 +101,7 @@ fn text_of<H: Threads + Wait + Copy + Send + 'static>(
     command: Command,
     plan: &Plan,
 ) -> Result<Vec<u8>, Fault>
-    ensures text { IfOk result (λ text. text.items ≡ text_of (asked_of command) plan.now) }
+    ensures text { IfOk result (λ text. IsTextOf (asked_of command) plan.now text.items) }
     ensures fault { result ≢ Err Fault.OutOfMemory → IfErr result (FailsRun (asked_of command) plan.now) }
 {
     match command {

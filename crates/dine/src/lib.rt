@@ -4,6 +4,7 @@
 mod arguments;
 mod commands;
 mod faults;
+pub mod laws;
 mod plan_diner;
 mod run_text;
 mod tables;

@@ -1,13 +1,14 @@
 //! The command `run`.
 ghost use Rattle.std.specs.Prelude.{◌≡◌, ◌≢◌, IfErr, IfOk};
 ghost use Rattle.dine_plan.specs.Plan.{IsPlan};
-ghost use Rattle.dine.specs.Run.{HasDueRows, NamesSite, TellsRun, diners_of, run_text};
+ghost use Rattle.dine.specs.Run.{HasDueRows, IsRunText, NamesSite, TellsRun, diners_of};
 
 use crate::faults::Fault;
 use crate::plan_diner::PlanDiner;
 use crate::tables::{write_edges, write_sites};
 use dine_link::{ChannelLane, Lane, RingLane};
 use dine_plan::Plan;
+use dine_rules::laws;
 use dine_run::{Gathered, edge_table, run, site_table};
 use dine_words::{Links, Table};
 use std::alloc::{AllocError, Global};
@@ -25,7 +26,7 @@ pub fn run_text<H: Threads + Wait + Copy + Send + 'static>(
     table: Table,
     links: Links,
 ) -> Result<Vec<u8>, Fault>
-    ensures text { IfOk result (λ text. text.items ≡ run_text table plan.now) }
+    ensures text { IfOk result (λ text. IsRunText table plan.now text.items) }
     ensures fault { result ≢ Err Fault.OutOfMemory → IfErr result (NamesSite plan.now) }
     ensures told { result ≢ Err Fault.OutOfMemory → IfErr result (TellsRun plan.now) }
 {
@@ -47,10 +48,11 @@ where
     L::Tx: 'static,
     L::ClosedTx: 'static,
     L::Rx: 'static,
-    ensures text { IfOk result (λ text. text.items ≡ run_text table plan.now) }
+    ensures text { IfOk result (λ text. IsRunText table plan.now text.items) }
     ensures fault { result ≢ Err Fault.OutOfMemory → IfErr result (NamesSite plan.now) }
     ensures told { result ≢ Err Fault.OutOfMemory → IfErr result (TellsRun plan.now) }
 {
+    laws::values_are_those_of_the_logs();
     let diners = open_diners(alloc, plan)?;
     let gathered = run::<L, PlanDiner, H>(rt, alloc, plan, diners)?;
     Ok(table_text(alloc, plan, &gathered, table)?)
@@ -76,7 +78,7 @@ fn table_text(
     table: Table,
 ) -> Result<Vec<u8>, AllocError>
     requires { HasDueRows plan.now gathered.now.forks.items gathered.now.sites.items }
-    ensures { IfOk result (λ text. text.items ≡ run_text table plan.now) }
+    ensures { IfOk result (λ text. IsRunText table plan.now text.items) }
 {
     match table {
         Table::Edges => {

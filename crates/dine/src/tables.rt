@@ -10,7 +10,7 @@ use dine_run::{EdgeRow, SiteRow};
 use std::alloc::{AllocError, Global};
 
 /// The table of edges: the header `edge,lo,hi,lo_meals,hi_meals`, and for each row a record of the edge's number, the names
-/// of its two ends and their meals. Each record ends with one line feed.
+/// of its two ends and their meals. A plan of version 2 has one column more, `value`. Each record ends with one line feed.
 ///
 /// The numbers in the rows are those of edges and sites of the plan. It answers `AllocError` where memory is refused.
 pub fn write_edges(alloc: Global, plan: &Plan, rows: &[EdgeRow]) -> Result<Vec<u8>, AllocError>
@@ -18,7 +18,7 @@ pub fn write_edges(alloc: Global, plan: &Plan, rows: &[EdgeRow]) -> Result<Vec<u
     ensures { IfOk result (λ table. table.items ≡ edges_table plan.now rows.now) }
 {
     let mut table = Writer::from_writer(Vec::new(alloc));
-    push_edges_header(&mut table)?;
+    push_edges_header(&mut table, plan)?;
     for row in rows {
         push_edge(alloc, &mut table, plan, row)?;
     }
@@ -56,11 +56,17 @@ fn push_record(table: &mut Writer<Vec<u8>>, fields: &[&[u8]]) -> Result<(), Allo
 }
 
 // Adds the first record of the table of edges.
-fn push_edges_header(table: &mut Writer<Vec<u8>>) -> Result<(), AllocError>
+fn push_edges_header(table: &mut Writer<Vec<u8>>, plan: &Plan) -> Result<(), AllocError>
     requires { IsBetweenRecords table.old }
     ensures between { OnOk result (IsBetweenRecords table.new) }
-    ensures text { OnOk result (text_so_far table.new ≡ text_so_far table.old ++ edges_header) }
+    ensures text { OnOk result (text_so_far table.new ≡ text_so_far table.old ++ edges_header plan.now) }
 {
+    if plan.version() == 2 {
+        return push_record(
+            table,
+            &[b"edge", b"lo", b"hi", b"lo_meals", b"hi_meals", b"value"],
+        );
+    }
     push_record(table, &[b"edge", b"lo", b"hi", b"lo_meals", b"hi_meals"])
 }
 
@@ -91,18 +97,24 @@ fn push_edge(
         hi,
         lo_meals,
         hi_meals,
+        value,
     } = *row;
     let edge = edge.to_string(alloc)?;
     let lo_meals = lo_meals.to_string(alloc)?;
     let hi_meals = hi_meals.to_string(alloc)?;
+    let value = value.to_string(alloc)?;
     let fields = [
         edge.as_bytes(),
         plan.name(lo).as_bytes(),
         plan.name(hi).as_bytes(),
         lo_meals.as_bytes(),
         hi_meals.as_bytes(),
+        value.as_bytes(),
     ];
-    push_record(table, &fields)
+    if plan.version() == 2 {
+        return push_record(table, &fields);
+    }
+    push_record(table, &fields[..5])
 }
 
 // Adds the record of a site.

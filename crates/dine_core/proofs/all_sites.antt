@@ -5,10 +5,13 @@ pub mod LinkSteps
 pub mod MealFits
 pub mod OpenedSites
 pub mod WorldOpened
+pub mod GivenOutcomes
 pub mod CanHappen
 pub mod WorldSteps
 pub mod WorldStepped
 pub mod WorldSchedules
 pub mod ForkPlaces
+pub mod Whereabouts
+pub mod LinkReads
 pub mod ForksOut
 pub mod MealsEnded

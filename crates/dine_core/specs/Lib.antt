@@ -1,6 +1,7 @@
 pub use Rattle.dine_rules.specs.Letters
 pub use Rattle.dine_rules.specs.Local
 pub use Rattle.dine_rules.specs.Holdings
+pub use Rattle.dine_rules.specs.Values
 pub use Rattle.dine_rules.specs.Breach
 pub use Rattle.dine_rules.specs.Steps
 pub use Rattle.dine_rules.specs.Streams
@@ -11,6 +12,7 @@ pub use Rattle.dine_rules.specs.Precedence
 pub use Rattle.dine_rules.specs.Bound
 pub use Rattle.dine_rules.specs.Schedules
 pub use Rattle.dine_rules.specs.Examples
+pub use Rattle.dine_rules.specs.Outcomes
 pub mod Core
 pub mod Places
 pub mod LinkNumbers
@@ -19,4 +21,5 @@ pub mod WorldSites
 pub mod Worlds
 pub mod NextEvent
 pub mod Wants
+pub mod Whereabouts
 pub mod private

@@ -1,5 +1,5 @@
 -- The events that a site does by itself, without a letter to take.
-use Rattle.std.specs.Prelude.{ℕ, ◌&&◌, ◌==◌, not, nat_lt, Bool, false, List, [], ◌∷◌, ◌++◌, length, map, find, Option, None, option_map}
+use Rattle.std.specs.Prelude.{ℕ, ◌&&◌, not, nat_lt, Bool, false, List, ◌++◌, length, map, find, Option, None, option_map}
 use Rattle.std.specs.List.{range_with_len}
 use Rattle.std.specs.Option.{option_map_or, option_or}
 use Rattle.dine_plan.specs.Plan.{SeenPlan}
@@ -7,14 +7,15 @@ use Rattle.dine_rules.specs.declared.events.EventKind.{EventKind}
 use Rattle.dine_rules.specs.declared.events.EventKind.TheVariants as event
 use Rattle.dine_rules.specs.Local.{LocalState, is_eating, is_hungry, is_thinking}
 use Rattle.dine_rules.specs.Steps.{may, step_by}
+use Rattle.dine_rules.specs.World.{placeless_kinds}
 use Rattle.dine_core.specs.declared.site.places.Place.{Place}
 use Rattle.dine_core.specs.Core.{SeenCore}
-use Rattle.dine_core.specs.Places.{can_give, can_give_at, can_ask, can_ask_at, can_hunger, can_begin, can_say_done, can_say_done_at, can_close}
+use Rattle.dine_core.specs.Places.{can_give, can_give_at, can_ask, can_ask_at, can_hunger, can_quit, can_begin, can_say_done, can_say_done_at, can_close, has_nothing_due}
 use Rattle.dine_core.specs.Standing.{all_places}
 
 -- all events but Take that a site of these places can have, in the fixed order
 abbrev pub own_kinds : List ℕ → List EventKind
-own_kinds places = map event.Give places ++ event.End ∷ event.Begin ∷ event.Hungry ∷ []
+own_kinds places = map event.Give places ++ placeless_kinds
     ++ map event.Ask places ++ map event.Done places ++ map event.Close places
 
 -- the Asks, Dones and Closes alone, each by place
@@ -31,11 +32,11 @@ may_ask_at core place = is_hungry core.phase && can_ask_at place
 
 -- the core may now say Done at this place
 abbrev pub may_say_done_at : SeenCore → Place → Bool
-may_say_done_at core place = is_thinking core.phase && core.ate == core.due && can_say_done_at place
+may_say_done_at core place = is_thinking core.phase && has_nothing_due core && can_say_done_at place
 
--- the rules allow the event, for which no letter lies anywhere
+-- the rules allow the event, for which no letter lies anywhere; how a meal turned out makes no difference to its End
 abbrev pub may_by_itself : SeenPlan → ℕ → LocalState → EventKind → Bool
-may_by_itself plan s state kind = option_map_or (may plan s state) (step_by (λ i. None) kind) false
+may_by_itself plan s state kind = option_map_or (may plan s state) (step_by false (λ i. None) kind) false
 
 -- the first event that a site may do by itself
 abbrev pub next_event : SeenPlan → ℕ → LocalState → Option EventKind
@@ -47,6 +48,7 @@ can_by_itself core (event.Take i) = false
 can_by_itself core (event.Give i) = nat_lt i (length core.places) && can_give core i
 can_by_itself core event.End = is_eating core.phase
 can_by_itself core event.Begin = can_begin core
+can_by_itself core event.Quit = can_quit core
 can_by_itself core event.Hungry = can_hunger core
 can_by_itself core (event.Ask i) = nat_lt i (length core.places) && can_ask core i
 can_by_itself core (event.Done i) = nat_lt i (length core.places) && can_say_done core i

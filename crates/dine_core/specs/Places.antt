@@ -2,10 +2,13 @@
 -- the core keeps; that they come to the same is what the contracts prove.
 use Rattle.std.specs.Prelude.{◌≡◌, ◌⊎◌, ℕ, ◌+◌, ◌<◌, ◌≤◌, ◌==◌, ◌&&◌, ◌||◌, not, nat_lt, nat_le, Bool, true, false, List, [], ◌∷◌, ◌++◌, length, map, All, slice_index_or, slice_set, Option, Some, None, is_some, option_to_list, if◌then◌else◌}
 use Rattle.std.specs.List.{list_all}
+use Rattle.dine_token.specs.declared.act.Act.{Act}
+use Rattle.dine_token.specs.declared.act.Act.TheVariants.{Add}
 use Rattle.dine_token.specs.Log.{is_dirty, location_of, meals_of}
 use Rattle.dine_token.specs.Lawful.{due_at}
 use Rattle.dine_token.specs.Fork.{SeenFork, IsEnd}
 use Rattle.dine_token.specs.Meal.{SeenMeal}
+use Rattle.dine_token.specs.Values.{IsAct}
 use Rattle.dine_rules.specs.declared.phase.Phase.TheVariants as phase
 use Rattle.dine_rules.specs.declared.letters.Letter.{Letter}
 use Rattle.dine_rules.specs.declared.letters.Letter.TheVariants as letter
@@ -20,7 +23,7 @@ use Rattle.dine_core.specs.Core.{SeenCore}
 
 -- the place that stands past the end of the places
 abbrev pub no_place : Place
-no_place = record { edge = 0; ends = (0, 0); due = (0, 0); fork = Away; token = None; done_put = false; done_taken = false; close_put = false; close_taken = false }
+no_place = record { edge = 0; ends = (0, 0); due = (0, 0); neighbour_resigns = false; fork = Away; token = None; done_put = false; done_taken = false; close_put = false; close_taken = false }
 
 -- place i of a core
 abbrev pub place_at : SeenCore → ℕ → Place
@@ -56,9 +59,9 @@ meals_in end (InMeal meals) = meals
 abbrev pub is_ready_at : Place → Bool
 is_ready_at place = is_held place.fork && (not (is_dirty_in_hand place.fork) || not (is_some place.token))
 
--- the other end has had all its meals with the fork
+-- the other end has had all its meals with the fork, or it resigns, and may say Done without them
 abbrev pub has_all : ℕ → Place → Bool
-has_all s place = meals_in (neighbour_of s place) place.fork == due_of_neighbour s place
+has_all s place = place.neighbour_resigns || meals_in (neighbour_of s place) place.fork == due_of_neighbour s place
 
 -- the fork of the place is not held
 abbrev pub is_away_at : Place → Bool
@@ -110,17 +113,29 @@ can_give core i = not (is_eating core.phase) && can_give_at (place_at core i)
 abbrev pub can_ask : SeenCore → ℕ → Bool
 can_ask core i = is_hungry core.phase && can_ask_at (place_at core i)
 
--- Hungry needs that the core thinks and has meals left
+-- nothing is due to the core any more: it ate all its meals, or it has quit
+abbrev pub has_nothing_due : SeenCore → Bool
+has_nothing_due core = core.ate == core.due || core.has_quit
+
+-- Quit needs that the core thinks and has to quit
+abbrev pub can_quit : SeenCore → Bool
+can_quit core = is_thinking core.phase && core.must_quit
+
+-- Hungry needs that the core thinks, has meals left, and neither has to quit nor has quit
 abbrev pub can_hunger : SeenCore → Bool
-can_hunger core = is_thinking core.phase && nat_lt core.ate core.due
+can_hunger core = is_thinking core.phase && nat_lt core.ate core.due && (not core.must_quit && not core.has_quit)
+
+-- what the next meal does to the value of each fork; behind the last one no clause asks for it
+abbrev pub next_act : SeenCore → Act
+next_act core = slice_index_or core.acts core.ate (Add 0)
 
 -- Begin needs that the core is hungry and each place is ready [paper: all forks]
 abbrev pub can_begin : SeenCore → Bool
 can_begin core = is_hungry core.phase && list_all is_ready_at core.places
 
--- Done at place i needs that the core thinks and ate all its meals, and that of its place
+-- Done at place i needs that the core thinks and has nothing due, and that of its place
 abbrev pub can_say_done : SeenCore → ℕ → Bool
-can_say_done core i = is_thinking core.phase && core.ate == core.due && can_say_done_at (place_at core i)
+can_say_done core i = is_thinking core.phase && has_nothing_due core && can_say_done_at (place_at core i)
 
 -- Close at place i needs that of its place alone
 abbrev pub can_close : SeenCore → ℕ → Bool
@@ -143,7 +158,7 @@ abbrev pub breach_of_fork : ℕ → ℕ → Place → SeenFork → Option Breach
 breach_of_fork s ate place fork =
     if is_held place.fork || is_some place.token then Some ForkOutOfTurn
     else (if not (is_own_fork place fork) || not (was_sent_to place.ends.0 s fork.log) || not (meals_of s fork.log == ate)
-    || (place.done_taken && not (meals_of (neighbour_of s place) fork.log == due_of_neighbour s place))
+    || (place.done_taken && not (place.neighbour_resigns || meals_of (neighbour_of s place) fork.log == due_of_neighbour s place))
     then Some StrangeFork else None)
 
 -- why Done is not in turn at a place, where no Close was taken
@@ -214,9 +229,9 @@ is_closed_at place = place.close_put
 abbrev pub has_all_closed : SeenCore → Bool
 has_all_closed core = list_all is_closed_at core.places
 
--- the core thinks, ate all its meals, and Done and Close are put and taken at every place
+-- the core thinks, has nothing due, and Done and Close are put and taken at every place
 abbrev pub has_all_said : SeenCore → Bool
-has_all_said core = is_thinking core.phase && core.ate == core.due && list_all is_over_at core.places
+has_all_said core = is_thinking core.phase && has_nothing_due core && list_all is_over_at core.places
 
 -- the slot of a fork that is there or not
 abbrev pub slot_from : Option SeenFork → ForkSlot
@@ -224,8 +239,8 @@ slot_from None = Away
 slot_from (Some fork) = Here fork
 
 -- a place before the first step, with its fork and its token, where they are there
-abbrev pub opened : ℕ → ℕ × ℕ → ℕ × ℕ → Option SeenFork → Option ℕ → Place
-opened edge ends due fork token = record { edge = edge; ends = ends; due = due; fork = slot_from fork; token = token; done_put = false; done_taken = false; close_put = false; close_taken = false }
+abbrev pub opened : ℕ → ℕ × ℕ → ℕ × ℕ → Bool → Option SeenFork → Option ℕ → Place
+opened edge ends due neighbour_resigns fork token = record { edge = edge; ends = ends; due = due; neighbour_resigns = neighbour_resigns; fork = slot_from fork; token = token; done_put = false; done_taken = false; close_put = false; close_taken = false }
 
 -- the number is an end of the fork in the slot, where one is in hand
 abbrev pub EndsOf : ForkSlot → ℕ → Type 0
@@ -272,9 +287,12 @@ pub record IsSoundPlace (core : SeenCore) (place : Place) : Type 0 where
   pub asked : is_held place.fork ≡ true → is_some place.token ≡ true → meals_in (neighbour_of core.site place) place.fork < due_of_neighbour core.site place
   pub token : (edge : ℕ) → place.token ≡ Some edge → edge ≡ place.edge
 
--- All places are right, and no more meals are eaten than due, and fewer while the site is hungry.
+-- All places are right, each meal has an act, of at most 1,000,000, and no more meals are eaten than due, and fewer while the site is
+-- hungry.
 pub record IsSound (core : SeenCore) : Type 0 where
   pub places : All (IsSoundPlace core) core.places
+  pub acts : length core.acts ≡ core.due
+  pub small_acts : All IsAct core.acts
   pub within : core.ate ≤ core.due
   pub hungry : is_hungry core.phase ≡ true → core.ate < core.due
 
@@ -312,9 +330,18 @@ gave i core = let place = place_at core i in with_place i (record place { fork =
 abbrev pub begun : SeenCore → SeenCore
 begun core = record core { phase = phase.Eating; ate = core.ate + 1; places = map (lifted core.site) core.places }
 
--- after End: the core thinks, and the forks of the meal are back in hand
-abbrev pub ended : List SeenFork → SeenCore → SeenCore
-ended forks core = record core { phase = phase.Thinking; places = laid_down core.places forks }
+-- the core drops the meals that it has left after one that failed: it resigns, and has some left
+abbrev pub drops_jobs : Bool → SeenCore → Bool
+drops_jobs failed core = failed && core.resigns && nat_lt core.ate core.due
+
+-- after End, of a meal that failed or not: the core thinks, the forks of the meal are back in hand, and where it drops
+-- its meals left it has to quit
+abbrev pub ended : Bool → List SeenFork → SeenCore → SeenCore
+ended failed forks core = record core { phase = phase.Thinking; must_quit = drops_jobs failed core; places = laid_down core.places forks }
+
+-- after Quit: the core has quit
+abbrev pub quitted : SeenCore → SeenCore
+quitted core = record core { must_quit = false; has_quit = true }
 
 -- after Done at place i: Done is put there
 abbrev pub said_done : ℕ → SeenCore → SeenCore

@@ -1,12 +1,12 @@
 -- What the calls of a site core say of each state for which the core stands.
-use Rattle.std.specs.Prelude.{◌≡◌, ℕ, ◌<◌, ◌==◌, ◌&&◌, Bool, List, length, Option}
+use Rattle.std.specs.Prelude.{◌≡◌, ℕ, ◌<◌, ◌&&◌, Bool, List, length, Option}
 use Rattle.std.specs.List.{list_all, range_with_len}
 use Rattle.dine_token.specs.Fork.{SeenFork}
-use Rattle.dine_plan.specs.Plan.{SeenPlan, IsPlan, job_count, site_count}
+use Rattle.dine_plan.specs.Plan.{SeenPlan, IsPlan, site_count}
 use Rattle.dine_rules.specs.declared.letters.Letter.{Letter}
 use Rattle.dine_rules.specs.declared.breach.Breach.{Breach}
 use Rattle.dine_rules.specs.Letters.{has_done, has_close}
-use Rattle.dine_rules.specs.Local.{LocalState, start_of, traffic_at, is_thinking}
+use Rattle.dine_rules.specs.Local.{LocalState, start_of, traffic_at, is_thinking, has_no_job_left}
 use Rattle.dine_rules.specs.Breach.{first_breach}
 use Rattle.dine_rules.specs.Steps.{Step, LocalStep, may, after, with_put}
 use Rattle.dine_rules.specs.Streams.{KeepsStreams}
@@ -62,9 +62,9 @@ AreForksInHand core forks = ForEachState core (λ plan state. forks ≡ forks_in
 abbrev pub AreTokensInHand : SeenCore → List ℕ → Type 0
 AreTokensInHand core tokens = ForEachState core (λ plan state. tokens ≡ tokens_in_hand plan core.site state (all_places state))
 
--- the site did all: it thinks, ate all its meals, and Done and Close are put and taken at every place
+-- the site did all: it thinks, has no job left, and Done and Close are put and taken at every place
 abbrev pub has_finished : SeenPlan → ℕ → LocalState → Bool
-has_finished plan s state = is_thinking state.phase && state.ate == job_count plan s && list_all (λ i.
+has_finished plan s state = is_thinking state.phase && has_no_job_left plan s state && list_all (λ i.
     has_done (traffic_at state i).put && has_done (traffic_at state i).taken && has_close (traffic_at state i).put && has_close (traffic_at state i).taken)
     (all_places state)
 

@@ -1,7 +1,7 @@
 -- A site of the world, with the meal that it eats, and the links around it. Public clauses reach these by `IsWorldOf` alone.
-use Rattle.std.specs.Prelude.{◌≡◌, ℕ, ◌<◌, ◌&&◌, not, nat_lt, Bool, false, true, List, [], ◌∷◌, ◌++◌, length, drop, slice_get, slice_index_or, slice_set, Option, Some, None, is_some, option_and_then, MatchOption, if◌then◌else◌}
+use Rattle.std.specs.Prelude.{◌≡◌, ℕ, ◌-◌, ◌<◌, ◌&&◌, not, nat_lt, Bool, false, true, List, [], ◌∷◌, ◌++◌, map, length, drop, slice_get, slice_index_or, slice_set, Option, Some, None, is_some, option_and_then, MatchOption, if◌then◌else◌}
 use Rattle.dine_token.specs.Meal.{SeenMeal}
-use Rattle.dine_plan.specs.Plan.{SeenPlan}
+use Rattle.dine_plan.specs.Plan.{SeenPlan, SeenJob, jobs_of}
 use Rattle.dine_rules.specs.declared.letters.Letter.{Letter}
 use Rattle.dine_rules.specs.declared.events.EventKind.{EventKind}
 use Rattle.dine_rules.specs.declared.events.EventKind.TheVariants as event
@@ -11,7 +11,7 @@ use Rattle.dine_rules.specs.Holdings.{EatsWithAll}
 use Rattle.dine_rules.specs.Steps.{Step, Shape, Takes, Puts, Alone, after, shape_of, step_by, with_put}
 use Rattle.dine_rules.specs.Streams.{KeepsStreams}
 use Rattle.dine_core.specs.Core.{SeenCore, Refines, forks_in_hand}
-use Rattle.dine_core.specs.Places.{IsMealOf, place_at, can_give, can_ask, can_hunger, can_begin, can_say_done, can_close, breach_at}
+use Rattle.dine_core.specs.Places.{IsMealOf, place_at, can_give, can_ask, can_hunger, can_quit, can_begin, can_say_done, can_close, breach_at}
 use Rattle.dine_core.specs.LinkNumbers.{link_to, link_from}
 use Rattle.dine_core.specs.Standing.{all_places}
 
@@ -40,6 +40,7 @@ can_there links core (event.Take i) = is_some (next_in links core i)
 can_there links core (event.Give i) = can_give core i
 can_there links core event.End = is_eating core.phase
 can_there links core event.Begin = can_begin core
+can_there links core event.Quit = can_quit core
 can_there links core event.Hungry = can_hunger core
 can_there links core (event.Ask i) = can_ask core i
 can_there links core (event.Done i) = can_say_done core i
@@ -61,14 +62,24 @@ meal_of plan s state = if is_eating state.phase
     then Some (record { site = s; k = state.ate; forks = forks_in_hand plan s state (all_places state) })
     else None
 
--- the step that an event of the site is, by the next letter in the link
-abbrev pub step_in : List (List Letter) → SeenCore → EventKind → Option Step
-step_in links core = step_by (next_in links core)
+-- which jobs of a site fail, in order
+abbrev pub outcomes_of : SeenPlan → ℕ → List Bool
+outcomes_of plan s = map (λ (job : SeenJob). job.fails) (jobs_of plan s)
 
--- A site of the world stands for a state: the core does, and the meal is the state's.
+-- meal k failed, by the outcomes of the meals in order, k from 1
+abbrev pub has_failed : List Bool → ℕ → Bool
+has_failed outcomes k = slice_index_or outcomes (k - 1) false
+
+-- the step that an event of the site is, by the outcomes of its meals, and by the next letter in the link
+abbrev pub step_in : List Bool → List (List Letter) → SeenCore → EventKind → Option Step
+step_in outcomes links core = step_by (has_failed outcomes core.ate) (next_in links core)
+
+-- A site of the world stands for a state: the core does, the meal is the state's, and its meals turn out as the plan's
+-- jobs do.
 pub record IsSiteOf (plan : SeenPlan) (state : LocalState) (world_site : WorldSite) : Type 0 where
   pub core : Refines plan state world_site.core
   pub meal : world_site.meal ≡ meal_of plan world_site.core.site state
+  pub outcomes : world_site.outcomes ≡ outcomes_of plan world_site.core.site
 
 -- the links, where one has this letter more behind its others
 abbrev pub with_letter : List (List Letter) → ℕ → Letter → List (List Letter)
@@ -97,7 +108,7 @@ pub record SiteStep (plan : SeenPlan) (state : LocalState) (kind : EventKind) (o
 -- so it is for each state that keeps the streams and for which the site stands
 abbrev pub SiteSteps : EventKind → WorldSite → WorldSite → List (List Letter) → List (List Letter) → Type 0
 SiteSteps kind old new links new_links = (plan : SeenPlan) (state : LocalState) (one : Step) → KeepsStreams plan old.core.site state → EatsWithAll plan old.core.site state
-    → IsSiteOf plan state old → step_in links old.core kind ≡ Some one → SiteStep plan state kind one old new links new_links
+    → IsSiteOf plan state old → step_in old.outcomes links old.core kind ≡ Some one → SiteStep plan state kind one old new links new_links
 
 -- the meal is that of the core, where it eats, and else there is none
 abbrev pub HasOwnMeal : WorldSite → Type 0

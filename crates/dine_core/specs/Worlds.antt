@@ -1,18 +1,20 @@
 -- The world as contracts see it, and the states of whole lists that it stands for. A World keeps no letter that came and went, so many
 -- states have the same World, and a clause by `ForEachWorld` holds for each. That there is one is the invariant of the type.
-use Rattle.std.specs.Prelude.{◌≡◌, ℕ, ◌*◌, ◌<◌, Bool, false, List, length, map, slice_get, slice_index_or, Option, Some, None}
+use Rattle.std.specs.Prelude.{◌≡◌, ℕ, ◌*◌, ◌<◌, Bool, false, List, length, map, slice_get, slice_index_or, Vec, Option, Some, None}
+use Rattle.std.specs.declared.alloc.Global.{Global}
 use Rattle.std.specs.List.{range_with_len}
 use Rattle.dine_token.specs.Fork.{SeenFork}
-use Rattle.dine_plan.specs.Plan.{SeenPlan, IsPlan, site_count, edge_count, edges_of, lo_of, hi_of}
+use Rattle.dine_plan.specs.Plan.{SeenPlan, IsPlan, site_count, edge_count, edges_of, job_count, lo_of, hi_of}
 use Rattle.dine_rules.specs.declared.letters.Letter.{Letter}
 use Rattle.dine_rules.specs.declared.events.Event.{Event}
 use Rattle.dine_rules.specs.declared.events.EventKind.{EventKind}
 use Rattle.dine_core.specs.declared.world.sites.WorldSite.{WorldSite}
 use Rattle.dine_core.specs.declared.world.EdgeEnds.{EdgeEnds}
 use Rattle.dine_rules.specs.Local.{edge_at}
-use Rattle.dine_rules.specs.Steps.{fork_with}
+use Rattle.dine_rules.specs.Steps.{fork_by}
 use Rattle.dine_rules.specs.World.{WorldState, Reaches, state_of, place_of, world_after}
 use Rattle.dine_rules.specs.Links.{queue_to}
+use Rattle.dine_rules.specs.Outcomes.{with_outcomes}
 use Rattle.dine_core.specs.LinkNumbers.{link_number_to}
 use Rattle.dine_core.specs.WorldSites.{IsSiteOf, can_do, letters_in}
 use Rattle.dine_rules.specs.Precedence.{fork_log}
@@ -59,13 +61,23 @@ pub record IsWorldOf (plan : SeenPlan) (world : WorldState) (seen : SeenWorld) :
   pub edges : seen.edges ≡ map (ends_seen plan) (range_with_len 0 (edge_count plan))
   pub bound : seen.bound ≡ bound_of plan
 
--- the world was opened for the plan: it stands for a state of the plan's world
+-- the lists as values
+abbrev pub lists_of : List (Vec Bool Global) → List (List Bool)
+lists_of fails = map (λ (own : Vec Bool Global). own.items) fails
+
+-- There is one list for each site of the plan, with one value for each of its jobs: whether its meal fails.
+pub record AreOutcomesFor (plan : SeenPlan) (fails : List (List Bool)) : Type 0 where
+  pub sites : length fails ≡ site_count plan
+  pub jobs : (s : ℕ) (past : List Bool) → s < site_count plan → length (slice_index_or fails s past) ≡ job_count plan s
+
+-- the world was opened for the plan, with some outcomes of its meals: it stands for a state of the world of the plan
+-- with these
 abbrev pub IsOpenedFor : SeenPlan → SeenWorld → Type 0
-IsOpenedFor plan seen = (state : WorldState) × IsWorldOf plan state seen
+IsOpenedFor plan seen = (fails : List (List Bool)) × (state : WorldState) × IsWorldOf (with_outcomes plan fails) state seen
 
 -- the world stands for a state that events reach, of some plan
 abbrev pub IsOpened : SeenWorld → Type 0
-IsOpened seen = (plan : SeenPlan) × IsOpenedFor plan seen
+IsOpened seen = (plan : SeenPlan) × (state : WorldState) × IsWorldOf plan state seen
 
 -- so it is for each plan and each state that the world stands for
 abbrev pub ForEachWorld : SeenWorld → (SeenPlan → WorldState → Type 0) → Type 0
@@ -95,9 +107,9 @@ pub record RunsTo (plan : SeenPlan) (run : Counted) (events : ℕ) (new : SeenWo
   pub counted : run.events ≡ events
   pub stands : IsWorldOf plan run.world new
 
--- the fork of an edge in a state, with the plan's ends and due numbers and its log, wherever it lies
+-- the fork of an edge in a state, wherever it lies: with the plan's ends and due numbers, its log, and the value that the log gives
 abbrev pub fork_seen : SeenPlan → WorldState → ℕ → SeenFork
-fork_seen plan world e = fork_with plan e (fork_log plan world e)
+fork_seen plan world e = fork_by plan e (fork_log plan world e)
 
 -- the forks of all edges, in order
 abbrev pub forks_seen : SeenPlan → WorldState → List SeenFork

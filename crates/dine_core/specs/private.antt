@@ -7,3 +7,4 @@ pub mod MarkedFields
 pub mod PackedFields
 pub mod SiteFields
 pub mod WorldFields
+pub mod Told

@@ -8,5 +8,5 @@ pub mod world;
 
 pub use dine_rules::{Breach, Event, EventKind, Kind4, Letter, Phase, laws};
 pub use dine_set::BitSet64;
-pub use site::{Packed, Parts, SiteCore};
-pub use world::{NotEnabled, World};
+pub use site::{Packed, Parts, Said, SiteCore};
+pub use world::{NotEnabled, Whereabouts, World};

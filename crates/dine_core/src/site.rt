@@ -1,6 +1,6 @@
 //! One site.
 
-ghost use Rattle.std.specs.Prelude.{◌≡◌, ◌≢◌, ℕ, ◌<◌, ◌==◌, Some, None, is_some, true, false, length, map, count_by, IfOk, MatchOption, MatchResult};
+ghost use Rattle.std.specs.Prelude.{◌≡◌, ◌≢◌, ℕ, ◌<◌, ◌==◌, Bool, Some, None, is_some, true, false, length, map, count_by, IfOk, MatchOption, MatchResult};
 ghost use Rattle.std.specs.List.{list_all};
 ghost use Rattle.dine_token.specs.Fork.{eaten, moved};
 ghost use Rattle.dine_set.specs.Marks.{marks_of};
@@ -13,10 +13,11 @@ ghost use Rattle.dine_rules.specs.Holdings.{fork_at, token_at};
 ghost use Rattle.dine_rules.specs.Steps as step;
 ghost use Rattle.dine_rules.specs.Steps.{after};
 ghost use Rattle.dine_core.specs.Core.{SeenCore, Refines, forks_in_hand, fresh_forks, fresh_tokens};
-ghost use Rattle.dine_core.specs.Places.{place_at, hand_of, is_held, is_away_at, is_dirty_at, can_give, can_ask, can_hunger, can_begin, can_say_done, can_close, is_ready_at, is_over_at, is_closed_at, neighbour_of, OnHere, has_all_said, has_all_closed, breach_at, hungered, asked, gave, begun, ended, said_done, closed, took, forks_of, tokens_of, IsMealOf};
+ghost use Rattle.dine_core.specs.Places.{place_at, hand_of, is_held, is_away_at, is_dirty_at, can_give, can_ask, can_hunger, can_quit, can_begin, next_act, can_say_done, can_close, drops_jobs, is_ready_at, is_over_at, is_closed_at, neighbour_of, OnHere, has_all_said, has_nothing_due, has_all_closed, breach_at, hungered, asked, gave, begun, ended, quitted, said_done, closed, took, forks_of, tokens_of, IsMealOf};
 ghost use Rattle.dine_core.specs.LinkNumbers.{link_to, link_from};
 ghost use Rattle.dine_core.specs.Standing.{ForEachState, IsFreshFor, TellsMay, CoreStep, CoreSteps, CorePuts, TellsBreach, AreForksInHand, AreTokensInHand, all_places, has_finished, has_closed};
 ghost use Rattle.dine_core.specs.Wants.{wants_by_lists};
+ghost use Rattle.dine_core.specs.private.Told.{said_at};
 
 mod marked;
 mod meals;
@@ -24,15 +25,17 @@ mod next;
 mod opening;
 mod packed;
 pub(crate) mod places;
+mod said;
 
 use dine_plan::Plan;
 pub use dine_rules::{Breach, Kind4, Letter, Phase};
 use dine_set::BitSet64;
-use dine_token::{Fork, Held, Meal, Token};
+use dine_token::{Act, Fork, Held, Meal, Token};
 use marked::MarkedPlaces;
 pub use opening::{fresh_forks, fresh_tokens};
 pub use packed::Packed;
 use places::ForkSlot;
+pub use said::Said;
 use std::alloc::{AllocError, Global};
 use std::marker::Model;
 use std::mem;
@@ -45,8 +48,14 @@ use std::mem;
 pub struct SiteCore {
     site: u32,
     due: u32,
+    // What each meal does to the values of the forks, the first one first.
+    acts: Vec<Act>,
+    resigns: bool,
     phase: Phase,
     ate: u32,
+    // The last meal failed, and the site resigns and has meals left.
+    must_quit: bool,
+    has_quit: bool,
     places: MarkedPlaces,
     alloc: Global,
     // Empty: the list that goes to a meal and comes back.
@@ -95,6 +104,7 @@ impl SiteCore {
         ensures fresh { IfOk result (IsFreshFor plan.now) }
     {
         let places = opening::places_of(alloc, plan, site, forks, tokens)?;
+        let acts = opening::acts_of(alloc, plan, site)?;
         let degree = places.len() as usize;
         let forks = Vec::with_capacity(alloc, degree)?;
         let tokens = Vec::with_capacity(alloc, degree)?;
@@ -102,8 +112,12 @@ impl SiteCore {
         Ok(SiteCore {
             site,
             due: plan.jobs(site),
+            acts,
+            resigns: plan.resigns(site),
             phase: Phase::Thinking,
             ate: 0,
+            must_quit: false,
+            has_quit: false,
             places,
             alloc,
             hands,
@@ -166,6 +180,20 @@ impl SiteCore {
         self.places.at(i).close_taken
     }
 
+    /// Which of Done and Close the site has put and taken at place `i`.
+    pub(crate) fn said(&self, i: u32) -> Said
+        requires { i < length self.now.places }
+        ensures { result ≡ said_at (place_at self.now i) }
+    {
+        let place = self.places.at(i);
+        Said {
+            done_put: place.done_put,
+            done_taken: place.done_taken,
+            close_put: place.close_put,
+            close_taken: place.close_taken,
+        }
+    }
+
     /// Whether Close is put at every place.
     pub fn is_closed(&self) -> bool
         ensures closed { result ≡ has_all_closed self.now }
@@ -174,12 +202,27 @@ impl SiteCore {
         self.places.are_all_closed()
     }
 
-    /// Whether the site has done all: it thinks, all its meals are eaten, and Done and Close are put and taken everywhere.
+    // Whether nothing is due to the site any more: it ate all its meals, or it has quit.
+    fn has_nothing_due(&self) -> bool
+        ensures { result ≡ has_nothing_due self.now }
+    {
+        self.ate == self.due || self.has_quit
+    }
+
+    // Whether the site drops the meals that it has left, after one that failed or did not.
+    fn drops_jobs(&self, failed: bool) -> bool
+        ensures { result ≡ drops_jobs failed self.now }
+    {
+        failed && self.resigns && self.ate < self.due
+    }
+
+    /// Whether the site has done all: it thinks, all its meals are eaten or it has quit, and Done and Close are put and
+    /// taken everywhere.
     pub fn is_finished(&self) -> bool
         ensures finished { result ≡ has_all_said self.now }
         ensures by_lists { ForEachState self.now (λ plan state. result ≡ has_finished plan self.now.site state) }
     {
-        self.phase == Phase::Thinking && self.ate == self.due && self.places.are_all_over()
+        self.phase == Phase::Thinking && self.has_nothing_due() && self.places.are_all_over()
     }
 
     /// The places where the fork is in hand and dirty, which is where a Request can have the site give it.
@@ -242,12 +285,20 @@ impl SiteCore {
         self.places.take_fork(i)
     }
 
-    /// Whether the site may grow hungry: it thinks, and has meals left.
+    /// Whether the site has to quit: it thinks, and its last meal failed, where it resigns and has meals left.
+    pub fn may_quit(&self) -> bool
+        ensures needs { result ≡ can_quit self.now }
+        ensures may { TellsMay self.now step.Quit result }
+    {
+        self.phase == Phase::Thinking && self.must_quit
+    }
+
+    /// Whether the site may grow hungry: it thinks, has meals left, and neither has to quit nor has quit.
     pub fn may_hungry(&self) -> bool
         ensures needs { result ≡ can_hunger self.now }
         ensures may { TellsMay self.now step.Hungry result }
     {
-        self.phase == Phase::Thinking && self.ate < self.due
+        self.phase == Phase::Thinking && self.ate < self.due && !self.must_quit && !self.has_quit
     }
 
     /// Whether the request rule lets the site ask for the fork of place `i`.
@@ -283,7 +334,7 @@ impl SiteCore {
     /// Whether a meal may end: the site eats.
     pub fn may_end(&self) -> bool
         ensures needs { result ≡ is_eating self.now.phase }
-        ensures may { TellsMay self.now step.End result }
+        ensures may { (failed : Bool) → TellsMay self.now (step.End failed) result }
     {
         self.phase == Phase::Eating
     }
@@ -295,7 +346,10 @@ impl SiteCore {
         ensures may { TellsMay self.now (step.Done i) result }
     {
         let place = self.places.at(i);
-        self.phase == Phase::Thinking && self.ate == self.due && !place.done_put && !place.close_put
+        self.phase == Phase::Thinking
+            && self.has_nothing_due()
+            && !place.done_put
+            && !place.close_put
     }
 
     /// Whether the site may close place `i` in order: both ends said that they are done.
@@ -306,6 +360,16 @@ impl SiteCore {
     {
         let place = self.places.at(i);
         place.done_put && place.done_taken && !place.close_put
+    }
+
+    /// Quits: the site drops the meals that it has left.
+    pub fn quit(&mut self)
+        requires { can_quit self.old ≡ true }
+        ensures quit { self.new ≡ quitted self.old }
+        ensures step { CoreSteps step.Quit self.old self.new }
+    {
+        self.must_quit = false;
+        self.has_quit = true;
     }
 
     /// Grows hungry.
@@ -340,32 +404,37 @@ impl SiteCore {
         self.places.give(i, site)
     }
 
-    /// Begins a meal with all forks, and writes it into each.
+    /// Begins a meal with all forks, and writes it into each: into the log, and by the job's act into the value.
+    #[inline(always)]
     pub fn begin(&mut self) -> Meal
         requires { can_begin self.old ≡ true }
         ensures core { self.new ≡ begun self.old }
         ensures meal { IsMealOf self.new result }
-        ensures forks { result.forks ≡ map (eaten self.new.site self.new.ate) (forks_of self.old.places) }
+        ensures forks { result.forks ≡ map (eaten self.new.site self.new.ate (next_act self.old)) (forks_of self.old.places) }
         ensures step { CoreSteps step.Begin self.old self.new }
         ensures in_hand { ForEachState self.old (λ plan state. result.forks ≡ forks_in_hand plan self.old.site (after plan self.old.site state step.Begin) (all_places state)) }
     {
+        let act = self.acts[self.ate as usize];
         self.phase = Phase::Eating;
         self.ate += 1;
         let mut hands = mem::replace(&mut self.hands, Vec::new(self.alloc));
         self.places.lift(self.site, &mut hands);
-        Meal::begin(self.site, self.ate, hands)
+        Meal::begin(self.site, self.ate, act, hands)
     }
 
-    /// Ends the meal that [`SiteCore::begin`] gave. The forks are back in hand.
-    pub fn end(&mut self, meal: Meal)
+    /// Ends the meal that [`SiteCore::begin`] gave, whose job failed or did not. The forks are back in hand. After a
+    /// meal that failed, a site that resigns has to quit, where it has meals left.
+    pub fn end(&mut self, meal: Meal, failed: bool)
         requires eating { is_eating self.old.phase ≡ true }
         requires meal { IsMealOf self.old meal }
-        ensures core { self.new ≡ ended meal.forks self.old }
-        ensures step { ForEachState self.old (λ plan state. meal.forks ≡ forks_in_hand plan self.old.site state (all_places state) → CoreStep plan state step.End self.old self.new) }
+        ensures core { self.new ≡ ended failed meal.forks self.old }
+        ensures step { ForEachState self.old (λ plan state. meal.forks ≡ forks_in_hand plan self.old.site state (all_places state) → CoreStep plan state (step.End failed) self.old self.new) }
     {
+        let must_quit = self.drops_jobs(failed);
         let mut hands = meal.end();
         self.places.lay_down(&mut hands);
         self.phase = Phase::Thinking;
+        self.must_quit = must_quit;
         mem::replace(&mut self.hands, hands).destroy_empty();
     }
 
@@ -441,8 +510,12 @@ impl SiteCore {
         let SiteCore {
             site: _,
             due: _,
+            acts: _,
+            resigns: _,
             phase: _,
             ate: _,
+            must_quit: _,
+            has_quit: _,
             places,
             alloc: _,
             hands,

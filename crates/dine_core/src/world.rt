@@ -8,10 +8,13 @@ mod enabled;
 mod first;
 mod forks;
 mod inboxes;
+mod letters;
 mod opening;
+mod outcomes;
 mod queue;
 mod schedules;
 mod sites;
+mod whereabouts;
 
 use crate::site::SiteCore;
 use dine_plan::Plan;
@@ -24,6 +27,7 @@ use sites::WorldSite;
 use std::alloc::{AllocError, Global};
 use std::marker::Model;
 use thiserror::Error;
+pub use whereabouts::Whereabouts;
 
 /// Where an edge is: its ends, the lower first, and its place at each.
 #[derive(Clone, Copy)]
@@ -72,18 +76,37 @@ impl World {
     ghost use Rattle.dine_rules.specs.Bound.{bound_of};
     ghost use Rattle.dine_rules.specs.World.{is_enabled, start, state_of};
     ghost use Rattle.dine_core.specs.Core.{Refines};
-    ghost use Rattle.dine_core.specs.Worlds.{ForEachWorld, WorldSteps, IsOpened, IsWorldOf, can_happen};
+    ghost use Rattle.dine_core.specs.Worlds.{AreOutcomesFor, ForEachWorld, WorldSteps, IsOpened, IsWorldOf, can_happen, lists_of};
+    ghost use Rattle.dine_rules.specs.Outcomes.{with_outcomes};
 
-    /// The world of the plan before its first event. It takes memory for all that comes, once, and fails where that is refused.
+    /// The world of the plan before its first event, where a meal fails as its job does. It takes memory for all that
+    /// comes, once, and fails where that is refused.
     pub fn open(alloc: Global, plan: &Plan) -> Result<World, AllocError>
         ensures { IfOk result (IsWorldOf plan.now (start plan.now)) }
+    {
+        let none: Vec<Vec<bool>> = Vec::new(alloc);
+        World::open_by(alloc, plan, none.as_slice())
+    }
+
+    /// The same with other outcomes of the meals. `fails` has a list for each site, with a value for each of its jobs:
+    /// whether its meal fails.
+    pub fn open_with(alloc: Global, plan: &Plan, fails: &[Vec<bool>]) -> Result<World, AllocError>
+        requires { AreOutcomesFor plan.now (lists_of fails.now) }
+        ensures { let other = with_outcomes plan.now (lists_of fails.now) in IfOk result (IsWorldOf other (start other)) }
+    {
+        World::open_by(alloc, plan, fails)
+    }
+
+    // The same, where a meal whose outcome is not in the lists fails as its job does.
+    fn open_by(alloc: Global, plan: &Plan, fails: &[Vec<bool>]) -> Result<World, AllocError>
+        ensures { let other = with_outcomes plan.now (lists_of fails.now) in IfOk result (IsWorldOf other (start other)) }
     {
         let edges = opening::ends_of(alloc, plan)?;
         let links = opening::links_of(alloc, plan)?;
         let forks = Vec::with_capacity(alloc, plan.edges() as usize)?;
         let nonempty_inboxes = opening::no_letters(alloc, plan)?;
         let counts = opening::no_counts(alloc, plan)?;
-        let sites = opening::sites_of(alloc, plan)?;
+        let sites = opening::sites_of(alloc, plan, fails)?;
         let bound = opening::bound_of(plan);
         Ok(World {
             sites,

@@ -3,6 +3,7 @@ ghost use Rattle.std.specs.Prelude.{◌<◌};
 ghost use Rattle.dine_plan.specs.Plan.{site_count};
 
 use dine_plan::{Plan, PlanFault, read_plan};
+use dine_token::Act;
 use std::alloc::{AllocError, Global};
 use std::fmt::Write;
 use std::test::Fail;
@@ -16,7 +17,7 @@ fn answer_to(alloc: Global, text: &str) -> Result<String, AllocError> {
 }
 
 // Each site with its jobs, and then the ends of each edge.
-fn in_short(alloc: Global, plan: &Plan) -> Result<String, AllocError> {
+pub(crate) fn in_short(alloc: Global, plan: &Plan) -> Result<String, AllocError> {
     let mut out = String::new(alloc);
     for site in 0..plan.sites() {
         out.push_str(plan.name(site))?;
@@ -88,7 +89,7 @@ fn reads_the_whole_plan(rt: HostRuntime) -> Result<(), Fail> {
     Ok(())
 }
 
-const FAULTS: [(PlanFault, u32, &str); 16] = [
+const FAULTS: [(PlanFault, u32, &str); 20] = [
     (PlanFault::NotToml, 1, "1 NotToml"),
     (PlanFault::Version, 2, "2 Version"),
     (PlanFault::UnknownKey, 3, "3 UnknownKey"),
@@ -109,6 +110,18 @@ const FAULTS: [(PlanFault, u32, &str); 16] = [
     (PlanFault::EdgeTwice(3), 14, "14 EdgeTwice at edge 3"),
     (PlanFault::TooManyEdges, 15, "15 TooManyEdges"),
     (PlanFault::Memory, 16, "16 Memory"),
+    (PlanFault::TwoActs(3), 17, "17 TwoActs at site 3"),
+    (PlanFault::ActTooLarge(3), 18, "18 ActTooLarge at site 3"),
+    (
+        PlanFault::ValueTooLarge(3),
+        19,
+        "19 ValueTooLarge at edge 3",
+    ),
+    (
+        PlanFault::UnknownPolicy(3),
+        20,
+        "20 UnknownPolicy at site 3",
+    ),
 ];
 
 #[test]
@@ -119,6 +132,55 @@ fn prints_each_fault_by_its_number(rt: HostRuntime) -> Result<(), Fail> {
         assert_eq!(rt; printed.as_str(), text);
         assert_eq!(rt; fault.number(), number);
     }
+    Ok(())
+}
+
+const SECOND: &str = r#"
+version = 2
+[[site]]
+name = "a"
+on_fault = "resign"
+jobs = [{ name = "x", add = 10 }, { name = "y", set = 0 }, { name = "z" }]
+[[site]]
+name = "b"
+on_fault = "go"
+[[edge]]
+ends = ["a", "b"]
+value = 1000000
+"#;
+
+// What version 2 of the format has beside version 1: each site that resigns is marked, and + or = stands before the amount of an act.
+pub(crate) fn second_in_short(alloc: Global, plan: &Plan) -> Result<String, AllocError> {
+    let mut out = format!(in alloc; "{}:", plan.version())?;
+    for site in 0..plan.sites() {
+        let mark = if plan.resigns(site) { "!" } else { "" };
+        write!(out, " {}{mark}", plan.name(site))?;
+        push_acts(&mut out, plan, site)?;
+    }
+    for edge in 0..plan.edges() {
+        write!(out, " {}", plan.value(edge))?;
+    }
+    Ok(out)
+}
+
+fn push_acts(out: &mut String, plan: &Plan, site: u32) -> Result<(), AllocError>
+    requires { site < site_count plan.now }
+{
+    for k in 0..plan.jobs(site) {
+        match plan.job(site, k + 1).act {
+            Act::Add(amount) => write!(out, " +{amount}")?,
+            Act::Set(amount) => write!(out, " ={amount}")?,
+        }
+    }
+    Ok(())
+}
+
+#[test]
+fn reads_values_acts_and_policies(rt: HostRuntime) -> Result<(), Fail> {
+    let alloc = rt.alloc();
+    let plan = read_plan(alloc, SECOND)?;
+    let found = second_in_short(alloc, &plan)?;
+    assert_eq!(rt; found.as_str(), "2: a! +10 =0 +0 b 1000000");
     Ok(())
 }
 

@@ -2,7 +2,7 @@
 use dine_core::site::{fresh_forks, fresh_tokens};
 use dine_core::{Breach, EventKind, Kind4, Letter, Packed, Parts, Phase, SiteCore};
 use dine_plan::{Plan, read_plan};
-use dine_token::{Entry, Fork, Token};
+use dine_token::{Act, Entry, Fork, Held, Meal, Token};
 use std::alloc::{AllocError, Global};
 use std::process::Abort;
 use std::test::Fail;
@@ -72,7 +72,7 @@ fn eat(rt: &impl Abort, core: &mut SiteCore) {
     assert!(rt; core.may_begin());
     assert!(rt; !core.may_end());
     let meal = core.begin();
-    core.end(meal);
+    core.end(meal, false);
 }
 
 fn say_done(rt: &impl Abort, core: &mut SiteCore) -> Letter {
@@ -270,7 +270,7 @@ fn request_past_the_last_meal_is_refused(rt: HostRuntime) {
 #[test]
 fn lower_site_refuses_a_fork_and_an_early_done(rt: HostRuntime) -> Result<(), Fail> {
     let plan = plan_of(&rt, rt.alloc(), JOB, JOB);
-    let fork = Fork::open(rt.alloc(), 0, 0, 1, 1, 1)?;
+    let fork = Fork::open(rt.alloc(), 0, 0, 1, 1, 1, 0)?;
     let mut a = core_of(&rt, rt.alloc(), &plan, 0);
     refuse(&rt, &mut a, Letter::Fork(fork), Breach::ForkOutOfTurn);
     refuse(&rt, &mut a, Letter::Done, Breach::DoneOutOfTurn);
@@ -297,9 +297,9 @@ fn fork_that_was_not_asked_for_is_refused(rt: HostRuntime) {
 #[test]
 fn fork_of_another_edge_is_refused(rt: HostRuntime) -> Result<(), Fail> {
     let plan = plan_of(&rt, rt.alloc(), JOB, JOB);
-    let other_edge = Fork::open(rt.alloc(), 7, 0, 1, 1, 1)?;
-    let other_ends = Fork::open(rt.alloc(), 0, 0, 2, 1, 1)?;
-    let unmoved = Fork::open(rt.alloc(), 0, 0, 1, 1, 1)?;
+    let other_edge = Fork::open(rt.alloc(), 7, 0, 1, 1, 1, 0)?;
+    let other_ends = Fork::open(rt.alloc(), 0, 0, 2, 1, 1, 0)?;
+    let unmoved = Fork::open(rt.alloc(), 0, 0, 1, 1, 1, 0)?;
     let mut a = core_of(&rt, rt.alloc(), &plan, 0);
     let mut b = core_of(&rt, rt.alloc(), &plan, 1);
     grow_hungry(&rt, &mut b);
@@ -463,7 +463,7 @@ fn close_before_done_was_taken_is_early(rt: HostRuntime) {
 #[test]
 fn nothing_comes_after_close(rt: HostRuntime) -> Result<(), Fail> {
     let plan = plan_of(&rt, rt.alloc(), THREE_JOBS, "");
-    let fork = Fork::open(rt.alloc(), 0, 0, 1, 3, 0)?;
+    let fork = Fork::open(rt.alloc(), 0, 0, 1, 3, 0, 0)?;
     let mut b = core_of(&rt, rt.alloc(), &plan, 1);
     let done = say_done(&rt, &mut b);
     assert_eq!(rt; done.kind(), Kind4::Done);
@@ -538,11 +538,83 @@ fn events_follow_the_phase(rt: HostRuntime) {
     assert!(rt; b.may_begin());
     let meal = b.begin();
     assert_eq!(rt; b.next_event(), Some(EventKind::End));
-    b.end(meal);
+    b.end(meal, false);
     assert_eq!(rt; b.next_event(), Some(EventKind::Done(0)));
     let left = spend(&rt, a);
     let parts = spend(&rt, b);
     assert_eq!(rt; (left.forks.len(), parts.forks.len()), (0, 1));
+}
+
+// The lower of two sites has three jobs, and its policy is this.
+fn policy_plan(rt: &impl Abort, alloc: Global, policy: &str) -> Plan {
+    let text = format!(in alloc;
+        "version = 2\n[[site]]\nname = \"a\"\non_fault = \"{policy}\"\njobs = [{THREE_JOBS}]\n[[site]]\nname = \"b\"\njobs = [{JOB}]\n[[edge]]\nends = [\"a\", \"b\"]\n"
+    ).expect(rt, "memory");
+    read_plan(alloc, text.as_str()).expect(rt, "a plan")
+}
+
+fn eat_with(rt: &impl Abort, core: &mut SiteCore, failed: bool) {
+    grow_hungry(rt, core);
+    assert!(rt; core.may_begin());
+    let meal = core.begin();
+    core.end(meal, failed);
+}
+
+// Only a meal that failed has a site quit, and then it grows hungry no more.
+#[test]
+fn site_that_resigns_quits_after_a_meal_that_failed(rt: HostRuntime) {
+    let plan = policy_plan(&rt, rt.alloc(), "resign");
+    let mut a = core_of(&rt, rt.alloc(), &plan, 0);
+    assert!(rt; !a.may_quit());
+    eat_with(&rt, &mut a, false);
+    assert!(rt; !a.may_quit() && a.may_hungry());
+    eat_with(&rt, &mut a, true);
+    assert!(rt; 0 < a.degree());
+    assert!(rt; !a.may_hungry() && !a.may_done(0));
+    assert_eq!(rt; a.next_event(), Some(EventKind::Quit));
+    assert!(rt; a.may_quit());
+    a.quit();
+    assert!(rt; !a.may_quit() && !a.may_hungry());
+    assert_eq!(rt; a.next_event(), Some(EventKind::Done(0)));
+    let _parts = spend(&rt, a);
+}
+
+// Neither the last meal, nor that of a site that goes on, has the site quit.
+#[test]
+fn no_site_quits_without_cause(rt: HostRuntime) {
+    for policy in ["resign", "go"] {
+        let plan = policy_plan(&rt, rt.alloc(), policy);
+        let mut a = core_of(&rt, rt.alloc(), &plan, 0);
+        eat_with(&rt, &mut a, policy == "go");
+        eat_with(&rt, &mut a, policy == "go");
+        eat_with(&rt, &mut a, true);
+        assert!(rt; !a.may_quit());
+        assert_eq!(rt; a.next_event(), Some(EventKind::Done(0)));
+        let _parts = spend(&rt, a);
+    }
+}
+
+// Where the sender resigns, it may say Done with a fork that lacks some of its meals.
+#[test]
+fn done_comes_before_all_meals_of_a_site_that_resigns(rt: HostRuntime) {
+    for policy in ["resign", "go"] {
+        let plan = policy_plan(&rt, rt.alloc(), policy);
+        let mut a = core_of(&rt, rt.alloc(), &plan, 0);
+        let mut b = core_of(&rt, rt.alloc(), &plan, 1);
+        grow_hungry(&rt, &mut b);
+        let request = ask(&rt, &mut b);
+        eat_with(&rt, &mut a, false);
+        take(&rt, &mut a, request);
+        let fork = give(&rt, &mut a);
+        take(&rt, &mut b, fork);
+        if policy == "resign" {
+            take(&rt, &mut b, Letter::Done);
+        } else {
+            refuse(&rt, &mut b, Letter::Done, Breach::DoneOutOfTurn);
+        }
+        let _parts = spend(&rt, a);
+        let _parts = spend(&rt, b);
+    }
 }
 
 // The first place where the fork is in hand and dirty, how many such places there are, and how many forks are missing.
@@ -678,4 +750,67 @@ fn breaches_have_the_numbers_one_to_six(rt: HostRuntime) {
     assert_eq!(&rt; Breach::StrangeFork.number(), 4);
     assert_eq!(&rt; Breach::DoneOutOfTurn.number(), 5);
     assert_eq!(&rt; Breach::ClosedEarly.number(), 6);
+}
+
+// Two sites with an edge of value 5 and a job each: that of `a` adds 10, and that of `b` does this.
+fn valued(rt: &impl Abort, alloc: Global, act: &str) -> Plan {
+    let text = format!(in alloc;
+        "version = 2\n[[site]]\nname = \"a\"\njobs = [{{ name = \"x\", add = 10 }}]\n[[site]]\nname = \"b\"\njobs = [{{ name = \"y\", {act} }}]\n\
+        [[edge]]\nends = [\"a\", \"b\"]\nvalue = 5\n"
+    )
+    .expect(rt, "memory");
+    read_plan(alloc, text.as_str()).expect(rt, "a plan")
+}
+
+// A fork of the edge that was opened with the value, with which `a` has eaten once without adding, and which went to `b`.
+fn foreign(rt: &impl Abort, alloc: Global, value: u64) -> Letter {
+    assert!(rt; value <= 1_000_000);
+    let fork = Fork::open(alloc, 0, 0, 1, 1, 1, value).expect(rt, "memory");
+    let mut hands = Vec::with_capacity(alloc, 1).expect(rt, "memory");
+    hands.push_reserved(Held::take(fork));
+    let mut hands = Meal::begin(0, 1, Act::Add(0), hands).end();
+    let Some(held) = hands.pop() else {
+        unreachable!();
+    };
+    hands.destroy_empty();
+    Letter::Fork(held.give(1))
+}
+
+// The value of the one fork that the site holds after a meal.
+fn value_after_meal(rt: &impl Abort, core: &mut SiteCore) -> u64 {
+    assert!(rt; core.may_begin());
+    let meal = core.begin();
+    assert!(rt; 0 < meal.len());
+    let value = meal.fork(0).value();
+    core.end(meal, false);
+    value
+}
+
+// A core takes a fork whatever its value, and its meal changes that value.
+#[test]
+fn meal_changes_the_value_that_came(rt: HostRuntime) {
+    for (act, value) in [("set = 7", 7), ("add = 3", 903)] {
+        let plan = valued(&rt, rt.alloc(), act);
+        let mut b = core_of(&rt, rt.alloc(), &plan, 1);
+        grow_hungry(&rt, &mut b);
+        let _request = ask(&rt, &mut b);
+        take(&rt, &mut b, foreign(&rt, rt.alloc(), 900));
+        assert_eq!(rt; value_after_meal(&rt, &mut b), value);
+        let parts = spend(&rt, b);
+        assert_eq!(rt; parts.forks.first().map(|fork| fork.value()), Some(value));
+    }
+}
+
+// The first meal of the lower site adds to the value of the plan, and what is given has that value.
+#[test]
+fn fork_that_is_given_has_the_value_in_hand(rt: HostRuntime) {
+    let plan = valued(&rt, rt.alloc(), "set = 7");
+    let mut a = core_of(&rt, rt.alloc(), &plan, 0);
+    grow_hungry(&rt, &mut a);
+    assert_eq!(rt; value_after_meal(&rt, &mut a), 15);
+    let Letter::Fork(fork) = fork_from(&rt, &mut a) else {
+        panic!(rt; "no fork");
+    };
+    assert_eq!(rt; fork.value(), 15);
+    let _parts = spend(&rt, a);
 }

@@ -1,35 +1,83 @@
+//! Worlds, and what their sites do in them, beside a model that keeps whole lists.
 mod graph;
 mod letters;
 mod model;
+mod outcomes;
+mod readers;
 mod side_by_side;
 
 use dine_core::{NotEnabled, World};
 use dine_plan::{Plan, read_plan};
 use dine_rules::{Event, EventKind, Phase};
-use dine_token::{Entry, Fork, Period};
+use dine_token::{Act, Entry, Fork, Period};
+use graph::{Graph, graph_of};
 use std::alloc::{AllocError, Global};
 use std::fmt::Write;
 use std::process::Abort;
 
-// The text of a plan with a site for each number of jobs, and of these edges.
-fn text_of(alloc: Global, jobs: &[u32], edges: &[(u32, u32)]) -> Result<String, AllocError> {
-    let mut text = String::from_str(alloc, "version = 1\n")?;
-    for (site, jobs) in jobs.iter().enumerate() {
-        write!(text, "[[site]]\nname = \"s{site}\"\njobs = [")?;
-        for job in 0..*jobs {
-            write!(text, "{{ name = \"j{job}\" }}, ")?;
+// What meal `k` of a site does: one in three sets the value of each edge, and the others add to it.
+fn act_of(site: u32, k: u32) -> Act {
+    let amount = u64::from(site)
+        .saturating_mul(10)
+        .saturating_add(u64::from(k));
+    if site.wrapping_add(k) % 3 == 0 {
+        Act::Set(amount)
+    } else {
+        Act::Add(amount)
+    }
+}
+
+// The value of an edge before the first meal.
+fn first_value(edge: u32) -> u64 {
+    u64::from(edge).saturating_mul(100)
+}
+
+// Adds the jobs of a site, with their acts, and those that fail.
+fn push_jobs(text: &mut String, graph: Graph, site: u32) -> Result<(), AllocError> {
+    for job in 0..graph.due_of(site) {
+        let k = job.saturating_add(1);
+        let fails = graph.fails(site, k);
+        write!(text, "{{ name = \"j{job}\", fails = {fails}, ")?;
+        match act_of(site, k) {
+            Act::Add(amount) => write!(text, "add = {amount} }}, ")?,
+            Act::Set(amount) => write!(text, "set = {amount} }}, ")?,
         }
+    }
+    Ok(())
+}
+
+// The text of a plan of version 2.
+fn text_of(alloc: Global, graph: Graph) -> Result<String, AllocError> {
+    let mut text = String::from_str(alloc, "version = 2\n")?;
+    for site in 0..graph.sites() {
+        let policy = if graph.resigns(site) { "resign" } else { "go" };
+        write!(
+            text,
+            "[[site]]\nname = \"s{site}\"\non_fault = \"{policy}\"\njobs = ["
+        )?;
+        push_jobs(&mut text, graph, site)?;
         text.push_str("]\n")?;
     }
-    for (lower, higher) in edges {
-        write!(text, "[[edge]]\nends = [\"s{lower}\", \"s{higher}\"]\n")?;
+    let mut edge = 0u32;
+    for (lower, higher) in graph.edges {
+        let value = first_value(edge);
+        write!(
+            text,
+            "[[edge]]\nends = [\"s{lower}\", \"s{higher}\"]\nvalue = {value}\n"
+        )?;
+        edge = edge.saturating_add(1);
     }
     Ok(text)
 }
 
-fn plan_with(rt: &impl Abort, alloc: Global, jobs: &[u32], edges: &[(u32, u32)]) -> Plan {
-    let text = text_of(alloc, jobs, edges).expect(rt, "memory");
+fn plan_by(rt: &impl Abort, alloc: Global, graph: Graph) -> Plan {
+    let text = text_of(alloc, graph).expect(rt, "memory");
     read_plan(alloc, text.as_str()).expect(rt, "a plan")
+}
+
+// The plan of a site for each number of jobs, none of which fails, and of these edges.
+fn plan_with(rt: &impl Abort, alloc: Global, jobs: &[u32], edges: &[(u32, u32)]) -> Plan {
+    plan_by(rt, alloc, graph_of(jobs, edges))
 }
 
 // The plan of so many sites, each with so many jobs, and of these edges.
@@ -310,6 +358,35 @@ fn site_alone_eats_all_its_jobs(rt: HostRuntime) {
     is_complete(&rt, &plan, &world);
     let forks = spend(&rt, &plan, world);
     assert_eq!(rt; forks.len(), 0);
+}
+
+// The second of the lower site's three jobs fails.
+const RESIGNING: Graph = Graph {
+    jobs: &[3, 1],
+    edges: &[(0, 1)],
+    failing: &[2, 0],
+    resigning: &[true, false],
+};
+
+#[test]
+fn site_that_resigns_drops_its_jobs_left(rt: HostRuntime) {
+    let plan = plan_by(&rt, rt.alloc(), RESIGNING);
+    let mut world = opened(&rt, rt.alloc(), &plan);
+    assert_eq!(rt; world.bound(), 36);
+    assert_eq!(rt; world.replay([0, 0, 0].as_slice()), 3);
+    refuse(&rt, &mut world, 0, EventKind::Quit);
+    assert_eq!(rt; world.replay([0, 0, 0].as_slice()), 3);
+    let (site, kind) = (0, EventKind::Quit);
+    assert_eq!(rt; world.enabled(0), Some(Event { site, kind }));
+    refuse(&rt, &mut world, 0, EventKind::Hungry);
+    refuse(&rt, &mut world, 0, EventKind::Done(0));
+    assert_eq!(rt; world.finish(), 16);
+    assert_eq!(rt; (world.ate(0), world.ate(1)), (Some(2), Some(1)));
+    let forks = spend(&rt, &plan, world);
+    let fork = forks.get(0).expect(&rt, "a fork");
+    assert_eq!(rt; fork.len(), 4);
+    assert_eq!(rt; entry_at(&rt, fork, 1), Entry::Meal { site: 0, k: 2 });
+    assert_eq!(rt; entry_at(&rt, fork, 2), Entry::Move { to: 1 });
 }
 
 #[test]

@@ -19,6 +19,7 @@ ghost use Rattle.std.specs.Prelude.{◌≡◌, List, Some, IfOk, length, slice_g
 ghost use Rattle.dine_plan.specs.Plan.{job_count, site_count};
 ghost use Rattle.dine_rules.specs.Journals.{IsWholeOrder};
 ghost use Rattle.dine_rules.specs.declared.events.EventKind.{EventKind};
+ghost use Rattle.dine_run.specs.Orders.{plan_shown};
 ghost use Rattle.dine_example.specs.Balances.{IsBooks};
 ghost use Rattle.dine_example.specs.Tellers.{AreFresh, HaveSent};
 
@@ -82,7 +83,7 @@ fn books_of(alloc: Global, plan: &Plan, outs: &[SiteOut<Teller>]) -> Result<Book
 
 // One order of the journals that the sites left.
 fn order_of(alloc: Global, plan: &Plan, outs: Vec<SiteOut<Teller>>) -> Result<Vec<Event>>
-    ensures { IfOk result (λ events. (journals : List (List EventKind)) × IsWholeOrder plan.now journals events.items) }
+    ensures { IfOk result (λ events. (journals : List (List EventKind)) × IsWholeOrder (plan_shown plan.now journals) journals events.items) }
 {
     let mut journals = Vec::new(alloc);
     for out in outs {
@@ -99,7 +100,7 @@ fn settle<R: Threads + Wait + Copy + Send + 'static>(
     plan: &Plan,
 ) -> Result<(Books, Vec<Event>)>
     ensures books { IfOk result (λ settled. IsBooks plan.now settled.0) }
-    ensures order { IfOk result (λ settled. (journals : List (List EventKind)) × IsWholeOrder plan.now journals settled.1.items) }
+    ensures order { IfOk result (λ settled. (journals : List (List EventKind)) × IsWholeOrder (plan_shown plan.now journals) journals settled.1.items) }
 {
     let tellers = open_tellers(alloc, plan)?;
     let Ok(gathered) = run::<ChannelLane, Teller, R>(rt, alloc, plan, tellers) else {

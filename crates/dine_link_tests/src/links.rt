@@ -8,7 +8,7 @@ mod waits;
 
 use dine_link::{ChannelLane, FaultLane, Lane, LinkFault, RingLane, TxEnd};
 use dine_rules::{Kind4, Letter};
-use dine_token::{Fork, Held, Meal, Token};
+use dine_token::{Act, Fork, Held, Meal, Token};
 use exchange::exchange;
 use std::alloc::{AllocError, Global};
 use std::process::Abort;
@@ -91,13 +91,13 @@ fn two_threads_pass_requests_in_order(rt: HostRuntime) -> Result<(), Fail> {
 
 // The fork of an edge, sent to its higher end after one meal at the lower, or after none.
 fn sent_fork(alloc: Global, edge: u32, is_eaten: bool) -> Result<Letter, AllocError> {
-    let fork = Fork::open(alloc, edge, 0, 1, 1, 1)?;
+    let fork = Fork::open(alloc, edge, 0, 1, 1, 1, 0)?;
     if !is_eaten {
         return Ok(Letter::Fork(Held::take(fork).give(1)));
     }
     let mut hands = Vec::with_capacity(alloc, 1)?;
     hands.push_reserved(Held::take(fork));
-    let mut hands = Meal::begin(0, 1, hands).end();
+    let mut hands = Meal::begin(0, 1, Act::Add(0), hands).end();
     let Some(held) = hands.pop() else {
         unreachable!();
     };

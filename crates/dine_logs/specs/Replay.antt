@@ -7,4 +7,4 @@ use Rattle.dine_logs.specs.Logs.{world_text}
 -- the text of the world in which the choices were done one after the other, and then the first enabled event again and
 -- again, until none was enabled
 abbrev pub replay_text : List ℕ → SeenPlan → List ℕ
-replay_text choices plan = world_text plan (whole_run plan choices).world (whole_run plan choices).events
+replay_text choices plan = world_text plan plan (whole_run plan choices).world (whole_run plan choices).events

@@ -1,13 +1,14 @@
 //! The text of a world.
 
-ghost use Rattle.std.specs.Prelude.{◌≡◌, ◌+◌, ◌≤◌, ◌∷◌, ◌++◌, codes, string_bytes, IfOk, OnOk};
+ghost use Rattle.std.specs.Prelude.{◌≡◌, ◌+◌, ◌≤◌, ◌∷◌, ◌++◌, Bool, List, codes, string_bytes, IfOk, OnOk};
 ghost use Rattle.dine_token.specs.declared.entry.Entry.TheVariants.{Move};
 ghost use Rattle.dine_token.specs.Periods.{meals_in};
 ghost use Rattle.std.specs.Fmt.{decimal};
 ghost use Rattle.dine_plan.specs.Plan.{name_of};
+ghost use Rattle.dine_core.specs.Outcomes.{with_outcomes};
 ghost use Rattle.dine_core.specs.World.{WorldState};
 ghost use Rattle.dine_core.specs.Worlds.{IsWorldOf, IsOpenedFor};
-ghost use Rattle.dine_logs.specs.Logs.{edge_line, edge_lines, entries_text, events_line, separator, world_text};
+ghost use Rattle.dine_logs.specs.Logs.{edge_line, edge_lines, entries_text, events_line, separator, value_text, world_text};
 ghost use Rattle.dine_logs.specs.private.MealTexts.{texts_of};
 
 use crate::logs::meal_texts::{MealTexts, push_meal, separator};
@@ -17,7 +18,9 @@ use dine_token::{Fork, Period};
 use std::alloc::{AllocError, Global};
 
 mod meal_texts;
-/// The text of the world, which was opened for the plan, after so many events: the log of each edge, and the last line.
+
+/// The text of the world, which was opened for the plan with its own outcomes or with others, after so many events: the log of each edge, in
+/// version 2 with its value, and the last line.
 pub fn world_text(
     alloc: Global,
     plan: &Plan,
@@ -25,7 +28,8 @@ pub fn world_text(
     events: u64,
 ) -> Result<Vec<u8>, AllocError>
     requires { IsOpenedFor plan.now world.now }
-    ensures { IfOk result (λ text. (state : WorldState) → IsWorldOf plan.now state world.now → text.items ≡ world_text plan.now state events) }
+    ensures { IfOk result (λ text. (fails : List (List Bool)) (state : WorldState) → IsWorldOf (with_outcomes plan.now fails) state world.now
+        → text.items ≡ world_text plan.now (with_outcomes plan.now fails) state events) }
 {
     let mut text = String::new(alloc);
     push_lines(&mut text, plan, &texts_of(alloc, plan)?, world)?;
@@ -42,8 +46,8 @@ fn push_lines(
 ) -> Result<(), AllocError>
     requires opened { IsOpenedFor plan.now world.now }
     requires texts { texts.now ≡ texts_of plan.now }
-    ensures { OnOk result ((state : WorldState) → IsWorldOf plan.now state world.now
-        → string_bytes text.new ≡ string_bytes text.old ++ edge_lines plan.now state) }
+    ensures { OnOk result ((fails : List (List Bool)) (state : WorldState) → IsWorldOf (with_outcomes plan.now fails) state world.now
+        → string_bytes text.new ≡ string_bytes text.old ++ edge_lines plan.now (with_outcomes plan.now fails) state) }
 {
     for edge in 0..plan.edges() {
         match world.fork(edge) {
@@ -170,7 +174,7 @@ fn push_edge_line(
     fork: &Fork,
 ) -> Result<(), AllocError>
     requires { texts.now ≡ texts_of plan.now }
-    ensures { OnOk result (string_bytes text.new ≡ string_bytes text.old ++ edge_line (name_of plan.now) fork.now.edge fork.now.ends fork.now.log) }
+    ensures { OnOk result (string_bytes text.new ≡ string_bytes text.old ++ edge_line (name_of plan.now) fork.now.edge fork.now.ends fork.now.log (value_text plan.now fork.now.value)) }
 {
     let edge = fork.edge();
     let (lower, higher) = fork.ends();
@@ -178,7 +182,19 @@ fn push_edge_line(
     let higher = name_of(plan, higher);
     write!(text, "edge {edge} {lower} {higher}:")?;
     push_entries(text, plan, texts, fork)?;
+    push_value(text, plan, fork)?;
     text.push_str("\n")
+}
+
+// Adds the value of the fork to the text, where the plan is of version 2.
+fn push_value(text: &mut String, plan: &Plan, fork: &Fork) -> Result<(), AllocError>
+    ensures { OnOk result (string_bytes text.new ≡ string_bytes text.old ++ value_text plan.now fork.now.value) }
+{
+    if plan.version() != 2 {
+        return Ok(());
+    }
+    let value = fork.value();
+    write!(text, " = {value}")
 }
 
 // Adds the last line to the text.

@@ -15,6 +15,8 @@ pub fn replay_text(alloc: Global, plan: &Plan, choices: &[u32]) -> Result<Vec<u8
     // That the two counts come to that of the whole run, and that it is small, are laws.
     laws::whole_runs_go_on_after_the_choices();
     laws::whole_runs_are_bounded();
+    // A world of the plan's own outcomes is one of its world.
+    laws::journals_stand_for_other_outcomes();
     let mut world = World::open(alloc, plan)?;
     let chosen = world.replay(choices);
     let finished = world.finish();

@@ -1,8 +1,8 @@
 -- The first refusal of a document is the first cause that holds of it.
-use Rattle.std.proofs.Common.{◌≡◌, ℕ, zero, suc, ◌+◌, ◌<◌, ◌≤◌, ◌==◌, Bool, true, false, ltb, List, [], ◌∷◌, ◌++◌, length, get_or, Option, Some, None, option_map, inl, inr, zero-add, eq-eqb, refl, sym, ap, subst, ◌∙◌, arith}
+use Rattle.std.proofs.Common.{◌≡◌, ℕ, zero, suc, ◌+◌, ◌<◌, ◌≤◌, ◌==◌, Bool, true, false, cond, ltb, List, [], ◌∷◌, ◌++◌, length, get_or, Option, Some, None, option_map, inl, inr, zero-add, eq-eqb, refl, sym, ap, subst, ◌∙◌, arith}
 use Rattle.std.specs.List.{position, position_or_len, range_with_len, slice_get}
 use Rattle.std.specs.Str.{bytes_eq}
-use Rattle.std.proofs.lemmas.Bool.{false≢true, cases_lt, lt-ltb, ltb-true, eqb-true}
+use Rattle.std.proofs.lemmas.Bool.{false≢true, cases_lt, lt-ltb, le-ltb, ltb-true, eqb-true}
 use Rattle.std.proofs.lemmas.Option.{same_Some}
 use Rattle.std.proofs.lemmas.List.Quantifiers.{position-Some}
 use Rattle.std.proofs.lemmas.List.Sums.{fails_before_first}
@@ -12,9 +12,9 @@ use Rattle.toml.specs.Data.{Data}
 use Rattle.dine_plan.specs.Document.{sites_in, edges_in}
 use Rattle.dine_plan.specs.Fault.{number_of_fault, position_of_fault}
 use Rattle.dine_plan.specs.Refuses.{no_table, PassesAt, Refuses, IsFirst, site_names, joined_pairs}
-use Rattle.dine_plan.specs.Refusals.{first_some, first_refusal, first_twice, stands_before, form_refusals, graph_refusals, site_refusals, end_refusals, pair_refusals, on, refuses_version, refuses_unknown_key, refuses_missing_key, refuses_wrong_kind, has_bad_name, has_many_jobs, has_many_turns, has_unknown_end, joined_by, is_loop, same_ends}
+use Rattle.dine_plan.specs.Refusals.{first_some, first_refusal, first_twice, stands_before, form_refusals, graph_refusals, site_refusals, end_refusals, pair_refusals, on, refuses_version, refuses_unknown_key, refuses_missing_key, refuses_wrong_kind, has_bad_name, has_many_jobs, has_many_turns, has_unknown_end, joined_by, is_loop, same_ends, act_refusals, has_two_acts, has_large_act, has_large_value, has_other_policy}
 use Rattle.dine_plan.specs.declared.faults.PlanFault.{PlanFault}
-use Rattle.dine_plan.specs.declared.faults.PlanFault.TheVariants.{NotToml, Version, UnknownKey, MissingKey, WrongKind, BadName, SiteTwice, NoSite, TooManySites, TooManyJobs, TurnsTooLarge, UnknownEnd, Loop, EdgeTwice, TooManyEdges, Memory}
+use Rattle.dine_plan.specs.declared.faults.PlanFault.TheVariants.{NotToml, Version, UnknownKey, MissingKey, WrongKind, BadName, SiteTwice, NoSite, TooManySites, TooManyJobs, TurnsTooLarge, UnknownEnd, Loop, EdgeTwice, TooManyEdges, TwoActs, ActTooLarge, ValueTooLarge, UnknownPolicy, Memory}
 
 none_before : {A : Type 0} (os : List (Option A)) (k : ℕ) → ((j : ℕ) → j < k → slice_get os j ≡ Some None) → (j : ℕ) → j < suc k → slice_get (None ∷ os) j ≡ Some None
 none_before os k h zero before = refl
@@ -33,6 +33,28 @@ nowhere [] k x h at = cc
 nowhere (None ∷ os) zero x h at = cc (same_Some _ _ at)
 nowhere (None ∷ os) (suc k) x h at = nowhere os k x h at
 nowhere (Some y ∷ os) k x h at = cc
+
+-- the number of the cause at a place of the list: that of want of memory, 16, stands for none there
+number_of_entry : ℕ → ℕ
+number_of_entry k = cond (ltb 13 k) (k + 3) (k + 2)
+
+early_number : (k : ℕ) → k ≤ 13 → number_of_entry k ≡ k + 2
+unfolding number_of_entry
+early_number k early = rw (le-ltb 13 k early) refl
+
+late_number : (k : ℕ) → 13 < k → number_of_entry k ≡ k + 3
+unfolding number_of_entry
+late_number k late = rw (lt-ltb 13 k late) refl
+
+later_number : (i j : ℕ) → i < j → number_of_entry i < number_of_entry j
+later_number i j before =
+    elim (cases_lt 13 i) [
+      | inl late ↦ omega (arith, late_number i late, late_number j (omega arith))
+      | inr early ↦ elim (cases_lt 13 j) [
+        | inl late ↦ omega (arith, early_number i early, late_number j late)
+        | inr same ↦ omega (arith, early_number i early, early_number j same)
+      ]
+    ]
 
 abbrev entries : Data → List (Option PlanFault)
 entries doc = form_refusals doc ++ graph_refusals (sites_in doc) (edges_in doc)
@@ -87,8 +109,8 @@ many_joined doc h =
     let same = length-map (edges_in doc) (joined_by (site_names doc)) in
     omega arith
 
-entry_holds : (doc : Data) (k : ℕ) (f : PlanFault) → slice_get (entries doc) k ≡ Some (Some f) → Describes doc (k + 2) f
-unfolding form_refusals graph_refusals site_refusals end_refusals pair_refusals
+entry_holds : (doc : Data) (k : ℕ) (f : PlanFault) → slice_get (entries doc) k ≡ Some (Some f) → Describes doc (number_of_entry k) f
+unfolding form_refusals graph_refusals site_refusals end_refusals pair_refusals act_refusals number_of_entry
 entry_holds doc zero f at = from_on doc Version f 2 (refuses_version doc) refl (λ h. h) (same_Some _ _ at)
 entry_holds doc (suc zero) f at = from_on doc UnknownKey f 3 (refuses_unknown_key doc) refl (λ h. h) (same_Some _ _ at)
 entry_holds doc (suc (suc zero)) f at = from_on doc MissingKey f 4 (refuses_missing_key doc) refl (λ h. h) (same_Some _ _ at)
@@ -103,11 +125,15 @@ entry_holds doc (suc (suc (suc (suc (suc (suc (suc (suc (suc (suc zero))))))))))
 entry_holds doc (suc (suc (suc (suc (suc (suc (suc (suc (suc (suc (suc zero))))))))))) f at = from_map doc Loop f 13 (position (is_loop (site_names doc)) (edges_in doc)) (λ _. refl) (passes_at (is_loop (site_names doc)) (edges_in doc)) (same_Some _ _ at)
 entry_holds doc (suc (suc (suc (suc (suc (suc (suc (suc (suc (suc (suc (suc zero)))))))))))) f at = from_map doc EdgeTwice f 14 (first_twice same_ends None (joined_pairs doc)) (λ _. refl) (twice_at same_ends None (joined_pairs doc)) (same_Some _ _ at)
 entry_holds doc (suc (suc (suc (suc (suc (suc (suc (suc (suc (suc (suc (suc (suc zero))))))))))))) f at = from_on doc TooManyEdges f 15 (ltb 512 (length (joined_pairs doc))) refl (λ h. many_edges doc (ltb-true 512 (length (joined_pairs doc)) h)) (same_Some _ _ at)
-entry_holds doc (suc (suc (suc (suc (suc (suc (suc (suc (suc (suc (suc (suc (suc (suc k)))))))))))))) f at = absurd (cc)
+entry_holds doc (suc (suc (suc (suc (suc (suc (suc (suc (suc (suc (suc (suc (suc (suc zero)))))))))))))) f at = from_map doc TwoActs f 17 (position has_two_acts (sites_in doc)) (λ _. refl) (passes_at has_two_acts (sites_in doc)) (same_Some _ _ at)
+entry_holds doc (suc (suc (suc (suc (suc (suc (suc (suc (suc (suc (suc (suc (suc (suc (suc zero))))))))))))))) f at = from_map doc ActTooLarge f 18 (position has_large_act (sites_in doc)) (λ _. refl) (passes_at has_large_act (sites_in doc)) (same_Some _ _ at)
+entry_holds doc (suc (suc (suc (suc (suc (suc (suc (suc (suc (suc (suc (suc (suc (suc (suc (suc zero)))))))))))))))) f at = from_map doc ValueTooLarge f 19 (position has_large_value (edges_in doc)) (λ _. refl) (passes_at has_large_value (edges_in doc)) (same_Some _ _ at)
+entry_holds doc (suc (suc (suc (suc (suc (suc (suc (suc (suc (suc (suc (suc (suc (suc (suc (suc (suc zero))))))))))))))))) f at = from_map doc UnknownPolicy f 20 (position has_other_policy (sites_in doc)) (λ _. refl) (passes_at has_other_policy (sites_in doc)) (same_Some _ _ at)
+entry_holds doc (suc (suc (suc (suc (suc (suc (suc (suc (suc (suc (suc (suc (suc (suc (suc (suc (suc (suc k)))))))))))))))))) f at = absurd (cc)
 
 -- the entry of a cause that holds
-entry_of : (doc : Data) (g : PlanFault) → Refuses doc g → (j : ℕ) × (h : PlanFault) × (number_of_fault g ≡ j + 2) × (slice_get (entries doc) j ≡ Some (Some h)) × (position_of_fault h ≤ position_of_fault g)
-unfolding form_refusals graph_refusals site_refusals end_refusals pair_refusals
+entry_of : (doc : Data) (g : PlanFault) → Refuses doc g → (j : ℕ) × (h : PlanFault) × (number_of_fault g ≡ number_of_entry j) × (slice_get (entries doc) j ≡ Some (Some h)) × (position_of_fault h ≤ position_of_fault g)
+unfolding form_refusals graph_refusals site_refusals end_refusals pair_refusals act_refusals number_of_entry
 entry_of doc NotToml holds = absurd holds
 entry_of doc Version holds =
     (0, Version, refl, ap (λ b. Some (on b Version)) holds, omega arith)
@@ -137,6 +163,14 @@ entry_of doc (EdgeTwice place) holds =
     let found = twice_least same_ends None (joined_pairs doc) place holds.0 holds.1 in (12, EdgeTwice found.0, refl, ap (λ o. Some (option_map EdgeTwice o)) found.1, found.2)
 entry_of doc TooManyEdges holds =
     (13, TooManyEdges, refl, ap (λ b. Some (on b TooManyEdges)) (lt-ltb 512 (length (joined_pairs doc)) (many_joined doc holds)), omega arith)
+entry_of doc (TwoActs place) holds =
+    let found = least has_two_acts (sites_in doc) place no_table holds.0 holds.1 in (14, TwoActs found.0, refl, ap (λ o. Some (option_map TwoActs o)) found.1, found.2)
+entry_of doc (ActTooLarge place) holds =
+    let found = least has_large_act (sites_in doc) place no_table holds.0 holds.1 in (15, ActTooLarge found.0, refl, ap (λ o. Some (option_map ActTooLarge o)) found.1, found.2)
+entry_of doc (ValueTooLarge place) holds =
+    let found = least has_large_value (edges_in doc) place no_table holds.0 holds.1 in (16, ValueTooLarge found.0, refl, ap (λ o. Some (option_map ValueTooLarge o)) found.1, found.2)
+entry_of doc (UnknownPolicy place) holds =
+    let found = least has_other_policy (sites_in doc) place no_table holds.0 holds.1 in (17, UnknownPolicy found.0, refl, ap (λ o. Some (option_map UnknownPolicy o)) found.1, found.2)
 entry_of doc Memory holds = absurd holds
 
 same_entry : (os : List (Option PlanFault)) (f h : PlanFault) (k j : ℕ) → j ≡ k → slice_get os k ≡ Some (Some f) → slice_get os j ≡ Some (Some h) → h ≡ f
@@ -156,12 +190,13 @@ is_first doc f h =
       first = λ g refuses.
           let entry = entry_of doc g refuses in
           elim (cases_lt at.0 entry.0) [
-            | inl earlier ↦ inl (omega (arith, is.0, entry.2))
+            | inl earlier ↦ inl (omega (arith, is.0, entry.2, later_number at.0 entry.0 earlier))
             | inr no_later ↦ elim (cases_lt entry.0 at.0) [
               | inl before ↦ absurd (not_none (entries doc) entry.1 entry.0 (at.2 entry.0 before) entry.3)
               | inr reached ↦
                   let same : entry.1 ≡ f = same_entry (entries doc) f entry.1 at.0 entry.0 (omega arith) at.1 entry.3 in
-                  inr (omega (arith, is.0, entry.2), subst (λ (x : PlanFault). position_of_fault x ≤ position_of_fault g) same entry.4)
+                  let there : at.0 ≡ entry.0 = omega arith in
+                  inr (is.0 ∙ ap number_of_entry there ∙ sym entry.2, subst (λ (x : PlanFault). position_of_fault x ≤ position_of_fault g) same entry.4)
             ]
           ];
     }

@@ -1,17 +1,18 @@
 -- What is not refused is a plan.
-use Rattle.std.proofs.Common.{◌≡◌, ◌≢◌, ℕ, ◌-◌, ◌<◌, ◌≤◌, ◌==◌, nat_lt, Bool, true, false, min, max, List, [], ◌++◌, map, length, get_or, Option, Some, None, option_map, refl, sym, ap, subst, ◌∙◌, arith}
+use Rattle.std.proofs.Common.{◌≡◌, ◌≢◌, ℕ, ◌-◌, ◌<◌, ◌≤◌, ◌==◌, nat_lt, Bool, true, false, cond, codes, min, max, List, [], ◌++◌, map, length, get_or, Option, Some, None, option_map, refl, sym, ap, subst, ◌∙◌, arith}
 use Rattle.std.specs.List.{position}
 use Rattle.std.specs.Option.{option_or}
 use Rattle.std.specs.Str.{bytes_eq}
 use Rattle.std.proofs.lemmas.Bool.{false≢true, ltb-false, eqb-false, eq-eqb, or_parts, not-false}
 use Rattle.std.proofs.lemmas.List.{get_or-map, ext_get_or, length-map}
 use Rattle.std.proofs.lemmas.Slice.Eq.{bytes_eq-Decides}
-use Rattle.toml.specs.Data.{Data, Members, boolean, table}
-use Rattle.toml.specs.Parse.{parse_document}
+use Rattle.toml.specs.Data.{Data, boolean}
 use Rattle.dine_plan.specs.Plan.{SeenSite, IsPlan, no_site, no_job, is_name}
-use Rattle.dine_plan.specs.Document.{sites_in, edges_in, jobs_in, name_in, turns_in, end_in}
-use Rattle.dine_plan.specs.PlanOf.{job_in, site_in, ends_in, number_of, plan_in}
-use Rattle.dine_plan.specs.Refusals.{first_some, first_refusal, fault_of, first_fault, graph_refusals, form_refusals, on, site_refusals, end_refusals, pair_refusals, first_twice, same_ends, has_bad_name, has_many_jobs, has_many_turns, is_unnamed, is_unknown, has_unknown_end, joined_by, is_loop}
+use Rattle.dine_token.specs.declared.act.Act.TheVariants.{Add, Set}
+use Rattle.dine_token.specs.Values.{amount_of}
+use Rattle.dine_plan.specs.Document.{is_second, version_in, sites_in, edges_in, jobs_in, name_in, has_key, turns_in, act_in, value_in, end_in}
+use Rattle.dine_plan.specs.PlanOf.{job_in, site_in, ends_in, number_of, plan_in, plan_of_document}
+use Rattle.dine_plan.specs.Refusals.{first_some, first_refusal, graph_refusals, form_refusals, on, site_refusals, end_refusals, pair_refusals, first_twice, same_ends, has_bad_name, has_many_jobs, has_many_turns, is_unnamed, is_unknown, has_unknown_end, joined_by, is_loop, act_refusals, has_large_act, has_large_value, is_large}
 use Rattle.dine_plan.specs.declared.faults.PlanFault.{PlanFault}
 use Rattle.dine_plan.proofs.ListLemmas.{position_none_at, list_any_false_at, position_within, first_twice_none_apart, first_some-append}
 
@@ -78,6 +79,19 @@ are_pairs pairs h =
     let b = option_or_none _ _ a.1 in
     record { apart = option_map_none _ _ a.0; few = on_none _ _ b.0 }
 
+-- what holds of acts and values that are not refused
+pub record AreActs (sites edges : List Data) : Type 0 where
+  pub small_acts : position has_large_act sites ≡ None
+  pub small_values : position has_large_value edges ≡ None
+
+pub are_acts : (sites edges : List Data) → first_some (act_refusals sites edges) ≡ None → AreActs sites edges
+unfolding act_refusals
+are_acts sites edges h =
+    let a = option_or_none _ _ h in
+    let b = option_or_none _ _ a.1 in
+    let c = option_or_none _ _ b.1 in
+    record { small_acts = option_map_none _ _ b.0; small_values = option_map_none _ _ c.0 }
+
 -- what stands past the end of a list of data
 no_data : Data
 no_data = boolean false
@@ -101,6 +115,22 @@ turns-job_in : (job : Data) → (job_in job).turns ≡ turns_in job
 unfolding job_in
 turns-job_in job = refl
 
+-- either act has its amount
+small_either : (sets : Bool) (set add : ℕ) → set ≤ 1000000 → add ≤ 1000000 → amount_of (cond sets (Set set) (Add add)) ≤ 1000000
+small_either true set add small_set small_add = small_set
+small_either false set add small_set small_add = small_add
+
+act-job_in : (job : Data) → (job_in job).act ≡ act_in job
+unfolding job_in
+act-job_in job = refl
+
+-- the amount of a job that adds and sets at most 1,000,000
+small_act : (job : Data) → is_large job ≡ false → amount_of (act_in job) ≤ 1000000
+unfolding act_in
+small_act job h =
+    let parts = or_parts _ _ h in
+    small_either (has_key (codes "set") job) _ _ (ltb-false 1000000 _ parts.1) (ltb-false 1000000 _ parts.0)
+
 name-job_in : (job : Data) → (job_in job).name ≡ name_in job
 unfolding job_in
 name-job_in job = refl
@@ -118,6 +148,19 @@ site_few_turns site k h low high =
     let within : k - 1 < length jobs = omega arith in
     rw (jobs-site_in site, job_at jobs (k - 1) within, turns-job_in (get_or jobs (k - 1) no_data))
     (ltb-false 1000000 _ (list_any_false_at large jobs (k - 1) no_data h within))
+
+site_small_acts : (site : Data) (k : ℕ) → has_large_act site ≡ false → 1 ≤ k → k ≤ length (site_in site).jobs → amount_of (get_or (site_in site).jobs (k - 1) no_job).act ≤ 1000000
+unfolding has_large_act
+site_small_acts site k h low high =
+    let jobs = jobs_in site in
+    let count : length (site_in site).jobs ≡ length jobs = rw (jobs-site_in site) (length-map jobs job_in) in
+    let within : k - 1 < length jobs = omega arith in
+    rw (jobs-site_in site, job_at jobs (k - 1) within, act-job_in (get_or jobs (k - 1) no_data))
+    (small_act _ (list_any_false_at is_large jobs (k - 1) no_data h within))
+
+small_value : (edge : Data) → has_large_value edge ≡ false → value_in edge ≤ 1000000
+unfolding has_large_value
+small_value edge h = ltb-false 1000000 (value_in edge) h
 
 site_named : (site : Data) → has_bad_name site ≡ false → is_name (site_in site).name ≡ true
 unfolding has_bad_name
@@ -198,8 +241,8 @@ pairs_apart pairs e f apart before within same =
     false≢true (sym (rw (get_or-map Some pairs e (0, 0) None (omega arith), get_or-map Some pairs f (0, 0) None within) at (first_twice_none_apart same_ends None (map Some pairs) e f apart before (omega arith))) ∙ same_pair _ _ same)
 
 -- sites, ends and pairs that are not refused make a plan
-pub is_plan : (sites edges : List Data) → AreSites sites → AreEnds (map name_in sites) edges → ArePairs (map (joined_by (map name_in sites)) edges) → IsPlan (plan_in sites edges)
-is_plan sites edges are ends pairs =
+pub is_plan : (version : ℕ) (sites edges : List Data) → 1 ≤ version → version ≤ 2 → AreSites sites → AreEnds (map name_in sites) edges → ArePairs (map (joined_by (map name_in sites)) edges) → AreActs sites edges → IsPlan (plan_in version sites edges)
+is_plan version sites edges first_version last_version are ends pairs acts =
     let names = map name_in sites in
     let count : length (map site_in sites) ≡ length sites = length-map sites site_in in
     let named : length names ≡ length sites = length-map sites name_in in
@@ -211,6 +254,8 @@ is_plan sites edges are ends pairs =
     let joined : length (map (joined_by names) edges) ≡ length edges = length-map edges (joined_by names) in
     let in_sites : (s : ℕ) → s < length (map site_in sites) → s < length sites = λ s h. omega arith in
     record {
+      first_version = first_version;
+      last_version = last_version;
       has_site = omega arith;
       few_sites = omega arith;
       few_edges = omega arith;
@@ -221,6 +266,10 @@ is_plan sites edges are ends pairs =
           let within = in_sites s h in
           subst (λ (x : SeenSite). (get_or x.jobs (k - 1) no_job).turns ≤ 1000000) (sym (site_at sites s within))
           (site_few_turns _ k (position_none_at has_many_turns sites s no_data are.few_turns within) low (subst (λ (x : SeenSite). k ≤ length x.jobs) (site_at sites s within) high));
+      small_acts = λ s k h low high.
+          let within = in_sites s h in
+          subst (λ (x : SeenSite). amount_of (get_or x.jobs (k - 1) no_job).act ≤ 1000000) (sym (site_at sites s within))
+          (site_small_acts _ k (position_none_at has_large_act sites s no_data acts.small_acts within) low (subst (λ (x : SeenSite). k ≤ length x.jobs) (site_at sites s within) high));
       named = λ s h.
           let within = in_sites s h in
           subst (λ (x : SeenSite). is_name x.name ≡ true) (sym (site_at sites s within)) (site_named _ (position_none_at has_bad_name sites s no_data are.named within));
@@ -237,19 +286,38 @@ is_plan sites edges are ends pairs =
           let below = ends_within names _ (position_none_at (has_unknown_end names) edges e no_data ends.known within) in
           subst (λ (x : ℕ × ℕ). x.1 < length (map site_in sites)) (sym (at e within)) (omega arith);
       edges_differ = λ e f before h. pairs_apart _ e f (rw (join_known names edges ends.known) at pairs.apart) before h;
+      valued = length-map edges value_in ∙ sym edge_count;
+      small_values = λ e h.
+          let within : e < length edges = omega arith in
+          subst (λ (v : ℕ). v ≤ 1000000) (sym (get_or-map value_in edges e no_data 0 within)) (small_value _ (position_none_at has_large_value edges e no_data acts.small_values within));
     }
 
--- the first refusal of sites and edges is the first of the three groups that has one
-pub first_of_graph : (sites edges : List Data) → first_some (graph_refusals sites edges) ≡ option_or (first_some (site_refusals sites)) (option_or (first_some (end_refusals (map name_in sites) edges)) (first_some (pair_refusals (map (joined_by (map name_in sites)) edges))))
+-- the first refusal of sites and edges is the first of the four groups that has one
+pub first_of_graph : (sites edges : List Data) → first_some (graph_refusals sites edges)
+    ≡ option_or (first_some (site_refusals sites)) (option_or (first_some (end_refusals (map name_in sites) edges)) (option_or (first_some (pair_refusals (map (joined_by (map name_in sites)) edges))) (first_some (act_refusals sites edges))))
 unfolding graph_refusals
 first_of_graph sites edges =
     let names = map name_in sites in
-    first_some-append (site_refusals sites) (end_refusals names edges ++ pair_refusals (map (joined_by names) edges))
-    ∙ ap (option_or (first_some (site_refusals sites))) (first_some-append (end_refusals names edges) (pair_refusals (map (joined_by names) edges)))
+    let pairs = pair_refusals (map (joined_by names) edges) in
+    let acts = act_refusals sites edges in
+    first_some-append (site_refusals sites) (end_refusals names edges ++ (pairs ++ acts))
+    ∙ ap (option_or (first_some (site_refusals sites)))
+    (first_some-append (end_refusals names edges) (pairs ++ acts) ∙ ap (option_or (first_some (end_refusals names edges))) (first_some-append pairs acts))
 
 pub first_of_document : (doc : Data) → first_refusal doc ≡ option_or (first_some (form_refusals doc)) (first_some (graph_refusals (sites_in doc) (edges_in doc)))
 unfolding first_refusal
 first_of_document doc = first_some-append (form_refusals doc) (graph_refusals (sites_in doc) (edges_in doc))
 
-pub first_of_text : (text : List ℕ) (doc : Members) (d : Data) → parse_document text ≡ Some doc → d ≡ table doc → first_fault text ≡ option_or (first_some (form_refusals d)) (first_some (graph_refusals (sites_in d) (edges_in d)))
-first_of_text text doc d parsed same = ap fault_of parsed ∙ ap first_refusal (sym same) ∙ first_of_document d
+version_bounds : (b : Bool) → (1 ≤ cond b 2 1) × (cond b 2 1 ≤ 2)
+version_bounds true = (omega arith, omega arith)
+version_bounds false = (omega arith, omega arith)
+
+-- a document that is not refused has a plan
+pub plan_of_fine : (doc : Data) → first_refusal doc ≡ None → IsPlan (plan_of_document doc)
+plan_of_fine doc fine =
+    let graph = (option_or_none _ _ (sym (first_of_document doc) ∙ fine)).1 in
+    let sites = option_or_none _ _ (sym (first_of_graph (sites_in doc) (edges_in doc)) ∙ graph) in
+    let ends = option_or_none _ _ sites.1 in
+    let pairs = option_or_none _ _ ends.1 in
+    let bounds = version_bounds (is_second doc) in
+    is_plan (version_in doc) (sites_in doc) (edges_in doc) bounds.0 bounds.1 (are_sites _ sites.0) (are_ends _ _ ends.0) (are_pairs _ pairs.0) (are_acts _ _ pairs.1)

@@ -5,3 +5,8 @@ pub mod ListLemmas
 pub mod PlaceLemmas
 pub mod GraphLemmas
 pub mod FirstLemmas
+pub mod TableLemmas
+pub mod DraftLemmas
+pub mod DepthLemmas
+pub mod ToldLemmas
+pub mod MetLemmas

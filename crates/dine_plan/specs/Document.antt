@@ -1,7 +1,10 @@
 -- A plan text as data: the arrays of tables in it, and the values at their keys.
-use Rattle.std.specs.Prelude.{ℕ, ℤ, pos, negsuc, Bool, false, List, [], ◌∷◌, option_and_then, unwrap_or, codes}
+use Rattle.std.specs.Prelude.{ℕ, ◌==◌, ℤ, pos, negsuc, Bool, false, List, [], ◌∷◌, is_some, option_and_then, unwrap_or, codes, if◌then◌else◌}
 use Rattle.std.specs.Option.{option_map_or}
+use Rattle.std.specs.Str.{bytes_eq}
 use Rattle.toml.specs.Data.{Data, Items, no_items, item, Members, no_members, member, get, at, as_str, as_integer, as_bool, as_array, as_table}
+use Rattle.dine_token.specs.declared.act.Act.{Act}
+use Rattle.dine_token.specs.declared.act.Act.TheVariants.{Add, Set}
 
 -- the items of an array, in order
 abbrev pub list_of : Items → List Data
@@ -50,9 +53,41 @@ abbrev pub natural : ℤ → ℕ
 natural (pos n) = n
 natural (negsuc n) = 0
 
+-- the whole number at a key; 0 where none stands there, or one below it
+unfoldable pub number_at : List ℕ → Data → ℕ
+number_at key d = option_map_or natural (option_and_then as_integer (get key d)) 0
+
+-- something stands at the key
+unfoldable pub has_key : List ℕ → Data → Bool
+has_key key d = is_some (get key d)
+
+-- the document is of version 2 of the format
+abbrev pub is_second : Data → Bool
+is_second doc = number_at (codes "version") doc == 2
+
+-- the version of a document that is not refused, 1 or 2
+abbrev pub version_in : Data → ℕ
+version_in doc = if is_second doc then 2 else 1
+
 -- the turns of a job, 0 where it names none
-unfoldable pub turns_in : Data → ℕ
-turns_in job = option_map_or natural (option_and_then as_integer (get (codes "turns") job)) 0
+abbrev pub turns_in : Data → ℕ
+turns_in = number_at (codes "turns")
+
+-- what a meal of a job does to a value: what it sets, or else what it adds, 0 where it names neither
+unfoldable pub act_in : Data → Act
+act_in job = if has_key (codes "set") job then Set (number_at (codes "set") job) else Add (number_at (codes "add") job)
+
+-- the value of an edge, 0 where it names none
+abbrev pub value_in : Data → ℕ
+value_in = number_at (codes "value")
+
+-- what a site says of a failed job, empty where it says nothing
+abbrev pub policy_in : Data → List ℕ
+policy_in = text_at (codes "on_fault")
+
+-- whether a site drops the jobs that it has left once one failed, which it doesn't where it says nothing
+unfoldable pub resigns_in : Data → Bool
+resigns_in site = bytes_eq (policy_in site) (codes "resign")
 
 -- whether a job fails, which it doesn't where it says nothing
 unfoldable pub fails_in : Data → Bool

@@ -5,4 +5,4 @@ use Rattle.dine_plan.specs.declared.plans.Job.{Job}
 
 -- the job that the fields of a `Job` stand for
 abbrev pub seen_job : Job → SeenJob
-seen_job job = record { name = string_bytes job.name; turns = job.turns; fails = job.fails }
+seen_job job = record { name = string_bytes job.name; turns = job.turns; fails = job.fails; act = job.act }

@@ -5,4 +5,7 @@ pub mod Fault
 pub mod Refusals
 pub mod Refuses
 pub mod PlanOf
+pub mod Draft
+pub mod DraftPlan
+pub mod DraftDocument
 pub mod private

@@ -1,31 +1,38 @@
 -- What a plan is: sites with their jobs, and edges between two sites, each list in the order of the plan text.
-use Rattle.std.specs.Prelude.{◌≢◌, ℕ, ◌-◌, ◌<◌, ◌≤◌, Bool, false, ◌&&◌, ◌||◌, ◌==◌, nat_le, IsTrue, List, [], length, filter, slice_index_or, if◌then◌else◌}
+use Rattle.std.specs.Prelude.{◌≡◌, ◌≢◌, ℕ, ◌-◌, ◌<◌, ◌≤◌, Bool, false, ◌&&◌, ◌||◌, ◌==◌, nat_le, IsTrue, List, [], length, map, filter, slice_index_or, if◌then◌else◌}
 use Rattle.std.specs.Char.{is_ascii_alphanumeric}
 use Rattle.std.specs.List.{range_with_len, list_all}
+use Rattle.dine_token.specs.declared.act.Act.{Act}
+use Rattle.dine_token.specs.declared.act.Act.TheVariants.{Add}
+use Rattle.dine_token.specs.Values.{IsAct}
 
--- a job: its name, 1 to 32 bytes, its turns, at most 1,000,000, and whether it fails
+-- a job: its name, 1 to 32 bytes, its turns, at most 1,000,000, whether it fails, and what its meal does to the value of each edge
 pub record SeenJob : Type 0 where
   pub name : List ℕ
   pub turns : ℕ
   pub fails : Bool
+  pub act : Act
 
--- a site: its name, and at most 1,000 jobs
+-- a site: its name, at most 1,000 jobs, and whether it drops those that it has left once one failed
 pub record SeenSite : Type 0 where
   pub name : List ℕ
   pub jobs : List SeenJob
+  pub resigns : Bool
 
--- a plan: 1 to 64 sites, and at most 512 edges, each with its lower and its higher end, numbered from 0
+-- a plan: the version of its format, 1 to 64 sites, and at most 512 edges, each with its lower and its higher end and a value, numbered from 0
 pub record SeenPlan : Type 0 where
+  pub version : ℕ
   pub sites : List SeenSite
   pub edges : List (ℕ × ℕ)
+  pub values : List ℕ
 
 -- the job that stands past the end of a list; no clause asks for it
 abbrev pub no_job : SeenJob
-no_job = record { name = []; turns = 0; fails = false }
+no_job = record { name = []; turns = 0; fails = false; act = Add 0 }
 
 -- the site past the end of the list; no clause asks for it
 abbrev pub no_site : SeenSite
-no_site = record { name = []; jobs = [] }
+no_site = record { name = []; jobs = []; resigns = false }
 
 -- how many sites the plan has
 abbrev pub site_count : SeenPlan → ℕ
@@ -50,6 +57,22 @@ job_count p s = length (jobs_of p s)
 -- job k of a site, k from 1
 abbrev pub job_of : SeenPlan → ℕ → ℕ → SeenJob
 job_of p s k = slice_index_or (jobs_of p s) (k - 1) no_job
+
+-- what meal k of a site does to the value of each edge, k from 1
+abbrev pub act_of : SeenPlan → ℕ → ℕ → Act
+act_of p s k = (job_of p s k).act
+
+-- the acts of a site's meals, in order
+abbrev pub acts_of : SeenPlan → ℕ → List Act
+acts_of p s = map (λ (job : SeenJob). job.act) (jobs_of p s)
+
+-- whether a site drops the jobs that it has left once one failed
+abbrev pub resigns : SeenPlan → ℕ → Bool
+resigns p s = (slice_index_or p.sites s no_site).resigns
+
+-- the value of an edge before the first meal
+abbrev pub value_of : SeenPlan → ℕ → ℕ
+value_of p e = slice_index_or p.values e 0
 
 -- the two ends of an edge, the lower first
 abbrev pub ends_of : SeenPlan → ℕ → ℕ × ℕ
@@ -93,14 +116,19 @@ is_name bytes = nat_le 1 (length bytes) && nat_le (length bytes) 32 && list_all 
 
 -- What holds of every plan: its limits, names that differ among sites, and edges between two sites, no two of them the same.
 pub record IsPlan (p : SeenPlan) : Type 0 where
+  pub first_version : 1 ≤ p.version
+  pub last_version : p.version ≤ 2
   pub has_site : 1 ≤ site_count p
   pub few_sites : site_count p ≤ 64
   pub few_edges : edge_count p ≤ 512
   pub few_jobs : (s : ℕ) → s < site_count p → job_count p s ≤ 1000
   pub few_turns : (s k : ℕ) → s < site_count p → 1 ≤ k → k ≤ job_count p s → (job_of p s k).turns ≤ 1000000
+  pub small_acts : (s k : ℕ) → s < site_count p → 1 ≤ k → k ≤ job_count p s → IsAct (job_of p s k).act
   pub named : (s : ℕ) → s < site_count p → IsTrue (is_name (name_of p s))
   pub jobs_named : (s k : ℕ) → s < site_count p → 1 ≤ k → k ≤ job_count p s → IsTrue (is_name (job_of p s k).name)
   pub names_differ : (s t : ℕ) → s < t → t < site_count p → name_of p s ≢ name_of p t
   pub ordered : (e : ℕ) → e < edge_count p → lo_of p e < hi_of p e
   pub within : (e : ℕ) → e < edge_count p → hi_of p e < site_count p
   pub edges_differ : (e f : ℕ) → e < f → f < edge_count p → ends_of p e ≢ ends_of p f
+  pub valued : length p.values ≡ edge_count p
+  pub small_values : (e : ℕ) → e < edge_count p → value_of p e ≤ 1000000

@@ -6,7 +6,7 @@ use Rattle.std.specs.Str.{bytes_eq}
 use Rattle.toml.specs.Data.{Data, table, Members, get, as_str, as_integer, as_bool, as_array, as_table}
 use Rattle.toml.specs.Parse.{parse_document}
 use Rattle.dine_plan.specs.Plan.{is_name}
-use Rattle.dine_plan.specs.Document.{items_in, keys_in, sites_in, edges_in, jobs_in, name_in, turns_in, end_in}
+use Rattle.dine_plan.specs.Document.{items_in, keys_in, sites_in, edges_in, jobs_in, name_in, number_at, has_key, is_second, turns_in, value_in, policy_in, end_in}
 use Rattle.dine_plan.specs.PlanOf.{ends_in}
 use Rattle.dine_plan.specs.declared.faults.PlanFault.{PlanFault}
 use Rattle.dine_plan.specs.declared.faults.PlanFault.TheVariants as fault
@@ -28,18 +28,18 @@ abbrev pub is_natural : ℤ → Bool
 is_natural (pos n) = true
 is_natural (negsuc n) = false
 
--- the number is 1
-abbrev pub is_one : ℤ → Bool
-is_one (pos n) = n == 1
-is_one (negsuc n) = false
+-- the number is 1 or 2
+abbrev pub is_one_or_two : ℤ → Bool
+is_one_or_two (pos n) = (n == 1) || (n == 2)
+is_one_or_two (negsuc n) = false
 
 -- the value is a whole number that is not below 0
 abbrev pub is_whole : Data → Bool
 is_whole d = option_map_or is_natural (as_integer d) false
 
--- the value is the whole number 1
+-- the value is the whole number 1 or 2
 abbrev pub is_version : Data → Bool
-is_version d = option_map_or is_one (as_integer d) false
+is_version d = option_map_or is_one_or_two (as_integer d) false
 
 -- the value is an array whose items are tables
 unfoldable pub is_tables : Data → Bool
@@ -53,17 +53,20 @@ is_two_texts d = (length (items_in d) == 2) && list_all is_text (items_in d)
 abbrev pub document_keys : List (List ℕ)
 document_keys = codes "version" ∷ codes "site" ∷ codes "edge" ∷ []
 
--- the keys that the format names for a site
-abbrev pub site_keys : List (List ℕ)
-site_keys = codes "name" ∷ codes "jobs" ∷ []
+-- the keys that the format names for a site, in version 2 or in version 1
+abbrev pub site_keys : Bool → List (List ℕ)
+site_keys true = codes "name" ∷ codes "jobs" ∷ codes "on_fault" ∷ []
+site_keys false = codes "name" ∷ codes "jobs" ∷ []
 
--- the keys that the format names for a job
-abbrev pub job_keys : List (List ℕ)
-job_keys = codes "name" ∷ codes "turns" ∷ codes "fails" ∷ []
+-- the keys that the format names for a job, in version 2 or in version 1
+abbrev pub job_keys : Bool → List (List ℕ)
+job_keys true = codes "name" ∷ codes "turns" ∷ codes "fails" ∷ codes "add" ∷ codes "set" ∷ []
+job_keys false = codes "name" ∷ codes "turns" ∷ codes "fails" ∷ []
 
--- the keys that the format names for an edge
-abbrev pub edge_keys : List (List ℕ)
-edge_keys = codes "ends" ∷ []
+-- the keys that the format names for an edge, in version 2 or in version 1
+abbrev pub edge_keys : Bool → List (List ℕ)
+edge_keys true = codes "ends" ∷ codes "value" ∷ []
+edge_keys false = codes "ends" ∷ []
 
 -- the table has a key that is none of these
 unfoldable pub has_other_key : List (List ℕ) → Data → Bool
@@ -85,17 +88,18 @@ stands_before same none xs i = list_any (same (slice_index_or xs i none)) (take 
 abbrev pub first_twice : {A : Type 0} → (A → A → Bool) → A → List A → Option ℕ
 first_twice same none xs = position (stands_before same none xs) (range_with_len 0 (length xs))
 
--- cause 2: `version` is absent or is not the whole number 1
+-- cause 2: `version` is absent or is not the whole number 1 or 2
 unfoldable pub refuses_version : Data → Bool
 refuses_version doc = not (option_map_or is_version (get (codes "version") doc) false)
 
--- a site or one of its jobs has a key that the format does not name for it
-unfoldable pub site_has_other_key : Data → Bool
-site_has_other_key site = has_other_key site_keys site || list_any (has_other_key job_keys) (jobs_in site)
+-- a site or one of its jobs has a key that the format does not name for it, in version 2 or in version 1
+unfoldable pub site_has_other_key : Bool → Data → Bool
+site_has_other_key second site = has_other_key (site_keys second) site || list_any (has_other_key (job_keys second)) (jobs_in site)
 
--- cause 3: the document, a site, a job or an edge has a key that the format does not name for it
+-- cause 3: the document, a site, a job or an edge has a key that the format does not name for it in the document's version
 unfoldable pub refuses_unknown_key : Data → Bool
-refuses_unknown_key doc = has_other_key document_keys doc || list_any site_has_other_key (sites_in doc) || list_any (has_other_key edge_keys) (edges_in doc)
+refuses_unknown_key doc =
+    has_other_key document_keys doc || list_any (site_has_other_key (is_second doc)) (sites_in doc) || list_any (has_other_key (edge_keys (is_second doc))) (edges_in doc)
 
 -- a site or one of its jobs has no name
 unfoldable pub site_lacks_key : Data → Bool
@@ -107,15 +111,15 @@ refuses_missing_key doc = list_any site_lacks_key (sites_in doc) || list_any (la
 
 -- a value of a job is of another kind than the format names for its key
 unfoldable pub job_is_wrong : Data → Bool
-job_is_wrong job = is_wrong is_text (codes "name") job || is_wrong is_whole (codes "turns") job || is_wrong is_truth (codes "fails") job
+job_is_wrong job = is_wrong is_text (codes "name") job || is_wrong is_whole (codes "turns") job || is_wrong is_truth (codes "fails") job || is_wrong is_whole (codes "add") job || is_wrong is_whole (codes "set") job
 
 -- a value of a site or of one of its jobs is of another kind than the format names for its key
 unfoldable pub site_is_wrong : Data → Bool
-site_is_wrong site = is_wrong is_text (codes "name") site || is_wrong is_tables (codes "jobs") site || list_any job_is_wrong (jobs_in site)
+site_is_wrong site = is_wrong is_text (codes "name") site || is_wrong is_text (codes "on_fault") site || is_wrong is_tables (codes "jobs") site || list_any job_is_wrong (jobs_in site)
 
--- the ends of an edge are not two texts
+-- a value of an edge is of another kind than the format names for its key
 unfoldable pub edge_is_wrong : Data → Bool
-edge_is_wrong edge = is_wrong is_two_texts (codes "ends") edge
+edge_is_wrong edge = is_wrong is_two_texts (codes "ends") edge || is_wrong is_whole (codes "value") edge
 
 -- cause 5: a value is of another kind than the format names for its key
 unfoldable pub refuses_wrong_kind : Data → Bool
@@ -162,6 +166,30 @@ abbrev pub same_ends : Option (ℕ × ℕ) → Option (ℕ × ℕ) → Bool
 same_ends (Some a) (Some b) = (a.0 == b.0) && (a.1 == b.1)
 same_ends _ _ = false
 
+-- the job both adds and sets
+abbrev pub has_both : Data → Bool
+has_both job = has_key (codes "add") job && has_key (codes "set") job
+
+-- cause 17: a job of the site both adds and sets
+unfoldable pub has_two_acts : Data → Bool
+has_two_acts site = list_any has_both (jobs_in site)
+
+-- the job adds or sets more than 1,000,000
+abbrev pub is_large : Data → Bool
+is_large job = nat_lt 1000000 (number_at (codes "add") job) || nat_lt 1000000 (number_at (codes "set") job)
+
+-- cause 18: a job of the site adds or sets more than 1,000,000
+unfoldable pub has_large_act : Data → Bool
+has_large_act site = list_any is_large (jobs_in site)
+
+-- cause 19: the edge has a value above 1,000,000
+unfoldable pub has_large_value : Data → Bool
+has_large_value edge = nat_lt 1000000 (value_in edge)
+
+-- cause 20: what the site says of a failed job is neither "go" nor "resign"
+unfoldable pub has_other_policy : Data → Bool
+has_other_policy site = has_key (codes "on_fault") site && not (bytes_eq (policy_in site) (codes "go") || bytes_eq (policy_in site) (codes "resign"))
+
 -- the fault where the test holds
 abbrev pub on : Bool → PlanFault → Option PlanFault
 on holds fault = if holds then Some fault else None
@@ -200,6 +228,15 @@ pair_refusals pairs =
     ∷ on (nat_lt 512 (length pairs)) fault.TooManyEdges
     ∷ []
 
+-- causes 17 to 20, in what meals do to values and failed jobs to sites, each at the least position, in order
+unfoldable pub act_refusals : List Data → List Data → List (Option PlanFault)
+act_refusals sites edges =
+    option_map fault.TwoActs (position has_two_acts sites)
+    ∷ option_map fault.ActTooLarge (position has_large_act sites)
+    ∷ option_map fault.ValueTooLarge (position has_large_value edges)
+    ∷ option_map fault.UnknownPolicy (position has_other_policy sites)
+    ∷ []
+
 -- the first of the list that is there
 abbrev pub first_some : {A : Type 0} → List (Option A) → Option A
 first_some [] = None
@@ -209,7 +246,7 @@ first_some (o ∷ os) = option_or o (first_some os)
 unfoldable pub graph_refusals : List Data → List Data → List (Option PlanFault)
 graph_refusals sites edges =
     let names = map name_in sites in
-    site_refusals sites ++ (end_refusals names edges ++ pair_refusals (map (joined_by names) edges))
+    site_refusals sites ++ (end_refusals names edges ++ (pair_refusals (map (joined_by names) edges) ++ act_refusals sites edges))
 
 -- the first refusal of a document that holds, at the least position
 unfoldable pub first_refusal : Data → Option PlanFault

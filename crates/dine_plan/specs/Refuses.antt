@@ -5,9 +5,9 @@ use Rattle.std.specs.Str.{bytes_eq}
 use Rattle.toml.specs.Data.{Data, table, no_members}
 use Rattle.dine_plan.specs.Document.{sites_in, edges_in, name_in}
 use Rattle.dine_plan.specs.Fault.{number_of_fault, position_of_fault}
-use Rattle.dine_plan.specs.Refusals.{refuses_version, refuses_unknown_key, refuses_missing_key, refuses_wrong_kind, has_bad_name, has_many_jobs, has_many_turns, has_unknown_end, joined_by, is_loop, same_ends, stands_before}
+use Rattle.dine_plan.specs.Refusals.{refuses_version, refuses_unknown_key, refuses_missing_key, refuses_wrong_kind, has_bad_name, has_many_jobs, has_many_turns, has_unknown_end, joined_by, is_loop, same_ends, stands_before, has_two_acts, has_large_act, has_large_value, has_other_policy}
 use Rattle.dine_plan.specs.declared.faults.PlanFault.{PlanFault}
-use Rattle.dine_plan.specs.declared.faults.PlanFault.TheVariants.{NotToml, Version, UnknownKey, MissingKey, WrongKind, BadName, SiteTwice, NoSite, TooManySites, TooManyJobs, TurnsTooLarge, UnknownEnd, Loop, EdgeTwice, TooManyEdges, Memory}
+use Rattle.dine_plan.specs.declared.faults.PlanFault.TheVariants.{NotToml, Version, UnknownKey, MissingKey, WrongKind, BadName, SiteTwice, NoSite, TooManySites, TooManyJobs, TurnsTooLarge, UnknownEnd, Loop, EdgeTwice, TooManyEdges, TwoActs, ActTooLarge, ValueTooLarge, UnknownPolicy, Memory}
 
 -- the table that stands past the end of a list
 abbrev pub no_table : Data
@@ -42,6 +42,10 @@ Refuses doc (UnknownEnd edge) = PassesAt (has_unknown_end (site_names doc)) (edg
 Refuses doc (Loop edge) = PassesAt (is_loop (site_names doc)) (edges_in doc) edge
 Refuses doc (EdgeTwice edge) = (edge < length (joined_pairs doc)) × IsTrue (stands_before same_ends None (joined_pairs doc) edge)
 Refuses doc TooManyEdges = 512 < length (edges_in doc)
+Refuses doc (TwoActs site) = PassesAt has_two_acts (sites_in doc) site
+Refuses doc (ActTooLarge site) = PassesAt has_large_act (sites_in doc) site
+Refuses doc (ValueTooLarge edge) = PassesAt has_large_value (edges_in doc) edge
+Refuses doc (UnknownPolicy site) = PassesAt has_other_policy (sites_in doc) site
 Refuses doc Memory = ⊥
 
 -- f is an earlier cause in the list than g, or the same cause at no greater position

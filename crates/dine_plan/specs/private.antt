@@ -1,3 +1,5 @@
 -- What no public contract names: how values are kept, and what private functions promise one another.
 pub mod Fields
 pub mod Site
+pub mod DraftFields
+pub mod Tables

@@ -5,27 +5,41 @@ ghost use Rattle.toml.specs.View.{view};
 ghost use Rattle.dine_plan.specs.Plan.{IsPlan};
 ghost use Rattle.dine_plan.specs.Job.{seen_job};
 ghost use Rattle.dine_plan.specs.private.Site.{seen_site};
-ghost use Rattle.dine_plan.specs.Document.{turns_in};
+ghost use Rattle.dine_plan.specs.Document.{turns_in, value_in};
 ghost use Rattle.dine_plan.specs.PlanOf.{job_in, site_in};
 ghost use Rattle.dine_plan.specs.Refusals.{has_many_turns};
 
-use crate::documents::{fails_in, items_at, text_at, turns_in};
+use crate::documents::{act_in, fails_in, items_at, number_at, resigns_in, text_at};
 use crate::plans::{Job, Plan, Site};
 use std::alloc::{AllocError, Global};
 use toml::Value;
 
-/// The plan of these site tables, whose edges join these pairs of sites.
+/// The plan of this version, these site tables and these edge tables, which join these pairs of sites.
 pub(crate) fn build(
     alloc: Global,
+    version: u32,
     sites: &[Value],
+    edges: &[Value],
     pairs: Vec<(u32, u32)>,
 ) -> Result<Plan, AllocError>
     requires turns { position has_many_turns (map view sites.now) ≡ None }
-    requires plan { IsPlan (record { sites = map site_in (map view sites.now); edges = pairs.items }) }
-    ensures { IfOk result (λ p. p ≡ record { sites = map site_in (map view sites.now); edges = pairs.items }) }
+    requires plan { IsPlan (record { version = version; sites = map site_in (map view sites.now); edges = pairs.items; values = map value_in (map view edges.now) }) }
+    ensures { IfOk result (λ p. p ≡ record { version = version; sites = map site_in (map view sites.now); edges = pairs.items; values = map value_in (map view edges.now) }) }
 {
     let sites = sites_in(alloc, sites)?;
-    Plan::new(alloc, sites, pairs)
+    let values = values_in(alloc, edges)?;
+    Plan::new(alloc, version, sites, pairs, values)
+}
+
+// The values of the edges, in order.
+fn values_in(alloc: Global, edges: &[Value]) -> Result<Vec<u64>, AllocError>
+    ensures { IfOk result (λ v. v.items ≡ map value_in (map view edges.now)) }
+{
+    let mut values = Vec::new(alloc);
+    for edge in edges {
+        values.push(number_at(edge, "value"))?;
+    }
+    Ok(values)
 }
 
 fn sites_in(alloc: Global, tables: &[Value]) -> Result<Vec<Site>, AllocError>
@@ -45,7 +59,12 @@ fn site_in(alloc: Global, site: &Value) -> Result<Site, AllocError>
 {
     let jobs = jobs_in(alloc, items_at(site, "jobs"))?;
     let name = String::from_str(alloc, text_at(site, "name"))?;
-    Ok(Site { name, jobs })
+    let resigns = resigns_in(site);
+    Ok(Site {
+        name,
+        jobs,
+        resigns,
+    })
 }
 
 fn jobs_in(alloc: Global, tables: &[Value]) -> Result<Vec<Job>, AllocError>
@@ -67,7 +86,8 @@ fn job_in(alloc: Global, job: &Value) -> Result<Job, AllocError>
     let name = String::from_str(alloc, text_at(job, "name"))?;
     Ok(Job {
         name,
-        turns: turns_in(job) as u32,
+        turns: number_at(job, "turns") as u32,
         fails: fails_in(job),
+        act: act_in(job),
     })
 }

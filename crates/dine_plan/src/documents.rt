@@ -1,10 +1,11 @@
 //! What stands at the keys of a table.
-ghost use Rattle.std.specs.Prelude.{◌≡◌, false, [], map, unwrap_or};
+ghost use Rattle.std.specs.Prelude.{◌≡◌, ◌≤◌, codes, false, [], map, unwrap_or};
 ghost use Rattle.std.specs.Option.{option_map_or};
 ghost use Rattle.toml.specs.View.{view};
 ghost use Rattle.toml.specs.Data.{as_str, as_integer, as_bool};
-ghost use Rattle.dine_plan.specs.Document.{items_at, items_in, text_at, natural, turns_in, fails_in, end_in};
+ghost use Rattle.dine_plan.specs.Document.{act_in, end_in, fails_in, has_key, is_second, items_at, items_in, natural, number_at, resigns_in, text_at, version_in};
 
+use dine_token::Act;
 use toml::Value;
 
 /// The items of the array at a key; none where no array stands there.
@@ -49,12 +50,20 @@ fn text_in(value: &Value) -> &str
     }
 }
 
-/// The turns of a job, 0 where it names none.
-#[tactic(auto, unfolding(crate::specs::Document::turns_in))]
-pub(crate) fn turns_in(job: &Value) -> u64
-    ensures { result ≡ turns_in (view job.now) }
+/// Whether something stands at a key.
+#[tactic(auto, unfolding(crate::specs::Document::has_key))]
+pub(crate) fn has_key(table: &Value, key: &str) -> bool
+    ensures { result ≡ has_key key.now (view table.now) }
 {
-    match job.get("turns") {
+    table.get(key).is_some()
+}
+
+/// The whole number at a key; 0 where none stands there, or one below it.
+#[tactic(auto, unfolding(crate::specs::Document::number_at))]
+pub(crate) fn number_at(table: &Value, key: &str) -> u64
+    ensures { result ≡ number_at key.now (view table.now) }
+{
+    match table.get(key) {
         Some(value) => natural_in(value),
         None => 0,
     }
@@ -68,6 +77,42 @@ fn natural_in(value: &Value) -> u64
         Some(number) if number >= 0 => number as u64,
         _ => 0,
     }
+}
+
+/// Whether a document is of version 2 of the format.
+pub(crate) fn is_second(document: &Value) -> bool
+    ensures { result ≡ is_second (view document.now) }
+{
+    number_at(document, "version") == 2
+}
+
+/// The version of a document that is not refused, 1 or 2.
+pub(crate) fn version_in(document: &Value) -> u32
+    ensures is { result ≡ version_in (view document.now) }
+    ensures first { 1 ≤ result }
+    ensures last { result ≤ 2 }
+{
+    if is_second(document) { 2 } else { 1 }
+}
+
+/// What a meal of a job does to a value: what it sets, or else what it adds, 0 where it names neither.
+#[tactic(auto, unfolding(crate::specs::Document::act_in))]
+pub(crate) fn act_in(job: &Value) -> Act
+    ensures { result ≡ act_in (view job.now) }
+{
+    if has_key(job, "set") {
+        Act::Set(number_at(job, "set"))
+    } else {
+        Act::Add(number_at(job, "add"))
+    }
+}
+
+/// Whether a site drops the jobs that it has left once one failed, which it does not where it says nothing.
+#[tactic(auto, unfolding(crate::specs::Document::resigns_in))]
+pub(crate) fn resigns_in(site: &Value) -> bool
+    ensures { result ≡ resigns_in (view site.now) }
+{
+    text_at(site, "on_fault") == "resign"
 }
 
 /// Whether a job fails, which it does not where it says nothing.

@@ -13,9 +13,9 @@ use std::fmt;
 pub enum PlanFault {
     /// The text is no TOML.
     NotToml,
-    /// `version` is absent or is not the whole number 1.
+    /// `version` is absent or is not the whole number 1 or 2.
     Version,
-    /// The document, a site, a job or an edge has a key that the format does not name for it.
+    /// The document, a site, a job or an edge has a key that its version of the format does not name for it.
     UnknownKey,
     /// A site or a job has no `name`, or an edge no `ends`.
     MissingKey,
@@ -41,12 +41,20 @@ pub enum PlanFault {
     EdgeTwice(usize),
     /// There are more than 512 edges.
     TooManyEdges,
+    /// A job of this site both adds and sets.
+    TwoActs(usize),
+    /// A job of this site adds or sets more than 1,000,000.
+    ActTooLarge(usize),
+    /// The value of this edge is above 1,000,000.
+    ValueTooLarge(usize),
+    /// What this site says of a failed job is neither `go` nor `resign`.
+    UnknownPolicy(usize),
     /// Memory ran out.
     Memory,
 }
 
 impl PlanFault {
-    /// The number of the cause, 1 to 16, in the order in which the causes are looked for.
+    /// The number of the cause, 1 to 20, in the order in which the causes are looked for. `Memory`, which comes at any point, is 16.
     pub fn number(&self) -> u32
         ensures { result ≡ number_of_fault self.now }
     {
@@ -67,6 +75,10 @@ impl PlanFault {
             PlanFault::EdgeTwice(_) => 14,
             PlanFault::TooManyEdges => 15,
             PlanFault::Memory => 16,
+            PlanFault::TwoActs(_) => 17,
+            PlanFault::ActTooLarge(_) => 18,
+            PlanFault::ValueTooLarge(_) => 19,
+            PlanFault::UnknownPolicy(_) => 20,
         }
     }
 
@@ -89,6 +101,10 @@ impl PlanFault {
             PlanFault::EdgeTwice(_) => "14 EdgeTwice at edge",
             PlanFault::TooManyEdges => "15 TooManyEdges",
             PlanFault::Memory => "16 Memory",
+            PlanFault::TwoActs(_) => "17 TwoActs at site",
+            PlanFault::ActTooLarge(_) => "18 ActTooLarge at site",
+            PlanFault::ValueTooLarge(_) => "19 ValueTooLarge at edge",
+            PlanFault::UnknownPolicy(_) => "20 UnknownPolicy at site",
         }
     }
 
@@ -101,7 +117,11 @@ impl PlanFault {
             | PlanFault::TurnsTooLarge(at)
             | PlanFault::UnknownEnd(at)
             | PlanFault::Loop(at)
-            | PlanFault::EdgeTwice(at) => Some(*at),
+            | PlanFault::EdgeTwice(at)
+            | PlanFault::TwoActs(at)
+            | PlanFault::ActTooLarge(at)
+            | PlanFault::ValueTooLarge(at)
+            | PlanFault::UnknownPolicy(at) => Some(*at),
             _ => None,
         }
     }

@@ -5,7 +5,7 @@ ghost use Rattle.std.specs.Str.{bytes_eq};
 ghost use Rattle.toml.specs.View.{view};
 ghost use Rattle.dine_plan.specs.Refusals.{document_keys, site_keys, job_keys, edge_keys, has_other_key, lacks_key, is_wrong, is_version, is_text, is_truth, is_whole, is_tables, is_two_texts, refuses_version, site_has_other_key, refuses_unknown_key, site_lacks_key, refuses_missing_key, job_is_wrong, site_is_wrong, edge_is_wrong, refuses_wrong_kind, first_some, form_refusals};
 
-use crate::documents::{items_at, items_in};
+use crate::documents::{is_second, items_at, items_in};
 use crate::faults::PlanFault;
 use toml::Value;
 
@@ -29,7 +29,7 @@ pub(crate) fn first_form_fault(document: &Value) -> Option<PlanFault>
     None
 }
 
-// Whether `version` is absent or is not the whole number 1.
+// Whether `version` is absent or is not the whole number 1 or 2.
 #[tactic(auto, unfolding(crate::specs::Refusals::refuses_version))]
 fn has_other_version(document: &Value) -> bool
     ensures { result ≡ refuses_version (view document.now) }
@@ -44,7 +44,7 @@ fn is_version(value: &Value) -> bool
     ensures { result ≡ is_version (view value.now) }
 {
     match value.as_integer() {
-        Some(number) => number == 1,
+        Some(number) => number == 1 || number == 2,
         None => false,
     }
 }
@@ -53,26 +53,59 @@ fn is_version(value: &Value) -> bool
 fn has_unknown_key(document: &Value) -> bool
     ensures { result ≡ refuses_unknown_key (view document.now) }
 {
+    let second = is_second(document);
     let sites = items_at(document, "site");
     let edges = items_at(document, "edge");
     if has_other_key(document, &["version", "site", "edge"]) {
         return true;
     }
-    if sites.iter().any(|site| site_has_other_key(site)) {
+    if sites.iter().any(|site| site_has_other_key(second, site)) {
         return true;
     }
-    edges.iter().any(|edge| has_other_key(edge, &["ends"]))
+    edges.iter().any(|edge| has_other_edge_key(second, edge))
 }
 
-fn site_has_other_key(site: &Value) -> bool
-    ensures { result ≡ site_has_other_key (view site.now) }
+fn site_has_other_key(second: bool, site: &Value) -> bool
+    ensures { result ≡ site_has_other_key second (view site.now) }
 {
     let jobs = items_at(site, "jobs");
-    if has_other_key(site, &["name", "jobs"]) {
+    if has_other_site_key(second, site) {
         return true;
     }
-    jobs.iter()
-        .any(|job| has_other_key(job, &["name", "turns", "fails"]))
+    jobs.iter().any(|job| has_other_job_key(second, job))
+}
+
+// The keys of a site by the version of the format.
+fn has_other_site_key(second: bool, site: &Value) -> bool
+    ensures { result ≡ has_other_key (site_keys second) (view site.now) }
+{
+    if second {
+        has_other_key(site, &["name", "jobs", "on_fault"])
+    } else {
+        has_other_key(site, &["name", "jobs"])
+    }
+}
+
+// The keys of a job by the version of the format.
+fn has_other_job_key(second: bool, job: &Value) -> bool
+    ensures { result ≡ has_other_key (job_keys second) (view job.now) }
+{
+    if second {
+        has_other_key(job, &["name", "turns", "fails", "add", "set"])
+    } else {
+        has_other_key(job, &["name", "turns", "fails"])
+    }
+}
+
+// The keys of an edge by the version of the format.
+fn has_other_edge_key(second: bool, edge: &Value) -> bool
+    ensures { result ≡ has_other_key (edge_keys second) (view edge.now) }
+{
+    if second {
+        has_other_key(edge, &["ends", "value"])
+    } else {
+        has_other_key(edge, &["ends"])
+    }
 }
 
 // Whether a table has a key that is none of these.
@@ -146,6 +179,9 @@ fn site_is_wrong(site: &Value) -> bool
     if has_no_text(site, "name") {
         return true;
     }
+    if has_no_text(site, "on_fault") {
+        return true;
+    }
     if has_no_tables(site, "jobs") {
         return true;
     }
@@ -156,12 +192,24 @@ fn site_is_wrong(site: &Value) -> bool
 fn job_is_wrong(job: &Value) -> bool
     ensures { result ≡ job_is_wrong (view job.now) }
 {
-    has_no_text(job, "name") || has_no_whole_number(job) || has_no_truth(job)
+    has_no_text(job, "name")
+        || has_no_whole_number(job, "turns")
+        || has_no_truth(job)
+        || has_no_whole_number(job, "add")
+        || has_no_whole_number(job, "set")
+}
+
+#[tactic(auto, unfolding(crate::specs::Refusals::edge_is_wrong))]
+fn edge_is_wrong(edge: &Value) -> bool
+    ensures { result ≡ edge_is_wrong (view edge.now) }
+{
+    has_no_two_texts(edge) || has_no_whole_number(edge, "value")
 }
 
 // Whether there are ends that are not two texts.
-fn edge_is_wrong(edge: &Value) -> bool
-    ensures { result ≡ edge_is_wrong (view edge.now) }
+#[tactic(auto, unfolding(crate::specs::Refusals::is_wrong))]
+fn has_no_two_texts(edge: &Value) -> bool
+    ensures { result ≡ is_wrong is_two_texts (codes "ends") (view edge.now) }
 {
     match edge.get("ends") {
         Some(value) => !is_two_texts(value),
@@ -191,12 +239,12 @@ fn has_no_tables(table: &Value, key: &str) -> bool
     }
 }
 
-// Whether there are turns that are no whole number, or one below 0.
+// Whether something else than a whole number stands at the key, or one below 0.
 #[tactic(auto, unfolding(crate::specs::Refusals::is_wrong))]
-fn has_no_whole_number(job: &Value) -> bool
-    ensures { result ≡ is_wrong is_whole (codes "turns") (view job.now) }
+fn has_no_whole_number(table: &Value, key: &str) -> bool
+    ensures { result ≡ is_wrong is_whole key.now (view table.now) }
 {
-    match job.get("turns") {
+    match table.get(key) {
         Some(value) => !is_whole(value),
         None => false,
     }

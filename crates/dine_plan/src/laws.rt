@@ -1,8 +1,13 @@
 //! Laws over the definitions alone. Each function does nothing: its contract is the law.
 
-ghost use Rattle.std.specs.Prelude.{◌≡◌, ℕ, None, Some};
+ghost use Rattle.std.specs.Prelude.{◌≡◌, ◌↔◌, ℕ, List, None, Some};
 ghost use Rattle.toml.specs.Data.{Data};
-ghost use Rattle.dine_plan.specs.Refusals.{first_refusal};
+ghost use Rattle.dine_plan.specs.Draft.{Draft};
+ghost use Rattle.dine_plan.specs.DraftDocument.{Says, first_fault_of};
+ghost use Rattle.dine_plan.specs.DraftPlan.{plan_told};
+ghost use Rattle.dine_plan.specs.Plan.{SeenPlan};
+ghost use Rattle.dine_plan.specs.PlanOf.{IsPlanOf};
+ghost use Rattle.dine_plan.specs.Refusals.{first_fault, first_refusal};
 ghost use Rattle.dine_plan.specs.Refuses.{Refuses, IsFirst};
 ghost use Rattle.dine_plan.specs.declared.faults.PlanFault.{PlanFault};
 ghost use Rattle.dine_plan.specs.declared.faults.PlanFault.TheVariants.{UnknownEnd, Loop, EdgeTwice};
@@ -18,4 +23,11 @@ pub fn first_refusal_is_first()
 pub fn loops_and_pairs_are_of_known_ends()
     ensures loops { (doc : Data) (edge : ℕ) → Refuses doc (UnknownEnd edge) → Refuses doc (Loop edge) → ⊥ }
     ensures pairs { (doc : Data) (edge : ℕ) → Refuses doc (UnknownEnd edge) → Refuses doc (EdgeTwice edge) → ⊥ }
+{}
+
+/// What a builder answers is what `read_plan` answers of any text that says what the builder was told: the same plan, or the
+/// same refusal.
+pub fn built_is_read()
+    ensures faults { (text : List ℕ) (told : Draft) → Says text told → first_fault text ≡ first_fault_of told }
+    ensures plans { (text : List ℕ) (told : Draft) (p : SeenPlan) → Says text told → first_fault_of told ≡ None → IsPlanOf text p ↔ (p ≡ plan_told told) }
 {}

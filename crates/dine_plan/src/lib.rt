@@ -2,8 +2,10 @@
 //! A text that is no plan is refused by the first of a fixed list of causes.
 #![tactic(auto)]
 
+mod acts;
 mod building;
 mod documents;
+mod drafts;
 mod edges;
 mod faults;
 mod forms;
@@ -12,7 +14,9 @@ mod places;
 mod plans;
 mod reading;
 mod sites;
+mod tables;
 
+pub use drafts::PlanBuilder;
 pub use faults::PlanFault;
 pub use plans::{Job, Plan};
 pub use reading::read_plan;

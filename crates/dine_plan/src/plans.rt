@@ -1,9 +1,10 @@
 //! A plan: sites with their jobs, and edges between two sites.
 ghost use Rattle.std.specs.Prelude.{◌≡◌, ℕ, ◌<◌, ◌≤◌, map, length, Some, All, IfOk, IsTrue, slice_get};
-ghost use Rattle.dine_plan.specs.Plan.{IsPlan, site_count, edge_count, job_count, job_of, name_of, ends_of, other_of, edges_of, is_end};
+ghost use Rattle.dine_plan.specs.Plan.{IsPlan, site_count, edge_count, job_count, job_of, name_of, ends_of, other_of, edges_of, is_end, resigns, value_of};
 ghost use Rattle.std.specs.List.Sorted.{IsStrictlyIncreasing};
 
 use crate::places::{lists_at, places_in};
+use dine_token::Act;
 use std::alloc::{AllocError, Global};
 use std::marker::Model;
 
@@ -16,6 +17,8 @@ pub struct Job {
     pub turns: u32,
     /// Whether the job fails.
     pub fails: bool,
+    /// What its meal does to the value of each edge of the site. A job that names nothing adds 0.
+    pub act: Act,
 }
 
 // A site as it is kept.
@@ -23,6 +26,7 @@ pub struct Job {
 pub(crate) struct Site {
     pub(crate) name: String,
     pub(crate) jobs: Vec<Job>,
+    pub(crate) resigns: bool,
 }
 
 /// A plan: 1 to 64 sites in the order of the plan text, each with a name of its own and at most 1,000 jobs, and at
@@ -30,8 +34,10 @@ pub(crate) struct Site {
 /// numbered from 0, and the jobs of a site from 1.
 #[derive(Debug, Drop)]
 pub struct Plan {
+    version: u32,
     sites: Vec<Site>,
     ends: Vec<(u32, u32)>,
+    values: Vec<u64>,
     // For each site its edges, ascending, and for each edge its places in the lists of its two ends.
     edges_of: Vec<Vec<u32>>,
     places: Vec<(u32, u32)>,
@@ -53,23 +59,35 @@ impl Plan {
     ghost use Rattle.dine_plan.specs.Job.{seen_job};
     ghost use Rattle.dine_plan.specs.private.Site.{seen_site};
 
-    /// The plan of these sites and these ends of edges.
+    /// The plan of this version, these sites, these ends of edges and their values.
     pub(crate) fn new(
         alloc: Global,
+        version: u32,
         sites: Vec<Site>,
         ends: Vec<(u32, u32)>,
+        values: Vec<u64>,
     ) -> Result<Plan, AllocError>
-        requires { IsPlan (record { sites = map seen_site sites.items; edges = ends.items }) }
-        ensures { IfOk result (λ p. p ≡ record { sites = map seen_site sites.items; edges = ends.items }) }
+        requires { IsPlan (record { version = version; sites = map seen_site sites.items; edges = ends.items; values = values.items }) }
+        ensures { IfOk result (λ p. p ≡ record { version = version; sites = map seen_site sites.items; edges = ends.items; values = values.items }) }
     {
         let edges_of = lists_at(alloc, sites.len(), ends.as_slice())?;
         let places = places_in(alloc, ends.as_slice(), edges_of.as_slice())?;
         Ok(Plan {
+            version,
             sites,
             ends,
+            values,
             edges_of,
             places,
         })
+    }
+
+    /// The version of the plan's format, 1 or 2. In version 1 each value is 0, each job adds 0, and no site resigns.
+    pub fn version(&self) -> u32
+        ensures version { result ≡ self.now.version }
+        ensures plan { IsPlan self.now }
+    {
+        self.version
     }
 
     /// How many sites there are, 1 to 64.
@@ -115,6 +133,24 @@ impl Plan {
         ensures plan { IsPlan self.now }
     {
         &self.sites[site as usize].jobs[(k - 1) as usize]
+    }
+
+    /// Whether a site, whose number is below `sites`, drops the jobs that it has left once one failed.
+    pub fn resigns(&self, site: u32) -> bool
+        requires { site < site_count self.now }
+        ensures policy { result ≡ resigns self.now site }
+        ensures plan { IsPlan self.now }
+    {
+        self.sites[site as usize].resigns
+    }
+
+    /// The value of an edge before the first meal, at most 1,000,000. The edge's number is below `edges`.
+    pub fn value(&self, edge: u32) -> u64
+        requires { edge < edge_count self.now }
+        ensures value { result ≡ value_of self.now edge }
+        ensures plan { IsPlan self.now }
+    {
+        self.values[edge as usize]
     }
 
     /// The edges that have the site as an end, ascending. The place of an edge is its position here, from 0.

@@ -7,7 +7,7 @@ ghost use Rattle.dine_plan.specs.Plan.{is_name, is_name_byte};
 ghost use Rattle.dine_plan.specs.Document.{name_in};
 ghost use Rattle.dine_plan.specs.Refusals.{first_some, first_twice, has_bad_name, has_many_jobs, has_many_turns, is_unnamed, site_refusals};
 
-use crate::documents::{items_at, text_at, turns_in};
+use crate::documents::{items_at, number_at, text_at};
 use crate::faults::PlanFault;
 use std::alloc::{AllocError, Global};
 use std::collections::BTreeSet;
@@ -136,5 +136,5 @@ fn has_many_turns(site: &Value) -> bool
     ensures { result ≡ has_many_turns (view site.now) }
 {
     let jobs = items_at(site, "jobs");
-    jobs.iter().any(|job| turns_in(job) > MAX_TURNS)
+    jobs.iter().any(|job| number_at(job, "turns") > MAX_TURNS)
 }

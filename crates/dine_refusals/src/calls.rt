@@ -1,10 +1,13 @@
 // Calls that take memory and answer where it is refused.
+ghost use Rattle.std.specs.Prelude.{◌≡◌, IfOk, length};
+ghost use Rattle.dine_core.specs.Worlds.{AreOutcomesFor, lists_of};
+
 use crate::pair::{PAIR, pair};
 use dine_core::site::{fresh_forks, fresh_tokens};
 use dine_core::{EventKind, SiteCore, World};
 use dine_link::{Bell, Lane};
-use dine_plan::{PlanFault, read_plan};
-use dine_run::{OrderFault, order};
+use dine_plan::{Plan, PlanFault, read_plan};
+use dine_run::{OrderFault, SiteFault, order};
 use dine_token::Fork;
 use std::alloc::{AllocError, Global};
 
@@ -33,11 +36,14 @@ const HIGHER: [EventKind; 9] = [
     EventKind::Take(0),
 ];
 
-/// What a call answered: all, want of memory, or something else.
+/// What a call answered: all, want of memory, that the thread of this site was refused, that this is the lowest site
+/// which ended with a fault, and its fault, or something else.
 #[derive(Clone, Copy, Debug, PartialEq, Eq)]
 pub enum Told {
     Whole,
     Memory,
+    Thread(u32),
+    Broken(u32, SiteFault),
     Another,
 }
 
@@ -52,7 +58,7 @@ pub fn plan(alloc: Global) -> Told {
 
 /// A fork with six meals due.
 pub fn fork(alloc: Global) -> Told {
-    match Fork::open(alloc, 0, 0, 1, 3, 3) {
+    match Fork::open(alloc, 0, 0, 1, 3, 3, 0) {
         Ok(_) => Told::Whole,
         Err(_) => Told::Memory,
     }
@@ -85,6 +91,37 @@ pub fn world(alloc: Global) -> Result<Told, AllocError> {
         }
         Err(_) => Ok(Told::Memory),
     }
+}
+
+/// The world of the pair, with outcomes of its meals that are handed in.
+pub fn world_with(alloc: Global) -> Result<Told, AllocError> {
+    let plan = pair(alloc)?;
+    let fails = outcomes_of(alloc, &plan)?;
+    match World::open_with(alloc, &plan, fails.as_slice()) {
+        Ok(world) => {
+            world.into_forks();
+            Ok(Told::Whole)
+        }
+        Err(_) => Ok(Told::Memory),
+    }
+}
+
+// Each meal of the plan goes well.
+fn outcomes_of(alloc: Global, plan: &Plan) -> Result<Vec<Vec<bool>>, AllocError>
+    ensures { IfOk result (λ fails. AreOutcomesFor plan.now (lists_of fails.items)) }
+{
+    let mut fails = Vec::new(alloc);
+    for site in 0..plan.sites() {
+        fails.push(outcomes_at(alloc, plan.jobs(site))?)?;
+    }
+    Ok(fails)
+}
+
+// Each of so many meals goes well.
+fn outcomes_at(alloc: Global, jobs: u32) -> Result<Vec<bool>, AllocError>
+    ensures { IfOk result (λ own. length own.items ≡ jobs) }
+{
+    vec![in alloc; false; jobs as usize]
 }
 
 /// A link of a lane.

@@ -4,3 +4,4 @@ pub mod JournalStates
 pub mod Growing
 pub mod Waiting
 pub mod OneOrder
+pub mod OtherOutcomes

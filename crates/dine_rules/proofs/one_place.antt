@@ -2,6 +2,8 @@
 pub mod Placed
 pub mod Hands
 pub mod Owned
+pub mod Values
+pub mod HandForks
 pub mod Held
 pub mod Chains
 pub mod Sent

@@ -10,10 +10,10 @@ use Rattle.dine_rules.specs.World.{WorldState}
 abbrev pub letters_at : Traffic → ℕ
 letters_at traffic = length traffic.put + length traffic.taken
 
--- the effects of a site: three a meal, one less while it lasts, one for hunger, and each letter put or taken; nothing is cut off at 0,
--- since who eats has begun a meal
+-- the effects of a site: three a meal, one less while it lasts, one for hunger, one where it has quit, and each letter put or taken; nothing is
+-- cut off at 0, since who eats has begun a meal
 abbrev pub site_effects : LocalState → ℕ
-site_effects state = 3 * state.ate + (if is_hungry state.phase then 1 else 0) + sum (map letters_at state.traffic) - (if is_eating state.phase then 1 else 0)
+site_effects state = 3 * state.ate + (if is_hungry state.phase then 1 else 0) + (if state.has_quit then 1 else 0) + sum (map letters_at state.traffic) - (if is_eating state.phase then 1 else 0)
 
 -- the effects of all sites: as many as the events that led to the world
 abbrev pub effects_of : WorldState → ℕ
@@ -24,7 +24,7 @@ abbrev pub meals_due : SeenPlan → ℕ → ℕ
 meals_due plan edge = job_count plan (lo_of plan edge) + job_count plan (hi_of plan edge)
 
 -- the bound on the events of the world: three for each meal that is due and, for each edge, four for each meal due at its ends and eight
--- more
+-- more; a site that quits drops a meal at least, which has three events
 abbrev pub bound_of : SeenPlan → ℕ
 bound_of plan = 3 * sum (map (job_count plan) (range_with_len 0 (site_count plan)))
     + sum (map (λ edge. 4 * meals_due plan edge + 8) (range_with_len 0 (edge_count plan)))

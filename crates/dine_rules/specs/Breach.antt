@@ -4,7 +4,7 @@ use Rattle.std.specs.Prelude.{ℕ, ◌==◌, ◌&&◌, ◌||◌, not, Bool, List
 use Rattle.dine_token.specs.declared.entry.Entry.{Entry}
 use Rattle.dine_token.specs.Fork.{SeenFork}
 use Rattle.dine_token.specs.Log.{is_dirty, location_of, meals_of}
-use Rattle.dine_plan.specs.Plan.{SeenPlan, job_count, lo_of, hi_of}
+use Rattle.dine_plan.specs.Plan.{SeenPlan, job_count, lo_of, hi_of, resigns}
 use Rattle.dine_rules.specs.declared.letters.Letter.{Letter}
 use Rattle.dine_rules.specs.declared.letters.Letter.TheVariants.{Fork, Request, Done, Close}
 use Rattle.dine_rules.specs.declared.breach.Breach.{Breach}
@@ -32,13 +32,14 @@ is_fork_of plan edge fork = fork.edge == edge && (fork.ends.0 == lo_of plan edge
     && (fork.due.0 == job_count plan (lo_of plan edge) && fork.due.1 == job_count plan (hi_of plan edge))
 
 module _ (plan : SeenPlan) (s : ℕ) (state : LocalState) (i : ℕ) where
-  -- the log has all meals that are due to the other end
+  -- the log has all meals that are due to the other end, or that one resigns, and may say Done without them
   abbrev pub has_all_of_neighbour : List Entry → Bool
-  has_all_of_neighbour log = meals_of (neighbour_at plan s i) log == job_count plan (neighbour_at plan s i)
+  has_all_of_neighbour log = resigns plan (neighbour_at plan s i) || meals_of (neighbour_at plan s i) log == job_count plan (neighbour_at plan s i)
 
   -- The letters that are allowed before Close. A Request comes where the fork is and the token is not, from a site that has meals left and
-  -- is not done. A Fork comes where neither is, just sent here, with all meals that this site ate and, after Done, all of the other's. Done
-  -- comes once, and where the fork is here, it has all meals of its sender. Close comes after Done was taken and put. [paper: arrival]
+  -- is not done. A Fork comes where neither is, just sent here, with all meals that this site ate and, after Done, all of the other's, unless
+  -- that one resigns. Done comes once, and where the fork is here, it has all meals of its sender, unless that one resigns. Close comes after
+  -- Done was taken and put. [paper: arrival]
   abbrev pub may_come : Letter → Bool
   may_come (Request edge) = edge == edge_at plan s i && (token_at plan s state i == 0 && fork_at plan s state i == 1)
       && (not (has_done (traffic_at state i).taken) && nat_lt (meals_of (neighbour_at plan s i) (hand_at s state i)) (job_count plan (neighbour_at plan s i)))

@@ -4,7 +4,7 @@ use Rattle.dine_token.specs.declared.entry.Entry.{Entry}
 use Rattle.dine_token.specs.declared.entry.Entry.TheVariants.{Move}
 use Rattle.dine_token.specs.Fork.{SeenFork}
 use Rattle.dine_token.specs.Log.{meals_of}
-use Rattle.dine_plan.specs.Plan.{SeenPlan, job_count}
+use Rattle.dine_plan.specs.Plan.{SeenPlan, job_count, resigns}
 use Rattle.dine_rules.specs.declared.letters.Letter.{Letter}
 use Rattle.dine_rules.specs.declared.letters.Letter.TheVariants.{Fork, Request, Done, Close}
 use Rattle.dine_rules.specs.declared.breach.Breach.{Breach}
@@ -30,19 +30,19 @@ module _ (plan : SeenPlan) (s : ℕ) (state : LocalState) (i : ℕ) where
     HasToken : token_at plan s state i ≢ 0 → IsForkOutOfTurn
 
   -- A Fork is strange that names another edge, other ends or other due numbers, whose log does not end in a Move to this site or has
-  -- another number of its meals than it ate, or that comes after Done without all meals that are due to its sender.
+  -- another number of its meals than it ate, or that comes after Done without all meals that are due to its sender, which doesn't resign.
   pub data IsStrangeFork (fork : SeenFork) : Type 0 where
     OfOtherEdge : fork.edge ≢ edge_at plan s i → IsStrangeFork fork
     OfOtherEnds : fork.ends ≢ ends_at_place plan s i → IsStrangeFork fork
     OfOtherDue : fork.due ≢ due_at_place plan s i → IsStrangeFork fork
     NotSentHere : ((before : List Entry) → fork.log ≢ before ++ Move s ∷ []) → IsStrangeFork fork
     OtherMealsOfOurs : meals_of s fork.log ≢ state.ate → IsStrangeFork fork
-    LacksMealsAfterDone : has_done (traffic_at state i).taken ≡ true → meals_of (neighbour_at plan s i) fork.log ≢ job_count plan (neighbour_at plan s i) → IsStrangeFork fork
+    LacksMealsAfterDone : resigns plan (neighbour_at plan s i) ≡ false → has_done (traffic_at state i).taken ≡ true → meals_of (neighbour_at plan s i) fork.log ≢ job_count plan (neighbour_at plan s i) → IsStrangeFork fork
 
-  -- Done is out of turn after Done, or while the fork is here without all meals that are due to its sender.
+  -- Done is out of turn after Done, or while the fork is here without all meals that are due to its sender, which doesn't resign.
   pub data IsDoneOutOfTurn : Type 0 where
     DoneTwice : has_done (traffic_at state i).taken ≡ true → IsDoneOutOfTurn
-    DoneBeforeAll : fork_at plan s state i ≡ 1 → meals_of (neighbour_at plan s i) (hand_at s state i) ≢ job_count plan (neighbour_at plan s i) → IsDoneOutOfTurn
+    DoneBeforeAll : resigns plan (neighbour_at plan s i) ≡ false → fork_at plan s state i ≡ 1 → meals_of (neighbour_at plan s i) (hand_at s state i) ≢ job_count plan (neighbour_at plan s i) → IsDoneOutOfTurn
 
   -- Close is early before Done was taken, or before it was put.
   pub data IsCloseEarly : Type 0 where

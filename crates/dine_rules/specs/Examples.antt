@@ -1,32 +1,46 @@
 -- Small plans, and what their runs come to: each computed from the definitions.
-use Rattle.std.specs.Prelude.{ℕ, ◌==◌, List, [], ◌∷◌, map, replicate, codes, drop, length, if◌then◌else◌}
+use Rattle.std.specs.Prelude.{ℕ, true, false, ◌==◌, List, [], ◌∷◌, map, replicate, codes, drop, length, Option, if◌then◌else◌}
 use Rattle.std.specs.List.{range_with_len}
 use Rattle.dine_token.specs.declared.entry.Entry.{Entry}
+use Rattle.dine_token.specs.declared.entry.Entry.TheVariants.{Meal, Move}
+use Rattle.dine_token.specs.Fork.{SeenFork}
 use Rattle.dine_plan.specs.Plan.{SeenPlan, SeenSite, no_job, edge_count}
 use Rattle.dine_rules.specs.declared.events.Event.{Event}
+use Rattle.dine_rules.specs.declared.breach.Breach.{Breach}
 use Rattle.dine_rules.specs.declared.letters.Kind4.{Kind4}
+use Rattle.dine_rules.specs.declared.letters.Letter.TheVariants.{Done, Fork}
 use Rattle.dine_rules.specs.Letters.{kind_of}
 use Rattle.dine_rules.specs.Local.{LocalState, start_of, traffic_at}
-use Rattle.dine_rules.specs.Steps.{Break, after}
+use Rattle.dine_rules.specs.Steps.{Ask, Break, Hungry, Take, after, fork_by}
+use Rattle.dine_rules.specs.Breach.{first_breach}
 use Rattle.dine_rules.specs.World.{WorldState, enabled_events, put_to, start, state_of}
 use Rattle.dine_rules.specs.Precedence.{fork_log, preferred_end}
 use Rattle.dine_rules.specs.Schedules.{Counted, from_here, replay, whole_run}
 
 -- a site of this name with so many jobs
 abbrev pub site_with : List ℕ → ℕ → SeenSite
-site_with name jobs = record { name = name; jobs = replicate jobs no_job }
+site_with name jobs = record { name = name; jobs = replicate jobs no_job; resigns = false }
 
 -- two sites that an edge joins, with so many jobs each
 abbrev pub pair : ℕ → ℕ → SeenPlan
-pair a b = record { sites = site_with (codes "a") a ∷ site_with (codes "b") b ∷ []; edges = (0, 1) ∷ [] }
+pair a b = record { version = 1; sites = site_with (codes "a") a ∷ site_with (codes "b") b ∷ []; edges = (0, 1) ∷ []; values = 0 ∷ [] }
+
+-- the lower of two sites resigns, and the second of its three jobs fails; the higher has one job
+abbrev pub resigning : SeenPlan
+resigning = record {
+  version = 2;
+  sites = record { name = codes "a"; jobs = no_job ∷ record no_job { fails = true } ∷ no_job ∷ []; resigns = true } ∷ site_with (codes "b") 1 ∷ [];
+  edges = (0, 1) ∷ [];
+  values = 0 ∷ [];
+}
 
 -- one site alone, with two jobs
 abbrev pub alone : SeenPlan
-alone = record { sites = site_with (codes "a") 2 ∷ []; edges = [] }
+alone = record { version = 1; sites = site_with (codes "a") 2 ∷ []; edges = []; values = [] }
 
 -- three sites in a row, with so many jobs each
 abbrev pub row : ℕ → ℕ → ℕ → SeenPlan
-row a b c = record { sites = site_with (codes "a") a ∷ site_with (codes "b") b ∷ site_with (codes "c") c ∷ []; edges = (0, 1) ∷ (1, 2) ∷ [] }
+row a b c = record { version = 1; sites = site_with (codes "a") a ∷ site_with (codes "b") b ∷ site_with (codes "c") c ∷ []; edges = (0, 1) ∷ (1, 2) ∷ []; values = 0 ∷ 0 ∷ [] }
 
 -- three sites in a row, with one job each
 abbrev pub path : SeenPlan
@@ -72,6 +86,22 @@ abbrev pub ends_complete : SeenPlan → List ℕ
 ends_complete plan =
     let world = (whole_run plan []).world in
     if length (enabled_events plan world) == 0 then map (λ state. state.ate) world else []
+
+-- the higher of two sites once it grew hungry and asked for the fork
+abbrev pub asker : SeenPlan → LocalState
+asker plan = after plan 1 (after plan 1 (start_of plan 1) Hungry) (Ask 0)
+
+-- the fork of two sites after one meal of the lower, on its way to the higher
+abbrev pub fork_after_one : SeenPlan → SeenFork
+fork_after_one plan = fork_by plan 0 (Meal 0 1 ∷ Move 1 ∷ [])
+
+-- the breach of that Fork where it comes to the asker
+abbrev pub breach_of_fork : SeenPlan → Option Breach
+breach_of_fork plan = first_breach plan 1 (asker plan) 0 (Fork (fork_after_one plan))
+
+-- the breach of a Done that comes behind it
+abbrev pub breach_of_done : SeenPlan → Option Breach
+breach_of_done plan = first_breach plan 1 (after plan 1 (asker plan) (Take 0 (Fork (fork_after_one plan)))) 0 Done
 
 -- the higher site of a pair with a job each, which broke off at the start
 abbrev pub broken_off : LocalState

@@ -1,17 +1,19 @@
 -- The two ends of an edge, by whole lists alone: what each end put and took, and how many meals it ate. So they are left when threads have
 -- joined. Lists that fit need not come from an order of events, and none is asked for here. Whether a letter that was put will be taken
 -- they leave out.
-use Rattle.std.specs.Prelude.{◌≡◌, ℕ, ◌+◌, ◌<◌, ◌≤◌, List, [], length, slice_get, Option, if◌then◌else◌, ◌==◌}
+use Rattle.std.specs.Prelude.{◌≡◌, ℕ, ◌+◌, ◌<◌, ◌≤◌, List, [], length, slice_get, Option, Some, if◌then◌else◌, ◌==◌}
 use mathlib.Core.List.{IsPrefix}
 use Rattle.dine_token.specs.declared.entry.Entry.{Entry}
+use Rattle.dine_token.specs.Fork.{SeenFork}
 use Rattle.dine_token.specs.Log.{meals_of, numbers_of}
 use Rattle.dine_token.specs.Lawful.{IsLawful, count_from}
 use Rattle.dine_plan.specs.Plan.{SeenPlan, edges_of, job_count, lo_of, hi_of}
 use Rattle.dine_rules.specs.declared.letters.Letter.{Letter}
-use Rattle.dine_rules.specs.Letters.{requests_in, last_log_or}
+use Rattle.dine_rules.specs.Letters.{forks_among, requests_in, last_log_or}
 use Rattle.dine_rules.specs.Local.{Traffic, traffic_at, edge_at, neighbour_at}
 use Rattle.dine_rules.specs.Holdings.{forks_held, hand}
 use Rattle.dine_rules.specs.Streams.{AreLawfulForks, IsChained}
+use Rattle.dine_rules.specs.Values.{AreValuesChained}
 use Rattle.dine_rules.specs.World.{WorldState, state_of, place_of}
 
 -- Place i of site s and place j of the site `other` are the two ends of one edge.
@@ -27,6 +29,11 @@ pub record AreLinked (here there : Traffic) : Type 0 where
   pub comes : IsPrefix here.taken there.put
   pub goes : IsPrefix there.taken here.put
 
+-- The Forks that each end took are, in order, the first of those that the other put. So it is also where a letter between them was refused.
+pub record AreForksLinked (here there : Traffic) : Type 0 where
+  pub comes : (k : ℕ) (fork : SeenFork) → slice_get (forks_among here.taken) k ≡ Some fork → slice_get (forks_among there.put) k ≡ Some fork
+  pub goes : (k : ℕ) (fork : SeenFork) → slice_get (forks_among there.taken) k ≡ Some fork → slice_get (forks_among here.put) k ≡ Some fork
+
 -- Both links are wholly taken: each end took all that the other put.
 pub record AreWhollyTaken (here there : Traffic) : Type 0 where
   pub comes : here.taken ≡ there.put
@@ -40,10 +47,11 @@ next_between here there = slice_get there.put (length here.taken)
 abbrev pub traffic_across : SeenPlan → WorldState → ℕ → ℕ → Traffic
 traffic_across plan world s i = traffic_at (state_of world (neighbour_at plan s i)) (place_of plan (neighbour_at plan s i) (edge_at plan s i))
 
--- An end accounts for the fork: the Forks that it put are those of the edge, lawful and in a chain, and it ate at most the
--- meals that are due to it, and at least those that the last Fork which it took has of it.
+-- An end accounts for the fork: the Forks that it put are those of the edge, lawful and in a chain with their values, and it ate
+-- at most the meals that are due to it, and at least those that the last Fork which it took has of it.
 pub record AccountsForFork (plan : SeenPlan) (s edge ate : ℕ) (traffic : Traffic) : Type 0 where
   pub chained : IsChained plan s edge ate traffic
+  pub values : AreValuesChained plan s edge traffic
   pub put_forks : AreLawfulForks plan edge traffic.put
   pub ate_within : ate ≤ job_count plan s
   pub last_within : meals_of s (last_log_or [] traffic.taken) ≤ ate

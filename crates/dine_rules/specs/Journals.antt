@@ -1,10 +1,11 @@
 -- Journals: the events of each site, in its order; and the orders that hold all of them in one list. The order in time they leave out.
-use Rattle.std.specs.Prelude.{◌≡◌, ◌≢◌, ℕ, ◌<◌, ◌==◌, Bool, false, List, [], ◌∷◌, ◌++◌, filter, length, map, slice_get, slice_index_or, Option, Some, None, option_and_then}
+use Rattle.std.specs.Prelude.{◌≡◌, ◌≢◌, ℕ, ◌+◌, ◌<◌, ◌==◌, Bool, true, false, List, [], ◌∷◌, ◌++◌, filter, length, map, slice_get, slice_index_or, Option, Some, None, option_and_then}
 use mathlib.Core.List.{IsPrefix}
-use Rattle.dine_plan.specs.Plan.{SeenPlan, IsPlan, edges_of, site_count}
+use Rattle.dine_plan.specs.Plan.{SeenPlan, IsPlan, edges_of, job_count, job_of, site_count}
 use Rattle.dine_rules.specs.declared.letters.Letter.{Letter}
 use Rattle.dine_rules.specs.declared.events.Event.{Event}
 use Rattle.dine_rules.specs.declared.events.EventKind.{EventKind}
+use Rattle.dine_rules.specs.declared.events.EventKind.TheVariants as event
 use Rattle.dine_rules.specs.Local.{LocalState, start_of, traffic_at}
 use Rattle.dine_rules.specs.Steps.{IsPlaceWithin, shape_of, step_by}
 use Rattle.dine_rules.specs.World.{WorldState, IsComplete, LinksAreOrdered, Reaches, is_enabled, local_after, state_of, world_after}
@@ -15,19 +16,34 @@ use Rattle.dine_rules.specs.World.{WorldState, IsComplete, LinksAreOrdered, Reac
 abbrev pub next_of_these : (ℕ → List Letter) → LocalState → ℕ → Option Letter
 next_of_these letters state i = slice_get (letters i) (length (traffic_at state i).taken)
 
--- the site's state after an event, where it may do it: a Take takes the next of these letters
-abbrev pub state_after : SeenPlan → ℕ → (ℕ → List Letter) → LocalState → EventKind → Option LocalState
-state_after plan s letters state kind = option_and_then (local_after plan s state) (step_by (next_of_these letters state) kind)
+-- the outcome that a journal shows of the meal that ended before these events: it failed where the site quits before another meal ends. Where
+-- these are all and the site did neither, the outcome is `last`.
+abbrev pub fails_before : Bool → List EventKind → Bool
+fails_before last [] = last
+fails_before last (event.Quit ∷ kinds) = true
+fails_before last (event.End ∷ kinds) = false
+fails_before last (kind ∷ kinds) = fails_before last kinds
 
--- the site's state after its events, each done in its turn
-abbrev pub state_after_all : SeenPlan → ℕ → (ℕ → List Letter) → LocalState → List EventKind → Option LocalState
-state_after_all plan s letters state [] = Some state
-state_after_all plan s letters state (kind ∷ kinds) = option_and_then (λ next. state_after_all plan s letters next kinds) (state_after plan s letters state kind)
+-- the outcomes of the meals that ended, in order
+abbrev pub outcomes_in : Bool → List EventKind → List Bool
+outcomes_in last [] = []
+outcomes_in last (event.End ∷ kinds) = fails_before last kinds ∷ outcomes_in last kinds
+outcomes_in last (kind ∷ kinds) = outcomes_in last kinds
+
+-- the site's state after an event, where it may do it: an End has this outcome, a Take takes the next of these letters
+abbrev pub state_after : SeenPlan → ℕ → (ℕ → List Letter) → Bool → LocalState → EventKind → Option LocalState
+state_after plan s letters failed state kind = option_and_then (local_after plan s state) (step_by failed (next_of_these letters state) kind)
+
+-- the site's state after its events, each done in its turn, with the outcomes that they show
+abbrev pub state_after_all : SeenPlan → ℕ → (ℕ → List Letter) → Bool → LocalState → List EventKind → Option LocalState
+state_after_all plan s letters last state [] = Some state
+state_after_all plan s letters last state (kind ∷ kinds) = option_and_then (λ next. state_after_all plan s letters last next kinds) (state_after plan s letters (fails_before last kinds) state kind)
 
 -- The journal of a site in this state: its events, done from the start with the letters that it took, lead to the state, and so to
--- all that it put, to its phase and to the meals that it ate.
+-- all that it put, to its phase and to the meals that it ate. The outcomes of its meals are those that the journal shows: the last meal before
+-- each Quit failed, and no other did but the last one of a site that has to quit and has not yet.
 abbrev pub IsJournal : SeenPlan → ℕ → List EventKind → LocalState → Type 0
-IsJournal plan s journal state = state_after_all plan s (λ i. (traffic_at state i).taken) (start_of plan s) journal ≡ Some state
+IsJournal plan s journal state = state_after_all plan s (λ i. (traffic_at state i).taken) state.must_quit (start_of plan s) journal ≡ Some state
 
 -- ---- one list of the events of all sites
 
@@ -97,3 +113,8 @@ pub record AreStatesAfter (plan : SeenPlan) (journals : List (List EventKind)) (
   pub sites : length states ≡ site_count plan
   pub each : (s : ℕ) → s < site_count plan → IsJournal plan s (journal_of journals s) (state_of states s)
   pub links : LinksAreOrdered plan states
+
+-- The plan's jobs fail as the journals show, so far as meals ended: then the world goes as the journals do.
+abbrev pub FailAsShown : SeenPlan → List (List EventKind) → WorldState → Type 0
+FailAsShown plan journals states = (s k : ℕ) (failed : Bool) → s < site_count plan → k < job_count plan s
+    → slice_get (outcomes_in (state_of states s).must_quit (journal_of journals s)) k ≡ Some failed → (job_of plan s (k + 1)).fails ≡ failed

@@ -2,12 +2,13 @@
 -- and know nothing of flags or slots. They compute, so laws such as `small_plans_run_as_worked` work small plans out from them.
 use Rattle.std.specs.Prelude.{ℕ, suc, Bool, true, false, List, [], ◌∷◌}
 use Rattle.dine_token.specs.declared.entry.Entry.{Entry}
+use Rattle.dine_token.specs.Fork.{SeenFork}
 use Rattle.dine_rules.specs.declared.letters.Letter.{Letter}
 use Rattle.dine_rules.specs.declared.letters.Letter.TheVariants.{Fork, Request, Done, Close}
 use Rattle.dine_rules.specs.declared.letters.Kind4.{Kind4}
 use Rattle.dine_rules.specs.declared.letters.Kind4.TheVariants as kind
 
--- A letter as contracts see it: a Fork with its edge, ends, due numbers and log, a Request with its edge, Done or Close. The rule of a link
+-- A letter as contracts see it: a Fork with its edge, ends, due numbers, log and value, a Request with its edge, Done or Close. The rule of a link
 -- speaks of lists of these.
 abbrev pub SeenLetter : Type 0
 SeenLetter = Letter
@@ -50,6 +51,22 @@ has_close (Fork fork ∷ letters) = has_close letters
 has_close (Request edge ∷ letters) = has_close letters
 has_close (Done ∷ letters) = has_close letters
 has_close (Close ∷ letters) = true
+
+-- the Forks among the letters, in order
+abbrev pub forks_among : List Letter → List SeenFork
+forks_among [] = []
+forks_among (Fork fork ∷ letters) = fork ∷ forks_among letters
+forks_among (Request edge ∷ letters) = forks_among letters
+forks_among (Done ∷ letters) = forks_among letters
+forks_among (Close ∷ letters) = forks_among letters
+
+-- the value of the last Fork among the letters, or `value`
+abbrev pub last_value_or : ℕ → List Letter → ℕ
+last_value_or value [] = value
+last_value_or value (Fork fork ∷ letters) = last_value_or fork.value letters
+last_value_or value (Request edge ∷ letters) = last_value_or value letters
+last_value_or value (Done ∷ letters) = last_value_or value letters
+last_value_or value (Close ∷ letters) = last_value_or value letters
 
 -- the log of the last Fork among the letters, or `log`
 abbrev pub last_log_or : List Entry → List Letter → List Entry

@@ -1,6 +1,6 @@
 -- One site, by what it has put and taken. A place is a position in the list of the site's edges.
-use Rattle.std.specs.Prelude.{ℕ, Bool, true, false, List, [], map, slice_index_or}
-use Rattle.dine_plan.specs.Plan.{SeenPlan, edges_of, other_of}
+use Rattle.std.specs.Prelude.{ℕ, ◌==◌, ◌||◌, Bool, true, false, List, [], map, slice_index_or}
+use Rattle.dine_plan.specs.Plan.{SeenPlan, edges_of, job_count, job_of, other_of}
 use Rattle.dine_rules.specs.declared.letters.Letter.{Letter}
 use Rattle.dine_rules.specs.declared.phase.Phase.{Phase}
 use Rattle.dine_rules.specs.declared.phase.Phase.TheVariants.{Thinking, Hungry, Eating}
@@ -10,10 +10,13 @@ pub record Traffic : Type 0 where
   pub put : List Letter
   pub taken : List Letter
 
--- a site: what it does, how many meals it began, and its traffic at each place, in edge order [paper: neighbours]
+-- a site: what it does, how many meals it began, whether it has to quit before it grows hungry again, whether it has quit, and its traffic at
+-- each place, in edge order [paper: neighbours]
 pub record LocalState : Type 0 where
   pub phase : Phase
   pub ate : ℕ
+  pub must_quit : Bool
+  pub has_quit : Bool
   pub traffic : List Traffic
 
 -- nothing was put or taken
@@ -26,7 +29,7 @@ traffic_at state i = slice_index_or state.traffic i no_traffic
 
 -- a site at the start: it thinks, and has put and taken nothing
 abbrev pub start_of : SeenPlan → ℕ → LocalState
-start_of plan s = record { phase = Thinking; ate = 0; traffic = map (λ edge. no_traffic) (edges_of plan s) }
+start_of plan s = record { phase = Thinking; ate = 0; must_quit = false; has_quit = false; traffic = map (λ edge. no_traffic) (edges_of plan s) }
 
 -- the site thinks [paper: neighbours]
 abbrev pub is_thinking : Phase → Bool
@@ -42,6 +45,14 @@ is_hungry _ = false
 abbrev pub is_eating : Phase → Bool
 is_eating Eating = true
 is_eating _ = false
+
+-- the job of the meal that the site began last fails
+abbrev pub meal_fails : SeenPlan → ℕ → LocalState → Bool
+meal_fails plan s state = (job_of plan s state.ate).fails
+
+-- the site has no job left: it ate all its meals, or it has quit
+abbrev pub has_no_job_left : SeenPlan → ℕ → LocalState → Bool
+has_no_job_left plan s state = state.ate == job_count plan s || state.has_quit
 
 -- the edge at place i of the site
 abbrev pub edge_at : SeenPlan → ℕ → ℕ → ℕ

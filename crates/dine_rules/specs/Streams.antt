@@ -2,15 +2,16 @@
 use Rattle.std.specs.Prelude.{◌≡◌, ℕ, ◌+◌, ◌<◌, ◌≤◌, ◌==◌, ◌&&◌, ◌||◌, not, Bool, true, false, List, [], ◌∷◌, ◌++◌, length, slice_get, Some, if◌then◌else◌}
 use Rattle.dine_token.specs.declared.entry.Entry.{Entry}
 use Rattle.dine_token.specs.declared.entry.Entry.TheVariants.{Move}
-use Rattle.dine_token.specs.Fork.{SeenFork, IsFork}
+use Rattle.dine_token.specs.Fork.{SeenFork}
 use Rattle.dine_token.specs.Log.{is_dirty, meals_of}
 use Rattle.dine_token.specs.Lawful.{IsLawful}
-use Rattle.dine_plan.specs.Plan.{SeenPlan, edges_of, job_count, lo_of, hi_of, other_of}
+use Rattle.dine_plan.specs.Plan.{SeenPlan, edges_of, job_count, lo_of, hi_of, other_of, resigns}
 use Rattle.dine_rules.specs.declared.letters.Letter.{Letter}
 use Rattle.dine_rules.specs.declared.letters.Letter.TheVariants.{Fork, Request, Done, Close}
 use Rattle.dine_rules.specs.Letters.{forks_in, requests_in, has_done, has_close, last_log_or}
-use Rattle.dine_rules.specs.Local.{LocalState, Traffic, traffic_at, edge_at, neighbour_at, is_thinking, is_hungry, is_eating}
+use Rattle.dine_rules.specs.Local.{LocalState, Traffic, traffic_at, edge_at, neighbour_at, is_thinking, is_hungry, is_eating, has_no_job_left}
 use Rattle.dine_rules.specs.Holdings.{forks_held, fork_at, token_at, hand_at, meals_from}
+use Rattle.dine_rules.specs.Values.{AreValuesChained}
 use Rattle.dine_rules.specs.Breach.{was_sent_to, is_fork_of}
 use Rattle.dine_rules.specs.Steps.{Step, Take}
 
@@ -122,9 +123,10 @@ has_asked_since_meal plan s state i = (fork_at plan s state i == 0 && token_at p
 
 -- What a site keeps at one place, whatever letters it is offered. [paper: one fork, clean and dirty, request rule, release rule, arrival]
 pub record KeepsStreamsAt (plan : SeenPlan) (s : ℕ) (state : LocalState) (i : ℕ) : Type 0 where
-  -- what it put is a lawful stream, in a chain, of lawful forks, and asks for the edge's fork
+  -- what it put is a lawful stream, in a chain with their values, of lawful forks, and asks for the edge's fork
   pub put_lawful : IsLawfulStream (is_lower_at plan s i) (traffic_at state i).put
   pub put_chained : IsChained plan s (edge_at plan s i) state.ate (traffic_at state i)
+  pub put_values : AreValuesChained plan s (edge_at plan s i) (traffic_at state i)
   pub put_forks : AreLawfulForks plan (edge_at plan s i) (traffic_at state i).put
   pub put_requests : AreRequestsOf (edge_at plan s i) (traffic_at state i).put
   -- what it took is a lawful stream of the other end's direction, each Close behind a Done, of lawful forks, and asks for this fork
@@ -152,29 +154,38 @@ pub record KeepsStreamsAt (plan : SeenPlan) (s : ℕ) (state : LocalState) (i : 
   pub asker_has_left : fork_at plan s state i ≡ 1 → token_at plan s state i ≡ 1 → meals_of (neighbour_at plan s i) (hand_at s state i) < job_count plan (neighbour_at plan s i)
   -- a Request is put again only after its fork came and was eaten with
   pub requests_within : requests_in (traffic_at state i).put ≤ state.ate + (if has_asked_since_meal plan s state i then 1 else 0)
-  -- who put Done has eaten all, and thinks
-  pub done_after_all : has_done (traffic_at state i).put ≡ true → state.ate ≡ job_count plan s
+  -- who put Done has no job left, and thinks
+  pub done_after_all : has_done (traffic_at state i).put ≡ true → has_no_job_left plan s state ≡ true
   pub done_thinks : has_done (traffic_at state i).put ≡ true → is_thinking state.phase ≡ true
   -- Close is taken only after Done was put
   pub closed_after : has_close (traffic_at state i).taken ≡ true → has_done (traffic_at state i).put ≡ true
 
--- What a site keeps: the same at every place, never more meals than are due, and one at least while it eats.
+-- the site may drop jobs: it resigns, it thinks, and it ate fewer meals than are due
+abbrev pub MayDropJobs : SeenPlan → ℕ → LocalState → Type 0
+MayDropJobs plan s state = (resigns plan s ≡ true) × (is_thinking state.phase ≡ true) × (state.ate < job_count plan s)
+
+-- What a site keeps: the same at every place, never more meals than are due, and one at least while it eats. Who has to quit, or has quit,
+-- resigns, thinks and ate fewer meals than are due; and nobody quits twice.
 pub record KeepsStreams (plan : SeenPlan) (s : ℕ) (state : LocalState) : Type 0 where
   pub places : (i : ℕ) → i < length state.traffic → KeepsStreamsAt plan s state i
   pub every_place : length state.traffic ≡ length (edges_of plan s)
   pub ate_within : state.ate ≤ job_count plan s
   pub hungry_has_left : is_hungry state.phase ≡ true → state.ate < job_count plan s
   pub eater_has_begun : is_eating state.phase ≡ true → 1 ≤ state.ate
+  pub must_drop : state.must_quit ≡ true → MayDropJobs plan s state
+  pub has_dropped : state.has_quit ≡ true → MayDropJobs plan s state
+  pub quits_once : state.must_quit ≡ true → state.has_quit ≡ false
 
--- What a site put at place i is in order, by what it ate and took there: a lawful stream, of lawful forks, in a chain, that asks for the
--- edge's fork.
+-- What a site put at place i is in order, by what it ate and took there: a lawful stream, of lawful forks, in a chain with their values,
+-- that asks for the edge's fork.
 pub record IsPutInOrder (plan : SeenPlan) (s i ate : ℕ) (traffic : Traffic) : Type 0 where
   pub lawful : IsLawfulStream (is_lower_at plan s i) traffic.put
   pub chained : IsChained plan s (edge_at plan s i) ate traffic
+  pub values : AreValuesChained plan s (edge_at plan s i) traffic
   pub forks : AreLawfulForks plan (edge_at plan s i) traffic.put
   pub requests : AreRequestsOf (edge_at plan s i) traffic.put
 
--- a fork that is offered is a real one, as each value of its type is; no more is asked of the letters that come
+-- a fork that is offered has a lawful log, as each value of its type has; no more is asked of the letters that come
 abbrev pub IsProper : Step → Type 0
-IsProper (Take i (Fork fork)) = IsFork fork
+IsProper (Take i (Fork fork)) = IsLawful fork.ends fork.due fork.log
 IsProper _ = Unit {0}

@@ -1,15 +1,17 @@
 -- The world of all sites in one thread. Links have no limit here: that at most four letters lie in one is the law `links_hold_few_letters`.
 -- No time passes, and nothing says which of the enabled events comes next.
-use Rattle.std.specs.Prelude.{◌≡◌, ℕ, ◌<◌, ◌==◌, nat_lt, Bool, true, List, [], ◌∷◌, ◌++◌, map, filter, length, position, slice_get, slice_index_or, slice_set, Option, Some, None, is_some, unwrap_or, option_map, option_and_then, if◌then◌else◌}
+use Rattle.std.specs.Prelude.{◌≡◌, ℕ, ◌<◌, ◌==◌, nat_lt, Bool, true, false, List, [], ◌∷◌, ◌++◌, map, filter, length, position, slice_get, slice_index_or, slice_set, Option, Some, None, is_some, unwrap_or, option_map, option_and_then, if◌then◌else◌}
 use Rattle.std.specs.List.{flat_map, range_with_len}
 use mathlib.Core.List.{IsPrefix}
-use Rattle.dine_plan.specs.Plan.{SeenPlan, site_count, job_count, edges_of}
+use Rattle.dine_token.specs.declared.entry.Entry.{Entry}
+use Rattle.dine_token.specs.Log.{meals_of}
+use Rattle.dine_plan.specs.Plan.{SeenPlan, site_count, edges_of, job_count}
 use Rattle.dine_rules.specs.declared.letters.Letter.{Letter}
 use Rattle.dine_rules.specs.declared.events.Event.{Event}
 use Rattle.dine_rules.specs.declared.events.EventKind.{EventKind}
 use Rattle.dine_rules.specs.declared.events.EventKind.TheVariants as event
 use Rattle.dine_rules.specs.declared.phase.Phase.TheVariants.{Thinking}
-use Rattle.dine_rules.specs.Local.{LocalState, traffic_at, start_of, edge_at, neighbour_at, is_thinking}
+use Rattle.dine_rules.specs.Local.{LocalState, traffic_at, start_of, edge_at, neighbour_at, is_thinking, has_no_job_left, meal_fails}
 use Rattle.dine_rules.specs.Steps.{Step, may, after, step_by}
 use Rattle.dine_rules.specs.Streams.{IsClosedInOrder}
 
@@ -19,7 +21,7 @@ WorldState = List LocalState
 
 -- the state of a site past the end
 abbrev pub no_state : LocalState
-no_state = record { phase = Thinking; ate = 0; traffic = [] }
+no_state = record { phase = Thinking; ate = 0; must_quit = false; has_quit = false; traffic = [] }
 
 -- the state of a site
 abbrev pub state_of : WorldState → ℕ → LocalState
@@ -41,9 +43,9 @@ put_to plan world s i = (traffic_at (state_of world (neighbour_at plan s i)) (pl
 abbrev pub next_letter : SeenPlan → WorldState → ℕ → ℕ → Option Letter
 next_letter plan world s i = slice_get (put_to plan world s i) (length (traffic_at (state_of world s) i).taken)
 
--- the step that an event of the site is, by the next letter in the link
+-- the step that an event of the site is, by the job of its meal and by the next letter in the link
 abbrev pub step_of : SeenPlan → WorldState → ℕ → EventKind → Option Step
-step_of plan world s = step_by (next_letter plan world s)
+step_of plan world s = step_by (meal_fails plan s (state_of world s)) (next_letter plan world s)
 
 -- the state after a step, where the site may do it
 abbrev pub local_after : SeenPlan → ℕ → LocalState → Step → Option LocalState
@@ -61,9 +63,13 @@ world_after plan world e = if nat_lt e.site (site_count plan) then option_map (s
 abbrev pub is_enabled : SeenPlan → WorldState → Event → Bool
 is_enabled plan world e = is_some (world_after plan world e)
 
--- all events of a site with these places, in the fixed order: Take, Give, End, Begin, Hungry, Ask, Done, Close, each by place
+-- all events of a site that have no place, in the fixed order
+abbrev pub placeless_kinds : List EventKind
+placeless_kinds = event.End ∷ event.Begin ∷ event.Quit ∷ event.Hungry ∷ []
+
+-- all events of a site with these places, in the fixed order: Take, Give, those without a place, Ask, Done, Close, each by place
 abbrev pub kinds_at : List ℕ → List EventKind
-kinds_at places = map event.Take places ++ map event.Give places ++ event.End ∷ event.Begin ∷ event.Hungry ∷ []
+kinds_at places = map event.Take places ++ map event.Give places ++ placeless_kinds
     ++ map event.Ask places ++ map event.Done places ++ map event.Close places
 
 -- all events of a site of the plan, in the fixed order
@@ -88,10 +94,15 @@ abbrev pub LinksAreOrdered : SeenPlan → WorldState → Type 0
 LinksAreOrdered plan world = (s i : ℕ) → s < site_count plan → i < length (edges_of plan s)
     → IsPrefix (traffic_at (state_of world s) i).taken (put_to plan world s i)
 
--- The closed whole: every site thinks and ate all its meals, what it put on each link is orderly and ends in Close, and what it took from
+-- The log has all meals that the site ate; and where the site has not quit, all that are due to it.
+pub record HasAllMeals (plan : SeenPlan) (world : WorldState) (s : ℕ) (log : List Entry) : Type 0 where
+  pub ate : meals_of s log ≡ (state_of world s).ate
+  pub due : (state_of world s).has_quit ≡ false → meals_of s log ≡ job_count plan s
+
+-- The closed whole: every site thinks and has no job left, what it put on each link is orderly and ends in Close, and what it took from
 -- each link is all that was put there.
 pub record IsComplete (plan : SeenPlan) (world : WorldState) : Type 0 where
   pub all_think : (s : ℕ) → s < site_count plan → is_thinking (state_of world s).phase ≡ true
-  pub all_ate : (s : ℕ) → s < site_count plan → (state_of world s).ate ≡ job_count plan s
+  pub all_ate : (s : ℕ) → s < site_count plan → has_no_job_left plan s (state_of world s) ≡ true
   pub all_closed : (s i : ℕ) → s < site_count plan → i < length (edges_of plan s) → IsClosedInOrder (traffic_at (state_of world s) i).put
   pub all_taken : (s i : ℕ) → s < site_count plan → i < length (edges_of plan s) → (traffic_at (state_of world s) i).taken ≡ put_to plan world s i

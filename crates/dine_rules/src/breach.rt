@@ -1,3 +1,4 @@
+//! Why a letter is not in turn.
 ghost use Rattle.std.specs.Prelude.{◌≡◌};
 
 /// Why a letter is not in turn. The first that applies, in this order, is told.

@@ -16,6 +16,8 @@ pub enum EventKind {
     End,
     /// Begins a meal.
     Begin,
+    /// Drops the jobs that it has left, after a meal that failed.
+    Quit,
     /// Grows hungry.
     Hungry,
     /// Sends the token to ask for the fork: the request rule.

@@ -1,14 +1,13 @@
 //! Laws over the definitions alone. Each function does nothing: its contract is the law.
 
-ghost use Rattle.std.specs.Prelude.{◌≡◌, ◌≢◌, ◌<◌, ◌≤◌, ◌+◌, ◌*◌, ◌↔◌, ℕ, List, [], ◌∷◌, ◌++◌, None, Option, Some, false, length, map, slice_get, true};
+ghost use Rattle.std.specs.Prelude.{◌≡◌, ◌≢◌, ◌<◌, ◌≤◌, ◌+◌, ◌*◌, ◌↔◌, ℕ, Bool, List, [], ◌∷◌, ◌++◌, None, Option, Some, false, length, map, slice_get, true};
 ghost use Rattle.std.specs.List.{list_any};
 ghost use Rattle.dine_plan.specs.Plan.{IsPlan, SeenPlan, edge_count, hi_of, job_count, lo_of, site_count};
 ghost use Rattle.dine_token.specs.Fork.{SeenFork};
 ghost use Rattle.dine_token.specs.Lawful.{IsLawful};
-ghost use Rattle.dine_token.specs.Log.{meals_of};
 ghost use Rattle.dine_token.specs.declared.entry.Entry.TheVariants.{Meal, Move};
 ghost use Rattle.dine_rules.specs.Bound.{bound_of, effects_of};
-ghost use Rattle.dine_rules.specs.Examples.{alone, enabled_after, ends_complete, next_after, outcome_of, pair, path, preferred_after, preferred_at_end, row};
+ghost use Rattle.dine_rules.specs.Examples.{alone, breach_of_done, breach_of_fork, enabled_after, ends_complete, next_after, outcome_of, pair, path, preferred_after, preferred_at_end, resigning, row};
 ghost use Rattle.dine_rules.specs.Breach.{first_breach, is_allowed, number_of};
 ghost use Rattle.dine_rules.specs.BreachCauses.{Applies};
 ghost use Rattle.dine_rules.specs.declared.breach.Breach.{Breach};
@@ -23,13 +22,13 @@ ghost use Rattle.dine_rules.specs.Schedules.{after_choices, finish_within, from_
 ghost use Rattle.dine_rules.specs.Steps as step;
 ghost use Rattle.dine_rules.specs.Steps.{IsPlaceWithin, LocalStep, MovesBy, Step, after, may, shape_of, step_by};
 ghost use Rattle.dine_rules.specs.Streams.{IsProper, IsPutInOrder, KeepsStreams};
-ghost use Rattle.dine_rules.specs.World.{LinksAreOrdered, IsComplete, Reaches, WorldState, enabled_events, is_enabled, kinds_at, next_letter, put_to, start, state_of, world_after};
+ghost use Rattle.dine_rules.specs.World.{HasAllMeals, LinksAreOrdered, IsComplete, Reaches, WorldState, enabled_events, is_enabled, kinds_at, next_letter, put_to, start, state_of, world_after};
 ghost use Rattle.dine_rules.specs.declared.events.Event.{Event};
 ghost use Rattle.dine_rules.specs.declared.events.EventKind.{EventKind};
 ghost use Rattle.dine_rules.specs.declared.letters.Letter.{Letter};
 ghost use Rattle.dine_rules.specs.declared.letters.Letter.TheVariants.{Fork};
 ghost use Rattle.dine_rules.specs.declared.letters.Letter.TheVariants as letter;
-ghost use Rattle.dine_rules.specs.declared.events.EventKind.TheVariants.{Ask, Begin, Close, Done, End, Give, Hungry, Take};
+ghost use Rattle.dine_rules.specs.declared.events.EventKind.TheVariants.{Ask, Begin, Close, Done, End, Give, Hungry, Quit, Take};
 ghost use Rattle.dine_rules.specs.declared.letters.Kind4.TheVariants as kind;
 
 mod joined;
@@ -39,12 +38,13 @@ pub use joined::{
     closed_links_are_wholly_taken, early_close_comes_as_worked, edges_have_a_place_at_each_end,
     joined_ends_have_one_whole_fork_and_one_token, kept_streams_account_for_fork_and_token,
     linked_ends_have_at_most_one_fork_and_token, reached_worlds_have_linked_ends,
-    refused_letters_are_closes,
+    reached_worlds_have_the_values_of_their_logs, refused_letters_are_closes,
+    values_are_those_of_the_logs,
 };
 pub use journals::{
     disabled_events_wait_for_a_letter, journals_and_links_fix_the_logs, journals_fix_the_world,
-    journals_go_as_worked, journals_grow_by_each_event, order_between_sites_does_not_matter,
-    orders_grow_by_each_event, orders_that_exist_are_found,
+    journals_go_as_worked, journals_grow_by_each_event, journals_stand_for_other_outcomes,
+    order_between_sites_does_not_matter, orders_grow_by_each_event, orders_that_exist_are_found,
 };
 
 /// What a link has of a site's letters is in order where it has a front of them, or a front and Close; also where it brought more than
@@ -67,6 +67,7 @@ pub fn small_plans_run_as_worked()
     ensures higher_alone { outcome_of (pair 0 1) [] ≡ record { logs = (Move 1 ∷ Meal 1 1 ∷ []) ∷ []; events = 15 } }
     ensures alone { outcome_of alone [] ≡ record { logs = []; events = 6 } }
     ensures path { outcome_of path [] ≡ record { logs = (Meal 0 1 ∷ Move 1 ∷ Meal 1 1 ∷ []) ∷ (Meal 1 1 ∷ Move 2 ∷ Meal 2 1 ∷ []) ∷ []; events = 33 } }
+    ensures resigning { outcome_of resigning [] ≡ record { logs = (Meal 0 1 ∷ Meal 0 2 ∷ Move 1 ∷ Meal 1 1 ∷ []) ∷ []; events = 22 } }
 {}
 
 /// The bounds of these plans.
@@ -76,6 +77,7 @@ pub fn small_plans_have_these_bounds()
     ensures higher_alone { bound_of (pair 0 1) ≡ 15 }
     ensures alone { bound_of alone ≡ 6 }
     ensures path { bound_of path ≡ 41 }
+    ensures resigning { bound_of resigning ≡ 36 }
 {}
 
 /// At the start both sites of a pair may grow hungry, and nothing else is enabled. After six events of the second
@@ -91,11 +93,24 @@ pub fn pair_goes_as_worked()
 /// may take the fork that it asked for, and give the one that it was asked for; and with no jobs it may say Done at one place
 /// and Close at the other.
 pub fn events_are_ordered_as_worked()
-    ensures kinds { kinds_at (0 ∷ 1 ∷ []) ≡ Take 0 ∷ Take 1 ∷ Give 0 ∷ Give 1 ∷ End ∷ Begin ∷ Hungry ∷ Ask 0 ∷ Ask 1 ∷ Done 0 ∷ Done 1 ∷ Close 0 ∷ Close 1 ∷ [] }
+    ensures kinds { kinds_at (0 ∷ 1 ∷ []) ≡ Take 0 ∷ Take 1 ∷ Give 0 ∷ Give 1 ∷ End ∷ Begin ∷ Quit ∷ Hungry ∷ Ask 0 ∷ Ask 1 ∷ Done 0 ∷ Done 1 ∷ Close 0 ∷ Close 1 ∷ [] }
     ensures take_before_give { enabled_after path (2 ∷ 2 ∷ 1 ∷ 2 ∷ 2 ∷ 0 ∷ 0 ∷ [])
         ≡ record { site = 0; kind = Hungry } ∷ record { site = 1; kind = Take 0 } ∷ record { site = 1; kind = Give 1 } ∷ [] }
     ensures done_before_close { enabled_after (row 0 0 0) (0 ∷ 0 ∷ 0 ∷ [])
         ≡ record { site = 0; kind = Take 0 } ∷ record { site = 1; kind = Done 1 } ∷ record { site = 1; kind = Close 0 } ∷ record { site = 2; kind = Done 0 } ∷ [] }
+{}
+
+/// The lower of two sites resigns, and the second of its three jobs fails. After that meal it may quit, and not grow hungry; then it
+/// says Done. Its neighbour takes a Fork with one of its meals and then Done; where it does not resign, that Done is a breach.
+pub fn resigning_goes_as_worked()
+    ensures after_one { enabled_after resigning (0 ∷ 0 ∷ 0 ∷ []) ≡ record { site = 0; kind = Hungry } ∷ record { site = 1; kind = Hungry } ∷ [] }
+    ensures after_two { enabled_after resigning (0 ∷ 0 ∷ 0 ∷ 0 ∷ 0 ∷ 0 ∷ []) ≡ record { site = 0; kind = Quit } ∷ record { site = 1; kind = Hungry } ∷ [] }
+    ensures after_quit { enabled_after resigning (0 ∷ 0 ∷ 0 ∷ 0 ∷ 0 ∷ 0 ∷ 0 ∷ []) ≡ record { site = 0; kind = Done 0 } ∷ record { site = 1; kind = Hungry } ∷ [] }
+    ensures end { ends_complete resigning ≡ 2 ∷ 1 ∷ [] }
+    ensures fork { breach_of_fork resigning ≡ None }
+    ensures done { breach_of_done resigning ≡ None }
+    ensures other_fork { breach_of_fork (pair 3 1) ≡ None }
+    ensures other_done { breach_of_done (pair 3 1) ≡ Some DoneOutOfTurn }
 {}
 
 /// The preferred end of a pair's edge: at the start the higher, which has no fork; so it is while the fork is clean on its way there,
@@ -112,7 +127,7 @@ pub fn precedence_goes_as_worked()
 
 /// The meals that begin in a list of steps, and which step is a Give at a place.
 pub fn steps_are_told_as_worked()
-    ensures begins { begins_in (step.Hungry ∷ step.Begin ∷ step.End ∷ step.Hungry ∷ step.Begin ∷ []) ≡ 2 }
+    ensures begins { begins_in (step.Hungry ∷ step.Begin ∷ step.End false ∷ step.Hungry ∷ step.Begin ∷ []) ≡ 2 }
     ensures gives { is_give_at 1 (step.Give 1) ≡ true }
     ensures gives_elsewhere { is_give_at 1 (step.Give 0) ≡ false }
     ensures asks { is_give_at 1 (step.Ask 1) ≡ false }
@@ -175,10 +190,10 @@ pub fn first_breach_is_first()
 /// An event moves letters by its shape: it takes one at its place, puts one there, or moves none. The place of an event that a
 /// site may do is one of the site's.
 pub fn events_move_letters_by_their_shape()
-    ensures moves { (plan : SeenPlan) (s : ℕ) (state : LocalState) (next : ℕ → Option Letter) (kind : EventKind) (step : Step)
-        → step_by next kind ≡ Some step → MovesBy (shape_of kind) state (after plan s state step) }
-    ensures place { (plan : SeenPlan) (s : ℕ) (state : LocalState) (next : ℕ → Option Letter) (kind : EventKind) (step : Step)
-        → step_by next kind ≡ Some step → may plan s state step ≡ true → IsPlaceWithin (length state.traffic) (shape_of kind) }
+    ensures moves { (plan : SeenPlan) (s : ℕ) (state : LocalState) (failed : Bool) (next : ℕ → Option Letter) (kind : EventKind) (step : Step)
+        → step_by failed next kind ≡ Some step → MovesBy (shape_of kind) state (after plan s state step) }
+    ensures place { (plan : SeenPlan) (s : ℕ) (state : LocalState) (failed : Bool) (next : ℕ → Option Letter) (kind : EventKind) (step : Step)
+        → step_by failed next kind ≡ Some step → may plan s state step ≡ true → IsPlaceWithin (length state.traffic) (shape_of kind) }
 {}
 
 /// The numbers of the breaches.
@@ -274,7 +289,7 @@ pub fn precedence_is_acyclic()
 {}
 
 /// A world that is stuck is complete: where events reach a world from the start and no event is enabled in it, every site
-/// thinks and ate all its meals, and every link is closed in order and wholly taken.
+/// thinks, and ate all its meals or has quit, and every link is closed in order and wholly taken.
 pub fn stuck_worlds_are_complete()
     ensures { (plan : SeenPlan) (events : List Event) (world : WorldState) → IsPlan plan → Reaches plan events world
         → enabled_events plan world ≡ [] → IsComplete plan world }
@@ -322,15 +337,15 @@ pub fn fork_logs_are_of_the_one_fork()
 {}
 
 /// The log of each edge's fork is lawful, in every world that events reach from the start and wherever the fork lies: in hand, in
-/// a meal or in a link. Where the world is complete, the log has all meals of both ends. So at the end of a whole run, after any
-/// choices, each log is lawful and has all meals of both ends.
+/// a meal or in a link. Where the world is complete, the log has all meals that both ends ate: those that are due to an end, unless it
+/// has quit. So at the end of a whole run, after any choices, each log is lawful and has all meals that both ends ate.
 pub fn forks_are_lawful_and_whole()
     ensures lawful { ForEachEdge (λ plan world edge. IsLawful (lo_of plan edge, hi_of plan edge) (job_count plan (lo_of plan edge), job_count plan (hi_of plan edge)) (fork_log plan world edge)) }
     ensures whole { ForEachEdge (λ plan world edge. IsComplete plan world
-        → (meals_of (lo_of plan edge) (fork_log plan world edge) ≡ job_count plan (lo_of plan edge)) × (meals_of (hi_of plan edge) (fork_log plan world edge) ≡ job_count plan (hi_of plan edge))) }
+        → HasAllMeals plan world (lo_of plan edge) (fork_log plan world edge) × HasAllMeals plan world (hi_of plan edge) (fork_log plan world edge)) }
     ensures run_lawful { (plan : SeenPlan) (choices : List ℕ) (edge : ℕ) → IsPlan plan → edge < edge_count plan
         → IsLawful (lo_of plan edge, hi_of plan edge) (job_count plan (lo_of plan edge), job_count plan (hi_of plan edge)) (fork_log plan (whole_run plan choices).world edge) }
     ensures run_whole { (plan : SeenPlan) (choices : List ℕ) (edge : ℕ) → IsPlan plan → edge < edge_count plan
-        → (meals_of (lo_of plan edge) (fork_log plan (whole_run plan choices).world edge) ≡ job_count plan (lo_of plan edge))
-        × (meals_of (hi_of plan edge) (fork_log plan (whole_run plan choices).world edge) ≡ job_count plan (hi_of plan edge)) }
+        → HasAllMeals plan (whole_run plan choices).world (lo_of plan edge) (fork_log plan (whole_run plan choices).world edge)
+        × HasAllMeals plan (whole_run plan choices).world (hi_of plan edge) (fork_log plan (whole_run plan choices).world edge) }
 {}

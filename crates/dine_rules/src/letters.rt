@@ -1,3 +1,4 @@
+//! Letters, and their kinds.
 ghost use Rattle.std.specs.Prelude.{◌≡◌};
 
 use dine_token::{Fork, Token};

@@ -2,6 +2,8 @@
 pub mod Letters
 pub mod AtPlaces
 pub mod Meals
+pub mod Heeding
+pub mod Quits
 pub mod Ways
 pub mod Stops
 pub mod Ends

@@ -1,6 +1,6 @@
 -- A site on its way: what holds of its core and its link ends between two of its events, while a letter goes out, after its first fault,
 -- and at its end; and what is left as it was. Contracts of private functions alone name these.
-use Rattle.std.specs.Prelude.{◌≡◌, ◌≢◌, ℕ, ◌+◌, ◌<◌, ◌≤◌, ◌++◌, not, Bool, true, false, List, length, slice_get, Option, Some, None, option_to_list, Result, MatchResult, vec_len}
+use Rattle.std.specs.Prelude.{◌≡◌, ◌≢◌, ℕ, ◌+◌, ◌<◌, ◌≤◌, ◌++◌, ◌&&◌, ◌||◌, not, nat_lt, Bool, true, false, List, [], ◌∷◌, length, slice_get, Option, Some, None, option_to_list, Result, MatchResult, vec_len}
 use Rattle.dine_plan.specs.Plan.{SeenPlan, IsPlan, site_count}
 use Rattle.dine_rules.specs.declared.breach.Breach.{Breach}
 use Rattle.dine_rules.specs.declared.events.EventKind.{EventKind}
@@ -142,6 +142,26 @@ module _ {Lane Tx Closed Rx Identity Diner : Type 0} (live : Tx → SeenEnd Iden
   abbrev pub seen_run : Running Lane Diner Tx Closed Rx → SeenRun Identity
   seen_run run = record { core = run.core; ports = seen_ports live shut taking run.ports.items; bell = run.bell; journal = run.journal.items }
 
+-- the last of these calls failed
+abbrev pub last_failed : List Call → Bool
+last_failed [] = false
+last_failed (call ∷ []) = not call.ok
+last_failed (call ∷ next ∷ calls) = last_failed (next ∷ calls)
+
+-- none of these calls failed but the last
+abbrev pub only_last_failed : List Call → Bool
+only_last_failed [] = true
+only_last_failed (call ∷ []) = true
+only_last_failed (call ∷ next ∷ calls) = call.ok && only_last_failed (next ∷ calls)
+
+-- What a site does by the calls of its diner since some start: where it resigns, none came after one that failed; and it
+-- drops its meals, that is, has to quit or has quit, exactly where the last one failed, it resigns and has meals left.
+pub record IsHeeding (resigns drops has_left : Bool) (first now : List Call) : Type 0 where
+  pub added : List Call
+  pub called : now ≡ first ++ added
+  pub stops : resigns ≡ true → only_last_failed added ≡ true
+  pub drops_where : drops ≡ (last_failed added && resigns && has_left)
+
 module _ {Lane Tx Closed Rx Diner : Type 0} where
   -- The bell is that of the places, there is room for the calls of all meals to come, and no more meals failed than were begun.
   pub record IsReady (room_left : Diner → ℕ) (run : Running Lane Diner Tx Closed Rx) : Type 0 where
@@ -153,11 +173,19 @@ module _ {Lane Tx Closed Rx Diner : Type 0} where
   abbrev pub EatsOn : (Diner → List Call) → (Diner → List Bool) → (List Bool → ℕ → Bool → Bool) → Running Lane Diner Tx Closed Rx → Running Lane Diner Tx Closed Rx → Type 0
   EatsOn calls marks fits old new = (first : Diner) → HasEaten calls marks fits old.core.ate old.failed first old.diner → HasEaten calls marks fits new.core.ate new.failed first new.diner
 
-  -- The site, its meals, the diner and the bell are as they were, and so is the number of ports.
+  -- what the diner did since any start was heeded, and is so still
+  abbrev pub HeedsOn : (Diner → List Call) → Running Lane Diner Tx Closed Rx → Running Lane Diner Tx Closed Rx → Type 0
+  HeedsOn calls old new = (first : List Call) → IsHeeding old.core.resigns (old.core.must_quit || old.core.has_quit) (nat_lt old.core.ate old.core.due) first (calls old.diner)
+      → IsHeeding new.core.resigns (new.core.must_quit || new.core.has_quit) (nat_lt new.core.ate new.core.due) first (calls new.diner)
+
+  -- The site, its meals, its policy, the diner and the bell are as they were, and so is the number of ports.
   pub record SameMeals (old new : Running Lane Diner Tx Closed Rx) : Type 0 where
     pub site : new.core.site ≡ old.core.site
     pub due : new.core.due ≡ old.core.due
     pub ate : new.core.ate ≡ old.core.ate
+    pub resigns : new.core.resigns ≡ old.core.resigns
+    pub must_quit : new.core.must_quit ≡ old.core.must_quit
+    pub has_quit : new.core.has_quit ≡ old.core.has_quit
     pub diner : new.diner ≡ old.diner
     pub failed : new.failed ≡ old.failed
     pub bell : new.bell.degree ≡ old.bell.degree

@@ -2,9 +2,10 @@
 ghost use Rattle.std.specs.Prelude.{◌≡◌, ◌≢◌, IfErr, IfOk, length, replicate};
 ghost use Rattle.dine_plan.specs.Plan.{site_count};
 ghost use Rattle.dine_rules.specs.Journals.{IsLowestFirst, IsWholeOrder};
-ghost use Rattle.dine_run.specs.Orders.{FirstLeft, OrderFaultIs, lists_in};
+ghost use Rattle.dine_run.specs.Orders.{FirstLeft, OrderFaultIs, lists_in, plan_shown};
 ghost use Rattle.dine_run.specs.declared.orders.OrderFault.TheVariants.{CountDiffers, Memory};
 
+mod outcomes;
 mod placing;
 
 use dine_core::{Event, EventKind, World};
@@ -42,6 +43,9 @@ impl From<AllocError> for OrderFault {
 /// else. A world of the plan accepts it, each event in its turn, and is complete at its end. Each event is that of the lowest site
 /// whose next event was enabled.
 ///
+/// The world has the outcomes that the journals show: the last meal before each Quit failed, where the site has a job of that number,
+/// and no other did.
+///
 /// Where it answers `Stuck` or `NotClosed`, there is no such list. Each event costs one step of a world and at most one try
 /// more, whatever the number of sites.
 pub fn order(
@@ -50,9 +54,9 @@ pub fn order(
     journals: &[Vec<EventKind>],
 ) -> Result<Vec<Event>, OrderFault>
     ensures count { length journals.now ≢ site_count plan.now → result ≡ Err CountDiffers }
-    ensures order { IfOk result (λ events. IsWholeOrder plan.now (lists_in journals.now) events.items) }
-    ensures lowest { IfOk result (λ events. IsLowestFirst plan.now (lists_in journals.now) events.items) }
-    ensures fault { IfErr result (OrderFaultIs plan.now (lists_in journals.now)) }
+    ensures order { IfOk result (λ events. IsWholeOrder (plan_shown plan.now (lists_in journals.now)) (lists_in journals.now) events.items) }
+    ensures lowest { IfOk result (λ events. IsLowestFirst (plan_shown plan.now (lists_in journals.now)) (lists_in journals.now) events.items) }
+    ensures fault { IfErr result (OrderFaultIs (plan_shown plan.now (lists_in journals.now)) (lists_in journals.now)) }
 {
     if journals.len() != plan.sites() as usize {
         return Err(OrderFault::CountDiffers);
@@ -70,14 +74,15 @@ fn search(
 ) -> Result<Vec<Event>, OrderFault>
     requires journals { length journals.now ≡ site_count plan.now }
     requires counts { counts.old ≡ replicate (site_count plan.now) 0 }
-    ensures order { IfOk result (λ events. IsWholeOrder plan.now (lists_in journals.now) events.items) }
-    ensures lowest { IfOk result (λ events. IsLowestFirst plan.now (lists_in journals.now) events.items) }
-    ensures fault { IfErr result (OrderFaultIs plan.now (lists_in journals.now)) }
+    ensures order { IfOk result (λ events. IsWholeOrder (plan_shown plan.now (lists_in journals.now)) (lists_in journals.now) events.items) }
+    ensures lowest { IfOk result (λ events. IsLowestFirst (plan_shown plan.now (lists_in journals.now)) (lists_in journals.now) events.items) }
+    ensures fault { IfErr result (OrderFaultIs (plan_shown plan.now (lists_in journals.now)) (lists_in journals.now)) }
 {
     laws::orders_that_exist_are_found();
     laws::stuck_worlds_are_complete();
     laws::complete_worlds_are_stuck();
-    let mut world = World::open(alloc, plan)?;
+    let fails = outcomes::shown_by(alloc, plan, journals)?;
+    let mut world = World::open_with(alloc, plan, fails.as_slice())?;
     let placed = placing::place_all(alloc, plan, journals, &mut world, counts);
     let is_closed = world.count() == 0;
     world.into_forks();

@@ -3,7 +3,7 @@ ghost use Rattle.std.specs.Prelude.{◌≡◌, ◌<◌, ◌≤◌, All, IfNone, 
 ghost use Rattle.std.specs.List.{AllZip};
 ghost use Rattle.dine_plan.specs.Plan.{SeenPlan, job_count, site_count};
 ghost use Rattle.dine_core.specs.Standing.{IsFresh, IsFreshFor};
-ghost use Rattle.dine_run.specs.Diners.{HasEaten};
+ghost use Rattle.dine_run.specs.Diners.{HasEaten, HeedsFailures};
 ghost use Rattle.dine_run.specs.Ports.{IsFreshPort, seen_ports};
 ghost use Rattle.dine_run.specs.private.Openings.{AreStands};
 ghost use Rattle.dine_run.specs.private.Seats.{AreSeatsOf, IsReady, LeavesSeat, seat_of, seen_site_end};
@@ -59,6 +59,7 @@ fn not_started<L: Lane, D: Diner>(
     requires unused { All IsFreshPort (seen_ports L.seen_tx L.seen_closed L.seen_rx ports.items) }
     ensures left { (plan : SeenPlan) → IsFreshFor plan core → IsLeft plan core.site (seen_ports L.seen_tx L.seen_closed L.seen_rx ports.items) (seen_site_end L.seen_tx L.seen_closed L.seen_rx result) }
     ensures eaten { HasEaten D.calls D.marks D.fits result.ate result.failed diner result.diner }
+    ensures heeds { HeedsFailures core.resigns result.journal.items (D.calls diner) (D.calls result.diner) }
 {
     laws::streams_are_kept();
     laws::letters_cut_short_are_in_order();

@@ -2,7 +2,7 @@
 ghost use Rattle.std.specs.Prelude.{◌≡◌, ◌≤◌, ◌+◌, All, false, length, vec_len};
 ghost use Rattle.dine_plan.specs.Plan.{SeenPlan};
 ghost use Rattle.dine_core.specs.Standing.{IsFresh, IsFreshFor};
-ghost use Rattle.dine_run.specs.Diners.{HasEaten};
+ghost use Rattle.dine_run.specs.Diners.{HasEaten, HeedsFailures};
 ghost use Rattle.dine_run.specs.Ports.{IsFreshPort, seen_ports};
 ghost use Rattle.dine_run.specs.SiteEnds.{IsSiteEnd};
 
@@ -21,7 +21,7 @@ use std::sync::Wait;
 /// Runs a site: until it is finished it does the events other than Take that the rules allow, in the fixed order, until there is
 /// none; then it waits for its bell, and takes one letter at the place that rang. Where Close was taken at that place, it takes
 /// none. After each letter that it puts, it rings the neighbour's bell once. Between the begin and the end of a meal it calls
-/// [`Diner::eat`] once.
+/// [`Diner::eat`] once. Where that fails and the site resigns, it eats no more: it quits, if it has meals left. No other site quits.
 ///
 /// A letter that is not in turn, and a link or bell that refuses, is a fault. After the first fault the site puts Close at each place
 /// where it has put none, in order, and ends. Faults that it meets then are not told. It may wait.
@@ -55,6 +55,7 @@ pub fn run_site<R: Wait, L: Lane, D: Diner>(
       fault = result.fault;
     }) }
     ensures eaten { HasEaten D.calls D.marks D.fits result.ate result.failed diner result.diner }
+    ensures heeds { HeedsFailures core.resigns result.journal.items (D.calls diner) (D.calls result.diner) }
 {
     laws::streams_are_kept();
     let mut site = Running::new(core, ports, bell, diner, Vec::new(alloc));

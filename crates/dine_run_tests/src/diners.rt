@@ -1,6 +1,7 @@
 // Diners for tests.
-ghost use Rattle.std.specs.Prelude.{◌≡◌, ◌≤◌, ◌∷◌, [], Some, true, slice_get, IfOk};
+ghost use Rattle.std.specs.Prelude.{◌≡◌, ◌≤◌, ◌∷◌, [], Some, true, length, slice_get, IfOk};
 ghost use Rattle.dine_plan.specs.Plan.{job_count};
+ghost use Rattle.dine_core.specs.Worlds.{AreOutcomesFor, lists_of};
 
 use dine_plan::Plan;
 use dine_run::{CallLog, Diner, JobFault};
@@ -50,6 +51,32 @@ pub fn tasters(alloc: Global, plan: &Plan, fails_each: u32) -> Result<Vec<Taster
         diners.push(Taster { log, fails_each })?;
     }
     Ok(diners)
+}
+
+// Which of the jobs of each site fail at such diners.
+pub fn outcomes_of(
+    alloc: Global,
+    plan: &Plan,
+    fails_each: u32,
+) -> Result<Vec<Vec<bool>>, AllocError>
+    ensures { IfOk result (λ fails. AreOutcomesFor plan.now (lists_of fails.items)) }
+{
+    let mut fails = Vec::new(alloc);
+    for site in 0..plan.sites() {
+        fails.push(outcomes_at(alloc, plan.jobs(site), fails_each)?)?;
+    }
+    Ok(fails)
+}
+
+// Which of so many jobs of one site fail.
+fn outcomes_at(alloc: Global, jobs: u32, fails_each: u32) -> Result<Vec<bool>, AllocError>
+    ensures { IfOk result (λ own. length own.items ≡ jobs) }
+{
+    let mut own = Vec::new(alloc);
+    for job in 0..jobs {
+        own.push(fails_each > 0 && job % fails_each == fails_each - 1)?;
+    }
+    Ok(own)
 }
 
 // Waits in its first meal until `all` diners have entered theirs, for so many turns, and else its job fails. It does not wait

@@ -1,17 +1,36 @@
 // Graphs, the plans of them, and what is left of a run on one: it is held against the graph, and each fork's log against the rules,
 // entry by entry.
 use crate::diners::Taster;
+use dine_core::EventKind;
 use dine_link::LinkEnd;
 use dine_run::{Call, SiteOut};
 use dine_token::{Entry, Fork};
 use std::alloc::{AllocError, Global};
 use std::process::Abort;
 
-// How many jobs each site has, and the two ends of each edge, the lower one first.
+// How many jobs each site has, the two ends of each edge, the lower one first, and which sites resign. A site past the end of that list
+// goes on.
 #[derive(Drop)]
 pub struct Graph {
     pub jobs: Vec<u32>,
     pub edges: Vec<(u32, u32)>,
+    pub resigning: Vec<bool>,
+}
+
+impl Graph {
+    pub fn resigns(&self, site: u32) -> bool {
+        self.resigning.get(site as usize).copied().unwrap_or(false)
+    }
+
+    // How many meals the site eats where each job fails whose number is a multiple of this, or none where it is 0.
+    pub fn meals(&self, site: u32, fails_each: u32) -> Option<u32> {
+        let jobs = self.jobs.get(site as usize).copied()?;
+        if self.resigns(site) && fails_each > 0 && fails_each < jobs {
+            Some(fails_each)
+        } else {
+            Some(jobs)
+        }
+    }
 }
 
 // Sites with as many jobs each, and no edges.
@@ -23,6 +42,7 @@ pub fn apart(alloc: Global, sites: u32, jobs: u32) -> Result<Graph, AllocError> 
     Ok(Graph {
         jobs: all,
         edges: Vec::new(alloc),
+        resigning: Vec::new(alloc),
     })
 }
 
@@ -89,13 +109,24 @@ impl Dice {
     }
 }
 
-// 2 to 12 sites with 0 to 8 jobs each, and about a third of all edges.
+// Two sites with three jobs and one, of which the first resigns.
+pub fn resigning_pair(alloc: Global) -> Result<Graph, AllocError> {
+    let mut graph = apart(alloc, 0, 0)?;
+    graph.jobs.push(3)?;
+    graph.jobs.push(1)?;
+    graph.edges.push((0, 1))?;
+    graph.resigning.push(true)?;
+    Ok(graph)
+}
+
+// 2 to 12 sites with 0 to 8 jobs each, about half of which resign, and about a third of all edges.
 pub fn random(alloc: Global, seed: u32) -> Result<Graph, AllocError> {
     let mut dice = Dice { state: seed };
     let sites = 2 + dice.roll() % 11;
     let mut graph = apart(alloc, 0, 0)?;
     for _ in 0..sites {
         graph.jobs.push(dice.roll() % 9)?;
+        graph.resigning.push(dice.roll() % 2 == 0)?;
     }
     for pair in 0..144u32 {
         let (lower, higher) = (pair % 12, pair / 12);
@@ -117,9 +148,13 @@ fn push_jobs(text: &mut String, jobs: u32) -> Result<(), AllocError> {
 
 // The plan of the graph.
 pub fn plan_text(alloc: Global, graph: &Graph) -> Result<String, AllocError> {
-    let mut text = String::from_str(alloc, "version = 1\n")?;
+    let mut text = String::from_str(alloc, "version = 2\n")?;
     for (site, jobs) in (0..64u32).zip(graph.jobs.as_slice()) {
-        write!(&mut text, "[[site]]\nname = \"s{site}\"\n")?;
+        let policy = if graph.resigns(site) { "resign" } else { "go" };
+        write!(
+            &mut text,
+            "[[site]]\nname = \"s{site}\"\non_fault = \"{policy}\"\n"
+        )?;
         push_jobs(&mut text, *jobs)?;
     }
     for (lower, higher) in graph.edges.as_slice() {
@@ -186,7 +221,7 @@ fn told_by(rt: &impl Abort, fork: &Fork, lower: u32, higher: u32) -> Told {
 }
 
 // One fork an edge, in order. By its log each end had all its meals, and the fork says no more than its log.
-pub fn holds_forks(rt: &impl Abort, graph: &Graph, forks: &[Fork]) {
+pub fn holds_forks(rt: &impl Abort, graph: &Graph, fails_each: u32, forks: &[Fork]) {
     assert_eq!(rt; forks.len(), graph.edges.len());
     for (edge, fork) in (0..512u32).zip(forks) {
         let Some((lower, higher)) = graph.edges.get(edge as usize).copied() else {
@@ -195,8 +230,8 @@ pub fn holds_forks(rt: &impl Abort, graph: &Graph, forks: &[Fork]) {
         assert_eq!(rt; (fork.edge(), fork.ends()), (edge, (lower, higher)));
         let told = told_by(rt, fork, lower, higher);
         for end in [told.here, told.there] {
-            let due = graph.jobs.get(end.site as usize).copied();
-            assert_eq!(rt; due, Some(end.meals), "site {} at edge {edge}", end.site);
+            let meals = graph.meals(end.site, fails_each);
+            assert_eq!(rt; meals, Some(end.meals), "site {} at edge {edge}", end.site);
         }
         assert_eq!(rt;
             (fork.at(), fork.is_dirty(), fork.moves()),
@@ -229,27 +264,35 @@ pub fn holds_links(rt: &impl Abort, graph: &Graph, forks: &[Fork], links: &[Link
 }
 
 // The diner was called for each meal in order, and the jobs that were to fail did.
-fn holds_calls(rt: &impl Abort, diner: &Taster, jobs: u32) {
+fn holds_calls(rt: &impl Abort, diner: &Taster, meals: u32) {
     let calls = diner.log.calls();
-    assert_eq!(rt; calls.len(), jobs as usize);
+    assert_eq!(rt; calls.len(), meals as usize);
     for (k, call) in (1..1001u32).zip(calls) {
         let ok = diner.fails_each == 0 || k % diner.fails_each != 0;
         assert_eq!(rt; *call, Call { k, ok });
     }
 }
 
-// Each site in order, which ate all its jobs.
+// The journal tells of one Quit where the site dropped jobs, and else of none.
+fn holds_journal(rt: &impl Abort, journal: &[EventKind], has_quit: bool) {
+    let quits = journal.iter().filter(|kind| **kind == EventKind::Quit);
+    assert_eq!(rt; quits.count(), usize::from(has_quit));
+}
+
+// Each site in order, which ate all its jobs, or those up to the first that failed.
 pub fn holds_sites(rt: &impl Abort, graph: &Graph, fails_each: u32, sites: &[SiteOut<Taster>]) {
     assert_eq!(rt; sites.len(), graph.jobs.len());
     let mut tokens = 0usize;
     for (number, site) in (0..64u32).zip(sites) {
-        let Some(jobs) = graph.jobs.get(number as usize).copied() else {
+        let Some(meals) = graph.meals(number, fails_each) else {
             panic!(rt; "no site {number}");
         };
-        let failed = jobs.checked_div(fails_each).unwrap_or(0);
-        assert_eq!(rt; (site.site, site.ate, site.failed), (number, jobs, failed));
+        let failed = meals.checked_div(fails_each).unwrap_or(0);
+        assert_eq!(rt; (site.site, site.ate, site.failed), (number, meals, failed));
         assert!(rt; site.stray.is_none() && site.fault.is_none());
-        holds_calls(rt, &site.diner, jobs);
+        holds_calls(rt, &site.diner, meals);
+        let jobs = graph.jobs.get(number as usize).copied();
+        holds_journal(rt, site.journal.as_slice(), jobs != Some(meals));
         tokens = tokens.wrapping_add(site.tokens.len());
     }
     assert_eq!(rt; tokens, graph.edges.len());

@@ -1,5 +1,5 @@
 // Whole runs on graphs of many kinds.
-use crate::diners::{Taster, tasters};
+use crate::diners::{Taster, outcomes_of, tasters};
 use crate::graphs::*;
 use dine_core::{EventKind, World};
 use dine_link::{ChannelLane, Lane, RingLane};
@@ -35,28 +35,39 @@ where
         links,
     } = gathered;
     holds_sites(rt, graph, fails_each, sites.as_slice());
-    holds_forks(rt, graph, forks.as_slice());
+    holds_forks(rt, graph, fails_each, forks.as_slice());
     holds_links(rt, graph, forks.as_slice(), links.as_slice());
     let mut journals = Vec::with_capacity(alloc, sites.len())?;
     for out in sites {
         let SiteOut { journal, .. } = out;
         journals.push(journal)?;
     }
-    holds_order(rt, alloc, plan, journals.as_slice(), forks.as_slice())
+    let fails = outcomes_of(alloc, plan, fails_each)?;
+    let world = World::open_with(alloc, plan, fails.as_slice())?;
+    holds_order(
+        rt,
+        alloc,
+        plan,
+        journals.as_slice(),
+        world,
+        forks.as_slice(),
+    )
 }
 
-// The journals have an order, and a world that is stepped through it has the logs that were gathered.
+// The journals have an order, and the world, where the same jobs fail, that is stepped through it has the logs that were gathered.
 fn holds_order(
     rt: &impl Abort,
     alloc: Global,
     plan: &Plan,
     journals: &[Vec<EventKind>],
+    world: World,
     forks: &[Fork],
 ) -> Result<(), Fail> {
+    let mut world = world;
     let Ok(events) = order(alloc, plan, journals) else {
+        world.into_forks();
         return Err(Fail::new("no order"));
     };
-    let mut world = World::open(alloc, plan)?;
     for event in events.iter() {
         assert_eq!(rt; world.step(*event), Ok(()));
     }
@@ -117,7 +128,7 @@ fn grids_eat_all_their_meals(rt: HostRuntime) -> Result<(), Fail> {
 }
 
 #[test]
-fn random_graphs_eat_all_their_meals(rt: HostRuntime) -> Result<(), Fail> {
+fn random_graphs_eat_their_meals(rt: HostRuntime) -> Result<(), Fail> {
     let alloc = rt.alloc();
     for seed in 0..30u32 {
         runs_once::<ChannelLane, HostRuntime>(&rt, alloc, random(alloc, seed), seed % 4)?;
@@ -127,7 +138,7 @@ fn random_graphs_eat_all_their_meals(rt: HostRuntime) -> Result<(), Fail> {
 
 // The same graphs, with fewer jobs, over links that are rings.
 #[test]
-fn all_meals_are_eaten_over_rings(rt: HostRuntime) -> Result<(), Fail> {
+fn meals_are_eaten_over_rings(rt: HostRuntime) -> Result<(), Fail> {
     let alloc = rt.alloc();
     for graph in [
         ring(alloc, 5, 1000),
@@ -142,6 +153,14 @@ fn all_meals_are_eaten_over_rings(rt: HostRuntime) -> Result<(), Fail> {
         runs_once::<RingLane, HostRuntime>(&rt, alloc, random(alloc, seed), seed % 4)?;
     }
     Ok(())
+}
+
+// The first site's second job of three fails, and it resigns.
+#[test]
+fn site_that_resigns_eats_no_more(rt: HostRuntime) -> Result<(), Fail> {
+    let alloc = rt.alloc();
+    runs_once::<ChannelLane, HostRuntime>(&rt, alloc, resigning_pair(alloc), 2)?;
+    runs_once::<RingLane, HostRuntime>(&rt, alloc, resigning_pair(alloc), 2)
 }
 
 #[test]

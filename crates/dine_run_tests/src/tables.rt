@@ -5,7 +5,7 @@ ghost use Rattle.dine_run.specs.Tables.{IsGatheredOf};
 use crate::diners::Taster;
 use dine_plan::{Plan, read_plan};
 use dine_run::{CallLog, EdgeRow, Gathered, SiteOut, SiteRow, edge_table, site_table};
-use dine_token::{Fork, Held, Meal};
+use dine_token::{Act, Fork, Held, Meal};
 use std::alloc::{AllocError, Global};
 use std::process::Abort;
 use std::test::Fail;
@@ -22,16 +22,16 @@ fn fork_of_both(alloc: Global) -> Result<Fork, AllocError>
     ensures ends { IfOk result (λ fork. fork.ends ≡ (0, 1)) }
     ensures due { IfOk result (λ fork. fork.due ≡ (3, 1)) }
 {
-    let fork = Fork::open(alloc, 0, 0, 1, 3, 1)?;
+    let fork = Fork::open(alloc, 0, 0, 1, 3, 1, 5)?;
     let mut hands = Vec::with_capacity(alloc, 1)?;
     hands.push_reserved(Held::take(fork));
-    let hands = Meal::begin(0, 1, hands).end();
-    let mut hands = Meal::begin(0, 2, hands).end();
+    let hands = Meal::begin(0, 1, Act::Set(20), hands).end();
+    let mut hands = Meal::begin(0, 2, Act::Add(3), hands).end();
     let Some(held) = hands.pop() else {
         unreachable!();
     };
     hands.push_reserved(Held::take(held.give(1)));
-    let mut hands = Meal::begin(1, 1, hands).end();
+    let mut hands = Meal::begin(1, 1, Act::Add(0), hands).end();
     let Some(held) = hands.pop() else {
         unreachable!();
     };
@@ -45,10 +45,10 @@ fn fork_of_one(alloc: Global) -> Result<Fork, AllocError>
     ensures ends { IfOk result (λ fork. fork.ends ≡ (1, 2)) }
     ensures due { IfOk result (λ fork. fork.due ≡ (1, 0)) }
 {
-    let fork = Fork::open(alloc, 1, 1, 2, 1, 0)?;
+    let fork = Fork::open(alloc, 1, 1, 2, 1, 0, 1_000_000)?;
     let mut hands = Vec::with_capacity(alloc, 1)?;
     hands.push_reserved(Held::take(fork));
-    let mut hands = Meal::begin(1, 1, hands).end();
+    let mut hands = Meal::begin(1, 1, Act::Add(0), hands).end();
     let Some(held) = hands.pop() else {
         unreachable!();
     };
@@ -117,6 +117,7 @@ fn row_of_an_edge_has_the_meals_in_its_log(rt: HostRuntime) -> Result<(), Fail> 
         hi: 1,
         lo_meals: 2,
         hi_meals: 1,
+        value: 23,
     };
     let second = EdgeRow {
         edge: 1,
@@ -124,6 +125,7 @@ fn row_of_an_edge_has_the_meals_in_its_log(rt: HostRuntime) -> Result<(), Fail> 
         hi: 2,
         lo_meals: 1,
         hi_meals: 0,
+        value: 1_000_000,
     };
     assert_eq!(rt; rows.as_slice(), [first, second].as_slice());
     Ok(())

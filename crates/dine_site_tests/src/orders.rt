@@ -11,6 +11,12 @@ const PAIR: &str = "version = 1\n\
     [[site]]\nname = \"b\"\njobs = [{ name = \"y\" }]\n\
     [[edge]]\nends = [\"a\", \"b\"]\n";
 
+// The lower site has two jobs more, and resigns.
+const RESIGNING: &str = "version = 2\n\
+    [[site]]\nname = \"a\"\non_fault = \"resign\"\njobs = [{ name = \"x\" }, { name = \"y\" }, { name = \"z\" }]\n\
+    [[site]]\nname = \"b\"\njobs = [{ name = \"y\" }]\n\
+    [[edge]]\nends = [\"a\", \"b\"]\n";
+
 // What the lower site did where it ate first, and what the higher did.
 pub const LOWER: [EventKind; 9] = [
     EventKind::Hungry,
@@ -32,6 +38,23 @@ pub const HIGHER: [EventKind; 9] = [
     EventKind::Begin,
     EventKind::End,
     EventKind::Done(0),
+    EventKind::Close(0),
+    EventKind::Take(0),
+];
+
+// What the lower site did where it ate twice, quit and was done.
+const QUITTING: [EventKind; 13] = [
+    EventKind::Hungry,
+    EventKind::Begin,
+    EventKind::End,
+    EventKind::Hungry,
+    EventKind::Begin,
+    EventKind::End,
+    EventKind::Quit,
+    EventKind::Done(0),
+    EventKind::Take(0),
+    EventKind::Give(0),
+    EventKind::Take(0),
     EventKind::Close(0),
     EventKind::Take(0),
 ];
@@ -111,4 +134,45 @@ fn one_journal_for_two_sites_is_refused(rt: HostRuntime) -> Result<(), Fail> {
     let one = order(alloc, &plan, journals.as_slice());
     assert_eq!(rt; one.err(), Some(OrderFault::CountDiffers));
     Ok(())
+}
+
+// The world fails the meal that the journal shows to have failed, which the plan does not.
+#[test]
+fn journals_show_which_meal_failed(rt: HostRuntime) -> Result<(), Fail> {
+    let alloc = rt.alloc();
+    let plan = read_plan(alloc, RESIGNING).expect(&rt, "a plan");
+    let (lower, higher) = (QUITTING.as_slice(), HIGHER.as_slice());
+    let events = order_of(&rt, alloc, &plan, lower, higher)?;
+    assert_eq!(rt; events.len(), 22);
+    let quits = events.iter().filter(|event| event.kind == EventKind::Quit);
+    assert_eq!(rt; quits.count(), 1);
+    Ok(())
+}
+
+// After so many meals of the lower site and so many times Quit of it, with no event of the other, this many were placed.
+fn stuck_after(rt: &impl Abort, alloc: Global, plan: &Plan, meals: u32, quits: u32, placed: u32) {
+    let mut lower = Vec::new(alloc);
+    for _ in 0..meals {
+        for kind in [EventKind::Hungry, EventKind::Begin, EventKind::End] {
+            lower.push(kind).expect(rt, "memory");
+        }
+    }
+    for _ in 0..quits {
+        lower.push(EventKind::Quit).expect(rt, "memory");
+    }
+    let none: [EventKind; 0] = [];
+    let stuck = order_of(rt, alloc, plan, lower.as_slice(), none.as_slice());
+    assert_eq!(rt; stuck.err(), Some(OrderFault::Stuck { site: 0, placed }));
+}
+
+#[test]
+fn quit_out_of_turn_is_stuck(rt: HostRuntime) {
+    let alloc = rt.alloc();
+    let resigning = read_plan(alloc, RESIGNING).expect(&rt, "a plan");
+    stuck_after(&rt, alloc, &resigning, 0, 1, 0);
+    stuck_after(&rt, alloc, &resigning, 1, 2, 4);
+    stuck_after(&rt, alloc, &resigning, 3, 1, 9);
+    stuck_after(&rt, alloc, &resigning, 4, 1, 9);
+    let pair = pair(&rt, alloc);
+    stuck_after(&rt, alloc, &pair, 1, 1, 3);
 }

@@ -4,7 +4,7 @@ ghost use Rattle.std.specs.Prelude.{◌≡◌, ◌+◌, ◌<◌, IfOk};
 use dine::PlanDiner;
 use dine_plan::read_plan;
 use dine_run::{Call, Diner};
-use dine_token::Meal;
+use dine_token::{Act, Meal};
 use std::alloc::Global;
 use std::process::Abort;
 use std::test::Fail;
@@ -35,7 +35,7 @@ fn eats(diner: &mut PlanDiner, alloc: Global, k: u32) -> bool
     requires { 0 < diner.old.room }
     ensures { diner.new.room + 1 ≡ diner.old.room }
 {
-    let meal = Meal::begin(0, k, Vec::new(alloc));
+    let meal = Meal::begin(0, k, Act::Add(0), Vec::new(alloc));
     let answer = diner.eat(k, &meal);
     meal.end().destroy_empty();
     answer.is_ok()

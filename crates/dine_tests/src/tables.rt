@@ -10,8 +10,7 @@ use std::process::Abort;
 use std::test::Fail;
 
 // A path of three sites. The name of the middle one has each kind of byte that a name may have.
-const PATH: &str = "version = 1
-[[site]]
+const PATH: &str = "[[site]]
 name = \"a\"
 [[site]]
 name = \"B-2_\"
@@ -23,36 +22,41 @@ ends = [\"a\", \"B-2_\"]
 ends = [\"B-2_\", \"c\"]
 ";
 
-fn path<R: Abort>(rt: &R, alloc: Global) -> Plan
+fn path<R: Abort>(rt: &R, alloc: Global, version: u32) -> Plan
     ensures sites { site_count result ≡ 3 }
     ensures edges { edge_count result ≡ 2 }
 {
-    let plan = read_plan(alloc, PATH).expect(rt, "a plan");
+    let text = format!(in alloc; "version = {version}\n{PATH}").expect(rt, "memory");
+    let plan = read_plan(alloc, text.as_str()).expect(rt, "a plan");
     assert!(rt; plan.sites() == 3);
     assert!(rt; plan.edges() == 2);
     plan
 }
 
+// A row of each edge.
+const ROWS: [EdgeRow; 2] = [
+    EdgeRow {
+        edge: 0,
+        lo: 0,
+        hi: 1,
+        lo_meals: 0,
+        hi_meals: 1000,
+        value: 0,
+    },
+    EdgeRow {
+        edge: 1,
+        lo: 1,
+        hi: 2,
+        lo_meals: 12,
+        hi_meals: 4_294_967_295,
+        value: u64::MAX,
+    },
+];
+
 #[test]
 fn edges_are_told_by_the_names_of_their_ends(rt: HostRuntime) -> Result<(), Fail> {
-    let plan = path(&rt, rt.alloc());
-    let rows = [
-        EdgeRow {
-            edge: 0,
-            lo: 0,
-            hi: 1,
-            lo_meals: 0,
-            hi_meals: 1000,
-        },
-        EdgeRow {
-            edge: 1,
-            lo: 1,
-            hi: 2,
-            lo_meals: 12,
-            hi_meals: 4_294_967_295,
-        },
-    ];
-    let table = write_edges(rt.alloc(), &plan, &rows)?;
+    let plan = path(&rt, rt.alloc(), 1);
+    let table = write_edges(rt.alloc(), &plan, &ROWS)?;
     assert_eq!(rt;
         table.as_slice(),
         b"edge,lo,hi,lo_meals,hi_meals\n0,a,B-2_,0,1000\n1,B-2_,c,12,4294967295\n".as_slice()
@@ -61,8 +65,19 @@ fn edges_are_told_by_the_names_of_their_ends(rt: HostRuntime) -> Result<(), Fail
 }
 
 #[test]
+fn edges_of_version_two_have_a_value(rt: HostRuntime) -> Result<(), Fail> {
+    let plan = path(&rt, rt.alloc(), 2);
+    let table = write_edges(rt.alloc(), &plan, &ROWS)?;
+    assert_eq!(rt;
+        table.as_slice(),
+        b"edge,lo,hi,lo_meals,hi_meals,value\n0,a,B-2_,0,1000,0\n1,B-2_,c,12,4294967295,18446744073709551615\n".as_slice()
+    );
+    Ok(())
+}
+
+#[test]
 fn sites_are_told_by_name(rt: HostRuntime) -> Result<(), Fail> {
-    let plan = path(&rt, rt.alloc());
+    let plan = path(&rt, rt.alloc(), 1);
     let rows = [
         SiteRow {
             site: 0,
@@ -90,7 +105,7 @@ fn sites_are_told_by_name(rt: HostRuntime) -> Result<(), Fail> {
 
 #[test]
 fn tables_without_rows_are_their_headers(rt: HostRuntime) -> Result<(), Fail> {
-    let plan = path(&rt, rt.alloc());
+    let plan = path(&rt, rt.alloc(), 1);
     let edges = write_edges(rt.alloc(), &plan, &[])?;
     assert_eq!(rt;
         edges.as_slice(),

@@ -1,14 +1,18 @@
 -- A fork stays a proper fork through what may be done with it.
-use Rattle.std.proofs.Common.{◌≡◌, ℕ, ◌+◌, ◌*◌, ◌<◌, ◌≤◌, true, false, cond, eqb, List, length, sym, ◌∙◌, ap, subst, inl, inr, arith}
+use Rattle.std.proofs.Common.{[], ◌∷◌, ◌++◌, ◌≡◌, ℕ, ◌+◌, ◌*◌, ◌<◌, ◌≤◌, true, false, cond, eqb, List, length, sym, ◌∙◌, ap, subst, inl, inr, arith}
 use Rattle.std.specs.List.{All}
 use Rattle.std.proofs.lemmas.Bool.{eq-eqb, ne_eqb, cond-true, cond-false}
 use Rattle.std.proofs.lemmas.List.{length_push}
+use Rattle.dine_token.specs.declared.act.Act.{Act}
+use Rattle.dine_token.specs.declared.act.Act.TheVariants.{Add, Set}
+use Rattle.dine_token.specs.declared.entry.Entry.TheVariants.{Meal}
 use Rattle.dine_token.specs.declared.period.Period.{Period}
+use Rattle.dine_token.specs.Values.{IsAct, applied}
 use Rattle.dine_token.specs.Log.{meals_of, moves_of}
 use Rattle.dine_token.specs.Lawful.{due_at}
 use Rattle.dine_token.specs.Periods.{periods_of}
 use Rattle.dine_token.specs.Fork.{SeenFork, IsFork, IsEnd, MayMove, MayEat, location, other_end, moved, eaten}
-use Rattle.dine_token.proofs.Logs.{turn}
+use Rattle.dine_token.proofs.Logs.{turn, meals_of-push_own, meals_of-push_other, meals_of-push_move}
 use Rattle.dine_token.proofs.Lawfulness.{at_an_end, IsLawful-push_meal, IsLawful-push_move}
 use Rattle.dine_token.proofs.Bounds.{length-lawful, moves-lawful, counted_lawful}
 use Rattle.dine_token.proofs.Periods.{period, periods_of-push_move, length-periods_of}
@@ -31,14 +35,32 @@ IsFork-moved fork to proper may = record {
   lower_due = proper.lower_due;
   higher_due = proper.higher_due;
   lawful = IsLawful-push_move fork.ends fork.due fork.log to proper.lawful may.dirty (may.to_other_end ∙ other_end-turn fork proper) may.hungry;
+  bounded = omega (arith, proper.bounded, meals_of-push_move fork.ends.0 fork.log to, meals_of-push_move fork.ends.1 fork.log to);
 }
 
-pub IsFork-eaten : (fork : SeenFork) (site k : ℕ) → IsFork fork → MayEat site k fork → IsFork (eaten site k fork)
-IsFork-eaten fork site k proper may = record {
+-- a meal of the site where the fork is, is one more meal of both ends
+both_meals : (fork : SeenFork) (site k : ℕ) → IsFork fork → MayEat site k fork
+    → meals_of fork.ends.0 (fork.log ++ Meal site k ∷ []) + meals_of fork.ends.1 (fork.log ++ Meal site k ∷ []) ≡ meals_of fork.ends.0 fork.log + meals_of fork.ends.1 fork.log + 1
+both_meals fork site k proper may = elim (IsEnd-location fork proper) [
+  | inl w ↦ omega (arith, own fork.ends.0 (sym may.held ∙ w), meals_of-push_other fork.ends.1 site fork.log k (λ e. omega (arith, e, sym may.held ∙ w, proper.ordered)))
+  | inr w ↦ omega (arith, own fork.ends.1 (sym may.held ∙ w), meals_of-push_other fork.ends.0 site fork.log k (λ e. omega (arith, e, sym may.held ∙ w, proper.ordered)))
+]
+  where
+    own : (end : ℕ) → site ≡ end → meals_of end (fork.log ++ Meal site k ∷ []) ≡ meals_of end fork.log + 1
+    own end same = ap (λ (e : ℕ). meals_of e (fork.log ++ Meal site k ∷ [])) (sym same) ∙ meals_of-push_own site fork.log k ∙ ap (λ (e : ℕ). meals_of e fork.log + 1) same
+
+-- an act adds at most 1,000,000 to the bound of a value
+pub applied_bounded : (act : Act) (value meals : ℕ) → IsAct act → value ≤ 1000000 * (meals + 1) → applied act value ≤ 1000000 * (meals + 1 + 1)
+applied_bounded (Add amount) value meals small within = omega (arith, small, within)
+applied_bounded (Set amount) value meals small within = omega (arith, small)
+
+pub IsFork-eaten : (fork : SeenFork) (site k : ℕ) (act : Act) → IsFork fork → MayEat site k fork → IsAct act → IsFork (eaten site k act fork)
+IsFork-eaten fork site k act proper may small = record {
   ordered = proper.ordered;
   lower_due = proper.lower_due;
   higher_due = proper.higher_due;
   lawful = IsLawful-push_meal fork.ends fork.due fork.log site k proper.ordered proper.lawful may.held may.next may.within;
+  bounded = omega (arith, applied_bounded act fork.value (meals_of fork.ends.0 fork.log + meals_of fork.ends.1 fork.log) small proper.bounded, both_meals fork site k proper may);
 }
 
 -- a fork's log is no longer than twice the meals that are due

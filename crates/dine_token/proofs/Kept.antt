@@ -2,7 +2,9 @@
 use Rattle.std.proofs.Common.{◌≡◌, ◌⊎◌, ℕ, ◌+◌, ◌-◌, ◌<◌, ◌≤◌, true, false, List, [], ◌∷◌, ◌++◌, length, get_or, set, sym, ◌∙◌, ap, subst, inl, inr, arith, vec_capacity}
 use Rattle.dine_token.specs.declared.entry.Entry.{Entry}
 use Rattle.dine_token.specs.declared.entry.Entry.TheVariants.{Meal, Move}
+use Rattle.dine_token.specs.declared.act.Act.{Act}
 use Rattle.dine_token.specs.declared.fork.Kept.{Kept}
+use Rattle.dine_token.specs.Values.{IsAct}
 use Rattle.dine_token.specs.declared.period.Period.{Period}
 use Rattle.dine_token.specs.Log.{is_dirty, location_of, meals_of}
 use Rattle.dine_token.specs.Lawful.{IsLawful}
@@ -17,14 +19,14 @@ use Rattle.dine_token.proofs.Forks.{IsFork-moved, IsFork-eaten, IsEnd-location, 
 -- a fork that was just opened
 pub kept_opened : (fork : Kept) → fork.periods.items ≡ period fork.lower 1 0 ∷ [] → fork.lower < fork.higher → fork.lower_due ≤ 1000 → fork.higher_due ≤ 1000
     → fork.location ≡ fork.lower → fork.dirty ≡ true → fork.lower_meals ≡ 0 → fork.higher_meals ≡ 0 → fork.lower_due + fork.higher_due + 1 ≤ vec_capacity fork.periods
-    → IsKept fork
-kept_opened fork is ordered lower_due higher_due there dirty lower_none higher_none room =
+    → fork.value ≤ 1000000 → IsKept fork
+kept_opened fork is ordered lower_due higher_due there dirty lower_none higher_none room small =
     let none : [] ≡ entries_of fork.periods.items = sym (ap entries_of is) in
     let ends = (seen_kept fork).ends in
     let due = (seen_kept fork).due in
     let P : List Entry → Type 0 = λ l. IsLawful ends due l in
     record {
-      proper = record { ordered = ordered; lower_due = lower_due; higher_due = higher_due; lawful = subst P none (IsLawful-none ends due) };
+      proper = record { ordered = ordered; lower_due = lower_due; higher_due = higher_due; lawful = subst P none (IsLawful-none ends due); bounded = omega (arith, small) };
       periods = is ∙ ap (periods_of fork.lower) none;
       location = there ∙ ap (location_of fork.lower) none;
       dirty = dirty ∙ ap is_dirty none;
@@ -90,13 +92,13 @@ kept_moved old new to kept may change there clean lower_same higher_same opened 
     at new_end old_end end_is log_is = ap (λ (l : List Entry). meals_of new_end l) log_is ∙ ap (λ (e : ℕ). meals_of e (entries_of old.periods.items ++ Move to ∷ [])) end_is ∙ meals_of-push_move old_end (entries_of old.periods.items) to
 
 -- the fork was eaten with, by one end or the other
-pub kept_eaten : (old new : Kept) (site k : ℕ) → IsKept old → MayEat site k (seen_kept old) → seen_kept new ≡ eaten site k (seen_kept old)
+pub kept_eaten : (old new : Kept) (site k : ℕ) (act : Act) → IsKept old → MayEat site k (seen_kept old) → IsAct act → seen_kept new ≡ eaten site k act (seen_kept old)
     → new.location ≡ old.location → new.dirty ≡ true → new.periods.items ≡ last_one_more old.periods.items → vec_capacity new.periods ≡ vec_capacity old.periods
     → ((site ≡ old.lower) × (new.lower_meals ≡ k) × (new.higher_meals ≡ old.higher_meals)) ⊎ ((site ≡ old.lower → ⊥) × (new.lower_meals ≡ old.lower_meals) × (new.higher_meals ≡ k))
     → IsKept new
-kept_eaten old new site k kept may change there dirty more same_room which =
+kept_eaten old new site k act kept may small change there dirty more same_room which =
     record {
-      proper = subst IsFork (sym change) (IsFork-eaten (seen_kept old) site k kept.proper may);
+      proper = subst IsFork (sym change) (IsFork-eaten (seen_kept old) site k act kept.proper may small);
       location = there ∙ kept.location ∙ sym (ap (λ (l : List Entry). location_of new.lower l) log_is ∙ location_of-push_meal new.lower (entries_of old.periods.items) site k ∙ ap (λ (e : ℕ). location_of e (entries_of old.periods.items)) lower_is);
       dirty = dirty ∙ sym (ap is_dirty log_is ∙ is_dirty-push_meal (entries_of old.periods.items) site k);
       lower_meals = elim which [

@@ -1,16 +1,23 @@
 -- A fork as contracts see it, in a hand, in a letter or in a meal.
-use Rattle.std.specs.Prelude.{◌≡◌, ◌==◌, ◌⊎◌, ℕ, ◌+◌, ◌<◌, ◌≤◌, true, List, [], ◌∷◌, ◌++◌, if◌then◌else◌}
+use Rattle.std.specs.Prelude.{◌≡◌, ◌==◌, ◌⊎◌, ℕ, ◌+◌, ◌*◌, ◌<◌, ◌≤◌, true, List, [], ◌∷◌, ◌++◌, if◌then◌else◌}
 use Rattle.dine_token.specs.declared.entry.Entry.{Entry}
 use Rattle.dine_token.specs.declared.entry.Entry.TheVariants.{Meal, Move}
+use Rattle.dine_token.specs.declared.act.Act.{Act}
+use Rattle.dine_token.specs.Values.{applied}
 use Rattle.dine_token.specs.Log.{is_dirty, location_of, meals_of}
 use Rattle.dine_token.specs.Lawful.{IsLawful, due_at}
 
--- a fork: its edge, its ends and the meals due to them, (lower, higher), each at most 1,000, and its log
+-- a fork: its edge, its ends and the meals due to them, (lower, higher), each at most 1,000, its log, and the value that it carries
 pub record SeenFork : Type 0 where
   pub edge : ℕ
   pub ends : ℕ × ℕ
   pub due : ℕ × ℕ
   pub log : List Entry
+  pub value : ℕ
+
+-- the fork that stands past the end of a list
+abbrev pub no_fork : SeenFork
+no_fork = record { edge = 0; ends = (0, 0); due = (0, 0); log = []; value = 0 }
 
 -- the site is an end of the fork's edge [paper: one fork]
 abbrev pub IsEnd : SeenFork → ℕ → Type 0
@@ -28,16 +35,18 @@ other_end fork site = if site == fork.ends.0 then fork.ends.1 else fork.ends.0
 abbrev pub moved : ℕ → SeenFork → SeenFork
 moved to fork = record fork { log = fork.log ++ Move to ∷ [] }
 
--- the fork after meal k of a site, written behind its log [paper: clean and dirty]
-abbrev pub eaten : ℕ → ℕ → SeenFork → SeenFork
-eaten site k fork = record fork { log = fork.log ++ Meal site k ∷ [] }
+-- the fork after meal k of a site, written behind its log, and after the act of that meal [paper: clean and dirty]
+abbrev pub eaten : ℕ → ℕ → Act → SeenFork → SeenFork
+eaten site k act fork = record fork { log = fork.log ++ Meal site k ∷ []; value = applied act fork.value }
 
--- What is true of every fork: the lower end is below the higher, at most 1,000 meals are due to each, and the log is lawful.
+-- What is true of every fork: the lower end is below the higher, at most 1,000 meals are due to each, the log is lawful, and the value
+-- is at most 1,000,000 for the start and as much for each meal of the log.
 pub record IsFork (fork : SeenFork) : Type 0 where
   pub ordered : fork.ends.0 < fork.ends.1
   pub lower_due : fork.due.0 ≤ 1000
   pub higher_due : fork.due.1 ≤ 1000
   pub lawful : IsLawful fork.ends fork.due fork.log
+  pub bounded : fork.value ≤ 1000000 * (meals_of fork.ends.0 fork.log + meals_of fork.ends.1 fork.log + 1)
 
 -- The fork may be sent to an end: it is dirty, that end is the one where it is not, and has meals left. Of the token and of who eats a fork
 -- knows nothing. [paper: release rule]

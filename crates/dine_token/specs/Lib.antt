@@ -3,4 +3,5 @@ pub mod Lawful
 pub mod Periods
 pub mod Fork
 pub mod Meal
+pub mod Values
 pub mod private

@@ -3,7 +3,9 @@ ghost use Rattle.dine_token.specs.Log.{is_dirty, meals_of, moves_of};
 ghost use Rattle.dine_token.specs.Lawful.{due_at};
 ghost use Rattle.dine_token.specs.Periods.{periods_of, entries_of};
 ghost use Rattle.dine_token.specs.Fork.{SeenFork, IsFork, IsEnd, MayMove, MayEat, location, moved, eaten};
+ghost use Rattle.dine_token.specs.Values.{IsAct};
 
+use crate::act::Act;
 use crate::entry::Entry;
 use crate::period::Period;
 use std::alloc::{AllocError, Global};
@@ -30,6 +32,7 @@ pub(crate) struct Kept {
     pub(crate) dirty: bool,
     pub(crate) lower_meals: u32,
     pub(crate) higher_meals: u32,
+    pub(crate) value: u64,
     pub(crate) periods: Vec<Period>,
 }
 
@@ -47,7 +50,7 @@ impl Model for Fork {
 
 impl Fork {
     /// The fork of edge `edge` between the sites `lower` and `higher`, which have so many meals due, each at most 1,000.
-    /// It is at the lower end, dirty, and its log is empty.
+    /// It is at the lower end, dirty, its log is empty, and it carries the value `value`, at most 1,000,000.
     ///
     /// It takes memory for itself and for each period that the log may come to, once. Fails where that is refused.
     pub fn open(
@@ -57,11 +60,13 @@ impl Fork {
         higher: u32,
         lower_due: u32,
         higher_due: u32,
+        value: u64,
     ) -> Result<Fork, AllocError>
         requires ordered { lower < higher }
         requires lower_due { lower_due ≤ 1000 }
         requires higher_due { higher_due ≤ 1000 }
-        ensures { IfOk result (λ fork. fork ≡ record { edge = edge; ends = (lower, higher); due = (lower_due, higher_due); log = [] }) }
+        requires value { value ≤ 1000000 }
+        ensures { IfOk result (λ fork. fork ≡ record { edge = edge; ends = (lower, higher); due = (lower_due, higher_due); log = []; value = value }) }
     {
         let room = lower_due as usize + higher_due as usize + 1;
         let mut periods = Vec::with_capacity(alloc, room)?;
@@ -80,6 +85,7 @@ impl Fork {
             dirty: true,
             lower_meals: 0,
             higher_meals: 0,
+            value,
             periods,
         };
         let kept = Box::new(alloc, kept)?;
@@ -125,6 +131,15 @@ impl Fork {
         } else {
             self.kept.higher_meals
         }
+    }
+
+    /// The value that it carries: what it was opened with, after the acts of all its meals. At most 1,000,000 times one more
+    /// than its meals.
+    pub fn value(&self) -> u64
+        ensures value { result ≡ self.now.value }
+        ensures proper { IsFork self.now }
+    {
+        self.kept.value
     }
 
     /// Whether the fork was eaten with since it came, or has not moved yet.
@@ -254,14 +269,17 @@ impl Fork {
         });
     }
 
-    // Writes meal k of the site where the fork is: the last period has one more. It takes no memory.
-    pub(crate) fn eat(&mut self, site: u32, k: u32)
-        requires { MayEat site k self.old }
-        ensures eaten { self.new ≡ eaten site k self.old }
+    // Writes meal k of the site where the fork is: the last period has one more; and does the act. It takes no memory.
+    pub(crate) fn eat(&mut self, site: u32, k: u32, act: Act)
+        requires may_eat { MayEat site k self.old }
+        requires act { IsAct act }
+        ensures eaten { self.new ≡ eaten site k act self.old }
         ensures proper { IsFork self.new }
     {
+        let value = act.apply(self.kept.value);
         let kept = &mut *self.kept;
         kept.dirty = true;
+        kept.value = value;
         if site == kept.lower {
             kept.lower_meals = k;
         } else {

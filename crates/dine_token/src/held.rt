@@ -1,6 +1,8 @@
 ghost use Rattle.std.specs.Prelude.{◌≡◌};
 ghost use Rattle.dine_token.specs.Fork.{IsFork, MayMove, MayEat, moved, eaten};
+ghost use Rattle.dine_token.specs.Values.{IsAct};
 
+use crate::act::Act;
 use crate::fork::Fork;
 use std::marker::Model;
 
@@ -52,11 +54,12 @@ impl Held {
         fork
     }
 
-    // Writes meal k of the site into the fork.
-    pub(crate) fn eat(&mut self, site: u32, k: u32)
-        requires { MayEat site k self.old }
-        ensures eaten { self.new ≡ eaten site k self.old }
+    // Writes meal k of the site into the fork, and does its act.
+    pub(crate) fn eat(&mut self, site: u32, k: u32, act: Act)
+        requires may_eat { MayEat site k self.old }
+        requires act { IsAct act }
+        ensures eaten { self.new ≡ eaten site k act self.old }
     {
-        self.fork.eat(site, k);
+        self.fork.eat(site, k, act);
     }
 }

@@ -3,6 +3,8 @@
 ghost use Rattle.std.specs.Prelude.{◌≡◌, ℕ, ◌+◌, ◌*◌, ◌<◌, ◌≤◌, true, false, List, [], ◌∷◌, ◌++◌, length};
 ghost use Rattle.dine_token.specs.declared.entry.Entry.{Entry};
 ghost use Rattle.dine_token.specs.declared.entry.Entry.TheVariants.{Meal, Move};
+ghost use Rattle.dine_token.specs.declared.act.Act.{Act};
+ghost use Rattle.dine_token.specs.Values.{IsAct};
 ghost use Rattle.dine_token.specs.Log.{is_dirty, location_of, meals_of};
 ghost use Rattle.dine_token.specs.Lawful.{IsLawful};
 ghost use Rattle.dine_token.specs.Periods.{periods_of, entries_of};
@@ -39,7 +41,7 @@ pub fn move_cleans_and_sends()
 /// of its two ends.
 pub fn forks_stay_lawful()
     ensures opened { (ends due : ℕ × ℕ) → IsLawful ends due [] }
-    ensures eaten { (fork : SeenFork) (site k : ℕ) → IsFork fork → MayEat site k fork → IsFork (eaten site k fork) }
+    ensures eaten { (fork : SeenFork) (site k : ℕ) (act : Act) → IsFork fork → MayEat site k fork → IsAct act → IsFork (eaten site k act fork) }
     ensures moved { (fork : SeenFork) (to : ℕ) → IsFork fork → MayMove to fork → IsFork (moved to fork) }
     ensures end { (fork : SeenFork) → IsFork fork → IsEnd fork (location fork) }
 {}

@@ -2,6 +2,7 @@
 //! and the hands and meals that hold forks. A fork or a token moves from one owner to the next, and can't be copied.
 #![tactic(auto)]
 
+mod act;
 mod entry;
 mod fork;
 mod held;
@@ -12,6 +13,7 @@ mod period;
 mod tests;
 mod token;
 
+pub use act::Act;
 pub use entry::Entry;
 pub use fork::Fork;
 pub use held::Held;

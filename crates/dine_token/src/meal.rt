@@ -1,6 +1,8 @@
 ghost use Rattle.std.specs.Prelude.{◌≡◌, ◌<◌, ◌^◌, All, Some, length, map, slice_get, vec_len};
 ghost use Rattle.dine_token.specs.Fork.{MayEat, eaten};
+ghost use Rattle.dine_token.specs.Values.{IsAct};
 
+use crate::act::Act;
 use crate::fork::Fork;
 use crate::held::Held;
 use std::marker::Model;
@@ -25,18 +27,20 @@ impl Model for Meal {
 }
 
 impl Meal {
-    /// Begins meal `k` of the site, from 1, and writes it into each fork. Each fork has to be at the site and to have
-    /// `k - 1` of its meals, and `k` is at most its due. It takes no memory.
-    pub fn begin(site: u32, k: u32, hands: Vec<Held>) -> Meal
+    /// Begins meal `k` of the site, from 1, writes it into each fork, and does its act to the value of each. Each fork has to
+    /// be at the site and to have `k - 1` of its meals, and `k` is at most its due. The amount of the act is at most 1,000,000.
+    /// It takes no memory.
+    pub fn begin(site: u32, k: u32, act: Act, hands: Vec<Held>) -> Meal
         requires may_eat { All (MayEat site k) hands.items }
+        requires act { IsAct act }
         requires countable { vec_len hands < 2 ^ 32 }
         ensures site { result.site ≡ site }
         ensures k { result.k ≡ k }
-        ensures forks { result.forks ≡ map (eaten site k) hands.items }
+        ensures forks { result.forks ≡ map (eaten site k act) hands.items }
     {
         let mut hands = hands;
         for hand in hands.iter_mut() {
-            hand.eat(site, k);
+            hand.eat(site, k, act);
         }
         Meal { site, k, hands }
     }

@@ -16,7 +16,7 @@ fn period(site: u32, first: u32, count: u32) -> Period {
 // Two sites with one job each share a fork: the lower eats, sends it, and the higher eats.
 #[test]
 fn fork_goes_from_one_end_to_the_other(rt: HostRuntime) -> Result<(), Fail> {
-    let fork = Fork::open(rt.alloc(), 7, 2, 5, 1, 1)?;
+    let fork = Fork::open(rt.alloc(), 7, 2, 5, 1, 1, 0)?;
     assert_eq!(rt; fork.edge(), 7);
     assert_eq!(rt; fork.ends(), (2, 5));
     assert_eq!(rt; (fork.due_of(2), fork.due_of(5)), (1, 1));
@@ -26,7 +26,7 @@ fn fork_goes_from_one_end_to_the_other(rt: HostRuntime) -> Result<(), Fail> {
     );
     let mut hands = Vec::with_capacity(rt.alloc(), 1)?;
     hands.push_reserved(Held::take(fork));
-    let first = Meal::begin(2, 1, hands);
+    let first = Meal::begin(2, 1, Act::Add(0), hands);
     assert_eq!(rt; (first.site(), first.k(), first.len()), (2, 1, 1));
     assert_eq!(rt; first.fork(0).meals_of(2), 1);
     let mut hands = first.end();
@@ -37,7 +37,7 @@ fn fork_goes_from_one_end_to_the_other(rt: HostRuntime) -> Result<(), Fail> {
     let fork = held.give(5);
     assert_eq!(rt; (fork.at(), fork.is_dirty(), fork.moves()), (5, false, 1));
     hands.push_reserved(Held::take(fork));
-    let mut hands = Meal::begin(5, 1, hands).end();
+    let mut hands = Meal::begin(5, 1, Act::Add(0), hands).end();
     let Some(held) = hands.pop() else {
         unreachable!();
     };
@@ -63,12 +63,12 @@ fn fork_goes_from_one_end_to_the_other(rt: HostRuntime) -> Result<(), Fail> {
 // The lower end sends the fork before it eats, so its first period is without a meal.
 #[test]
 fn fork_that_goes_first_has_an_empty_period(rt: HostRuntime) -> Result<(), Fail> {
-    let fork = Fork::open(rt.alloc(), 0, 0, 1, 1, 1)?;
+    let fork = Fork::open(rt.alloc(), 0, 0, 1, 1, 1, 0)?;
     assert_eq!(rt; (fork.periods(), fork.period(0)), (1, period(0, 1, 0)));
     let fork = Held::take(fork).give(1);
     let mut hands = Vec::with_capacity(rt.alloc(), 1)?;
     hands.push_reserved(Held::take(fork));
-    let mut hands = Meal::begin(1, 1, hands).end();
+    let mut hands = Meal::begin(1, 1, Act::Add(0), hands).end();
     let Some(held) = hands.pop() else {
         unreachable!();
     };
@@ -85,7 +85,7 @@ fn fork_that_goes_first_has_an_empty_period(rt: HostRuntime) -> Result<(), Fail>
 
 #[test]
 fn meal_without_forks_has_its_number(rt: HostRuntime) {
-    let meal = Meal::begin(3, 4, Vec::new(rt.alloc()));
+    let meal = Meal::begin(3, 4, Act::Add(0), Vec::new(rt.alloc()));
     assert_eq!(rt; (meal.site(), meal.k(), meal.len()), (3, 4, 0));
     meal.end().destroy_empty();
 }
@@ -93,4 +93,42 @@ fn meal_without_forks_has_its_number(rt: HostRuntime) {
 #[test]
 fn token_names_its_edge(rt: HostRuntime) {
     assert_eq!(rt; Token::open(511).edge(), 511);
+}
+
+// A value goes with the fork: each meal does its act to it, of every fork in hand, and a Move leaves it.
+#[test]
+fn value_is_changed_by_each_meal(rt: HostRuntime) -> Result<(), Fail> {
+    let one = Fork::open(rt.alloc(), 0, 0, 1, 2, 1, 5)?;
+    let other = Fork::open(rt.alloc(), 1, 0, 2, 2, 0, 1_000_000)?;
+    assert_eq!(rt; (one.value(), other.value()), (5, 1_000_000));
+    let mut hands = Vec::with_capacity(rt.alloc(), 2)?;
+    hands.push_reserved(Held::take(one));
+    hands.push_reserved(Held::take(other));
+    let first = Meal::begin(0, 1, Act::Add(10), hands);
+    assert_eq!(rt;
+        (first.fork(0).value(), first.fork(1).value()),
+        (15, 1_000_010)
+    );
+    let second = Meal::begin(0, 2, Act::Set(7), first.end());
+    assert_eq!(rt; (second.fork(0).value(), second.fork(1).value()), (7, 7));
+    let mut hands = second.end();
+    let Some(other) = hands.pop() else {
+        unreachable!();
+    };
+    let _ = other.keep();
+    let Some(one) = hands.pop() else {
+        unreachable!();
+    };
+    let one = one.give(1);
+    assert_eq!(rt; one.value(), 7);
+    hands.push_reserved(Held::take(one));
+    let last = Meal::begin(1, 1, Act::Add(3), hands);
+    assert_eq!(rt; last.fork(0).value(), 10);
+    let mut hands = last.end();
+    let Some(one) = hands.pop() else {
+        unreachable!();
+    };
+    hands.destroy_empty();
+    let _ = one.keep();
+    Ok(())
 }

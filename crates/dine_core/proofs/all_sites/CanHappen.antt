@@ -20,7 +20,7 @@ use Rattle.dine_rules.specs.World.{WorldState, is_enabled, local_after, next_let
 use Rattle.dine_core.specs.Worlds.{IsWorldOf, SeenWorld, can_at, can_happen, number_to}
 use Rattle.dine_rules.proofs.links.NextLetters.{reached_allowed}
 use Rattle.dine_core.proofs.lists.Ranges.{and_along, begin_by}
-use Rattle.dine_core.proofs.one_site.SiteTests.{ask_is, close_is, done_is, give_is, guarded, hunger_is, may_be, next_is}
+use Rattle.dine_core.proofs.one_site.SiteTests.{ask_is, close_is, done_is, give_is, guarded, hunger_is, quit_is, may_be, next_is}
 use Rattle.dine_core.proofs.one_site.Stands.{place_is}
 use Rattle.dine_rules.proofs.links.WorldStreams.{WorldKeeps, reached_kept}
 
@@ -68,6 +68,7 @@ module _ (plan : SeenPlan) (world : WorldState) (seen : SeenWorld) (is : IsWorld
     kind_is (event.Give i) = guarded i (length core.places) (length (state_of world core.site).traffic) _ _ stands.degree (λ within. give_is plan (state_of world core.site) core stands keeps i within)
     kind_is event.End = ap is_eating stands.phase
     kind_is event.Begin = begin_by plan (state_of world core.site) core stands keeps
+    kind_is event.Quit = quit_is plan (state_of world core.site) core stands keeps
     kind_is event.Hungry = hunger_is plan (state_of world core.site) core stands keeps
     kind_is (event.Ask i) = guarded i (length core.places) (length (state_of world core.site).traffic) _ _ stands.degree (λ within. ask_is plan (state_of world core.site) core stands keeps i within)
     kind_is (event.Done i) = guarded i (length core.places) (length (state_of world core.site).traffic) _ _ stands.degree (λ within. done_is plan (state_of world core.site) core stands keeps i within)

@@ -21,7 +21,9 @@ use Rattle.dine_rules.specs.Breach.{is_fork_of}
 use Rattle.dine_rules.specs.Letters.{forks_in, last_log_or}
 use Rattle.dine_rules.specs.Local.{LocalState, traffic_at, edge_at, neighbour_at, is_eating}
 use Rattle.dine_rules.specs.Holdings.{EatsWithAll, fork_at, hand_at}
-use Rattle.dine_rules.specs.Steps.{fork_with}
+use Rattle.dine_rules.specs.Steps.{fork_by, fork_with, hand_fork_at}
+use Rattle.dine_rules.specs.Values.{value_by}
+use Rattle.dine_rules.proofs.two_ends.ValuesByLogs.{world_tells}
 use Rattle.dine_rules.specs.Streams.{KeepsStreams}
 use Rattle.dine_core.specs.Core.{forks_in_hand}
 use Rattle.dine_core.specs.Places.{no_place, place_at}
@@ -56,13 +58,13 @@ slot_fork false eating meals fork meal i h = refl
 
 -- the fork that a site holds at a place, by the whole lists
 abbrev pub fork_held_at : SeenPlan → ℕ → LocalState → ℕ → Option SeenFork
-fork_held_at plan s state i = if fork_at plan s state i == 1 then Some (fork_with plan (edge_at plan s i) (hand_at s state i)) else None
+fork_held_at plan s state i = if fork_at plan s state i == 1 then Some (hand_fork_at plan s state i) else None
 
 pub world_site_fork : (plan : SeenPlan) (state : LocalState) (world_site : WorldSite) → IsPlan plan → KeepsStreams plan world_site.core.site state → EatsWithAll plan world_site.core.site state → IsSiteOf plan state world_site
     → (i : ℕ) → i < length world_site.core.places → fork_at_site world_site i ≡ fork_held_at plan world_site.core.site state i
 world_site_fork plan state world_site is_plan keeps eats is i within =
     let s : ℕ = world_site.core.site in
-    let fork : SeenFork = fork_with plan (edge_at plan s i) (hand_at s state i) in
+    let fork : SeenFork = hand_fork_at plan s state i in
     let forks : List SeenFork = forks_in_hand plan s state (all_places state) in
     ap (λ (p : Place). fork_in_slot world_site.meal i p.fork) (is.core.places i no_place within)
     ∙ slot_fork (fork_at plan s state i == 1) (is_eating state.phase) (meals_of (neighbour_at plan s i) (hand_at s state i)) fork world_site.meal i (λ eating.
@@ -112,8 +114,8 @@ module _ (plan : SeenPlan) (is_plan : IsPlan plan) (world : WorldState) (kept : 
   all_put : put_to plan world s i ≡ taken ++ coming
   all_put = link_holds plan is_plan world kept s i is_site within
 
-  -- a Fork that lies in the link is the edge's, with the log of the last Fork put
-  lies_alone : IsAlone (last_log_or [] taken) coming → first_fork coming ≡ Some (fork_with plan (edge_at plan s i) (last_log_or [] (put_to plan world s i)))
+  -- a Fork that lies in the link is the edge's, with the log of the last Fork put, and its value
+  lies_alone : IsAlone (last_log_or [] taken) coming → first_fork coming ≡ Some (fork_by plan (edge_at plan s i) (last_log_or [] (put_to plan world s i)))
   lies_alone w =
       let other : ℕ = neighbour_at plan s i in
       let place : ℕ = place_of plan other (edge_at plan s i) in
@@ -122,12 +124,13 @@ module _ (plan : SeenPlan) (is_plan : IsPlan plan) (world : WorldState) (kept : 
       let put : slice_get (put_to plan world s i) (length taken + w.at) ≡ Some (Fork w.fork) = ap (λ (l : List Letter). slice_get l (length taken + w.at)) all_put ∙ slice_get-behind taken coming w.at ∙ w.is in
       let own : is_fork_of plan (edge_at plan other place) w.fork ≡ true = ((there.places place (omega (arith, over.within, there.every_place))).put_forks (length taken + w.at) w.fork put).0 in
       let log : w.fork.log ≡ last_log_or [] (put_to plan world s i) = sym w.last ∙ sym (last_log_or-append [] taken coming) ∙ ap (last_log_or []) (sym all_put) in
-      w.first ∙ ap (λ (f : SeenFork). Some f) (own_is plan (edge_at plan other place) w.fork own ∙ ap₂ (fork_with plan) over.same_edge log)
+      let value : w.fork.value ≡ value_by plan (edge_at plan other place) w.fork.log = (world_tells plan is_plan world kept other place over.is_site over.within).put (length taken + w.at) w.fork put in
+      w.first ∙ ap (λ (f : SeenFork). Some f) (own_is plan (edge_at plan other place) w.fork own ∙ ap (fork_with plan (edge_at plan other place) w.fork.log) value ∙ ap₂ (fork_by plan) over.same_edge log)
 
   -- the fork in the link to the site, by the whole lists
-  pub link_fork : first_fork coming ≡ (if is_sent_to plan world s i then Some (fork_with plan (edge_at plan s i) (last_log_or [] (put_to plan world s i))) else None)
+  pub link_fork : first_fork coming ≡ (if is_sent_to plan world s i then Some (fork_by plan (edge_at plan s i) (last_log_or [] (put_to plan world s i))) else None)
   link_fork =
-      let found : Option SeenFork = Some (fork_with plan (edge_at plan s i) (last_log_or [] (put_to plan world s i))) in
+      let found : Option SeenFork = Some (fork_by plan (edge_at plan s i) (last_log_or [] (put_to plan world s i))) in
       elim (none_or_some coming) [
         | inl none ↦ first_none coming none ∙ sym (cond-false (is_sent_to plan world s i) found None (le-ltb (forks_in taken) (forks_in (put_to plan world s i)) (omega (arith, put_count plan is_plan world kept s i is_site within, none))))
         | inr some ↦
@@ -139,11 +142,11 @@ module _ (plan : SeenPlan) (is_plan : IsPlan plan) (world : WorldState) (kept : 
 -- ---- at either end
 
 -- the fork of a log that lies near an end
-near_is : (plan : SeenPlan) (e : ℕ) (held sent : Bool) (hand last : List Entry)
-    → option_or (if held then Some (fork_with plan e hand) else None) (if sent then Some (fork_with plan e last) else None) ≡ option_map (fork_with plan e) (if held then Some hand else (if sent then Some last else None))
-near_is plan e true sent hand last = refl
-near_is plan e false true hand last = refl
-near_is plan e false false hand last = refl
+near_is : (f : List Entry → SeenFork) (held sent : Bool) (fork : SeenFork) (hand last : List Entry) → fork ≡ f hand
+    → option_or (if held then Some fork else None) (if sent then Some (f last) else None) ≡ option_map f (if held then Some hand else (if sent then Some last else None))
+near_is f true sent fork hand last same = ap (λ (x : SeenFork). Some x) same
+near_is f false true fork hand last same = refl
+near_is f false false fork hand last same = refl
 
 -- four places, as two ends
 two_ends : (a b c d : Option SeenFork) → option_or (option_or (option_or a b) c) d ≡ option_or (option_or a b) (option_or c d)
@@ -200,10 +203,11 @@ module _ (plan : SeenPlan) (world : WorldState) (seen : SeenWorld) (is : IsWorld
         (world_site_fork plan (state_of world s) world_site is_plan keeps eats (is.sites.stands s past is_site) i (omega (arith, within, degree_is)))
 
     -- the fork near the site, by the whole lists
-    near_has : (i e : ℕ) → i < length (edges_of plan s) → edge_at plan s i ≡ e → option_or (fork_at_site world_site i) (first_fork (queue_to plan world s i)) ≡ option_map (fork_with plan e) (log_near plan world s i)
-    near_has i e within same = subst (λ (x : ℕ). option_or (fork_at_site world_site i) (first_fork (queue_to plan world s i)) ≡ option_map (fork_with plan x) (log_near plan world s i)) same
+    near_has : (i e : ℕ) → i < length (edges_of plan s) → edge_at plan s i ≡ e → option_or (fork_at_site world_site i) (first_fork (queue_to plan world s i)) ≡ option_map (fork_by plan e) (log_near plan world s i)
+    near_has i e within same = subst (λ (x : ℕ). option_or (fork_at_site world_site i) (first_fork (queue_to plan world s i)) ≡ option_map (fork_by plan x) (log_near plan world s i)) same
         (ap₂ option_or (world_site_has i within) (link_fork plan is_plan world kept s i is_site within)
-        ∙ near_is plan (edge_at plan s i) (fork_at plan s (state_of world s) i == 1) (is_sent_to plan world s i) (hand_at s (state_of world s) i) (last_log_or [] (put_to plan world s i)))
+        ∙ near_is (fork_by plan (edge_at plan s i)) (fork_at plan s (state_of world s) i == 1) (is_sent_to plan world s i) (hand_fork_at plan s (state_of world s) i) (hand_at s (state_of world s) i) (last_log_or [] (put_to plan world s i))
+        (ap (fork_with plan (edge_at plan s i) (hand_at s (state_of world s) i)) (world_tells plan is_plan world kept s i is_site within).in_hand))
 
   -- all meals fit
   pub all_fit : All HasOwnMeal seen.sites
@@ -234,7 +238,7 @@ module _ (plan : SeenPlan) (world : WorldState) (seen : SeenWorld) (is : IsWorld
         ap (λ (x : ℕ). 2 * x + (if lo_of plan x == high then 1 else 0)) w.high_edge
         ∙ ap (λ (n : ℕ). 2 * e + n) (cond-false {A = ℕ} (low == high) 1 0 (ne_eqb low high (λ same. omega (arith, w.ordered)))) ∙ (let z : 2 * e + 0 ≡ 2 * e = omega arith in z)
 
-    letters_low : letters_in seen.links (2 * e + 1) ≡ queue_to plan world low low_at
+    pub letters_low : letters_in seen.links (2 * e + 1) ≡ queue_to plan world low low_at
     letters_low =
         let w = is_edge plan e is_plan within in
         ap (letters_in seen.links) (sym number_low) ∙ is.links.letters low low_at w.low_site w.low_within
@@ -267,8 +271,8 @@ module _ (plan : SeenPlan) (world : WorldState) (seen : SeenWorld) (is : IsWorld
         two_ends a (first_fork (letters_in seen.links (2 * e + 1))) c (first_fork (letters_in seen.links (2 * e)))
         ∙ ap₂ (λ (x y : List Letter). option_or (option_or a (first_fork x)) (option_or c (first_fork y))) letters_low letters_high
         ∙ ap₂ option_or (near_has low w.low_site absent_site low_at e w.low_within w.low_edge) (near_has high w.high_site absent_site high_at e w.high_within w.high_edge)
-        ∙ either_log (fork_with plan e) (log_near plan world low low_at) (log_near plan world high high_at)
-        ∙ log_there (fork_with plan e) (fork_at plan low (state_of world low) low_at == 1) (is_sent_to plan world low low_at) (fork_at plan high (state_of world high) high_at == 1) (is_sent_to plan world high high_at)
+        ∙ either_log (fork_by plan e) (log_near plan world low low_at) (log_near plan world high high_at)
+        ∙ log_there (fork_by plan e) (fork_at plan low (state_of world low) low_at == 1) (is_sent_to plan world low low_at) (fork_at plan high (state_of world high) high_at == 1) (is_sent_to plan world high high_at)
         (hand_at low (state_of world low) low_at) (last_log_or [] (put_to plan world low low_at)) (hand_at high (state_of world high) high_at) (last_log_or [] (put_to plan world high high_at)) somewhere
 
     -- a place of the edge is there

@@ -41,7 +41,7 @@ module _ (core : SeenCore) (i : ℕ) where
 
 -- the site, when its fork is out
 abbrev world_site_without : ℕ → WorldSite → WorldSite
-world_site_without i world_site = record { core = gave i world_site.core; meal = world_site.meal }
+world_site_without i world_site = record world_site { core = gave i world_site.core }
 
 module _ (sites : List WorldSite) (s i : ℕ) (site : s < length sites) where
   other_world_site : (t : ℕ) (d : WorldSite) → t ≢ s → get_or (emptied_at s i sites) t d ≡ get_or sites t d

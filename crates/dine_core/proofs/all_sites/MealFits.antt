@@ -9,9 +9,9 @@ use Rattle.dine_plan.specs.Plan.{SeenPlan, IsPlan}
 use Rattle.dine_core.specs.declared.site.places.Place.{Place}
 use Rattle.dine_core.specs.declared.site.places.ForkSlot.TheVariants.{Away, Here, InMeal}
 use Rattle.dine_core.specs.declared.world.sites.WorldSite.{WorldSite}
-use Rattle.dine_rules.specs.Local.{LocalState, edge_at, neighbour_at, is_eating}
+use Rattle.dine_rules.specs.Local.{LocalState, neighbour_at, is_eating}
 use Rattle.dine_rules.specs.Holdings.{EatsWithAll, fork_at, hand_at}
-use Rattle.dine_rules.specs.Steps.{fork_with}
+use Rattle.dine_rules.specs.Steps.{hand_fork_at}
 use Rattle.dine_rules.specs.Streams.{KeepsStreams}
 use Rattle.dine_core.specs.Core.{SeenCore, Refines, forks_in_hand, kept_at}
 use Rattle.dine_core.specs.Places.{no_place, neighbour_of, meals_in, FitsPlace, FitsMeal, IsMealOf}
@@ -26,7 +26,7 @@ hands_count : (plan : SeenPlan) (s : ℕ) (state : LocalState) (n j : ℕ) → (
 hands_count plan s state zero j held = refl
 hands_count plan s state (suc n) j held =
     let rest : List SeenFork = forks_in_hand plan s state (range_with_len (j + 1) n) in
-    ap (λ (b : Bool). length (if b then fork_with plan (edge_at plan s j) (hand_at s state j) ∷ rest else rest)) (held j (omega arith))
+    ap (λ (b : Bool). length (if b then hand_fork_at plan s state j ∷ rest else rest)) (held j (omega arith))
     ∙ ap (λ (k : ℕ). suc k) (hands_count plan s state n (j + 1) (λ k l. held k (omega (arith, l))))
 
 module _ (plan : SeenPlan) (state : LocalState) (core : SeenCore) (is_plan : IsPlan plan) (keeps : KeepsStreams plan core.site state) (eats : EatsWithAll plan core.site state) (stands : Refines plan state core) (eating : is_eating state.phase ≡ true) where
@@ -35,7 +35,7 @@ module _ (plan : SeenPlan) (state : LocalState) (core : SeenCore) (is_plan : IsP
   hands = forks_in_hand plan core.site state (all_places state)
 
   abbrev pub hand_fork : ℕ → SeenFork
-  hand_fork i = fork_with plan (edge_at plan core.site i) (hand_at core.site state i)
+  hand_fork i = hand_fork_at plan core.site state i
 
   held : (k : ℕ) → k < length state.traffic → (fork_at plan core.site state k == 1) ≡ true
   held k h = eq-eqb (fork_at plan core.site state k) 1 (eats eating k h)

@@ -9,9 +9,9 @@ use Rattle.dine_token.specs.Meal.{SeenMeal}
 use Rattle.dine_plan.specs.Plan.{SeenPlan, IsPlan, site_count}
 use Rattle.dine_core.specs.declared.site.places.Place.{Place}
 use Rattle.dine_core.specs.declared.world.sites.WorldSite.{WorldSite}
-use Rattle.dine_rules.specs.Local.{LocalState, edge_at, is_eating}
-use Rattle.dine_rules.specs.Holdings.{EatsWithAll, fork_at, hand_at}
-use Rattle.dine_rules.specs.Steps.{fork_with}
+use Rattle.dine_rules.specs.Local.{LocalState, is_eating}
+use Rattle.dine_rules.specs.Holdings.{EatsWithAll, fork_at}
+use Rattle.dine_rules.specs.Steps.{hand_fork_at}
 use Rattle.dine_rules.specs.Streams.{KeepsStreams}
 use Rattle.dine_core.specs.Core.{SeenCore, forks_in_hand}
 use Rattle.dine_core.specs.Places.{no_place, place_at, laid_down, IsMealOf}
@@ -58,7 +58,7 @@ module _ (plan : SeenPlan) (state : LocalState) (world_site : WorldSite) (is_pla
   hands = forks_in_hand plan s state (all_places state)
 
   abbrev fork : SeenFork
-  fork = fork_with plan (edge_at plan s i) (hand_at s state i)
+  fork = hand_fork_at plan s state i
 
   -- the fork of place i when the meal is over, by what the meal was
   abbrev after_meal : Option SeenMeal → Option SeenFork

@@ -5,26 +5,20 @@ use Rattle.std.proofs.lemmas.Bool.{and_parts, cases_Bool, cases_eq, cond-false, 
 use Rattle.std.proofs.lemmas.List.{get_or-set_same, get_or-set_other, length-set}
 use Rattle.dine_token.specs.Fork.{SeenFork}
 use Rattle.dine_token.specs.Meal.{SeenMeal}
-use Rattle.dine_token.specs.declared.entry.Entry.{Entry}
 use Rattle.dine_plan.specs.Plan.{SeenPlan, lo_of}
 use Rattle.dine_rules.specs.declared.breach.Breach.{Breach}
 use Rattle.dine_rules.specs.declared.letters.Letter.{Letter}
 use Rattle.dine_rules.specs.declared.letters.Letter.TheVariants.{Fork, Request, Done, Close}
-use Rattle.dine_rules.specs.Letters.{forks_in, last_log_or}
+use Rattle.dine_rules.specs.Letters.{forks_in}
 use Rattle.dine_rules.specs.Local.{LocalState, Traffic, no_traffic, traffic_at, edge_at, is_eating}
-use Rattle.dine_rules.specs.Holdings.{EatsWithAll, forks_held, hand, fork_at, hand_at, with_meals_to}
-use Rattle.dine_rules.specs.Steps.{Take, may, with_put, with_taken, fork_with}
+use Rattle.dine_rules.specs.Holdings.{EatsWithAll, forks_held, fork_at}
+use Rattle.dine_rules.specs.Steps.{Take, may, with_put, with_taken, hand_fork, hand_fork_at}
 use Rattle.dine_core.specs.Core.{forks_in_hand}
 use Rattle.dine_core.specs.WorldSites.{meal_of}
 use Rattle.dine_core.specs.Standing.{all_places}
-use Rattle.dine_rules.proofs.lists.Counting.{forks_in-append, last_log_or-append}
-
--- a letter that is no Fork
-abbrev pub is_no_fork : Letter → Bool
-is_no_fork (Fork fork) = false
-is_no_fork (Request edge) = true
-is_no_fork Done = true
-is_no_fork Close = true
+use Rattle.dine_rules.proofs.lists.Counting.{forks_in-append}
+use Rattle.dine_rules.proofs.one_place.HandForks.{hand_fork-stays}
+use Rattle.dine_rules.proofs.one_place.Values.{is_no_fork}
 
 no_more_forks : (l : Letter) (xs : List Letter) → is_no_fork l ≡ true → forks_in (xs ++ l ∷ []) ≡ forks_in xs
 no_more_forks (Fork fork) xs h = absurd (false≢true h)
@@ -32,25 +26,19 @@ no_more_forks (Request edge) xs h = omega (arith, forks_in-append xs (Request ed
 no_more_forks Done xs h = omega (arith, forks_in-append xs (Done ∷ []))
 no_more_forks Close xs h = omega (arith, forks_in-append xs (Close ∷ []))
 
-same_last : (l : Letter) (xs : List Letter) → is_no_fork l ≡ true → last_log_or [] (xs ++ l ∷ []) ≡ last_log_or [] xs
-same_last (Fork fork) xs h = absurd (false≢true h)
-same_last (Request edge) xs h = last_log_or-append [] xs (Request edge ∷ [])
-same_last Done xs h = last_log_or-append [] xs (Done ∷ [])
-same_last Close xs h = last_log_or-append [] xs (Close ∷ [])
-
--- the numbers and logs of two states agree at each place
+-- the numbers and forks of two states agree at each place
 record Agrees (plan : SeenPlan) (s : ℕ) (a b : LocalState) : Type 0 where
   forks : (i : ℕ) → fork_at plan s a i ≡ fork_at plan s b i
-  hands : (i : ℕ) → hand_at s a i ≡ hand_at s b i
+  hands : (i : ℕ) → hand_fork_at plan s a i ≡ hand_fork_at plan s b i
 
 -- so they have the same forks in hand
 same_forks : (plan : SeenPlan) (s : ℕ) (a b : LocalState) → Agrees plan s a b → (places : List ℕ) → forks_in_hand plan s a places ≡ forks_in_hand plan s b places
 same_forks plan s a b agrees [] = refl
 same_forks plan s a b agrees (i ∷ places) =
-    let F : forks_in_hand plan s a (i ∷ places) ≡ (if fork_at plan s b i == 1 then fork_with plan (edge_at plan s i) (hand_at s a i) ∷ forks_in_hand plan s a places else forks_in_hand plan s a places)
-    = ap (λ (n : ℕ). if n == 1 then fork_with plan (edge_at plan s i) (hand_at s a i) ∷ forks_in_hand plan s a places else forks_in_hand plan s a places) (agrees.forks i) in
-    F ∙ ap (λ (log : List Entry). if fork_at plan s b i == 1 then fork_with plan (edge_at plan s i) log ∷ forks_in_hand plan s a places else forks_in_hand plan s a places) (agrees.hands i)
-    ∙ ap (λ (l : List SeenFork). if fork_at plan s b i == 1 then fork_with plan (edge_at plan s i) (hand_at s b i) ∷ l else l) (same_forks plan s a b agrees places)
+    let F : forks_in_hand plan s a (i ∷ places) ≡ (if fork_at plan s b i == 1 then hand_fork_at plan s a i ∷ forks_in_hand plan s a places else forks_in_hand plan s a places)
+    = ap (λ (n : ℕ). if n == 1 then hand_fork_at plan s a i ∷ forks_in_hand plan s a places else forks_in_hand plan s a places) (agrees.forks i) in
+    F ∙ ap (λ (fork : SeenFork). if fork_at plan s b i == 1 then fork ∷ forks_in_hand plan s a places else forks_in_hand plan s a places) (agrees.hands i)
+    ∙ ap (λ (l : List SeenFork). if fork_at plan s b i == 1 then hand_fork_at plan s b i ∷ l else l) (same_forks plan s a b agrees places)
 
 -- traffic that differs at place i alone
 at_place : {A : Type 0} (f : ℕ → Traffic → A) (xs : List Traffic) (i j : ℕ) (t : Traffic) → i < length xs → f i t ≡ f i (get_or xs i no_traffic) → f j (get_or (slice_set xs i t) j no_traffic) ≡ f j (get_or xs j no_traffic)
@@ -63,8 +51,8 @@ module _ (plan : SeenPlan) (s : ℕ) (state : LocalState) (i : ℕ) (within : i 
   abbrev held_where : ℕ → Traffic → ℕ
   held_where j t = forks_held plan s (edge_at plan s j) t
 
-  abbrev hand_where : ℕ → Traffic → List Entry
-  hand_where j t = hand s state.ate t
+  abbrev hand_where : ℕ → Traffic → SeenFork
+  hand_where j t = hand_fork plan s (edge_at plan s j) state.ate t
 
   put_agrees : is_no_fork l ≡ true → Agrees plan s (with_put i l state) state
   put_agrees none =
@@ -84,7 +72,7 @@ module _ (plan : SeenPlan) (s : ℕ) (state : LocalState) (i : ℕ) (within : i 
       let t = traffic_at state i in
       record {
         forks = λ j. at_place held_where state.traffic i j _ within (ap (λ (n : ℕ). (if lo_is then 1 else 0) + n - forks_in t.put) (no_more_forks l t.taken none));
-        hands = λ j. at_place hand_where state.traffic i j _ within (ap (with_meals_to s state.ate) (same_last l t.taken none));
+        hands = λ j. at_place hand_where state.traffic i j _ within (hand_fork-stays plan s (edge_at plan s i) state.ate t l none);
       }
     where
       lo_is : Bool

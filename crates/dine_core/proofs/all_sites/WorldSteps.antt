@@ -1,17 +1,18 @@
 -- A world that stands for a state, and an event that is enabled there: what the site may do, and that the world stands for the
 -- state after it.
-use Rattle.std.proofs.Common.{◌≡◌, ◌≢◌, ℕ, ◌<◌, true, List, [], ◌∷◌, ◌++◌, length, get_or, slice_set, Option, Some, None, refl, sym, ◌∙◌, ap, subst, inl, inr, arith}
+use Rattle.std.proofs.Common.{◌≡◌, ◌≢◌, ℕ, ◌-◌, ◌<◌, Bool, true, List, [], ◌∷◌, ◌++◌, length, get_or, slice_set, Option, Some, None, refl, sym, ◌∙◌, ap, ap₂, subst, inl, inr, arith}
+use Rattle.std.proofs.Math.ListN.{get_or-map}
 use Rattle.std.proofs.lemmas.Bool.{cases_eq, and_parts, false≢true, ltb-true}
 use Rattle.std.proofs.lemmas.List.{get_or-set_same, get_or-set_other, length-set, length_push}
-use Rattle.dine_plan.specs.Plan.{SeenPlan, IsPlan, site_count, edges_of}
+use Rattle.dine_plan.specs.Plan.{SeenPlan, SeenJob, IsPlan, site_count, edges_of, jobs_of, no_job}
 use Rattle.dine_rules.specs.declared.letters.Letter.{Letter}
 use Rattle.dine_rules.specs.declared.events.Event.{Event}
 use Rattle.dine_rules.specs.declared.events.EventKind.{EventKind}
 use Rattle.dine_core.specs.declared.world.sites.WorldSite.{WorldSite}
 use Rattle.dine_rules.specs.Breach.{is_allowed}
-use Rattle.dine_rules.specs.Local.{LocalState, traffic_at, edge_at, neighbour_at}
+use Rattle.dine_rules.specs.Local.{LocalState, meal_fails, traffic_at, edge_at, neighbour_at}
 use Rattle.dine_rules.specs.Holdings.{EatsWithAll}
-use Rattle.dine_rules.specs.Steps.{Step, Shape, Takes, Puts, Alone, after, shape_of, with_put}
+use Rattle.dine_rules.specs.Steps.{Step, Shape, Takes, Puts, Alone, after, shape_of, step_by, with_put}
 use Rattle.dine_rules.specs.Steps as step
 use Rattle.dine_rules.specs.Streams.{KeepsStreams}
 use Rattle.dine_core.specs.Core.{SeenCore, Refines}
@@ -19,7 +20,7 @@ use Rattle.dine_core.specs.LinkNumbers.{link_to, link_from}
 use Rattle.dine_core.specs.Places.{place_at}
 use Rattle.dine_rules.specs.World.{WorldState, no_state, place_of, state_of, next_letter, step_of, world_after, start}
 use Rattle.dine_rules.specs.Links.{queue_to}
-use Rattle.dine_core.specs.WorldSites.{SiteSteps, PutsAt, HasRoomAt, HasRoomFor, IsSiteOf, MovesLetters, TakesAllowed, can_do, has_place, meets_no_breach, letters_in, next_in, step_in, with_letter, without_next}
+use Rattle.dine_core.specs.WorldSites.{SiteSteps, PutsAt, HasRoomAt, HasRoomFor, IsSiteOf, MovesLetters, TakesAllowed, can_do, has_failed, has_place, meets_no_breach, letters_in, next_in, step_in, with_letter, without_next}
 use Rattle.dine_core.specs.Worlds.{IsReached, IsWorldOf, LinksStand, SitesStand, SeenWorld, can_at, number_to}
 use Rattle.dine_rules.proofs.links.Across.{across}
 use Rattle.dine_core.proofs.all_sites.CanHappen.{next_here}
@@ -94,9 +95,16 @@ module _ (plan : SeenPlan) (world : WorldState) (seen : SeenWorld) (stands : IsW
     in_turn (Puts i) one there did = tt
     in_turn Alone one there did = tt
 
-    -- the step of the event, by the links as by the whole lists
-    pub step_is : (kind : EventKind) → can_do seen.links core kind ≡ true → step_in seen.links core kind ≡ step_of plan world s kind
-    step_is kind can = step_alike kind (next_in seen.links core) (next_letter plan world s)
+    -- the outcome of the last meal is that of its job
+    outcome_is : has_failed world_site.outcomes core.ate ≡ meal_fails plan s (state_of world s)
+    outcome_is = ap₂ (λ (outcomes : List Bool) (k : ℕ). has_failed outcomes k) core_stands.outcomes core_stands.core.ate
+        ∙ get_or-map (λ (job : SeenJob). job.fails) (jobs_of plan core.site) ((state_of world s).ate - 1) no_job
+        ∙ ap (λ (x : ℕ). meal_fails plan x (state_of world s)) site_is
+
+    -- the step of the event, by the outcomes and the links as by the whole lists
+    pub step_is : (kind : EventKind) → can_do seen.links core kind ≡ true → step_in world_site.outcomes seen.links core kind ≡ step_of plan world s kind
+    step_is kind can = ap (λ (failed : Bool). step_by failed (next_in seen.links core) kind) outcome_is
+        ∙ step_alike (meal_fails plan s (state_of world s)) kind (next_in seen.links core) (next_letter plan world s)
         (λ i takes. next_is i (ltb-true i (length core.places) (subst (λ (shape : Shape). has_place core shape ≡ true) takes (and_parts _ _ can).0)))
 
     abbrev state : LocalState
@@ -161,7 +169,7 @@ module _ (plan : SeenPlan) (world : WorldState) (seen : SeenWorld) (stands : IsW
       done = event_is_step plan world e new happens
 
       did : DoesHere (shape_of kind) done.step
-      did = does plan s (state_of world s) (next_letter plan world s) kind done.step done.step_is
+      did = does plan s (state_of world s) (meal_fails plan s (state_of world s)) (next_letter plan world s) kind done.step done.step_is
 
       abbrev next_state : LocalState
       next_state = after plan s (state_of world s) done.step

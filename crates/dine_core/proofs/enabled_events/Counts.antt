@@ -49,7 +49,7 @@ module _ (plan : SeenPlan) (world : WorldState) (seen : SeenWorld) (is : IsWorld
   count_is = sym (ap length enabled_kinds ∙ length-map (kinds_now_at seen s) (event_of s))
 
   -- and they are few
-  pub count_few : length (kinds_now_at seen s) ≤ 2563
+  pub count_few : length (kinds_now_at seen s) ≤ 2564
   count_few =
       let events : List Event = choices s (length (edges_of plan s)) in
       omega (arith, count_is, length-filter-le (is_enabled plan world) events, choices_count s (length (edges_of plan s)), edges_few plan world seen is s)

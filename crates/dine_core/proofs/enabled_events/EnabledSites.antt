@@ -127,6 +127,7 @@ module _ (plan : SeenPlan) (world : WorldState) (seen : SeenWorld) (stands : IsW
       same_can (event.Give j) = refl
       same_can event.End = refl
       same_can event.Begin = refl
+      same_can event.Quit = refl
       same_can event.Hungry = refl
       same_can (event.Ask j) = refl
       same_can (event.Done j) = refl

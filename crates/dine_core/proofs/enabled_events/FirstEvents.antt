@@ -10,7 +10,7 @@ use Rattle.dine_rules.specs.declared.events.Event.{Event}
 use Rattle.dine_rules.specs.declared.events.EventKind.{EventKind}
 use Rattle.dine_rules.specs.declared.events.EventKind.TheVariants as event
 use Rattle.dine_rules.specs.declared.letters.Letter.{Letter}
-use Rattle.dine_rules.specs.World.{WorldState, enabled_events, events_at, is_enabled, kinds_at}
+use Rattle.dine_rules.specs.World.{WorldState, enabled_events, events_at, is_enabled, kinds_at, placeless_kinds}
 use Rattle.dine_core.specs.declared.world.sites.WorldSite.{WorldSite}
 use Rattle.dine_core.specs.private.EnabledSites.{IsStill, first_kind, first_kind_at}
 use Rattle.dine_core.specs.Core.{SeenCore}
@@ -73,17 +73,14 @@ module _ (links : List (List Letter)) (core : SeenCore) where
   abbrev p : EventKind → Bool
   p = can_do links core
 
-  abbrev phases : List EventKind
-  phases = event.End ∷ event.Begin ∷ event.Hungry ∷ []
-
   -- all but the Takes are what the site may do by itself
   own_agrees : find p (own_kinds places) ≡ next_of core
   own_agrees =
       let q : EventKind → Bool = can_by_itself core in
-      both p q (map event.Give places ++ phases ++ map event.Ask places ++ map event.Done places) (map event.Close places)
-      (both p q (map event.Give places ++ phases ++ map event.Ask places) (map event.Done places)
-      (both p q (map event.Give places ++ phases) (map event.Ask places)
-      (both p q (map event.Give places) phases (mapped p q event.Give (λ i. refl) places) refl)
+      both p q (map event.Give places ++ placeless_kinds ++ map event.Ask places ++ map event.Done places) (map event.Close places)
+      (both p q (map event.Give places ++ placeless_kinds ++ map event.Ask places) (map event.Done places)
+      (both p q (map event.Give places ++ placeless_kinds) (map event.Ask places)
+      (both p q (map event.Give places) placeless_kinds (mapped p q event.Give (λ i. refl) places) refl)
       (mapped p q event.Ask (λ i. refl) places))
       (mapped p q event.Done (λ i. refl) places))
       (mapped p q event.Close (λ i. refl) places)
@@ -91,7 +88,7 @@ module _ (links : List (List Letter)) (core : SeenCore) where
   -- so the first is a Take, or what the site may do first by itself
   pub first_spelled : first_kind links core ≡ option_or (option_map event.Take (find (λ i. is_some (next_in links core i)) places)) (next_of core)
   first_spelled =
-      ap (find p) (regroup (map event.Take places) (map event.Give places) phases (map event.Ask places) (map event.Done places) (map event.Close places))
+      ap (find p) (regroup (map event.Take places) (map event.Give places) placeless_kinds (map event.Ask places) (map event.Done places) (map event.Close places))
       ∙ find-append p (map event.Take places) (own_kinds places)
       ∙ ap₂ (λ (a b : Option EventKind). option_or a b)
       (find-map event.Take p places ∙ ap (option_map event.Take) (bounded n (λ i. is_some (next_in links core i))))
@@ -104,28 +101,30 @@ module _ (links : List (List Letter)) (core : SeenCore) where
     | inr past ↦ is i ∙ ap (λ (b : Bool). b && g i) (le-ltb i n past)
   ]
 
-  each_can_not : find p (map event.Take places) ≡ None → find p (map event.Give places) ≡ None → p event.End ≡ false → p event.Begin ≡ false → p event.Hungry ≡ false
+  each_can_not : find p (map event.Take places) ≡ None → find p (map event.Give places) ≡ None → p event.End ≡ false → p event.Begin ≡ false → p event.Quit ≡ false → p event.Hungry ≡ false
       → find p (map event.Ask places) ≡ None → find p (map event.Done places) ≡ None → find p (map event.Close places) ≡ None → (kind : EventKind) → p kind ≡ false
-  each_can_not takes gives end begin hungry asks dones closes (event.Take i) = at event.Take (λ k. is_some (next_in links core k)) (λ k. refl) takes i
-  each_can_not takes gives end begin hungry asks dones closes (event.Give i) = at event.Give (can_give core) (λ k. refl) gives i
-  each_can_not takes gives end begin hungry asks dones closes event.End = end
-  each_can_not takes gives end begin hungry asks dones closes event.Begin = begin
-  each_can_not takes gives end begin hungry asks dones closes event.Hungry = hungry
-  each_can_not takes gives end begin hungry asks dones closes (event.Ask i) = at event.Ask (can_ask core) (λ k. refl) asks i
-  each_can_not takes gives end begin hungry asks dones closes (event.Done i) = at event.Done (can_say_done core) (λ k. refl) dones i
-  each_can_not takes gives end begin hungry asks dones closes (event.Close i) = at event.Close (can_close core) (λ k. refl) closes i
+  each_can_not takes gives end begin quit hungry asks dones closes (event.Take i) = at event.Take (λ k. is_some (next_in links core k)) (λ k. refl) takes i
+  each_can_not takes gives end begin quit hungry asks dones closes (event.Give i) = at event.Give (can_give core) (λ k. refl) gives i
+  each_can_not takes gives end begin quit hungry asks dones closes event.End = end
+  each_can_not takes gives end begin quit hungry asks dones closes event.Begin = begin
+  each_can_not takes gives end begin quit hungry asks dones closes event.Quit = quit
+  each_can_not takes gives end begin quit hungry asks dones closes event.Hungry = hungry
+  each_can_not takes gives end begin quit hungry asks dones closes (event.Ask i) = at event.Ask (can_ask core) (λ k. refl) asks i
+  each_can_not takes gives end begin quit hungry asks dones closes (event.Done i) = at event.Done (can_say_done core) (λ k. refl) dones i
+  each_can_not takes gives end begin quit hungry asks dones closes (event.Close i) = at event.Close (can_close core) (λ k. refl) closes i
 
   pub none_can : first_kind links core ≡ None → (kind : EventKind) → p kind ≡ false
   none_can none =
-      let closes = parts_none p (map event.Take places ++ map event.Give places ++ phases ++ map event.Ask places ++ map event.Done places) (map event.Close places) none in
-      let dones = parts_none p (map event.Take places ++ map event.Give places ++ phases ++ map event.Ask places) (map event.Done places) closes.0 in
-      let asks = parts_none p (map event.Take places ++ map event.Give places ++ phases) (map event.Ask places) dones.0 in
-      let thirds = parts_none p (map event.Take places ++ map event.Give places) phases asks.0 in
+      let closes = parts_none p (map event.Take places ++ map event.Give places ++ placeless_kinds ++ map event.Ask places ++ map event.Done places) (map event.Close places) none in
+      let dones = parts_none p (map event.Take places ++ map event.Give places ++ placeless_kinds ++ map event.Ask places) (map event.Done places) closes.0 in
+      let asks = parts_none p (map event.Take places ++ map event.Give places ++ placeless_kinds) (map event.Ask places) dones.0 in
+      let thirds = parts_none p (map event.Take places ++ map event.Give places) placeless_kinds asks.0 in
       let gives = parts_none p (map event.Take places) (map event.Give places) thirds.0 in
-      let end = cond_none (p event.End) event.End (find p (event.Begin ∷ event.Hungry ∷ [])) thirds.1 in
-      let begin = cond_none (p event.Begin) event.Begin (find p (event.Hungry ∷ [])) end.1 in
-      let hungry = cond_none (p event.Hungry) event.Hungry None begin.1 in
-      each_can_not gives.0 gives.1 end.0 begin.0 hungry.0 asks.1 dones.1 closes.1
+      let end = cond_none (p event.End) event.End (find p (event.Begin ∷ event.Quit ∷ event.Hungry ∷ [])) thirds.1 in
+      let begin = cond_none (p event.Begin) event.Begin (find p (event.Quit ∷ event.Hungry ∷ [])) end.1 in
+      let quit = cond_none (p event.Quit) event.Quit (find p (event.Hungry ∷ [])) begin.1 in
+      let hungry = cond_none (p event.Hungry) event.Hungry None quit.1 in
+      each_can_not gives.0 gives.1 end.0 begin.0 quit.0 hungry.0 asks.1 dones.1 closes.1
 
 still_here : (links : List (List Letter)) (o : Option WorldSite) → option_and_then (λ (world_site : WorldSite). first_kind links world_site.core) o ≡ None → (kind : EventKind) → can_at links kind o ≡ false
 still_here links None h kind = refl

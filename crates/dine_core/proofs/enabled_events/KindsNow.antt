@@ -10,7 +10,7 @@ use Rattle.dine_plan.specs.Plan.{SeenPlan}
 use Rattle.dine_rules.specs.declared.events.EventKind.{EventKind}
 use Rattle.dine_rules.specs.declared.events.EventKind.TheVariants as event
 use Rattle.dine_rules.specs.declared.letters.Letter.{Letter}
-use Rattle.dine_rules.specs.World.{WorldState}
+use Rattle.dine_rules.specs.World.{WorldState, placeless_kinds}
 use Rattle.dine_core.specs.declared.world.sites.WorldSite.{WorldSite}
 use Rattle.dine_core.specs.Core.{SeenCore}
 use Rattle.dine_core.specs.private.Counts.{kinds_now, kinds_now_at, own_kinds_now}
@@ -47,9 +47,6 @@ module _ (links : List (List Letter)) (core : SeenCore) where
   abbrev p : EventKind → Bool
   p = can_do links core
 
-  abbrev phases : List EventKind
-  phases = event.End ∷ event.Begin ∷ event.Hungry ∷ []
-
   abbrev heard_at : List ℕ
   heard_at = filter (λ i. is_some (next_in links core i)) places
 
@@ -61,17 +58,17 @@ module _ (links : List (List Letter)) (core : SeenCore) where
   own_now : filter p (own_kinds places) ≡ own_kinds_now core
   own_now =
       let q : EventKind → Bool = can_by_itself core in
-      both p q (map event.Give places ++ phases ++ map event.Ask places ++ map event.Done places) (map event.Close places)
-      (both p q (map event.Give places ++ phases ++ map event.Ask places) (map event.Done places)
-      (both p q (map event.Give places ++ phases) (map event.Ask places)
-      (both p q (map event.Give places) phases (mapped p q event.Give (λ i. refl) places) refl)
+      both p q (map event.Give places ++ placeless_kinds ++ map event.Ask places ++ map event.Done places) (map event.Close places)
+      (both p q (map event.Give places ++ placeless_kinds ++ map event.Ask places) (map event.Done places)
+      (both p q (map event.Give places ++ placeless_kinds) (map event.Ask places)
+      (both p q (map event.Give places) placeless_kinds (mapped p q event.Give (λ i. refl) places) refl)
       (mapped p q event.Ask (λ i. refl) places))
       (mapped p q event.Done (λ i. refl) places))
       (mapped p q event.Close (λ i. refl) places)
 
   kinds_split : kinds_now links core ≡ map event.Take heard_at ++ own_kinds_now core
   kinds_split =
-      ap (filter p) (regroup (map event.Take places) (map event.Give places) phases (map event.Ask places) (map event.Done places) (map event.Close places))
+      ap (filter p) (regroup (map event.Take places) (map event.Give places) placeless_kinds (map event.Ask places) (map event.Done places) (map event.Close places))
       ∙ filter-append p (map event.Take places) (own_kinds places)
       ∙ ap₂ (λ (a b : List EventKind). a ++ b) takes_now own_now
 

@@ -9,9 +9,9 @@ use Rattle.dine_rules.specs.declared.phase.Phase.TheVariants.{Thinking, Hungry, 
 use Rattle.dine_core.specs.declared.site.places.Place.{Place}
 use Rattle.dine_core.specs.declared.site.places.ForkSlot.TheVariants.{Away, Here, InMeal}
 use Rattle.dine_rules.specs.Letters.{has_done, has_close}
-use Rattle.dine_rules.specs.Local.{LocalState, traffic_at, edge_at, neighbour_at, is_eating, is_hungry, is_thinking}
+use Rattle.dine_rules.specs.Local.{LocalState, traffic_at, edge_at, has_no_job_left, neighbour_at, is_eating, is_hungry, is_thinking}
 use Rattle.dine_rules.specs.Holdings.{fork_at, token_at, hand_at}
-use Rattle.dine_rules.specs.Steps.{fork_with, is_ready, may, Begin}
+use Rattle.dine_rules.specs.Steps.{hand_fork_at, is_ready, may, Begin}
 use Rattle.dine_rules.specs.Streams.{KeepsStreams}
 use Rattle.dine_core.specs.Core.{SeenCore, Refines, kept_at, forks_in_hand, tokens_in_hand}
 use Rattle.dine_core.specs.Places.{is_closed_at, can_begin, has_all_said, no_place, is_ready_at, is_held, is_dirty_in_hand, is_over_at, fork_in_hand, forks_of, tokens_of}
@@ -63,7 +63,7 @@ module _ (plan : SeenPlan) (s : ℕ) (state : LocalState) where
       let here : place ≡ kept_at plan s state j = h 0 (omega arith) ∙ ap (kept_at plan s state) (let e : j + 0 ≡ j = omega arith in e) in
       ap (λ (p : Place). fork_in_hand p.fork ++ forks_of places) here
       ∙ ap (λ (l : List SeenFork). fork_in_hand (kept_at plan s state j).fork ++ l) (forks_by places (j + 1) awake (λ i within. h (suc i) (omega arith) ∙ ap (kept_at plan s state) (let e : j + suc i ≡ j + 1 + i = omega arith in e)))
-      ∙ slot_forks state.phase (fork_at plan s state j == 1) (meals_of (neighbour_at plan s j) (hand_at s state j)) (fork_with plan (edge_at plan s j) (hand_at s state j))
+      ∙ slot_forks state.phase (fork_at plan s state j == 1) (meals_of (neighbour_at plan s j) (hand_at s state j)) (hand_fork_at plan s state j)
       (forks_in_hand plan s state (range_with_len (j + 1) (length places))) awake
 
   tokens_by : (places : List Place) (j : ℕ) → ((i : ℕ) → i < length places → get_or places i no_place ≡ kept_at plan s state (j + i))
@@ -102,7 +102,7 @@ module _ (plan : SeenPlan) (state : LocalState) (core : SeenCore) (stands : Refi
   pub ready_at : (i : ℕ) → is_eating state.phase ≡ false → token_at plan core.site state i ≤ 1 → is_ready_at (kept_at plan core.site state i) ≡ is_ready plan core.site state i
   ready_at i awake one =
       ready_by state.phase (fork_at plan core.site state i == 1) (token_at plan core.site state i == 1) (meals_of (neighbour_at plan core.site i) (hand_at core.site state i))
-      (fork_with plan (edge_at plan core.site i) (hand_at core.site state i)) (edge_at plan core.site i) awake
+      (hand_fork_at plan core.site state i) (edge_at plan core.site i) awake
       ∙ ap (λ (b : Bool). fork_at plan core.site state i == 1 && (not (is_dirty (hand_at core.site state i)) || b)) (not_one (token_at plan core.site state i) one)
 
   pub ready_by_lists : is_eating state.phase ≡ false → ((i : ℕ) → i < length state.traffic → token_at plan core.site state i ≤ 1)
@@ -123,7 +123,8 @@ module _ (plan : SeenPlan) (state : LocalState) (core : SeenCore) (stands : Refi
       (λ hungry. ready_by_lists (awake_hungry state.phase hungry) (λ i h. (keeps.places i h).one_token))
 
   pub finished_by : has_all_said core ≡ has_finished plan core.site state
-  finished_by = ap (λ (phase : Phase). is_thinking phase && core.ate == core.due && list_all is_over_at core.places) stands.phase
-      ∙ ap (λ (n : ℕ). is_thinking state.phase && n == core.due && list_all is_over_at core.places) stands.ate
-      ∙ ap (λ (n : ℕ). is_thinking state.phase && state.ate == n && list_all is_over_at core.places) stands.due
-      ∙ ap (λ (b : Bool). is_thinking state.phase && state.ate == job_count plan core.site && b) over_by
+  finished_by = ap (λ (phase : Phase). is_thinking phase && (core.ate == core.due || core.has_quit) && list_all is_over_at core.places) stands.phase
+      ∙ ap (λ (n : ℕ). is_thinking state.phase && (n == core.due || core.has_quit) && list_all is_over_at core.places) stands.ate
+      ∙ ap (λ (n : ℕ). is_thinking state.phase && (state.ate == n || core.has_quit) && list_all is_over_at core.places) stands.due
+      ∙ ap (λ (b : Bool). is_thinking state.phase && (state.ate == job_count plan core.site || b) && list_all is_over_at core.places) stands.has_quit
+      ∙ ap (λ (b : Bool). is_thinking state.phase && has_no_job_left plan core.site state && b) over_by

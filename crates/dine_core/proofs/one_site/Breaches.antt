@@ -1,12 +1,11 @@
 -- The breach that is read off a place is the first by the whole lists, and a letter without one is allowed.
-use Rattle.std.proofs.Common.{◌≡◌, ℕ, zero, suc, ◌+◌, ◌<◌, ◌≤◌, ◌==◌, nat_le, nat_lt, Bool, true, false, not, ◌&&◌, ◌||◌, List, length, Option, Some, None, ◌⊎◌, refl, sym, ◌∙◌, ap, subst, inl, inr, arith, if◌then◌else◌}
+use Rattle.std.proofs.Common.{◌≡◌, ℕ, zero, suc, ◌+◌, ◌<◌, ◌≤◌, ◌==◌, nat_le, nat_lt, Bool, true, false, not, ◌&&◌, ◌||◌, length, Option, Some, None, ◌⊎◌, refl, sym, ◌∙◌, ap, subst, inl, inr, arith, if◌then◌else◌}
 use Rattle.std.proofs.lemmas.Bool.{eqb-true, and_from}
 use Rattle.std.proofs.lemmas.Bool.Decides.{nat_tests}
-use Rattle.dine_token.specs.declared.entry.Entry.{Entry}
 use Rattle.dine_token.specs.Fork.{SeenFork}
 use Rattle.dine_token.specs.Log.{meals_of}
 use Rattle.dine_token.specs.Lawful.{due_at}
-use Rattle.dine_plan.specs.Plan.{SeenPlan, job_count, lo_of, hi_of, other_of}
+use Rattle.dine_plan.specs.Plan.{SeenPlan, job_count, lo_of, hi_of, other_of, resigns}
 use Rattle.dine_rules.specs.declared.letters.Letter.{Letter}
 use Rattle.dine_rules.specs.declared.letters.Letter.TheVariants.{Fork, Request, Done, Close}
 use Rattle.dine_rules.specs.declared.phase.Phase.{Phase}
@@ -18,12 +17,11 @@ use Rattle.dine_core.specs.declared.site.places.ForkSlot.TheVariants.{Here}
 use Rattle.dine_rules.specs.Letters.{requests_in, has_done, has_close}
 use Rattle.dine_rules.specs.Local.{LocalState, traffic_at, edge_at, neighbour_at, is_eating}
 use Rattle.dine_rules.specs.Holdings.{fork_at, token_at, hand_at}
-use Rattle.dine_rules.specs.Breach.{is_fork_of, was_sent_to, first_breach, is_allowed}
-use Rattle.dine_rules.specs.Steps.{with_taken, may, Take}
+use Rattle.dine_rules.specs.Breach.{is_fork_of, was_sent_to, has_all_of_neighbour, first_breach, is_allowed}
+use Rattle.dine_rules.specs.Steps.{hand_fork_at, with_taken, may, Take}
 use Rattle.dine_rules.specs.Streams.{KeepsStreams}
 use Rattle.dine_core.specs.Core.{SeenCore, Refines}
 use Rattle.dine_core.specs.Places.{place_at, breach_at, took, is_held, IsSoundPlace}
-use Rattle.dine_rules.proofs.one_place.Owned.{own_is}
 use Rattle.dine_core.proofs.one_site.PlacesAfter.{kept_by, slot_by, kept-take_request, kept-take_fork, kept-take_done, kept-take_close}
 use Rattle.dine_core.proofs.one_site.Sound.{none_of, awake_without}
 use Rattle.dine_core.proofs.one_site.Stands.{place_is, stands_at}
@@ -59,53 +57,53 @@ close_answer taken put = if not taken || not put then Some ClosedEarly else None
 abbrev pub unless_closed : Bool → Option Breach → Option Breach
 unless_closed closed answer = if closed then Some AfterClose else answer
 
-module _ (plan : SeenPlan) (s ate edge : ℕ) (log : List Entry) (dp dt cp ct : Bool) where
+module _ (plan : SeenPlan) (s ate edge : ℕ) (fork : SeenFork) (dp dt cp ct : Bool) where
   abbrev pub there : ℕ
   there = other_of plan edge s
 
   abbrev pub strange : SeenFork → Bool
-  strange fork = not (is_fork_of plan edge fork) || not (was_sent_to (lo_of plan edge) s fork.log) || not (meals_of s fork.log == ate)
-      || (dt && not (meals_of there fork.log == job_count plan there))
+  strange f = not (is_fork_of plan edge f) || not (was_sent_to (lo_of plan edge) s f.log) || not (meals_of s f.log == ate)
+      || (dt && not (resigns plan there || meals_of there f.log == job_count plan there))
 
   abbrev pub breach_by : ℕ → ℕ → Letter → Option Breach
-  breach_by fork token (Request e) = unless_closed ct (request_answer (not (token == 0)) (not (fork == 1)) dt (not (e == edge)) (nat_le (job_count plan there) (meals_of there log)))
-  breach_by fork token (Fork f) = unless_closed ct (fork_answer (not (fork == 0) || not (token == 0)) (strange f))
-  breach_by fork token Done = unless_closed ct (done_answer dt (fork == 1 && not (meals_of there log == job_count plan there)))
-  breach_by fork token Close = unless_closed ct (close_answer dt dp)
+  breach_by held token (Request e) = unless_closed ct (request_answer (not (token == 0)) (not (held == 1)) dt (not (e == edge)) (nat_le (job_count plan there) (meals_of there fork.log)))
+  breach_by held token (Fork f) = unless_closed ct (fork_answer (not (held == 0) || not (token == 0)) (strange f))
+  breach_by held token Done = unless_closed ct (done_answer dt (held == 1 && not (resigns plan there || meals_of there fork.log == job_count plan there)))
+  breach_by held token Close = unless_closed ct (close_answer dt dp)
 
   due_is : due_at (lo_of plan edge, hi_of plan edge) (job_count plan (lo_of plan edge), job_count plan (hi_of plan edge)) there ≡ job_count plan there
   due_is = due_there (job_count plan) (lo_of plan edge) (hi_of plan edge) s
 
-  request_held : (phase : Phase) (e : ℕ) → breach_at s ate (kept_by plan s phase edge 1 0 log dp dt cp ct) (Request e) ≡ breach_by 1 0 (Request e)
-  request_held Thinking e = ap (λ (n : ℕ). unless_closed ct (request_answer false false dt (not (e == edge)) (nat_le n (meals_of there log)))) due_is
-  request_held Hungry e = ap (λ (n : ℕ). unless_closed ct (request_answer false false dt (not (e == edge)) (nat_le n (meals_of there log)))) due_is
-  request_held Eating e = ap (λ (n : ℕ). unless_closed ct (request_answer false false dt (not (e == edge)) (nat_le n (meals_of there log)))) due_is
+  request_held : (phase : Phase) (e : ℕ) → breach_at s ate (kept_by plan s phase edge 1 0 fork dp dt cp ct) (Request e) ≡ breach_by 1 0 (Request e)
+  request_held Thinking e = ap (λ (n : ℕ). unless_closed ct (request_answer false false dt (not (e == edge)) (nat_le n (meals_of there fork.log)))) due_is
+  request_held Hungry e = ap (λ (n : ℕ). unless_closed ct (request_answer false false dt (not (e == edge)) (nat_le n (meals_of there fork.log)))) due_is
+  request_held Eating e = ap (λ (n : ℕ). unless_closed ct (request_answer false false dt (not (e == edge)) (nat_le n (meals_of there fork.log)))) due_is
 
-  fork_held_twice : (phase : Phase) (token : ℕ) (f : SeenFork) → breach_at s ate (kept_by plan s phase edge 1 token log dp dt cp ct) (Fork f) ≡ breach_by 1 token (Fork f)
+  fork_held_twice : (phase : Phase) (token : ℕ) (f : SeenFork) → breach_at s ate (kept_by plan s phase edge 1 token fork dp dt cp ct) (Fork f) ≡ breach_by 1 token (Fork f)
   fork_held_twice Thinking token f = refl
   fork_held_twice Hungry token f = refl
   fork_held_twice Eating token f = refl
 
-  done_held : (phase : Phase) (token : ℕ) → breach_at s ate (kept_by plan s phase edge 1 token log dp dt cp ct) Done ≡ breach_by 1 token Done
-  done_held Thinking token = ap (λ (n : ℕ). unless_closed ct (done_answer dt (not (meals_of there log == n)))) due_is
-  done_held Hungry token = ap (λ (n : ℕ). unless_closed ct (done_answer dt (not (meals_of there log == n)))) due_is
-  done_held Eating token = ap (λ (n : ℕ). unless_closed ct (done_answer dt (not (meals_of there log == n)))) due_is
+  done_held : (phase : Phase) (token : ℕ) → breach_at s ate (kept_by plan s phase edge 1 token fork dp dt cp ct) Done ≡ breach_by 1 token Done
+  done_held Thinking token = ap (λ (n : ℕ). unless_closed ct (done_answer dt (not (resigns plan there || meals_of there fork.log == n)))) due_is
+  done_held Hungry token = ap (λ (n : ℕ). unless_closed ct (done_answer dt (not (resigns plan there || meals_of there fork.log == n)))) due_is
+  done_held Eating token = ap (λ (n : ℕ). unless_closed ct (done_answer dt (not (resigns plan there || meals_of there fork.log == n)))) due_is
 
-  pub breach_kept : (phase : Phase) (fork token : ℕ) → fork ≤ 1 → token ≤ 1 → (l : Letter)
-      → breach_at s ate (kept_by plan s phase edge fork token log dp dt cp ct) l ≡ breach_by fork token l
+  pub breach_kept : (phase : Phase) (held token : ℕ) → held ≤ 1 → token ≤ 1 → (l : Letter)
+      → breach_at s ate (kept_by plan s phase edge held token fork dp dt cp ct) l ≡ breach_by held token l
   breach_kept phase zero zero one_fork one_token (Request e) = refl
   breach_kept phase zero (suc zero) one_fork one_token (Request e) = refl
   breach_kept phase (suc zero) zero one_fork one_token (Request e) = request_held phase e
   breach_kept phase (suc zero) (suc zero) one_fork one_token (Request e) = refl
   breach_kept phase zero zero one_fork one_token (Fork f) = ap (λ (n : ℕ). unless_closed ct (fork_answer false (not (is_fork_of plan edge f) || not (was_sent_to (lo_of plan edge) s f.log) || not (meals_of s f.log == ate)
-      || (dt && not (meals_of there f.log == n))))) due_is
+      || (dt && not (resigns plan there || meals_of there f.log == n))))) due_is
   breach_kept phase zero (suc zero) one_fork one_token (Fork f) = refl
   breach_kept phase (suc zero) token one_fork one_token (Fork f) = fork_held_twice phase token f
   breach_kept phase zero token one_fork one_token Done = refl
   breach_kept phase (suc zero) token one_fork one_token Done = done_held phase token
-  breach_kept phase fork token one_fork one_token Close = refl
+  breach_kept phase held token one_fork one_token Close = refl
   breach_kept phase (suc (suc n)) token one_fork one_token l = absurd (omega arith)
-  breach_kept phase fork (suc (suc n)) one_fork one_token l = absurd (omega arith)
+  breach_kept phase held (suc (suc n)) one_fork one_token l = absurd (omega arith)
 
 le_lt : (a b : ℕ) → nat_le a b ≡ false → nat_lt b a ≡ true
 le_lt a b h = grind (arith, nat_tests)
@@ -147,7 +145,7 @@ close_turn false true true h = refl
 
 module _ (plan : SeenPlan) (s : ℕ) (state : LocalState) (i : ℕ) where
   abbrev taken_by : Letter → Option Breach
-  taken_by l = breach_by plan s state.ate (edge_at plan s i) (hand_at s state i) (has_done (traffic_at state i).put) (has_done (traffic_at state i).taken) (has_close (traffic_at state i).put)
+  taken_by l = breach_by plan s state.ate (edge_at plan s i) (hand_fork_at plan s state i) (has_done (traffic_at state i).put) (has_done (traffic_at state i).taken) (has_close (traffic_at state i).put)
       (has_close (traffic_at state i).taken) (fork_at plan s state i) (token_at plan s state i) l
 
   pub first_is : (l : Letter) → taken_by l ≡ first_breach plan s state i l
@@ -164,13 +162,13 @@ module _ (plan : SeenPlan) (s : ℕ) (state : LocalState) (i : ℕ) where
   pub fork_in_turn : (f : SeenFork) → first_breach plan s state i (Fork f) ≡ None
       → (is_allowed plan s state i (Fork f) ≡ true) × ((fork_at plan s state i == 0) ≡ true) × (is_fork_of plan (edge_at plan s i) f ≡ true) × ((meals_of s f.log == state.ate) ≡ true)
   fork_in_turn f h = fork_turn (has_close (traffic_at state i).taken) (fork_at plan s state i == 0) (token_at plan s state i == 0) (is_fork_of plan (edge_at plan s i) f) (was_sent_to (lo_of plan (edge_at plan s i)) s f.log)
-      (meals_of s f.log == state.ate) (has_done (traffic_at state i).taken) (meals_of (neighbour_at plan s i) f.log == job_count plan (neighbour_at plan s i)) h
+      (meals_of s f.log == state.ate) (has_done (traffic_at state i).taken) (has_all_of_neighbour plan s state i f.log) h
 
   pub allowed_without : (l : Letter) → first_breach plan s state i l ≡ None → is_allowed plan s state i l ≡ true
   allowed_without (Request e) h = (request_in_turn e h).0
   allowed_without (Fork f) h = (fork_in_turn f h).0
   allowed_without Done h = done_turn (has_close (traffic_at state i).taken) (has_done (traffic_at state i).taken) (fork_at plan s state i == 1)
-      (meals_of (neighbour_at plan s i) (hand_at s state i) == job_count plan (neighbour_at plan s i)) h
+      (has_all_of_neighbour plan s state i (hand_at s state i)) h
   allowed_without Close h = close_turn (has_close (traffic_at state i).taken) (has_done (traffic_at state i).taken) (has_done (traffic_at state i).put) h
 
 -- the token starts at the higher end alone
@@ -184,7 +182,7 @@ module _ (plan : SeenPlan) (state : LocalState) (core : SeenCore) (stands : Refi
   -- what is read off the place is the first breach
   pub breach_is : (l : Letter) → breach_at core.site core.ate (place_at core i) l ≡ first_breach plan core.site state i l
   breach_is l = ap (λ (n : ℕ). breach_at core.site n (place_at core i) l) stands.ate ∙ ap (λ (p : Place). breach_at core.site state.ate p l) (place_is plan state core stands i within)
-      ∙ breach_kept plan core.site state.ate (edge_at plan core.site i) (hand_at core.site state i) (has_done (traffic_at state i).put) (has_done (traffic_at state i).taken) (has_close (traffic_at state i).put)
+      ∙ breach_kept plan core.site state.ate (edge_at plan core.site i) (hand_fork_at plan core.site state i) (has_done (traffic_at state i).put) (has_done (traffic_at state i).taken) (has_close (traffic_at state i).put)
       (has_close (traffic_at state i).taken) state.phase (fork_at plan core.site state i) (token_at plan core.site state i) (keeps.places i in_state).one_fork (keeps.places i in_state).one_token l
       ∙ first_is plan core.site state i l
 
@@ -208,11 +206,11 @@ module _ (plan : SeenPlan) (state : LocalState) (core : SeenCore) (stands : Refi
       let turn = fork_in_turn plan core.site state i f h in
       let is = place_is plan state core stands i within in
       let none : fork_at plan core.site state i ≡ 0 = eqb-true (fork_at plan core.site state i) 0 turn.1 in
-      let away : is_held (place_at core i).fork ≡ false = ap (λ (p : Place). is_held p.fork) is ∙ ap (λ (n : ℕ). is_held (slot_by plan core.site state.phase (edge_at plan core.site i) n (hand_at core.site state i))) none in
+      let away : is_held (place_at core i).fork ≡ false = ap (λ (p : Place). is_held p.fork) is ∙ ap (λ (n : ℕ). is_held (slot_by plan core.site state.phase (edge_at plan core.site i) n (hand_fork_at plan core.site state i))) none in
       let awake : is_eating state.phase ≡ false = ap is_eating (sym stands.phase) ∙ awake_without core.site core.ate (is_eating core.phase) (place_at core i) (place_at core i).fork away sound.slot in
       stands_at plan state core stands i within _ _ (ap (λ (p : Place). record p { fork = Here f }) is
       ∙ kept-take_fork plan core.site state.phase state.ate (edge_at plan core.site i) (traffic_at state i) f none (keeps.places i in_state).forks_counted awake
-      (own_is plan (edge_at plan core.site i) f turn.2) (eqb-true (meals_of core.site f.log) state.ate turn.3))
+      turn.2 (eqb-true (meals_of core.site f.log) state.ate turn.3))
   stands-took sound Done h = stands_at plan state core stands i within _ _ (ap (λ (p : Place). record p { done_taken = true }) (place_is plan state core stands i within)
       ∙ kept-take_done plan core.site state.phase state.ate (edge_at plan core.site i) (traffic_at state i))
   stands-took sound Close h = stands_at plan state core stands i within _ _ (ap (λ (p : Place). record p { close_taken = true }) (place_is plan state core stands i within)

@@ -1,13 +1,16 @@
 -- A meal that begins, and one that ends.
-use Rattle.std.proofs.Common.{◌≡◌, ◌⊎◌, ℕ, zero, suc, ◌+◌, ◌<◌, ◌≤◌, ◌==◌, Bool, true, false, List, [], ◌∷◌, ◌++◌, length, map, get_or, refl, sym, ◌∙◌, ap, ap₂, subst, inl, inr, arith, if◌then◌else◌}
+use Rattle.std.proofs.Common.{◌≡◌, ◌⊎◌, ℕ, zero, suc, ◌+◌, ◌-◌, ◌<◌, ◌≤◌, ◌==◌, Bool, true, false, List, [], ◌∷◌, ◌++◌, length, map, get_or, refl, sym, ◌∙◌, ap, ap₂, subst, inl, inr, arith, if◌then◌else◌}
 use Rattle.std.specs.List.{list_all, range_with_len, All}
 use Rattle.std.proofs.lemmas.Bool.{and_parts, eqb-true, eq-eqb, cases_Bool, false≢true}
-use Rattle.dine_token.specs.Fork.{SeenFork, IsEnd, MayEat, eaten}
+use Rattle.dine_token.specs.declared.act.Act.{Act}
+use Rattle.dine_token.specs.declared.act.Act.TheVariants.{Add}
+use Rattle.dine_token.specs.Values.{IsAct}
+use Rattle.dine_token.specs.Fork.{SeenFork, IsEnd, MayEat, eaten, no_fork}
 use Rattle.dine_token.specs.Meal.{SeenMeal}
 use Rattle.dine_token.specs.Lawful.{due_at}
 use Rattle.dine_token.specs.Log.{meals_of}
 use Rattle.dine_token.proofs.Logs.{location_of-push_meal, meals_of-push_own, meals_of-push_other}
-use Rattle.dine_plan.specs.Plan.{SeenPlan}
+use Rattle.dine_plan.specs.Plan.{SeenPlan, SeenJob, act_of, jobs_of, no_job}
 use Rattle.dine_rules.specs.declared.phase.Phase.{Phase}
 use Rattle.dine_rules.specs.declared.phase.Phase.TheVariants.{Thinking, Hungry, Eating}
 use Rattle.dine_core.specs.declared.site.places.Place.{Place}
@@ -15,22 +18,24 @@ use Rattle.dine_core.specs.declared.site.places.ForkSlot.{ForkSlot}
 use Rattle.dine_core.specs.declared.site.places.ForkSlot.TheVariants.{Away, Here, InMeal}
 use Rattle.dine_rules.specs.Letters.{last_log_or}
 use Rattle.dine_rules.specs.Local.{LocalState, traffic_at, edge_at, neighbour_at, is_eating, is_hungry}
-use Rattle.dine_rules.specs.Holdings.{fork_at, hand_at, hand, forks_held}
-use Rattle.dine_rules.specs.Steps.{fork_with, after, Begin}
+use Rattle.dine_rules.specs.Holdings.{fork_at, hand, forks_held}
+use Rattle.dine_rules.specs.Steps.{hand_fork, hand_fork_at, after, Begin}
 use Rattle.dine_rules.specs.Streams.{KeepsStreams}
 use Rattle.dine_core.specs.Core.{SeenCore, Refines, kept_of, forks_in_hand}
-use Rattle.dine_core.specs.Places.{no_place, place_at, neighbour_of, is_held, is_ready_at, meals_in, lifted, begun, can_begin, fork_in_hand, forks_of, OnHere, IsLiftable, FitsPlace, FitsSlot, IsSoundPlace, IsSound, FitsMeal, IsMealOf}
+use Rattle.dine_core.specs.Places.{no_place, next_act, place_at, neighbour_of, is_held, is_ready_at, meals_in, lifted, begun, can_begin, fork_in_hand, forks_of, OnHere, IsLiftable, FitsPlace, FitsSlot, IsSoundPlace, IsSound, FitsMeal, IsMealOf}
 use Rattle.dine_core.specs.Standing.{all_places}
 use Rattle.dine_rules.proofs.one_place.Hands.{hand-more}
+use Rattle.dine_rules.proofs.one_place.HandForks.{hand_fork-more}
+use Rattle.std.proofs.Math.ListN.{get_or-map}
 use Rattle.std.proofs.lemmas.List.{length-map}
 use Rattle.dine_core.proofs.lists.Lists.{get_or-map_at}
 use Rattle.dine_core.proofs.lists.Ranges.{forks_by_lists}
 
 -- the fork that a slot has in hand
 abbrev pub fork_of : ForkSlot → SeenFork
-fork_of Away = record { edge = 0; ends = (0, 0); due = (0, 0); log = [] }
+fork_of Away = no_fork
 fork_of (Here fork) = fork
-fork_of (InMeal meals) = record { edge = 0; ends = (0, 0); due = (0, 0); log = [] }
+fork_of (InMeal meals) = no_fork
 
 abbrev pub fork_at_place : Place → SeenFork
 fork_at_place place = fork_of place.fork
@@ -75,13 +80,20 @@ map_if false g x y xs ys here rest = rest
 
 -- the forks with the meal, by the whole lists
 more_by : (plan : SeenPlan) (s : ℕ) (state : LocalState) (n j : ℕ) → ((i : ℕ) → i < j + n → meals_of s (last_log_or [] (traffic_at state i).taken) ≤ state.ate)
-    → map (eaten s (state.ate + 1)) (forks_in_hand plan s state (range_with_len j n)) ≡ forks_in_hand plan s (after plan s state Begin) (range_with_len j n)
+    → map (eaten s (state.ate + 1) (act_of plan s (state.ate + 1))) (forks_in_hand plan s state (range_with_len j n)) ≡ forks_in_hand plan s (after plan s state Begin) (range_with_len j n)
 more_by plan s state zero j last = refl
 more_by plan s state (suc n) j last =
-    map_if (fork_at plan s state j == 1) (eaten s (state.ate + 1)) (fork_with plan (edge_at plan s j) (hand_at s state j)) (fork_with plan (edge_at plan s j) (hand_at s (after plan s state Begin) j))
+    map_if (fork_at plan s state j == 1) (eaten s (state.ate + 1) (act_of plan s (state.ate + 1))) (hand_fork_at plan s state j) (hand_fork_at plan s (after plan s state Begin) j)
     (forks_in_hand plan s state (range_with_len (j + 1) n)) (forks_in_hand plan s (after plan s state Begin) (range_with_len (j + 1) n))
-    (ap (fork_with plan (edge_at plan s j)) (sym (hand-more s state.ate (last_log_or [] (traffic_at state j).taken) (last j (omega arith)))))
+    (hand_fork-more plan s (edge_at plan s j) state.ate (traffic_at state j) (last j (omega arith)))
     (more_by plan s state n (j + 1) (λ i h. last i (omega (arith, h))))
+
+-- the next act of the core is that of the plan's job
+pub next_is : (plan : SeenPlan) (state : LocalState) (core : SeenCore) → Refines plan state core → next_act core ≡ act_of plan core.site (state.ate + 1)
+next_is plan state core stands =
+    ap₂ (λ (acts : List Act) (n : ℕ). get_or acts n (Add 0)) stands.acts stands.ate
+    ∙ get_or-map (λ (job : SeenJob). job.act) (jobs_of plan core.site) state.ate no_job
+    ∙ ap (λ (n : ℕ). (get_or (jobs_of plan core.site) n no_job).act) (let e : state.ate ≡ state.ate + 1 - 1 = omega arith in e)
 
 module _ (core : SeenCore) (sound : IsSound core) (can : can_begin core ≡ true) where
   hungry : is_hungry core.phase ≡ true
@@ -97,6 +109,10 @@ module _ (core : SeenCore) (sound : IsSound core) (can : can_begin core ≡ true
 
   pub left : core.ate < core.due
   left = sound.hungry hungry
+
+  -- the act of the meal is one that a meal may do
+  pub act_small : IsAct (next_act core)
+  act_small = sound.small_acts core.ate (Add 0) (omega (arith, left, sound.acts))
 
   -- each fork is in hand, and fits its place
   pub in_hand_at : (i : ℕ) (d : Place) → i < length core.places
@@ -141,8 +157,8 @@ module _ (core : SeenCore) (sound : IsSound core) (can : can_begin core ≡ true
 
   -- the fork with the meal fits the place of the new core
   fits_meal : (place : Place) → IsSoundPlace core place → FitsPlace core.site core.ate place (fork_at_place place) → place.fork ≡ Here (fork_at_place place)
-      → FitsPlace core.site (core.ate + 1) (lifted core.site place) (eaten core.site (core.ate + 1) (fork_at_place place))
-      × (meals_of (neighbour_of core.site place) (eaten core.site (core.ate + 1) (fork_at_place place)).log ≡ meals_in (neighbour_of core.site place) place.fork)
+      → FitsPlace core.site (core.ate + 1) (lifted core.site place) (eaten core.site (core.ate + 1) (next_act core) (fork_at_place place))
+      × (meals_of (neighbour_of core.site place) (eaten core.site (core.ate + 1) (next_act core) (fork_at_place place)).log ≡ meals_in (neighbour_of core.site place) place.fork)
   fits_meal place w fits is =
       let f = fork_at_place place in (
         record {
@@ -155,10 +171,10 @@ module _ (core : SeenCore) (sound : IsSound core) (can : can_begin core ≡ true
         meals_of-push_other (neighbour_of core.site place) core.site f.log (core.ate + 1) (differs place w) ∙ ap (meals_in (neighbour_of core.site place)) (sym is),
       )
 
-  pub is_meal : (meal : SeenMeal) → meal.site ≡ core.site → meal.k ≡ core.ate + 1 → meal.forks ≡ map (eaten core.site (core.ate + 1)) (forks_of core.places) → IsMealOf (begun core) meal
+  pub is_meal : (meal : SeenMeal) → meal.site ≡ core.site → meal.k ≡ core.ate + 1 → meal.forks ≡ map (eaten core.site (core.ate + 1) (next_act core)) (forks_of core.places) → IsMealOf (begun core) meal
   is_meal meal site k forks =
-      let f = λ (p : Place). eaten core.site (core.ate + 1) (fork_at_place p) in
-      let all : meal.forks ≡ map f core.places = forks ∙ ap (map (eaten core.site (core.ate + 1))) forks_are_all ∙ map_twice core.places in
+      let f = λ (p : Place). eaten core.site (core.ate + 1) (next_act core) (fork_at_place p) in
+      let all : meal.forks ≡ map f core.places = forks ∙ ap (map (eaten core.site (core.ate + 1) (next_act core))) forks_are_all ∙ map_twice core.places in
       record {
         site = site;
         k = k;
@@ -173,13 +189,13 @@ module _ (core : SeenCore) (sound : IsSound core) (can : can_begin core ≡ true
             fits_at i (get_or meal.forks i past) p place_is fork_is fits.0 fits.1;
       }
     where
-      map_twice : (xs : List Place) → map (eaten core.site (core.ate + 1)) (map fork_at_place xs) ≡ map (λ (p : Place). eaten core.site (core.ate + 1) (fork_at_place p)) xs
+      map_twice : (xs : List Place) → map (eaten core.site (core.ate + 1) (next_act core)) (map fork_at_place xs) ≡ map (λ (p : Place). eaten core.site (core.ate + 1) (next_act core) (fork_at_place p)) xs
       map_twice [] = refl
-      map_twice (x ∷ xs) = ap (λ (l : List SeenFork). eaten core.site (core.ate + 1) (fork_at_place x) ∷ l) (map_twice xs)
+      map_twice (x ∷ xs) = ap (λ (l : List SeenFork). eaten core.site (core.ate + 1) (next_act core) (fork_at_place x) ∷ l) (map_twice xs)
 
-      fits_at : (i : ℕ) (fork : SeenFork) (p : Place) → place_at (begun core) i ≡ lifted core.site p → fork ≡ eaten core.site (core.ate + 1) (fork_at_place p)
-          → FitsPlace core.site (core.ate + 1) (lifted core.site p) (eaten core.site (core.ate + 1) (fork_at_place p))
-          → meals_of (neighbour_of core.site p) (eaten core.site (core.ate + 1) (fork_at_place p)).log ≡ meals_in (neighbour_of core.site p) p.fork
+      fits_at : (i : ℕ) (fork : SeenFork) (p : Place) → place_at (begun core) i ≡ lifted core.site p → fork ≡ eaten core.site (core.ate + 1) (next_act core) (fork_at_place p)
+          → FitsPlace core.site (core.ate + 1) (lifted core.site p) (eaten core.site (core.ate + 1) (next_act core) (fork_at_place p))
+          → meals_of (neighbour_of core.site p) (eaten core.site (core.ate + 1) (next_act core) (fork_at_place p)).log ≡ meals_in (neighbour_of core.site p) p.fork
           → FitsMeal (begun core) i fork
       fits_at i fork p place_is fork_is fits meals =
           let P : Place → SeenFork → Type 0 = λ q f. FitsPlace core.site (core.ate + 1) q f in
@@ -195,6 +211,8 @@ module _ (core : SeenCore) (sound : IsSound core) (can : can_begin core ≡ true
     places = λ i d h.
         let within : i < length core.places = omega (arith, h, length-map core.places (lifted core.site)) in
         subst (IsSoundPlace (begun core)) (sym (get_or-map_at (lifted core.site) core.places i d no_place within)) (lifted_sound (get_or core.places i no_place) (sound.places i no_place within) (in_hand_at i no_place within).0);
+    acts = sound.acts;
+    small_acts = sound.small_acts;
     within = omega (arith, left);
     hungry = λ h. absurd (false≢true h);
   }
@@ -208,8 +226,12 @@ module _ (core : SeenCore) (sound : IsSound core) (can : can_begin core ≡ true
     is_plan = stands.is_plan;
     is_site = stands.is_site;
     due = stands.due;
+    acts = stands.acts;
+    resigns = stands.resigns;
     phase = refl;
     ate = ap (λ (n : ℕ). n + 1) stands.ate;
+    must_quit = stands.must_quit;
+    has_quit = stands.has_quit;
     degree = length-map core.places (lifted core.site) ∙ stands.degree;
     places = λ i past h.
         let within : i < length core.places = omega (arith, h, length-map core.places (lifted core.site)) in
@@ -223,7 +245,7 @@ module _ (core : SeenCore) (sound : IsSound core) (can : can_begin core ≡ true
           let t = traffic_at state i in
           let p = get_or core.places i no_place in
           let there = neighbour_at plan core.site i in
-          let fork = fork_with plan edge (hand s state.ate t) in
+          let fork = hand_fork plan s edge state.ate t in
           let is : p ≡ kept_of plan s state.phase state.ate edge t = stands.places i no_place within in
           let held : (forks_held plan s edge t == 1) ≡ true = sym (slot_held (forks_held plan s edge t == 1) state.phase (meals_of there fork.log) fork) ∙ ap (λ (p : Place). is_held p.fork) (sym is) ∙ ap is_held (in_hand_at i no_place within).0 in
           let still : is_eating state.phase ≡ false = ap is_eating (sym stands.phase) ∙ awake in
@@ -236,9 +258,10 @@ module _ (core : SeenCore) (sound : IsSound core) (can : can_begin core ≡ true
 
   -- the forks of the meal are those in hand after the step
   pub in_hand_begun : (plan : SeenPlan) (state : LocalState) → KeepsStreams plan core.site state → Refines plan state core
-      → map (eaten core.site (core.ate + 1)) (forks_of core.places) ≡ forks_in_hand plan core.site (after plan core.site state Begin) (all_places state)
+      → map (eaten core.site (core.ate + 1) (next_act core)) (forks_of core.places) ≡ forks_in_hand plan core.site (after plan core.site state Begin) (all_places state)
   in_hand_begun plan state keeps stands =
       let still : is_eating state.phase ≡ false = ap is_eating (sym stands.phase) ∙ awake in
-      ap (λ (l : List SeenFork). map (eaten core.site (core.ate + 1)) l) (forks_by_lists plan state core stands still)
-      ∙ ap (λ (n : ℕ). map (eaten core.site (n + 1)) (forks_in_hand plan core.site state (all_places state))) stands.ate
+      let act : next_act core ≡ act_of plan core.site (state.ate + 1) = next_is plan state core stands in
+      ap (λ (l : List SeenFork). map (eaten core.site (core.ate + 1) (next_act core)) l) (forks_by_lists plan state core stands still)
+      ∙ ap₂ (λ (n : ℕ) (act : Act). map (eaten core.site (n + 1) act) (forks_in_hand plan core.site state (all_places state))) stands.ate act
       ∙ more_by plan core.site state (length state.traffic) 0 (λ i h. (keeps.places i (omega (arith, h))).last_within)

@@ -1,5 +1,5 @@
 -- What a core may do, by what it keeps, is what the state for which it stands may do.
-use Rattle.std.proofs.Common.{◌≡◌, ℕ, ◌<◌, ◌==◌, nat_lt, Bool, true, false, not, ◌&&◌, length, option_map, Option, Some, None, is_some, refl, sym, ◌∙◌, ap, ap₂, arith, if◌then◌else◌}
+use Rattle.std.proofs.Common.{◌≡◌, ℕ, ◌<◌, ◌==◌, nat_lt, Bool, true, false, not, ◌&&◌, ◌||◌, length, option_map, Option, Some, None, is_some, refl, sym, ◌∙◌, ap, ap₂, arith, if◌then◌else◌}
 use Rattle.std.proofs.lemmas.Bool.{lt-ltb, ltb-true, and_from}
 use Rattle.dine_token.specs.Fork.{SeenFork}
 use Rattle.dine_token.specs.Log.{is_dirty, meals_of}
@@ -11,13 +11,13 @@ use Rattle.dine_rules.specs.declared.phase.Phase.TheVariants as phase
 use Rattle.dine_core.specs.declared.site.places.ForkSlot.TheVariants.{Away, Here, InMeal}
 use Rattle.dine_core.specs.declared.site.places.Place.{Place}
 use Rattle.dine_rules.specs.Letters.{has_close, has_done}
-use Rattle.dine_rules.specs.Local.{LocalState, edge_at, is_eating, is_hungry, is_thinking, neighbour_at, traffic_at}
+use Rattle.dine_rules.specs.Local.{LocalState, edge_at, has_no_job_left, is_eating, is_hungry, is_thinking, neighbour_at, traffic_at}
 use Rattle.dine_rules.specs.Holdings.{fork_at, hand_at, token_at}
 use Rattle.dine_rules.specs.Breach.{first_breach, is_allowed}
-use Rattle.dine_rules.specs.Steps.{Step, Give, Ask, Hungry, Begin, End, Done, Close, Break, Take, fork_with, is_open, may}
+use Rattle.dine_rules.specs.Steps.{Step, Give, Ask, Hungry, Begin, End, Quit, Done, Close, Break, Take, hand_fork_at, is_open, may}
 use Rattle.dine_rules.specs.Streams.{KeepsStreams}
 use Rattle.dine_core.specs.Core.{SeenCore, Refines}
-use Rattle.dine_core.specs.Places.{breach_at, can_ask, can_begin, can_close, can_say_done, can_give, can_give_at, can_hunger, is_dirty_in_hand, is_held, place_at}
+use Rattle.dine_core.specs.Places.{breach_at, can_ask, can_begin, can_close, can_say_done, can_give, can_give_at, can_hunger, can_quit, has_nothing_due, is_dirty_in_hand, is_held, place_at}
 use Rattle.dine_rules.proofs.one_site.BreachLaw.{allowed, no_breach}
 use Rattle.dine_core.proofs.one_site.Breaches.{breach_is}
 use Rattle.dine_core.proofs.lists.Ranges.{and_along, begin_by, not_one}
@@ -80,18 +80,22 @@ no_breach_test true (Some b) none allow = absurd (let e : Some b ≡ None = none
 no_breach_test false (Some b) none allow = refl
 
 module _ (plan : SeenPlan) (state : LocalState) (core : SeenCore) (stands : Refines plan state core) (keeps : KeepsStreams plan core.site state) where
+  -- nothing is due where no job is left
+  pub due_is : has_nothing_due core ≡ has_no_job_left plan core.site state
+  due_is = ap₂ (λ (a due : ℕ). a == due || core.has_quit) stands.ate stands.due ∙ ap (λ (b : Bool). state.ate == job_count plan core.site || b) stands.has_quit
+
   -- each test of a place, by the core and by the state
   module _ (i : ℕ) (within : i < length core.places) where
     pub give_is : can_give core i ≡ (not (is_eating state.phase) && (fork_at plan core.site state i == 1 && token_at plan core.site state i == 1) && (is_dirty (hand_at core.site state i) && is_open plan core.site state i))
     give_is = ap (λ (phase : Phase). not (is_eating phase) && can_give_at (place_at core i)) stands.phase
         ∙ ap (λ (p : Place). not (is_eating state.phase) && can_give_at p) (place_is plan state core stands i within)
         ∙ give_test state.phase (fork_at plan core.site state i == 1) (token_at plan core.site state i == 1) (meals_of (neighbour_at plan core.site i) (hand_at core.site state i)) (edge_at plan core.site i)
-        (fork_with plan (edge_at plan core.site i) (hand_at core.site state i)) (has_close (traffic_at state i).put)
+        (hand_fork_at plan core.site state i) (has_close (traffic_at state i).put)
 
     -- the fork is held, and the token is, by the place and by the whole lists
     pub held_is : not (is_held (place_at core i).fork) ≡ (fork_at plan core.site state i == 0)
     held_is = ap (λ (p : Place). not (is_held p.fork)) (place_is plan state core stands i within)
-        ∙ ap not (held_test (is_eating state.phase) (fork_at plan core.site state i == 1) (meals_of (neighbour_at plan core.site i) (hand_at core.site state i)) (fork_with plan (edge_at plan core.site i) (hand_at core.site state i)))
+        ∙ ap not (held_test (is_eating state.phase) (fork_at plan core.site state i == 1) (meals_of (neighbour_at plan core.site i) (hand_at core.site state i)) (hand_fork_at plan core.site state i))
         ∙ not_one (fork_at plan core.site state i) (keeps.places i (omega (arith, stands.degree))).one_fork
 
     token_is : is_some (place_at core i).token ≡ (token_at plan core.site state i == 1)
@@ -107,10 +111,10 @@ module _ (plan : SeenPlan) (state : LocalState) (core : SeenCore) (stands : Refi
         ∙ ap (λ (b : Bool). is_hungry state.phase && (token_at plan core.site state i == 1 && fork_at plan core.site state i == 0 && b)) open_is
         ∙ and_regroup (is_hungry state.phase) (token_at plan core.site state i == 1 && fork_at plan core.site state i == 0) (is_open plan core.site state i)
 
-    pub done_is : can_say_done core i ≡ (is_thinking state.phase && state.ate == job_count plan core.site && (not (has_done (traffic_at state i).put) && is_open plan core.site state i))
-    done_is = ap (λ (phase : Phase). is_thinking phase && core.ate == core.due && (not (place_at core i).done_put && not (place_at core i).close_put)) stands.phase
-        ∙ ap₂ (λ (a due : ℕ). is_thinking state.phase && a == due && (not (place_at core i).done_put && not (place_at core i).close_put)) stands.ate stands.due
-        ∙ ap (λ (p : Place). is_thinking state.phase && state.ate == job_count plan core.site && (not p.done_put && not p.close_put)) (place_is plan state core stands i within)
+    pub done_is : can_say_done core i ≡ (is_thinking state.phase && has_no_job_left plan core.site state && (not (has_done (traffic_at state i).put) && is_open plan core.site state i))
+    done_is = ap (λ (phase : Phase). is_thinking phase && has_nothing_due core && (not (place_at core i).done_put && not (place_at core i).close_put)) stands.phase
+        ∙ ap (λ (b : Bool). is_thinking state.phase && b && (not (place_at core i).done_put && not (place_at core i).close_put)) due_is
+        ∙ ap (λ (p : Place). is_thinking state.phase && has_no_job_left plan core.site state && (not p.done_put && not p.close_put)) (place_is plan state core stands i within)
 
     pub close_is : can_close core i ≡ (has_done (traffic_at state i).put && has_done (traffic_at state i).taken && is_open plan core.site state i)
     close_is = ap (λ (p : Place). p.done_put && p.done_taken && not p.close_put) (place_is plan state core stands i within)
@@ -121,9 +125,14 @@ module _ (plan : SeenPlan) (state : LocalState) (core : SeenCore) (stands : Refi
         ∙ no_breach_test (is_allowed plan core.site state i l) (first_breach plan core.site state i l) (no_breach plan core.site state i l) (allowed plan core.site state i l)
 
   -- the site may grow hungry
-  pub hunger_is : can_hunger core ≡ (is_thinking state.phase && nat_lt state.ate (job_count plan core.site))
-  hunger_is = ap (λ (phase : Phase). is_thinking phase && nat_lt core.ate core.due) stands.phase
-      ∙ ap₂ (λ (a due : ℕ). is_thinking state.phase && nat_lt a due) stands.ate stands.due
+  pub hunger_is : can_hunger core ≡ may plan core.site state Hungry
+  hunger_is = ap (λ (phase : Phase). is_thinking phase && nat_lt core.ate core.due && (not core.must_quit && not core.has_quit)) stands.phase
+      ∙ ap₂ (λ (a due : ℕ). is_thinking state.phase && nat_lt a due && (not core.must_quit && not core.has_quit)) stands.ate stands.due
+      ∙ ap₂ (λ (must quit : Bool). is_thinking state.phase && nat_lt state.ate (job_count plan core.site) && (not must && not quit)) stands.must_quit stands.has_quit
+
+  -- the site has to quit
+  pub quit_is : can_quit core ≡ may plan core.site state Quit
+  quit_is = ap₂ (λ (phase : Phase) (must : Bool). is_thinking phase && must) stands.phase stands.must_quit
 
   -- a letter that is there is allowed, or there is none
   pub next_is : (i : ℕ) (o : Option Letter) → ((l : Letter) → i < length core.places → o ≡ Some l → is_allowed plan core.site state i l ≡ true)
@@ -159,8 +168,11 @@ module _ (plan : SeenPlan) (state : LocalState) (core : SeenCore) (stands : Refi
   pub may_hunger : can_hunger core ≡ true → may plan core.site state Hungry ≡ true
   may_hunger can = sym hunger_is ∙ can
 
+  pub may_quit : can_quit core ≡ true → may plan core.site state Quit ≡ true
+  may_quit can = sym quit_is ∙ can
+
   pub may_begin : can_begin core ≡ true → may plan core.site state Begin ≡ true
   may_begin can = sym (begin_by plan state core stands keeps) ∙ can
 
-  pub may_end : is_eating core.phase ≡ true → may plan core.site state End ≡ true
-  may_end eating = ap is_eating (sym stands.phase) ∙ eating
+  pub may_end : (failed : Bool) → is_eating core.phase ≡ true → may plan core.site state (End failed) ≡ true
+  may_end failed eating = ap is_eating (sym stands.phase) ∙ eating

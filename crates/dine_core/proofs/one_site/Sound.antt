@@ -26,6 +26,8 @@ sound_place_along core places place w = record { ordered = w.ordered; end = w.en
 pub sound_with_place : (core : SeenCore) (i : ℕ) (place : Place) → IsSound core → IsSoundPlace core place → IsSound (with_place i place core)
 sound_with_place core i place sound here = record {
   places = λ j past h. sound_place_along core (set core.places i place) (get_or (set core.places i place) j past) (All-set (IsSoundPlace core) core.places i place here sound.places j past h);
+  acts = sound.acts;
+  small_acts = sound.small_acts;
   within = sound.within;
   hungry = sound.hungry;
 }

@@ -12,9 +12,9 @@ use Rattle.dine_core.specs.declared.site.places.Place.{Place}
 use Rattle.dine_core.specs.declared.site.places.ForkSlot.TheVariants.{Away, Here, InMeal}
 use Rattle.dine_rules.specs.Local.{LocalState, Traffic, no_traffic, traffic_at, edge_at, neighbour_at, is_eating, is_thinking}
 use Rattle.dine_rules.specs.Holdings.{fork_at, token_at, hand_at}
-use Rattle.dine_rules.specs.Steps.{fork_with, with_put}
+use Rattle.dine_rules.specs.Steps.{hand_fork_at, with_put}
 use Rattle.dine_core.specs.Core.{SeenCore, Refines, kept_of, kept_at}
-use Rattle.dine_core.specs.Places.{place_at, with_place, no_place, OnHere, asked, gave, hungered, said_done, closed}
+use Rattle.dine_core.specs.Places.{place_at, with_place, no_place, OnHere, asked, gave, hungered, quitted, said_done, closed}
 use Rattle.dine_core.proofs.one_site.PlacesAfter.{kept-put_request, kept-put_fork, kept-put_done, kept-put_close}
 
 -- other traffic at place i
@@ -42,8 +42,12 @@ module _ (plan : SeenPlan) (state : LocalState) (core : SeenCore) (stands : Refi
     is_plan = stands.is_plan;
     is_site = stands.is_site;
     due = stands.due;
+    acts = stands.acts;
+    resigns = stands.resigns;
     phase = stands.phase;
     ate = stands.ate;
+    must_quit = stands.must_quit;
+    has_quit = stands.has_quit;
     degree = length-set core.places i place ∙ stands.degree ∙ sym (length-set state.traffic i t);
     places = λ j past h. at j past (omega (arith, length-set core.places i place));
   }
@@ -82,11 +86,11 @@ module _ (plan : SeenPlan) (state : LocalState) (core : SeenCore) (stands : Refi
 
   -- what is so of a fork in hand at the place, is so of the fork with the log in hand
   pub fork_held : (P : Place → SeenFork → Type 0) → OnHere (P (place_at core i)) (place_at core i).fork
-      → (fork_at plan core.site state i ≡ 1) × (is_eating state.phase ≡ false) × P (kept_at plan core.site state i) (fork_with plan (edge_at plan core.site i) (hand_at core.site state i))
+      → (fork_at plan core.site state i ≡ 1) × (is_eating state.phase ≡ false) × P (kept_at plan core.site state i) (hand_fork_at plan core.site state i)
   fork_held P h =
       let Q : Place → Type 0 = λ p. OnHere (P p) p.fork in
       let w = on_here_if (P (kept_at plan core.site state i)) (fork_at plan core.site state i == 1) (is_eating state.phase) (meals_of (neighbour_at plan core.site i) (hand_at core.site state i))
-      (fork_with plan (edge_at plan core.site i) (hand_at core.site state i)) (subst Q place_is h) in
+      (hand_fork_at plan core.site state i) (subst Q place_is h) in
       (eqb-true (fork_at plan core.site state i) 1 w.0, w.1, w.2)
 
 thinking_is : (phase : Phase) → is_thinking phase ≡ true → phase ≡ Thinking
@@ -100,8 +104,28 @@ stands-hungered plan state core stands thinking = record {
   is_plan = stands.is_plan;
   is_site = stands.is_site;
   due = stands.due;
+  acts = stands.acts;
+  resigns = stands.resigns;
   phase = refl;
   ate = stands.ate;
+  must_quit = stands.must_quit;
+  has_quit = stands.has_quit;
   degree = stands.degree;
   places = λ i past h. stands.places i past h ∙ ap (λ (phase : Phase). kept_of plan core.site phase state.ate (edge_at plan core.site i) (traffic_at state i)) (sym stands.phase ∙ thinking_is core.phase thinking);
+}
+
+-- who has quit keeps the same at each place
+pub stands-quitted : (plan : SeenPlan) (state : LocalState) (core : SeenCore) → Refines plan state core → Refines plan (record state { must_quit = false; has_quit = true }) (quitted core)
+stands-quitted plan state core stands = record {
+  is_plan = stands.is_plan;
+  is_site = stands.is_site;
+  due = stands.due;
+  acts = stands.acts;
+  resigns = stands.resigns;
+  phase = stands.phase;
+  ate = stands.ate;
+  must_quit = refl;
+  has_quit = refl;
+  degree = stands.degree;
+  places = stands.places;
 }

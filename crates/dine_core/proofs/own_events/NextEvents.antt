@@ -9,10 +9,11 @@ use Rattle.dine_rules.specs.declared.events.EventKind.{EventKind}
 use Rattle.dine_rules.specs.declared.events.EventKind.TheVariants as event
 use Rattle.dine_rules.specs.Local.{LocalState, is_eating}
 use Rattle.dine_rules.specs.Streams.{KeepsStreams}
+use Rattle.dine_rules.specs.World.{placeless_kinds}
 use Rattle.dine_core.specs.Core.{SeenCore, Refines}
 use Rattle.dine_core.specs.NextEvent.{can_by_itself, may_by_itself, next_event, next_of, next_word_of, own_kinds}
 use Rattle.dine_core.specs.Places.{can_give, can_ask, can_say_done, can_close}
-use Rattle.dine_core.proofs.one_site.SiteTests.{ask_is, close_is, done_is, give_is, guarded, hunger_is}
+use Rattle.dine_core.proofs.one_site.SiteTests.{ask_is, close_is, done_is, give_is, guarded, hunger_is, quit_is}
 use Rattle.dine_core.proofs.lists.Ranges.{begin_by}
 
 -- ---- finding
@@ -60,9 +61,6 @@ module _ (core : SeenCore) where
   abbrev places : List ℕ
   places = range_with_len 0 (length core.places)
 
-  abbrev phases : List EventKind
-  phases = event.End ∷ event.Begin ∷ event.Hungry ∷ []
-
   found_at : (kind : ℕ → EventKind) (p : ℕ → Bool) → ((i : ℕ) → can_by_itself core (kind i) ≡ (nat_lt i (length core.places) && p i))
       → find (can_by_itself core) (map kind places) ≡ option_map kind (find p places)
   found_at kind p is = find-map kind (can_by_itself core) places
@@ -72,22 +70,22 @@ module _ (core : SeenCore) where
   regroup None a d c = refl
   regroup (Some kind) a d c = refl
 
-  pub next_spelled : next_of core ≡ option_or (option_or (option_map event.Give (find (can_give core) places)) (find (can_by_itself core) phases)) (next_word_of core)
+  pub next_spelled : next_of core ≡ option_or (option_or (option_map event.Give (find (can_give core) places)) (find (can_by_itself core) placeless_kinds)) (next_word_of core)
   next_spelled =
       let test : EventKind → Bool = can_by_itself core in
-      find-append test (map event.Give places ++ phases ++ map event.Ask places ++ map event.Done places) (map event.Close places)
-      ∙ ap₂ option_or (find-append test (map event.Give places ++ phases ++ map event.Ask places) (map event.Done places)
-      ∙ ap₂ option_or (find-append test (map event.Give places ++ phases) (map event.Ask places)
-      ∙ ap₂ option_or (find-append test (map event.Give places) phases
-      ∙ ap (λ (o : Option EventKind). option_or o (find test phases)) (found_at event.Give (can_give core) (λ i. refl)))
+      find-append test (map event.Give places ++ placeless_kinds ++ map event.Ask places ++ map event.Done places) (map event.Close places)
+      ∙ ap₂ option_or (find-append test (map event.Give places ++ placeless_kinds ++ map event.Ask places) (map event.Done places)
+      ∙ ap₂ option_or (find-append test (map event.Give places ++ placeless_kinds) (map event.Ask places)
+      ∙ ap₂ option_or (find-append test (map event.Give places) placeless_kinds
+      ∙ ap (λ (o : Option EventKind). option_or o (find test placeless_kinds)) (found_at event.Give (can_give core) (λ i. refl)))
       (found_at event.Ask (can_ask core) (λ i. refl)))
       (found_at event.Done (can_say_done core) (λ i. refl)))
       (found_at event.Close (can_close core) (λ i. refl))
-      ∙ regroup (option_or (option_map event.Give (find (can_give core) places)) (find test phases)) (option_map event.Ask (find (can_ask core) places))
+      ∙ regroup (option_or (option_map event.Give (find (can_give core) places)) (find test placeless_kinds)) (option_map event.Ask (find (can_ask core) places))
       (option_map event.Done (find (can_say_done core) places)) (option_map event.Close (find (can_close core) places))
 
   -- so it is by the three answers
-  pub next_from : (g : Option ℕ) (p w : Option EventKind) → g ≡ find (can_give core) places → p ≡ find (can_by_itself core) phases → w ≡ next_word_of core
+  pub next_from : (g : Option ℕ) (p w : Option EventKind) → g ≡ find (can_give core) places → p ≡ find (can_by_itself core) placeless_kinds → w ≡ next_word_of core
       → option_or (option_or (option_map event.Give g) p) w ≡ next_of core
   next_from g p w is_give is_phase is_word = ap₂ (λ (x y : Option EventKind). option_or x y)
       (ap₂ (λ (x : Option ℕ) (y : Option EventKind). option_or (option_map event.Give x) y) is_give is_phase) is_word ∙ sym next_spelled
@@ -100,6 +98,7 @@ module _ (plan : SeenPlan) (state : LocalState) (core : SeenCore) (keeps : Keeps
   own_is (event.Give i) = guarded i (length core.places) (length state.traffic) _ _ stands.degree (λ within. give_is plan state core stands keeps i within)
   own_is event.End = ap is_eating stands.phase
   own_is event.Begin = begin_by plan state core stands keeps
+  own_is event.Quit = quit_is plan state core stands keeps
   own_is event.Hungry = hunger_is plan state core stands keeps
   own_is (event.Ask i) = guarded i (length core.places) (length state.traffic) _ _ stands.degree (λ within. ask_is plan state core stands keeps i within)
   own_is (event.Done i) = guarded i (length core.places) (length state.traffic) _ _ stands.degree (λ within. done_is plan state core stands keeps i within)

@@ -1,6 +1,6 @@
 -- The events that a site may do by itself, in the fixed order: how many there are, and which is the n-th.
-use Rattle.std.proofs.Common.{◌≡◌, ◌≢◌, ℕ, zero, suc, ◌+◌, ◌-◌, ◌≤◌, ◌&&◌, nat_lt, Bool, true, false, cond, count_by, List, [], ◌∷◌, ◌++◌, length, map, slice_get, option_map, option_to_list, Option, Some, None, is_some, refl, sym, ◌∙◌, ap, arith, append_assoc, length-append}
-use Rattle.std.specs.List.{filter, find, range_with_len}
+use Rattle.std.proofs.Common.{◌≡◌, ◌≢◌, ℕ, zero, suc, ◌+◌, ◌-◌, ◌≤◌, ◌&&◌, nat_lt, not, Bool, true, false, cond, count_by, List, [], ◌∷◌, ◌++◌, length, map, slice_get, option_map, option_to_list, Option, Some, None, is_some, refl, sym, ◌∙◌, ap, arith, append_assoc, length-append}
+use Rattle.std.specs.List.{filter, find, list_all, range_with_len}
 use Rattle.std.proofs.lemmas.Bool.{lt-ltb}
 use Rattle.std.proofs.lemmas.List.{length-map}
 use Rattle.std.proofs.lemmas.List.Elements.{filter-append}
@@ -12,10 +12,11 @@ use Rattle.dine_rules.specs.declared.events.EventKind.TheVariants as event
 use Rattle.dine_rules.specs.declared.phase.Phase.{Phase}
 use Rattle.dine_rules.specs.declared.phase.Phase.TheVariants as phase
 use Rattle.dine_rules.specs.Local.{is_eating, is_hungry, is_thinking}
+use Rattle.dine_rules.specs.World.{placeless_kinds}
 use Rattle.dine_core.specs.declared.site.places.Place.{Place}
 use Rattle.dine_core.specs.Core.{SeenCore}
 use Rattle.dine_core.specs.NextEvent.{can_by_itself, may_ask_at, may_give_at, may_say_done_at, own_kinds, own_words}
-use Rattle.dine_core.specs.Places.{can_close_at, place_at}
+use Rattle.dine_core.specs.Places.{can_close_at, is_ready_at, place_at}
 use Rattle.dine_core.proofs.own_events.NextEvents.{filter-map}
 use Rattle.dine_core.proofs.own_events.MarkedEvents.{Agrees, as_it_is, marked_count, marked_nth}
 
@@ -31,16 +32,31 @@ behind_front [] ys n k is = ap (slice_get ys) (let e : n ≡ k = omega (arith, i
 behind_front (x ∷ xs) ys zero k is = absurd (omega (arith, is))
 behind_front (x ∷ xs) ys (suc n) k is = behind_front xs ys n k (omega (arith, is))
 
--- a site can do at most one of End, Begin and Hungry
-one_of_phases : (phase : Phase) (begins hungers : Bool)
-    → cond (is_eating phase) (event.End ∷ cond (is_hungry phase && begins) (event.Begin ∷ cond (is_thinking phase && hungers) (event.Hungry ∷ []) []) (cond (is_thinking phase && hungers) (event.Hungry ∷ []) []))
-    (cond (is_hungry phase && begins) (event.Begin ∷ cond (is_thinking phase && hungers) (event.Hungry ∷ []) []) (cond (is_thinking phase && hungers) (event.Hungry ∷ []) []))
-    ≡ option_to_list (cond (is_eating phase) (Some event.End) (cond (is_hungry phase && begins) (Some event.Begin) (cond (is_thinking phase && hungers) (Some event.Hungry) None)))
-one_of_phases phase.Thinking begins true = refl
-one_of_phases phase.Thinking begins false = refl
-one_of_phases phase.Hungry true hungers = refl
-one_of_phases phase.Hungry false hungers = refl
-one_of_phases phase.Eating begins hungers = refl
+-- by these tests, all that pass, and the first that passes
+abbrev all_of_four : Bool → Bool → Bool → Bool → List EventKind
+all_of_four ends begins quits hungers =
+    let hungry : List EventKind = cond hungers (event.Hungry ∷ []) [] in
+    let quit : List EventKind = cond quits (event.Quit ∷ hungry) hungry in
+    let begin : List EventKind = cond begins (event.Begin ∷ quit) quit in
+    cond ends (event.End ∷ begin) begin
+
+abbrev first_of_four : Bool → Bool → Bool → Bool → Option EventKind
+first_of_four ends begins quits hungers = cond ends (Some event.End) (cond begins (Some event.Begin) (cond quits (Some event.Quit) (cond hungers (Some event.Hungry) None)))
+
+one_alone : (hungers : Bool) → all_of_four false false false hungers ≡ option_to_list (first_of_four false false false hungers)
+one_alone true = refl
+one_alone false = refl
+
+-- a site can do at most one of End, Begin, Quit and Hungry
+one_of_phases : (phase : Phase) (begins must more stays : Bool)
+    → all_of_four (is_eating phase) (is_hungry phase && begins) (is_thinking phase && must) (is_thinking phase && more && (not must && stays))
+    ≡ option_to_list (first_of_four (is_eating phase) (is_hungry phase && begins) (is_thinking phase && must) (is_thinking phase && more && (not must && stays)))
+one_of_phases phase.Thinking begins true true stays = refl
+one_of_phases phase.Thinking begins true false stays = refl
+one_of_phases phase.Thinking begins false more stays = one_alone (more && stays)
+one_of_phases phase.Hungry true must more stays = refl
+one_of_phases phase.Hungry false must more stays = refl
+one_of_phases phase.Eating begins must more stays = refl
 
 regroup : (a b c d e : List EventKind) → a ++ b ++ c ++ d ++ e ≡ a ++ (b ++ (c ++ d ++ e))
 regroup a b c d e = simp append_assoc
@@ -51,9 +67,6 @@ module _ (core : SeenCore) where
 
   abbrev test : EventKind → Bool
   test = can_by_itself core
-
-  abbrev phases : List EventKind
-  phases = event.End ∷ event.Begin ∷ event.Hungry ∷ []
 
   -- the events of a kind at the places that pass a test
   module _ (kind : ℕ → EventKind) (at : Place → Bool) (is : (i : ℕ) → test (kind i) ≡ (nat_lt i (length core.places) && at (place_at core i))) where
@@ -85,8 +98,8 @@ module _ (core : SeenCore) where
           → slice_get (filter test (map kind places) ++ rest) n ≡ slice_get rest (n - k)
       kind_past rest n k is past = behind_front (filter test (map kind places)) rest n (n - k) (omega (arith, kind_count, is, past))
 
-  pub phase_is : filter test phases ≡ option_to_list (find test phases)
-  phase_is = one_of_phases core.phase _ _
+  pub phase_is : filter test placeless_kinds ≡ option_to_list (find test placeless_kinds)
+  phase_is = one_of_phases core.phase (list_all is_ready_at core.places) core.must_quit (nat_lt core.ate core.due) (not core.has_quit)
 
   pub words_split : filter test (own_words places) ≡ filter test (map event.Ask places) ++ (filter test (map event.Done places) ++ filter test (map event.Close places))
   words_split =
@@ -94,12 +107,12 @@ module _ (core : SeenCore) where
       ∙ ap (λ (kinds : List EventKind). kinds ++ filter test (map event.Close places)) (filter-append test (map event.Ask places) (map event.Done places))
       ∙ append_assoc (filter test (map event.Ask places)) (filter test (map event.Done places)) (filter test (map event.Close places))
 
-  pub kinds_split : filter test (own_kinds places) ≡ filter test (map event.Give places) ++ (option_to_list (find test phases) ++ filter test (own_words places))
+  pub kinds_split : filter test (own_kinds places) ≡ filter test (map event.Give places) ++ (option_to_list (find test placeless_kinds) ++ filter test (own_words places))
   kinds_split =
-      ap (filter test) (regroup (map event.Give places) phases (map event.Ask places) (map event.Done places) (map event.Close places))
-      ∙ filter-append test (map event.Give places) (phases ++ own_words places)
+      ap (filter test) (regroup (map event.Give places) placeless_kinds (map event.Ask places) (map event.Done places) (map event.Close places))
+      ∙ filter-append test (map event.Give places) (placeless_kinds ++ own_words places)
       ∙ ap (λ (kinds : List EventKind). filter test (map event.Give places) ++ kinds)
-      (filter-append test phases (own_words places) ∙ ap (λ (kinds : List EventKind). kinds ++ filter test (own_words places)) phase_is)
+      (filter-append test placeless_kinds (own_words places) ∙ ap (λ (kinds : List EventKind). kinds ++ filter test (own_words places)) phase_is)
 
   abbrev words : List EventKind
   words = filter test (own_words places)
@@ -127,30 +140,30 @@ module _ (core : SeenCore) where
             ap (option_map event.Close) here ∙ sym (kind_nth event.Close can_close_at (λ j. refl) closes are_closes (n - k - m))
             ∙ sym (past_asks ∙ kind_past event.Done (may_say_done_at core) (λ j. refl) dones are_dones (filter test (map event.Close places)) (n - k) m is_dones past_dones)
 
-  -- the n-th event: a Give, one of the phases, or a word
+  -- the n-th event: a Give, one without a place, or a word
   module _ (gives : List Bool) (are : gives ≡ marks_of (may_give_at core) core.places) (n : ℕ) where
     pub event_give : (i : ℕ) → Some i ≡ nth_position (λ is_in. is_in) n gives → Some (event.Give i) ≡ slice_get (filter test (own_kinds places)) n
     event_give i found = sym (ap (λ (kinds : List EventKind). slice_get kinds n) kinds_split
-        ∙ kind_here event.Give (may_give_at core) (λ j. refl) gives are (option_to_list (find test phases) ++ words) n i found)
+        ∙ kind_here event.Give (may_give_at core) (λ j. refl) gives are (option_to_list (find test placeless_kinds) ++ words) n i found)
 
     module _ (k : ℕ) (is : k ≡ count_by (λ is_in. is_in) gives) (past : count_by (λ is_in. is_in) gives ≤ n) where
-      past_gives : (o : Option EventKind) → o ≡ find test phases → slice_get (filter test (own_kinds places)) n ≡ slice_get (option_to_list o ++ words) (n - k)
+      past_gives : (o : Option EventKind) → o ≡ find test placeless_kinds → slice_get (filter test (own_kinds places)) n ≡ slice_get (option_to_list o ++ words) (n - k)
       past_gives o is_phase = ap (λ (kinds : List EventKind). slice_get kinds n) kinds_split
-          ∙ kind_past event.Give (may_give_at core) (λ j. refl) gives are (option_to_list (find test phases) ++ words) n k is past
+          ∙ kind_past event.Give (may_give_at core) (λ j. refl) gives are (option_to_list (find test placeless_kinds) ++ words) n k is past
           ∙ ap (λ (o : Option EventKind). slice_get (option_to_list o ++ words) (n - k)) (sym is_phase)
 
-      pub event_phase : (kind : EventKind) → Some kind ≡ find test phases → n - k ≡ 0 → Some kind ≡ slice_get (filter test (own_kinds places)) n
+      pub event_phase : (kind : EventKind) → Some kind ≡ find test placeless_kinds → n - k ≡ 0 → Some kind ≡ slice_get (filter test (own_kinds places)) n
       event_phase kind is_phase first = sym (past_gives (Some kind) is_phase ∙ ap (slice_get (kind ∷ words)) first)
 
-      pub event_behind : (kind : EventKind) → Some kind ≡ find test phases → n - k ≢ 0 → slice_get words (n - k - 1) ≡ slice_get (filter test (own_kinds places)) n
+      pub event_behind : (kind : EventKind) → Some kind ≡ find test placeless_kinds → n - k ≢ 0 → slice_get words (n - k - 1) ≡ slice_get (filter test (own_kinds places)) n
       event_behind kind is_phase behind = sym (past_gives (Some kind) is_phase ∙ ap (slice_get (kind ∷ words)) (let e : n - k ≡ suc (n - k - 1) = omega (arith, behind) in e))
 
-      pub event_word : None ≡ find test phases → slice_get words (n - k) ≡ slice_get (filter test (own_kinds places)) n
+      pub event_word : None ≡ find test placeless_kinds → slice_get words (n - k) ≡ slice_get (filter test (own_kinds places)) n
       event_word is_phase = sym (past_gives None is_phase)
 
   -- how many there are, by the marks
   pub count_is : (gives asks dones closes : List Bool) (phase : Option EventKind) → gives ≡ marks_of (may_give_at core) core.places → asks ≡ marks_of (may_ask_at core) core.places
-      → dones ≡ marks_of (may_say_done_at core) core.places → closes ≡ marks_of can_close_at core.places → phase ≡ find test phases
+      → dones ≡ marks_of (may_say_done_at core) core.places → closes ≡ marks_of can_close_at core.places → phase ≡ find test placeless_kinds
       → count_by (λ is_in. is_in) gives + cond (is_some phase) 1 0 + count_by (λ is_in. is_in) asks + count_by (λ is_in. is_in) dones + count_by (λ is_in. is_in) closes
       ≡ length (filter test (own_kinds places))
   count_is gives asks dones closes phase are_gives are_asks are_dones are_closes is_phase =

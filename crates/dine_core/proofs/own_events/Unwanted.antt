@@ -1,5 +1,5 @@
 -- A letter that is in turn, and that a core does not wait for, changes nothing of what the core may do by itself.
-use Rattle.std.proofs.Common.{◌≡◌, ℕ, zero, suc, ◌+◌, ◌-◌, ◌<◌, ◌==◌, ◌&&◌, ◌||◌, nat_lt, not, Bool, true, false, cond, List, [], ◌∷◌, length, map, replicate, set, get_or, count_by, find, is_some, Option, Some, None, refl, sym, ◌∙◌, ap, ap₂, arith, if◌then◌else◌}
+use Rattle.std.proofs.Common.{◌≡◌, ℕ, zero, suc, ◌+◌, ◌-◌, ◌<◌, ◌&&◌, ◌||◌, nat_lt, not, Bool, true, false, cond, List, [], ◌∷◌, length, map, replicate, set, get_or, count_by, find, is_some, Option, Some, None, refl, sym, ◌∙◌, ap, ap₂, arith, if◌then◌else◌}
 use Rattle.std.specs.List.{list_all, range_with_len}
 use Rattle.std.proofs.lemmas.Bool.{leb-false}
 use Rattle.std.proofs.lemmas.List.{get_or-map, get_or_append_left, length-map, length-set}
@@ -23,7 +23,7 @@ use Rattle.dine_core.specs.declared.site.places.ForkSlot.{ForkSlot}
 use Rattle.dine_core.specs.declared.site.places.ForkSlot.TheVariants.{Away, Here, InMeal}
 use Rattle.dine_core.specs.Core.{SeenCore}
 use Rattle.dine_core.specs.NextEvent.{can_by_itself, next_of, own_kinds}
-use Rattle.dine_core.specs.Places.{can_ask_at, can_close_at, can_give_at, can_say_done_at, has_token_at, is_away_at, is_dirty_at, is_dirty_in_hand, is_held, is_open_at, is_ready_at, no_place, noted, place_at, took, with_place}
+use Rattle.dine_core.specs.Places.{can_ask_at, can_close_at, can_give_at, can_say_done_at, has_nothing_due, has_token_at, is_away_at, is_dirty_at, is_dirty_in_hand, is_held, is_open_at, is_ready_at, no_place, noted, place_at, took, with_place}
 use Rattle.dine_core.specs.Wants.{TakesUnwanted, wants_of}
 use Rattle.dine_core.proofs.own_events.NextEvents.{find_same}
 
@@ -114,9 +114,10 @@ module _ (core : SeenCore) (i : ℕ) (new : Place) (alike : IsAlike core i new) 
   kinds_same (event.Give j) = at_place can_give_at alike.give (not (is_eating core.phase)) j
   kinds_same event.End = refl
   kinds_same event.Begin = ap (λ (b : Bool). is_hungry core.phase && b) alike.ready
+  kinds_same event.Quit = refl
   kinds_same event.Hungry = refl
   kinds_same (event.Ask j) = at_place can_ask_at alike.ask (is_hungry core.phase) j
-  kinds_same (event.Done j) = at_place can_say_done_at alike.done (is_thinking core.phase && core.ate == core.due) j
+  kinds_same (event.Done j) = at_place can_say_done_at alike.done (is_thinking core.phase && has_nothing_due core) j
   kinds_same (event.Close j) = at_place can_close_at alike.close true j
 
   next_same : next_of (with_place i new core) ≡ next_of core

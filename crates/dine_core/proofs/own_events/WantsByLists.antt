@@ -7,9 +7,9 @@ use Rattle.dine_token.specs.Log.{is_dirty, meals_of}
 use Rattle.dine_set.specs.Marks.{marks_of}
 use Rattle.dine_set.proofs.MarksOf.{count_by-marks_of}
 use Rattle.dine_plan.specs.Plan.{SeenPlan}
-use Rattle.dine_rules.specs.Local.{LocalState, edge_at, is_eating, neighbour_at}
+use Rattle.dine_rules.specs.Local.{LocalState, is_eating, neighbour_at}
 use Rattle.dine_rules.specs.Holdings.{fork_at, hand_at}
-use Rattle.dine_rules.specs.Steps.{fork_with}
+use Rattle.dine_rules.specs.Steps.{hand_fork_at}
 use Rattle.dine_rules.specs.Streams.{KeepsStreams}
 use Rattle.dine_core.specs.declared.site.places.Place.{Place}
 use Rattle.dine_core.specs.declared.site.places.ForkSlot.TheVariants.{Away, Here, InMeal}
@@ -47,7 +47,7 @@ module _ (plan : SeenPlan) (state : LocalState) (core : SeenCore) (keeps : Keeps
 
   pub dirty_by_lists : marks_of is_dirty_at core.places ≡ marks_of (has_dirty_fork plan core.site state) (all_places state)
   dirty_by_lists = by_numbers is_dirty_at (has_dirty_fork plan core.site state) (λ i within. ap is_dirty_at (place_is plan state core stands i within)
-      ∙ dirty_test (is_eating state.phase) (fork_at plan core.site state i == 1) (meals_of (neighbour_at plan core.site i) (hand_at core.site state i)) (fork_with plan (edge_at plan core.site i) (hand_at core.site state i)))
+      ∙ dirty_test (is_eating state.phase) (fork_at plan core.site state i == 1) (meals_of (neighbour_at plan core.site i) (hand_at core.site state i)) (hand_fork_at plan core.site state i))
 
   pub away_by_lists : count_by is_away_at core.places ≡ count_by (lacks_fork plan core.site state) (all_places state)
   away_by_lists =

@@ -1,5 +1,5 @@
 -- The fork of an edge in a world, wherever it lies, and how it is taken out.
-use Rattle.std.specs.Prelude.{◌≡◌, ℕ, ◌+◌, ◌*◌, ◌<◌, List, [], ◌∷◌, length, slice_get, slice_index_or, slice_set, Option, Some, None, option_and_then}
+use Rattle.std.specs.Prelude.{◌≡◌, ℕ, ◌+◌, ◌*◌, ◌<◌, false, List, [], ◌∷◌, length, slice_get, slice_index_or, slice_set, Option, Some, None, option_and_then}
 use Rattle.std.specs.Option.{option_or}
 use Rattle.dine_token.specs.Fork.{SeenFork}
 use Rattle.dine_token.specs.Meal.{SeenMeal}
@@ -16,7 +16,7 @@ use Rattle.dine_core.specs.WorldSites.{letters_in}
 
 -- the site that stands past the end of the sites
 abbrev pub absent_site : WorldSite
-absent_site = record { core = record { site = 0; due = 0; phase = Thinking; ate = 0; places = [] }; meal = None }
+absent_site = record { core = record { site = 0; due = 0; acts = []; resigns = false; phase = Thinking; ate = 0; must_quit = false; has_quit = false; places = [] }; meal = None; outcomes = [] }
 
 -- the site with this number
 abbrev pub site_at : List WorldSite → ℕ → WorldSite
@@ -84,18 +84,19 @@ pub record AreForksOf (sites : List WorldSite) (links : List (List Letter)) (edg
   pub count : length forks ≡ length edges
   pub each : (e : ℕ) → e < length edges → slice_get forks e ≡ fork_of_edge sites links (edge_ends edges e) e
 
--- the core after the end of this meal, where there is one
+-- the core after the end of this meal, where there is one; nothing is asked of it but the forks, so it is as if the
+-- meal did not fail
 abbrev pub meal_ended_by : Option SeenMeal → SeenCore → SeenCore
 meal_ended_by None core = core
-meal_ended_by (Some meal) core = ended meal.forks core
+meal_ended_by (Some meal) core = ended false meal.forks core
 
 -- the site after the end of its meal, where it eats
 abbrev pub meal_ended : WorldSite → WorldSite
-meal_ended world_site = record { core = meal_ended_by world_site.meal world_site.core; meal = None }
+meal_ended world_site = record world_site { core = meal_ended_by world_site.meal world_site.core; meal = None }
 
 -- the sites, where place i of one has given its fork away
 abbrev pub emptied_at : ℕ → ℕ → List WorldSite → List WorldSite
-emptied_at s i sites = slice_set sites s (record { core = gave i (site_at sites s).core; meal = (site_at sites s).meal })
+emptied_at s i sites = let world_site = site_at sites s in slice_set sites s (record world_site { core = gave i world_site.core })
 
 -- the links, where one has lost its first fork and what lay before it
 abbrev pub without_fork : ℕ → List (List Letter) → List (List Letter)

@@ -8,7 +8,17 @@ use Rattle.dine_core.specs.Places.{IsSound}
 
 -- the core that the fields of a `SiteCore` stand for
 abbrev pub seen : Inside → SeenCore
-seen core = record { site = core.site; due = core.due; phase = core.phase; ate = core.ate; places = core.places }
+seen core = record {
+  site = core.site;
+  due = core.due;
+  acts = core.acts.items;
+  resigns = core.resigns;
+  phase = core.phase;
+  ate = core.ate;
+  must_quit = core.must_quit;
+  has_quit = core.has_quit;
+  places = core.places;
+}
 
 -- there is room for all forks and tokens that a site with so many places may hold
 pub record HasRoom (degree : ℕ) (parts : Parts) : Type 0 where

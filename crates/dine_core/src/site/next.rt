@@ -1,6 +1,7 @@
 // The next event of a site that needs no letter.
-ghost use Rattle.std.specs.Prelude.{◌≡◌, ◌≤◌, ◌∷◌, [], filter, find, length, slice_get};
+ghost use Rattle.std.specs.Prelude.{◌≡◌, ◌≤◌, filter, find, length, slice_get};
 ghost use Rattle.std.specs.List.{range_with_len};
+ghost use Rattle.dine_rules.specs.World.{placeless_kinds};
 ghost use Rattle.dine_core.specs.NextEvent.{can_by_itself, may_ask_at, may_give_at, may_say_done_at, next_event, next_of, next_word_of, own_kinds, own_words};
 ghost use Rattle.dine_set.specs.Marks.{marks_of};
 ghost use Rattle.dine_core.specs.Places.{can_ask, can_close, can_give, can_say_done};
@@ -11,8 +12,8 @@ use dine_rules::{EventKind, Phase};
 use dine_set::BitSet64;
 
 impl SiteCore {
-    /// The first event other than Take that the site may do now, in the fixed order: Give by place, End, Begin, Hungry, Ask by
-    /// place, Done by place, Close by place. None where it may do none of these until a letter comes.
+    /// The first event other than Take that the site may do now, in the fixed order: Give by place, End, Begin, Quit,
+    /// Hungry, Ask by place, Done by place, Close by place. None where it may do none of these until a letter comes.
     pub fn next_event(&self) -> Option<EventKind>
         ensures next { result ≡ next_of self.now }
         ensures by_lists { ForEachState self.now (λ plan state. result ≡ next_event plan self.now.site state) }
@@ -26,15 +27,18 @@ impl SiteCore {
         self.next_announcement()
     }
 
-    // The first of End, Begin and Hungry that the site may do.
+    // The first event without a place that the site may do.
     fn next_phase(&self) -> Option<EventKind>
-        ensures { result ≡ find (can_by_itself self.now) (EventKind.End ∷ EventKind.Begin ∷ EventKind.Hungry ∷ []) }
+        ensures { result ≡ find (can_by_itself self.now) placeless_kinds }
     {
         if self.may_end() {
             return Some(EventKind::End);
         }
         if self.may_begin() {
             return Some(EventKind::Begin);
+        }
+        if self.may_quit() {
+            return Some(EventKind::Quit);
         }
         if self.may_hungry() {
             return Some(EventKind::Hungry);
@@ -111,7 +115,7 @@ impl SiteCore {
         ensures { result ≡ marks_of (may_say_done_at self.now) self.now.places }
     {
         let dones = self.places.dones();
-        if self.phase != Phase::Thinking || self.ate != self.due {
+        if self.phase != Phase::Thinking || !self.has_nothing_due() {
             return BitSet64::empty();
         }
         dones

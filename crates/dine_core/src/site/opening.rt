@@ -1,6 +1,6 @@
 // The places of a site before its first step.
 ghost use Rattle.std.specs.Prelude.{◌≡◌, ℕ, ◌<◌, ◌∷◌, List, IfOk, map};
-ghost use Rattle.dine_plan.specs.Plan.{site_count, edge_count, edges_of};
+ghost use Rattle.dine_plan.specs.Plan.{acts_of, site_count, edge_count, edges_of};
 ghost use Rattle.dine_core.specs.Core.{fresh_forks, fresh_tokens, kept_of};
 ghost use Rattle.dine_rules.specs.Local.{no_traffic};
 ghost use Rattle.dine_rules.specs.declared.phase.Phase.TheVariants.{Thinking};
@@ -8,7 +8,7 @@ ghost use Rattle.dine_rules.specs.declared.phase.Phase.TheVariants.{Thinking};
 use super::marked::MarkedPlaces;
 use super::places::Place;
 use dine_plan::Plan;
-use dine_token::{Fork, Token};
+use dine_token::{Act, Fork, Token};
 use std::alloc::{AllocError, Global};
 use std::collections::VecDeque;
 
@@ -30,6 +30,7 @@ pub fn fresh_forks(alloc: Global, plan: &Plan, site: u32) -> Result<Vec<Fork>, A
                 higher,
                 plan.jobs(lower),
                 plan.jobs(higher),
+                plan.value(*edge),
             )?;
             forks.push(fork)?;
         }
@@ -51,6 +52,19 @@ pub fn fresh_tokens(alloc: Global, plan: &Plan, site: u32) -> Result<Vec<Token>,
         }
     }
     Ok(tokens)
+}
+
+/// What each meal of the site does to the values of its forks, in order.
+pub(crate) fn acts_of(alloc: Global, plan: &Plan, site: u32) -> Result<Vec<Act>, AllocError>
+    requires { site < site_count plan.now }
+    ensures { IfOk result (λ acts. acts.items ≡ acts_of plan.now site) }
+{
+    let jobs = plan.jobs(site);
+    let mut acts = Vec::with_capacity(alloc, jobs as usize)?;
+    for done in 0..jobs {
+        acts.push_reserved(plan.job(site, done + 1).act);
+    }
+    Ok(acts)
 }
 
 /// The places of the site, with its forks and tokens.
@@ -101,5 +115,7 @@ fn next_place(
     } else {
         None
     };
-    Place::new(edge, (lower, higher), due, fork, token)
+    let neighbour = if lower == site { higher } else { lower };
+    let neighbour_resigns = plan.resigns(neighbour);
+    Place::new(edge, (lower, higher), due, neighbour_resigns, fork, token)
 }

@@ -1,4 +1,5 @@
-ghost use Rattle.std.specs.Prelude.{◌≡◌, ◌⊎◌, ℕ, ◌+◌, ◌<◌, ◌++◌, ◌==◌, not, true, Some, None, is_some, option_to_list, vec_len, vec_capacity};
+//! What a site keeps at each of its places, and what it may do there.
+ghost use Rattle.std.specs.Prelude.{◌≡◌, ◌⊎◌, ℕ, ◌+◌, ◌<◌, ◌++◌, ◌==◌, ◌||◌, not, true, Some, None, is_some, option_to_list, vec_len, vec_capacity};
 ghost use Rattle.dine_token.specs.Fork.{SeenFork, IsEnd, IsFork, MayMove, moved};
 ghost use Rattle.dine_rules.specs.Steps.{Take};
 ghost use Rattle.dine_rules.specs.Streams.{IsProper};
@@ -19,13 +20,14 @@ pub(crate) enum ForkSlot {
     InMeal(u32),
 }
 
-/// What a site keeps at a place: the edge with its ends, the lower first, and their due meals; its fork and its token; and
-/// which of the last letters were put and taken.
+/// What a site keeps at a place: the edge with its ends, the lower first, and their due meals; whether the other end
+/// resigns; its fork and its token; and which of the last letters were put and taken.
 #[derive(Drop)]
 pub(crate) struct Place {
     pub(crate) edge: u32,
     pub(crate) ends: (u32, u32),
     pub(crate) due: (u32, u32),
+    pub(crate) neighbour_resigns: bool,
     pub(crate) fork: ForkSlot,
     pub(crate) token: Option<Token>,
     pub(crate) done_put: bool,
@@ -153,12 +155,18 @@ impl Place {
             || fork.is_dirty()
             || fork.at() != site
             || fork.meals_of(site) != ate
-            || (self.done_taken
-                && fork.meals_of(self.neighbour(site)) != self.due_of_neighbour(site))
+            || (self.done_taken && !self.has_all_due(site, fork.meals_of(self.neighbour(site))))
         {
             return Some(Breach::StrangeFork);
         }
         None
+    }
+
+    // Whether so many are all meals of the other end, or it resigns, and may say Done without them.
+    fn has_all_due(&self, site: u32, meals: u32) -> bool
+        ensures { result ≡ (self.now.neighbour_resigns || meals == due_of_neighbour site self.now) }
+    {
+        self.neighbour_resigns || meals == self.due_of_neighbour(site)
     }
 
     // Whether the fork is that of the edge, with its ends and their due meals.
@@ -180,8 +188,7 @@ impl Place {
         requires ends { EndsOf self.now.fork (neighbour_of site self.now) }
         ensures { result ≡ breach_of_done site self.now }
     {
-        let is_short = self.fork.is_held()
-            && self.neighbour_meals(site) != self.due_of_neighbour(site);
+        let is_short = self.fork.is_held() && !self.has_all_due(site, self.neighbour_meals(site));
         if self.done_taken || is_short {
             return Some(Breach::DoneOutOfTurn);
         }
@@ -215,10 +222,11 @@ impl Place {
         edge: u32,
         ends: (u32, u32),
         due: (u32, u32),
+        neighbour_resigns: bool,
         fork: Option<Fork>,
         token: Option<Token>,
     ) -> Place
-        ensures { result ≡ opened edge ends due fork token }
+        ensures { result ≡ opened edge ends due neighbour_resigns fork token }
     {
         let fork = match fork {
             Some(fork) => ForkSlot::Here(fork),
@@ -228,6 +236,7 @@ impl Place {
             edge,
             ends,
             due,
+            neighbour_resigns,
             fork,
             token,
             done_put: false,

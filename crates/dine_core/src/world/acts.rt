@@ -1,5 +1,5 @@
 // What a site of the world may do, and does.
-ghost use Rattle.std.specs.Prelude.{◌≡◌, ℕ, ◌<◌, ◌+◌, ◌-◌, IfSome, List, MatchOption, None, Some, count_by, length, position, is_some, option_and_then, option_map, slice_get, false, true};
+ghost use Rattle.std.specs.Prelude.{◌≡◌, ℕ, ◌<◌, ◌+◌, ◌-◌, Bool, IfSome, List, MatchOption, None, Some, count_by, length, position, is_some, option_and_then, option_map, slice_get, false, true};
 ghost use Rattle.std.specs.Option.{option_or};
 ghost use Rattle.dine_rules.specs.declared.letters.Letter.{Letter};
 ghost use Rattle.dine_rules.specs.Local.{is_eating};
@@ -12,7 +12,7 @@ ghost use Rattle.dine_set.specs.Marks.{nth_position};
 ghost use Rattle.dine_rules.specs.Steps.{Begin, End, Puts, Step, Take, after, shape_of, step_by};
 ghost use Rattle.dine_core.specs.Core.{forks_in_hand};
 ghost use Rattle.dine_core.specs.Places.{begun, can_begin, ended, place_at, took};
-ghost use Rattle.dine_core.specs.WorldSites.{SiteSteps, HasOwnMeal, HasRoomAt, HasRoomFor, IsNotEating, TakesAllowed, can_do, meets_no_breach, next_in, without_next};
+ghost use Rattle.dine_core.specs.WorldSites.{SiteSteps, HasOwnMeal, HasRoomAt, HasRoomFor, IsNotEating, TakesAllowed, can_do, has_failed, meets_no_breach, next_in, without_next};
 ghost use Rattle.dine_core.specs.Standing.{ForEachState, CorePuts, CoreStep, CoreSteps, all_places};
 
 use super::queue::Queue;
@@ -35,6 +35,7 @@ pub(crate) fn act(world_site: &mut WorldSite, links: &mut [Queue], kind: EventKi
         EventKind::Take(i) => take(world_site, links, i),
         EventKind::End => end(world_site),
         EventKind::Begin => begin(world_site),
+        EventKind::Quit => world_site.core.quit(),
         EventKind::Hungry => world_site.core.hungry(),
         EventKind::Give(i) | EventKind::Ask(i) | EventKind::Done(i) | EventKind::Close(i) => {
             put(world_site, links, kind, i)
@@ -60,16 +61,18 @@ fn letter_of(core: &mut SiteCore, kind: EventKind) -> Letter
     requires puts { (i : ℕ) × (shape_of kind ≡ Puts i) }
     requires can { (links : List (List Letter)) → can_do links core.old kind ≡ true }
     ensures site { core.new.site ≡ core.old.site }
-    ensures step { (i : ℕ) (one : Step) → shape_of kind ≡ Puts i → step_by (λ place. None) kind ≡ Some one → CorePuts i one core.old core.new result }
+    ensures step { (failed : Bool) (i : ℕ) (one : Step) → shape_of kind ≡ Puts i → step_by failed (λ place. None) kind ≡ Some one → CorePuts i one core.old core.new result }
 {
     match kind {
         EventKind::Give(i) => core.give(i),
         EventKind::Ask(i) => core.ask(i),
         EventKind::Done(i) => core.done(i),
         EventKind::Close(i) => core.close(i),
-        EventKind::Take(_) | EventKind::End | EventKind::Begin | EventKind::Hungry => {
-            unreachable!()
-        }
+        EventKind::Take(_)
+        | EventKind::End
+        | EventKind::Begin
+        | EventKind::Quit
+        | EventKind::Hungry => { unreachable!() }
     }
 }
 
@@ -78,6 +81,7 @@ fn take(world_site: &mut WorldSite, links: &mut [Queue], i: u32)
     requires within { i < length world_site.old.core.places }
     requires allowed { meets_no_breach world_site.old.core i (next_in links.old world_site.old.core i) ≡ true }
     ensures meal { world_site.new.meal ≡ world_site.old.meal }
+    ensures outcomes { world_site.new.outcomes ≡ world_site.old.outcomes }
     ensures links { links.new ≡ without_next links.old (link_to world_site.old.core.site (place_at world_site.old.core i)) }
     ensures core { MatchOption (next_in links.old world_site.old.core i) ⊥ (λ letter. (world_site.new.core ≡ took i letter world_site.old.core) × CoreSteps (Take i letter) world_site.old.core world_site.new.core) }
 {
@@ -92,6 +96,7 @@ fn take(world_site: &mut WorldSite, links: &mut [Queue], i: u32)
 fn begin(world_site: &mut WorldSite)
     requires can { can_begin world_site.old.core ≡ true }
     requires none { world_site.old.meal ≡ None }
+    ensures outcomes { world_site.new.outcomes ≡ world_site.old.outcomes }
     ensures core { world_site.new.core ≡ begun world_site.old.core }
     ensures step { CoreSteps Begin world_site.old.core world_site.new.core }
     ensures meal { MatchOption world_site.new.meal ⊥ (λ meal. (meal.site ≡ world_site.old.core.site) × (meal.k ≡ world_site.old.core.ate + 1)
@@ -110,7 +115,7 @@ pub(crate) fn wake(world_site: &mut WorldSite)
     ensures not_eating { IsNotEating world_site.new }
 {
     match world_site.meal.take() {
-        Some(meal) => world_site.core.end(meal),
+        Some(meal) => world_site.core.end(meal, false), // Its forks alone are wanted.
         None => {}
     }
 }
@@ -120,12 +125,15 @@ fn end(world_site: &mut WorldSite)
     requires eating { is_eating world_site.old.core.phase ≡ true }
     requires meal { HasOwnMeal world_site.old }
     ensures none { world_site.new.meal ≡ None }
-    ensures core { IfSome world_site.old.meal (λ meal. world_site.new.core ≡ ended meal.forks world_site.old.core) }
-    ensures step { IfSome world_site.old.meal (λ meal. ForEachState world_site.old.core (λ plan state. meal.forks ≡ forks_in_hand plan world_site.old.core.site state (all_places state)
-        → CoreStep plan state End world_site.old.core world_site.new.core)) }
+    ensures outcomes { world_site.new.outcomes ≡ world_site.old.outcomes }
+    ensures core { let failed = has_failed world_site.old.outcomes world_site.old.core.ate in IfSome world_site.old.meal (λ meal. world_site.new.core ≡ ended failed meal.forks world_site.old.core) }
+    ensures step { let failed = has_failed world_site.old.outcomes world_site.old.core.ate in
+        IfSome world_site.old.meal (λ meal. ForEachState world_site.old.core (λ plan state. meal.forks ≡ forks_in_hand plan world_site.old.core.site state (all_places state)
+        → CoreStep plan state (End failed) world_site.old.core world_site.new.core)) }
 {
+    let failed = world_site.outcomes.has_failed(world_site.core.ate());
     match world_site.meal.take() {
-        Some(meal) => world_site.core.end(meal),
+        Some(meal) => world_site.core.end(meal, failed),
         None => unreachable!(),
     }
 }
@@ -141,7 +149,11 @@ pub(crate) fn with_receiver(sites: BitSet64, core: &SiteCore, kind: EventKind) -
             more.insert(core.neighbour(i));
             more
         }
-        EventKind::Take(_) | EventKind::End | EventKind::Begin | EventKind::Hungry => sites,
+        EventKind::Take(_)
+        | EventKind::End
+        | EventKind::Begin
+        | EventKind::Quit
+        | EventKind::Hungry => sites,
     }
 }
 
@@ -175,6 +187,7 @@ pub(crate) fn can_do(links: &[Queue], core: &SiteCore, kind: EventKind) -> bool
         EventKind::Give(i) => i < core.degree() && core.may_give(i),
         EventKind::End => core.may_end(),
         EventKind::Begin => core.may_begin(),
+        EventKind::Quit => core.may_quit(),
         EventKind::Hungry => core.may_hungry(),
         EventKind::Ask(i) => i < core.degree() && core.may_ask(i),
         EventKind::Done(i) => i < core.degree() && core.may_done(i),

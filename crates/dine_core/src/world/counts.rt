@@ -37,7 +37,7 @@ impl World {
     pub(crate) fn count_of(&self, site: u32) -> u32
         requires { site < length self.now.sites }
         ensures count { ForEachWorld self.now (λ plan world. result ≡ length (filter (is_enabled plan world) (events_at plan site))) }
-        ensures few { result ≤ 2563 }
+        ensures few { result ≤ 2564 }
     {
         if self.outdated_counts.has(site) {
             self.count_at(site)
@@ -50,7 +50,7 @@ impl World {
     fn count_at(&self, site: u32) -> u32
         requires { site < length self.now.sites }
         ensures kinds { result ≡ length (kinds_now_at self.now site) }
-        ensures few { result ≤ 2563 }
+        ensures few { result ≤ 2564 }
     {
         let nonempty_inboxes = self.nonempty_inboxes[site as usize];
         let world_site = &self.sites[site as usize];

@@ -20,7 +20,7 @@ pub(super) fn changed_link(core: &SiteCore, kind: EventKind) -> Option<usize>
         EventKind::Give(i) | EventKind::Ask(i) | EventKind::Done(i) | EventKind::Close(i) => {
             Some(core.link_from(i))
         }
-        EventKind::End | EventKind::Begin | EventKind::Hungry => None,
+        EventKind::End | EventKind::Begin | EventKind::Quit | EventKind::Hungry => None,
     }
 }
 

@@ -1,15 +1,17 @@
 // The parts of a world before its first event.
-ghost use Rattle.std.specs.Prelude.{◌≡◌, ◌<◌, ◌≤◌, ◌+◌, ◌*◌, List, [], All, IfOk, false, map, length, replicate, sum};
+ghost use Rattle.std.specs.Prelude.{◌≡◌, ◌<◌, ◌≤◌, ◌+◌, ◌*◌, Bool, List, [], All, IfOk, Vec, false, map, length, option_and_then, replicate, slice_get, sum};
 ghost use Rattle.std.specs.List.{range_with_len};
-ghost use Rattle.dine_plan.specs.Plan.{edge_count, edges_of, job_count, site_count};
+ghost use Rattle.dine_plan.specs.Plan.{edge_count, edges_of, job_count, job_of, site_count};
 ghost use Rattle.dine_rules.specs.Bound.{bound_of, meals_due};
 ghost use Rattle.dine_rules.specs.declared.letters.Letter.{Letter};
 ghost use Rattle.dine_rules.specs.Local.{start_of};
-ghost use Rattle.dine_core.specs.WorldSites.{IsNotEating, IsSiteOf};
+ghost use Rattle.dine_core.specs.WorldSites.{IsNotEating, IsSiteOf, outcomes_of};
 ghost use Rattle.dine_rules.specs.World.{start};
-ghost use Rattle.dine_core.specs.Worlds.{SitesStand, ends_seen};
+ghost use Rattle.dine_core.specs.Worlds.{SitesStand, ends_seen, lists_of};
+ghost use Rattle.dine_rules.specs.Outcomes.{with_outcomes};
 
 use super::EdgeEnds;
+use super::outcomes::Outcomes;
 use super::queue::Queue;
 use super::sites::WorldSite;
 use crate::site::{SiteCore, fresh_forks, fresh_tokens};
@@ -61,13 +63,18 @@ pub(super) fn no_counts(alloc: Global, plan: &Plan) -> Result<Vec<u32>, AllocErr
     vec![in alloc; 0u32; plan.sites() as usize]
 }
 
-/// All sites, each with the forks and tokens that it has at the start.
-pub(super) fn sites_of(alloc: Global, plan: &Plan) -> Result<Vec<WorldSite>, AllocError>
-    ensures { IfOk result (λ sites. SitesStand plan.now (start plan.now) sites.items) }
+/// All sites, each with the forks and tokens that it has at the start. Their meals fail as the lists say, one for each
+/// site, and where these say nothing as their jobs do.
+pub(super) fn sites_of(
+    alloc: Global,
+    plan: &Plan,
+    fails: &[Vec<bool>],
+) -> Result<Vec<WorldSite>, AllocError>
+    ensures { let other = with_outcomes plan.now (lists_of fails.now) in IfOk result (λ sites. SitesStand other (start other) sites.items) }
 {
     let mut sites = Vec::with_capacity(alloc, plan.sites() as usize)?;
     for site in 0..plan.sites() {
-        match site_of(alloc, plan, site) {
+        match site_of(alloc, plan, site, fails) {
             Ok(world_site) => sites.push_reserved(world_site),
             Err(error) => {
                 spend(sites);
@@ -79,16 +86,64 @@ pub(super) fn sites_of(alloc: Global, plan: &Plan) -> Result<Vec<WorldSite>, All
 }
 
 // A site, before its first step.
-fn site_of(alloc: Global, plan: &Plan, site: u32) -> Result<WorldSite, AllocError>
+fn site_of(
+    alloc: Global,
+    plan: &Plan,
+    site: u32,
+    fails: &[Vec<bool>],
+) -> Result<WorldSite, AllocError>
     requires { site < site_count plan.now }
     ensures site { IfOk result (λ world_site. world_site.core.site ≡ site) }
-    ensures start { IfOk result (IsSiteOf plan.now (start_of plan.now site)) }
+    ensures start { let other = with_outcomes plan.now (lists_of fails.now) in IfOk result (IsSiteOf other (start_of other site)) }
     ensures not_eating { IfOk result IsNotEating }
 {
     let forks = fresh_forks(alloc, plan, site)?;
     let tokens = fresh_tokens(alloc, plan, site)?;
+    let outcomes = outcomes_of(alloc, plan, site, fails)?;
     let core = SiteCore::open(alloc, plan, site, forks, tokens)?;
-    Ok(WorldSite { core, meal: None })
+    Ok(WorldSite {
+        core,
+        meal: None,
+        outcomes,
+    })
+}
+
+// How the meals of a site turn out.
+fn outcomes_of(
+    alloc: Global,
+    plan: &Plan,
+    site: u32,
+    fails: &[Vec<bool>],
+) -> Result<Outcomes, AllocError>
+    requires { site < site_count plan.now }
+    ensures { IfOk result (λ outcomes. outcomes ≡ outcomes_of (with_outcomes plan.now (lists_of fails.now)) site) }
+{
+    let jobs = plan.jobs(site);
+    let mut outcomes = Vec::with_capacity(alloc, jobs as usize)?;
+    for done in 0..jobs {
+        outcomes.push_reserved(has_failed(plan, site, done + 1, fails));
+    }
+    Ok(Outcomes::new(outcomes))
+}
+
+// Whether meal `k` of the site fails.
+fn has_failed(plan: &Plan, site: u32, k: u32, fails: &[Vec<bool>]) -> bool
+    requires site_in { site < site_count plan.now }
+    requires from_one { 1 ≤ k }
+    requires job_in { k ≤ job_count plan.now site }
+    ensures { result ≡ (job_of (with_outcomes plan.now (lists_of fails.now)) site k).fails }
+{
+    match given(fails, site, k - 1) {
+        Some(failed) => failed,
+        None => plan.job(site, k).fails,
+    }
+}
+
+// What the lists say of the meal of the site that has `before` others before it. None where they say nothing.
+fn given(fails: &[Vec<bool>], site: u32, before: u32) -> Option<bool>
+    ensures { result ≡ option_and_then (λ (own : Vec Bool Global). slice_get own.items before) (slice_get fails.now site) }
+{
+    fails.get(site as usize)?.get(before as usize).copied()
 }
 
 /// Lets the sites go, with all that they hold. None of them eats.
@@ -97,7 +152,11 @@ pub(super) fn spend(sites: Vec<WorldSite>)
 {
     let mut sites = sites;
     while !sites.is_empty() {
-        let WorldSite { core, meal } = sites.take_last();
+        let WorldSite {
+            core,
+            meal,
+            outcomes: _,
+        } = sites.take_last();
         if let Some(_) = meal {
             unreachable!();
         }

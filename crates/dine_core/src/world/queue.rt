@@ -1,8 +1,9 @@
 // A link of the world.
-ghost use Rattle.std.specs.Prelude.{◌≡◌, ◌<◌, ◌++◌, ◌∷◌, [], IfOk, drop, length, slice_get, option_map};
+ghost use Rattle.std.specs.Prelude.{◌≡◌, ◌<◌, ◌++◌, ◌∷◌, [], IfOk, drop, length, nat_lt, slice_get, option_map};
+ghost use Rattle.dine_rules.specs.Letters.{forks_in, kind_of, requests_in};
 ghost use Rattle.dine_core.specs.private.Forks.{behind_fork, first_fork};
 
-use dine_rules::Letter;
+use dine_rules::{Kind4, Letter};
 use dine_token::Fork;
 use std::alloc::{AllocError, Global};
 use std::collections::VecDeque;
@@ -45,6 +46,24 @@ impl Queue {
         self.letters.front()
     }
 
+    /// How many letters there are.
+    pub(crate) fn len(&self) -> u32
+        requires { length self.now < 5 }
+        ensures { result ≡ length self.now }
+    {
+        self.letters.len() as u32
+    }
+
+    /// The kind of the `n`-th letter, from 0.
+    pub(crate) fn kind(&self, n: u32) -> Option<Kind4>
+        ensures { result ≡ option_map kind_of (slice_get self.now n) }
+    {
+        match self.letters.get(n as usize) {
+            Some(letter) => Some(letter.kind()),
+            None => None,
+        }
+    }
+
     /// Puts a letter behind the others.
     pub(crate) fn put(&mut self, letter: Letter)
         requires { length self.old < 4 }
@@ -71,6 +90,30 @@ impl Queue {
             }
         }
         None
+    }
+
+    /// Whether a fork lies among the letters.
+    pub(crate) fn has_fork(&self) -> bool
+        ensures { result ≡ nat_lt 0 (forks_in self.now) }
+    {
+        for letter in self.letters.iter() {
+            if let Letter::Fork(_) = letter {
+                return true;
+            }
+        }
+        false
+    }
+
+    /// Whether a request lies among the letters.
+    pub(crate) fn has_request(&self) -> bool
+        ensures { result ≡ nat_lt 0 (requests_in self.now) }
+    {
+        for letter in self.letters.iter() {
+            if let Letter::Request(_) = letter {
+                return true;
+            }
+        }
+        false
     }
 
     /// Takes letters until the first fork comes, and hands that out.

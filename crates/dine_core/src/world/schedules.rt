@@ -26,8 +26,8 @@ impl World {
         events
     }
 
-    /// Does the first enabled event until none is enabled: then every site ate all its meals, and every link is closed in
-    /// order and wholly taken. It answers how many events took effect.
+    /// Does the first enabled event until none is enabled: then every site ate all its meals or has quit, and every
+    /// link is closed in order and wholly taken. It answers how many events took effect.
     pub fn finish(&mut self) -> u64
         ensures complete { ForEachWorld self.new (λ plan world. IsComplete plan world) }
         ensures run { ForEachWorld self.old (λ plan world. RunsTo plan (finish_within (bound_of plan) plan (from_here world)) result self.new) }

@@ -1,14 +1,16 @@
 // One site of the world.
 ghost use Rattle.std.specs.Prelude.{◌≡◌, ◌<◌, length, option_map};
 
+use super::outcomes::Outcomes;
 use crate::site::SiteCore;
 use crate::site::places::ForkSlot;
 use dine_token::{Fork, Meal};
 
-/// A site, and its meal while it eats.
+/// A site, its meal while it eats, and how its meals turn out.
 pub(crate) struct WorldSite {
     pub(crate) core: SiteCore,
     pub(crate) meal: Option<Meal>,
+    pub(crate) outcomes: Outcomes,
 }
 
 impl WorldSite {

@@ -4,6 +4,7 @@ use super::graph::Graph;
 use super::letters::{
     Letter, count_of, has, is_dirty, last_log, location_of, meals_of, period_behind,
 };
+use dine_core::{Said, Whereabouts};
 use dine_rules::{Event, EventKind, Kind4, Phase};
 use dine_token::{Entry, Period};
 use std::alloc::Global;
@@ -20,6 +21,7 @@ struct Traffic {
 struct Site {
     phase: Phase,
     ate: u32,
+    has_quit: bool,
     traffic: Vec<Traffic>,
 }
 
@@ -43,6 +45,7 @@ pub(super) fn events_at(rt: &impl Abort, alloc: Global, site: u32, places: u32) 
     }
     push_event(rt, &mut events, site, EventKind::End);
     push_event(rt, &mut events, site, EventKind::Begin);
+    push_event(rt, &mut events, site, EventKind::Quit);
     push_event(rt, &mut events, site, EventKind::Hungry);
     for i in 0..places {
         push_event(rt, &mut events, site, EventKind::Ask(i));
@@ -74,6 +77,7 @@ impl<'a, R: Abort> Model<'a, R> {
             let opened = Site {
                 phase,
                 ate: 0,
+                has_quit: false,
                 traffic,
             };
             sites.push(opened).expect(rt, "memory");
@@ -119,8 +123,12 @@ impl<'a, R: Abort> Model<'a, R> {
             EventKind::Give(i) => self.may_give(site, i),
             EventKind::End => self.phase(site) == Phase::Eating,
             EventKind::Begin => self.may_begin(site),
+            EventKind::Quit => self.may_quit(site),
             EventKind::Hungry => {
-                self.phase(site) == Phase::Thinking && self.ate(site) < self.graph.due_of(site)
+                self.phase(site) == Phase::Thinking
+                    && self.ate(site) < self.graph.due_of(site)
+                    && !self.site(site).has_quit
+                    && !self.may_quit(site)
             }
             EventKind::Ask(i) => self.may_ask(site, i),
             EventKind::Done(i) => self.may_say_done(site, i),
@@ -143,6 +151,7 @@ impl<'a, R: Abort> Model<'a, R> {
                 eater.phase = Phase::Eating;
                 eater.ate = eater.ate.saturating_add(1);
             }
+            EventKind::Quit => self.site_mut(site).has_quit = true,
             EventKind::Hungry => self.site_mut(site).phase = Phase::Hungry,
             EventKind::Ask(i) => self.put(site, i, Letter::Request),
             EventKind::Done(i) => self.put(site, i, Letter::Done),
@@ -177,6 +186,9 @@ impl<'a, R: Abort> Model<'a, R> {
         let mut effects = 0u64;
         for site in &self.sites {
             effects = effects.wrapping_add(3 * u64::from(site.ate));
+            if site.has_quit {
+                effects = effects.wrapping_add(1);
+            }
             if site.phase == Phase::Hungry {
                 effects = effects.wrapping_add(1);
             }
@@ -233,10 +245,45 @@ impl<'a, R: Abort> Model<'a, R> {
         kinds
     }
 
-    /// Every site thinks and ate all its meals, and all links are closed and wholly taken.
+    /// Where the one fork of the edge is, or its one token, which is a Request in a link. None where there is not one.
+    pub(super) fn where_is(&self, edge: u32, kind: Kind4) -> Option<Whereabouts> {
+        let (lower, higher) = self.graph.ends(edge);
+        let mut found = None;
+        let mut count = 0u32;
+        for site in [lower, higher] {
+            let place = self.graph.place_of(site, edge);
+            let held = match kind {
+                Kind4::Fork => self.forks_held(site, place),
+                _ => self.tokens_held(site, place),
+            };
+            if held != 0 {
+                found = Some(Whereabouts::At(site));
+                count = count.saturating_add(held);
+            }
+            if self.kinds_in_link(site, place).contains(&kind) {
+                found = Some(Whereabouts::To(site));
+                count = count.saturating_add(1);
+            }
+        }
+        if count == 1 { found } else { None }
+    }
+
+    /// Which of Done and Close the site has put and taken at the place.
+    pub(super) fn said(&self, site: u32, place: u32) -> Said {
+        let traffic = self.traffic(site, place);
+        let (put, taken) = (traffic.put.as_slice(), traffic.taken.as_slice());
+        Said {
+            done_put: has(Kind4::Done, put),
+            done_taken: has(Kind4::Done, taken),
+            close_put: has(Kind4::Close, put),
+            close_taken: has(Kind4::Close, taken),
+        }
+    }
+
+    /// Every site thinks, and ate all its meals or has quit, and all links are closed and wholly taken.
     pub(super) fn is_complete(&self) -> bool {
         for site in 0..self.graph.sites() {
-            if self.phase(site) != Phase::Thinking || self.ate(site) != self.graph.due_of(site) {
+            if self.phase(site) != Phase::Thinking || !self.has_no_job_left(site) {
                 return false;
             }
             for place in 0..self.graph.degree(site) {
@@ -382,6 +429,7 @@ impl<'a, R: Abort> Model<'a, R> {
         let hand = self.hand(site, place);
         let meals = self.meals_of_neighbour(site, place, hand.as_slice());
         let due = self.graph.due_of(self.neighbour_at(site, place));
+        let resigns = self.graph.resigns(self.neighbour_at(site, place));
         match letter {
             Letter::Request => token == 0 && fork == 1 && !done_taken && meals < due,
             Letter::Fork(log) => {
@@ -391,9 +439,9 @@ impl<'a, R: Abort> Model<'a, R> {
                     && token == 0
                     && self.was_sent_to(site, place, log)
                     && meals_of(site, log) == self.ate(site)
-                    && (!done_taken || meals == due)
+                    && (!done_taken || resigns || meals == due)
             }
-            Letter::Done => !done_taken && (fork != 1 || meals == due),
+            Letter::Done => !done_taken && (fork != 1 || resigns || meals == due),
             Letter::Close => done_taken && has(Kind4::Done, traffic.put.as_slice()),
         }
     }
@@ -414,6 +462,20 @@ impl<'a, R: Abort> Model<'a, R> {
             && self.tokens_held(site, place) == 1
             && is_dirty(self.hand(site, place).as_slice())
             && self.is_open(site, place)
+    }
+
+    // Whether the site has to quit: its last meal failed, and it resigns and has some left.
+    fn may_quit(&self, site: u32) -> bool {
+        let ate = self.ate(site);
+        self.phase(site) == Phase::Thinking
+            && self.graph.resigns(site)
+            && !self.site(site).has_quit
+            && ate < self.graph.due_of(site)
+            && self.graph.fails(site, ate)
+    }
+
+    fn has_no_job_left(&self, site: u32) -> bool {
+        self.ate(site) == self.graph.due_of(site) || self.site(site).has_quit
     }
 
     fn may_begin(&self, site: u32) -> bool {
@@ -443,7 +505,7 @@ impl<'a, R: Abort> Model<'a, R> {
 
     fn may_say_done(&self, site: u32, place: u32) -> bool {
         self.phase(site) == Phase::Thinking
-            && self.ate(site) == self.graph.due_of(site)
+            && self.has_no_job_left(site)
             && !has(Kind4::Done, self.traffic(site, place).put.as_slice())
             && self.is_open(site, place)
     }

@@ -1,13 +1,15 @@
 //! The world and the model of its definitions, stepped side by side and compared after every event.
 
-use super::graph::Graph;
+use super::graph::{Graph, graph_of};
 use super::letters::{is_dirty, location_of};
 use super::model::{Model, events_at};
-use super::{entry_at, opened, period_at, plan_with};
+use super::outcomes::opened_with;
+use super::readers::same_readers;
+use super::{act_of, entry_at, first_value, opened, period_at, plan_by};
 use dine_core::{NotEnabled, World};
 use dine_plan::Plan;
 use dine_rules::{Event, EventKind, Kind4};
-use dine_token::{Fork, Period};
+use dine_token::{Act, Entry, Fork, Period};
 use std::alloc::Global;
 use std::process::Abort;
 
@@ -37,6 +39,20 @@ fn same_periods(rt: &impl Abort, periods: &[Period], fork: &Fork) {
     }
 }
 
+// The value of the edge by a log: its first one, after the acts of the log's meals.
+fn value_by(edge: u32, log: &[Entry]) -> u64 {
+    let mut value = first_value(edge);
+    for entry in log {
+        if let Entry::Meal { site, k } = entry {
+            value = match act_of(*site, *k) {
+                Act::Add(amount) => value.saturating_add(amount),
+                Act::Set(amount) => amount,
+            };
+        }
+    }
+    value
+}
+
 fn same_fork<R: Abort>(rt: &R, model: &Model<R>, edge: u32, fork: &Fork) {
     let (lower, higher) = model.graph.ends(edge);
     let log = model.fork_log(edge);
@@ -45,6 +61,7 @@ fn same_fork<R: Abort>(rt: &R, model: &Model<R>, edge: u32, fork: &Fork) {
     assert_eq!(rt; fork.is_dirty(), is_dirty(log.as_slice()));
     assert_eq!(rt; fork.at(), location_of(lower, log.as_slice()));
     assert_eq!(rt; fork.len() as usize, log.len());
+    assert_eq!(rt; fork.value(), value_by(edge, log.as_slice()));
     for i in 0..fork.len() {
         let entry = log.get(i as usize).copied();
         assert_eq!(rt; Some(entry_at(rt, fork, i)), entry);
@@ -67,6 +84,10 @@ fn agree<R: Abort>(rt: &R, model: &Model<R>, enabled: &[Event], world: &World, e
     same_events(rt, enabled, world);
     same_sites(rt, model, world);
     same_forks(rt, model, world);
+    // The readers are asked after each third event alone, since the model goes through all letters for them.
+    if events % 3 == 0 {
+        same_readers(rt, model, world);
+    }
     assert_eq!(rt; world.bound(), model.graph.bound());
     assert_eq!(rt; model.effects(), events);
 }
@@ -143,7 +164,19 @@ struct Trial<'a> {
     alloc: Global,
     graph: Graph<'a>,
     plan: Plan,
+    // Whether the plan's own outcomes are others, and those of the graph are given.
+    is_given: bool,
     all: Vec<Event>,
+}
+
+fn trial_by<'a>(rt: &impl Abort, alloc: Global, graph: Graph<'a>) -> Trial<'a> {
+    Trial {
+        alloc,
+        graph,
+        plan: plan_by(rt, alloc, graph),
+        is_given: false,
+        all: all_events(rt, alloc, graph),
+    }
 }
 
 fn trial_of<'a>(
@@ -152,13 +185,7 @@ fn trial_of<'a>(
     jobs: &'a [u32],
     edges: &'a [(u32, u32)],
 ) -> Trial<'a> {
-    let graph = Graph { jobs, edges };
-    Trial {
-        alloc,
-        graph,
-        plan: plan_with(rt, alloc, jobs, edges),
-        all: all_events(rt, alloc, graph),
-    }
+    trial_by(rt, alloc, graph_of(jobs, edges))
 }
 
 fn model_of<'a, R: Abort>(rt: &'a R, trial: &Trial<'a>) -> Model<'a, R> {
@@ -166,7 +193,11 @@ fn model_of<'a, R: Abort>(rt: &'a R, trial: &Trial<'a>) -> Model<'a, R> {
 }
 
 fn world_of(rt: &impl Abort, trial: &Trial) -> World {
-    opened(rt, trial.alloc, &trial.plan)
+    if trial.is_given {
+        opened_with(rt, trial.alloc, &trial.plan, trial.graph)
+    } else {
+        opened(rt, trial.alloc, &trial.plan)
+    }
 }
 
 // A run to the end, compared after every event, with refusals tried at each state. Answers its choices.
@@ -242,17 +273,20 @@ fn finish_alike(rt: &impl Abort, trial: &Trial, choices: &[u32]) {
 
 // Runs and replays of a plan with so many jobs at each site.
 fn go_alike(rt: &impl Abort, alloc: Global, jobs: &[u32], edges: &[(u32, u32)]) {
-    let trial = trial_of(rt, alloc, jobs, edges);
-    let _firsts = run_alike(rt, &trial, Chooser::First);
-    let lasts = run_alike(rt, &trial, Chooser::Last);
-    finish_alike(rt, &trial, lasts.as_slice());
+    go_alike_by(rt, &trial_of(rt, alloc, jobs, edges));
+}
+
+fn go_alike_by(rt: &impl Abort, trial: &Trial) {
+    let _firsts = run_alike(rt, trial, Chooser::First);
+    let lasts = run_alike(rt, trial, Chooser::Last);
+    finish_alike(rt, trial, lasts.as_slice());
     for seed in 0..4u32 {
-        let drawn = run_alike(rt, &trial, Chooser::Drawn(seed));
-        finish_alike(rt, &trial, drawn.as_slice());
-        let choices = draw_choices(rt, &trial, seed);
+        let drawn = run_alike(rt, trial, Chooser::Drawn(seed));
+        finish_alike(rt, trial, drawn.as_slice());
+        let choices = draw_choices(rt, trial, seed);
         for length in [1, 7, 20, choices.len()] {
             let choices = choices.get(..length).unwrap_or(choices.as_slice());
-            replay_alike(rt, &trial, choices);
+            replay_alike(rt, trial, choices);
         }
     }
 }
@@ -427,6 +461,79 @@ fn graphs_of_all_edges_and_of_few_run_alike(rt: HostRuntime) {
     go_alike(&rt, alloc, [1, 2, 2, 1, 0].as_slice(), few);
 }
 
+// Runs of the graph's plan, and of one whose jobs do not fail, with the outcomes of the graph given.
+fn resign_alike(rt: &impl Abort, alloc: Global, graph: Graph) {
+    let trial = trial_by(rt, alloc, graph);
+    go_alike_by(rt, &trial);
+    let unfailing = Graph {
+        failing: &[],
+        ..graph
+    };
+    let given = Trial {
+        plan: plan_by(rt, alloc, unfailing),
+        is_given: true,
+        ..trial
+    };
+    let choices = run_alike(rt, &given, Chooser::Drawn(5));
+    finish_alike(rt, &given, choices.as_slice());
+}
+
+// Sites that resign and such that go on, with jobs that fail: in the middle, the last one, none, and more than one.
+#[test]
+fn resigning_sites_run_alike(rt: HostRuntime) {
+    let alloc = rt.alloc();
+    let pair = Graph {
+        jobs: &[3, 1],
+        edges: &[(0, 1)],
+        failing: &[2, 1],
+        resigning: &[true, true],
+    };
+    resign_alike(&rt, alloc, pair);
+    let goes_on = Graph {
+        resigning: &[false, true],
+        failing: &[2, 0],
+        ..pair
+    };
+    resign_alike(&rt, alloc, goes_on);
+    let row = Graph {
+        jobs: &[2, 3, 2],
+        edges: &[(0, 1), (2, 1)],
+        failing: &[1, 6, 2],
+        resigning: &[true, true, true],
+    };
+    resign_alike(&rt, alloc, row);
+    let ring = Graph {
+        jobs: &[3, 2, 2],
+        edges: &[(0, 1), (1, 2), (2, 0)],
+        failing: &[4, 1, 3],
+        resigning: &[true, true, false],
+    };
+    resign_alike(&rt, alloc, ring);
+}
+
+// All runs of a pair whose lower site quits after the first of its two meals, where the higher has no job, and of such
+// a site alone.
+#[test]
+fn resigning_sites_run_alike_in_all_ways(rt: HostRuntime) {
+    let alloc = rt.alloc();
+    let alone = Graph {
+        jobs: &[3],
+        edges: &[],
+        failing: &[2],
+        resigning: &[true],
+    };
+    let trial = trial_by(&rt, alloc, alone);
+    assert_eq!(rt; run_all(&rt, &trial, Vec::new(alloc)), 1);
+    let pair = Graph {
+        jobs: &[2, 0],
+        edges: &[(0, 1)],
+        failing: &[1, 0],
+        resigning: &[true, false],
+    };
+    let trial = trial_by(&rt, alloc, pair);
+    assert!(rt; run_all(&rt, &trial, Vec::new(alloc)) != 0);
+}
+
 // The edges of a ring, and one from every second site to the fifth from it.
 fn ring_with_chords(rt: &impl Abort, alloc: Global, sites: u32) -> Vec<(u32, u32)> {
     let mut edges = Vec::new(alloc);
@@ -469,9 +576,9 @@ fn offers(world: &World, event: Event) -> bool {
 // The higher site asks first, and the lower asks for the fork back as soon as it gave it.
 #[test]
 fn fork_and_request_lie_in_one_link(rt: HostRuntime) {
-    let (jobs, edges) = ([1, 1].as_slice(), [(0, 1)].as_slice());
-    let plan = plan_with(&rt, rt.alloc(), jobs, edges);
-    let mut model = Model::open(&rt, rt.alloc(), Graph { jobs, edges });
+    let graph = graph_of([1, 1].as_slice(), [(0, 1)].as_slice());
+    let plan = plan_by(&rt, rt.alloc(), graph);
+    let mut model = Model::open(&rt, rt.alloc(), graph);
     let mut world = opened(&rt, rt.alloc(), &plan);
     assert_eq!(rt; model.replay([1, 1, 0, 0, 0, 0].as_slice()), 6);
     assert_eq!(rt; world.replay([1, 1, 0, 0, 0, 0].as_slice()), 6);

@@ -7,7 +7,7 @@ use Rattle.dine_plan.specs.declared.plans.Plan.TheInside.{Inside}
 
 -- the plan that the fields of a `Plan` stand for
 abbrev pub seen_plan : Inside → SeenPlan
-seen_plan a = record { sites = map seen_site a.sites.items; edges = a.ends.items }
+seen_plan a = record { version = a.version; sites = map seen_site a.sites.items; edges = a.ends.items; values = a.values.items }
 
 -- the places of an edge in the lists of its lower and of its higher end
 abbrev pub places_at : Inside → ℕ → ℕ × ℕ

@@ -6,4 +6,4 @@ use Rattle.dine_plan.specs.declared.plans.Site.{Site}
 
 -- the site that the fields of a `Site` stand for
 abbrev pub seen_site : Site → SeenSite
-seen_site site = record { name = string_bytes site.name; jobs = map seen_job site.jobs.items }
+seen_site site = record { name = string_bytes site.name; jobs = map seen_job site.jobs.items; resigns = site.resigns }

@@ -1,5 +1,5 @@
 -- The effects of a world that events reach are within the bound of its plan.
-use Rattle.std.proofs.Common.{◌≡◌, ℕ, ◌+◌, ◌*◌, ◌<◌, ◌≤◌, cond, List, length, get_or, sum_by, sym, ◌∙◌, ap, subst, inl, inr, arith, zero-add}
+use Rattle.std.proofs.Common.{◌≡◌, ℕ, ◌+◌, ◌*◌, ◌<◌, ◌≤◌, Bool, true, false, cond, List, length, get_or, sum_by, sym, ◌∙◌, ap, subst, inl, inr, arith, zero-add}
 use Rattle.std.specs.List.{range_with_len}
 use mathlib.Core.List.{IsPrefix}
 use Rattle.std.proofs.lemmas.Bool.{cases_Bool, cond-true, cond-false}
@@ -73,11 +73,18 @@ letters_within plan is_plan world kept s is_site i within =
       ap (λ (x : ℕ). meals_due plan x) over.same_edge,
     )
 
--- three effects a meal, and no more while a site is hungry for the next
-meals_within : (plan : SeenPlan) (s : ℕ) (state : LocalState) → KeepsStreams plan s state → 3 * state.ate + cond {A = ℕ} (is_hungry state.phase) 1 0 ≤ 3 * job_count plan s
+at_most_one : (b : Bool) → cond {A = ℕ} b 1 0 ≤ 1
+at_most_one true = omega arith
+at_most_one false = omega arith
+
+-- three effects a meal, and no more while a site is hungry for the next, or has quit and dropped it
+meals_within : (plan : SeenPlan) (s : ℕ) (state : LocalState) → KeepsStreams plan s state → 3 * state.ate + cond {A = ℕ} (is_hungry state.phase) 1 0 + cond {A = ℕ} state.has_quit 1 0 ≤ 3 * job_count plan s
 meals_within plan s state keeps = elim (cases_Bool (is_hungry state.phase)) [
-  | inl hungry ↦ omega (arith, cond-true {A = ℕ} (is_hungry state.phase) 1 0 hungry, keeps.hungry_has_left hungry)
-  | inr other ↦ omega (arith, cond-false {A = ℕ} (is_hungry state.phase) 1 0 other, keeps.ate_within)
+  | inl hungry ↦ omega (arith, cond-true {A = ℕ} (is_hungry state.phase) 1 0 hungry, keeps.hungry_has_left hungry, at_most_one state.has_quit)
+  | inr other ↦ elim (cases_Bool state.has_quit) [
+    | inl quit ↦ omega (arith, cond-false {A = ℕ} (is_hungry state.phase) 1 0 other, cond-true {A = ℕ} state.has_quit 1 0 quit, (keeps.has_dropped quit).2)
+    | inr stays ↦ omega (arith, cond-false {A = ℕ} (is_hungry state.phase) 1 0 other, cond-false {A = ℕ} state.has_quit 1 0 stays, keeps.ate_within)
+  ]
 ]
 
 -- the effects of a site are within its meals and the letters at its edges

@@ -9,9 +9,9 @@ use Rattle.dine_rules.specs.declared.letters.Letter.{Letter}
 use Rattle.dine_rules.specs.declared.events.Event.{Event}
 use Rattle.dine_rules.specs.declared.events.EventKind.{EventKind}
 use Rattle.dine_rules.specs.declared.events.EventKind.TheVariants as event
-use Rattle.dine_rules.specs.Local.{LocalState}
-use Rattle.dine_rules.specs.Steps.{Step, Give, Ask, Hungry, Begin, End, Done, Close, Take, after, may}
-use Rattle.dine_rules.specs.World.{WorldState, state_of, next_letter, step_of, local_after, site_after, is_enabled, kinds_at, events_at, enabled_events}
+use Rattle.dine_rules.specs.Local.{LocalState, is_eating, meal_fails}
+use Rattle.dine_rules.specs.Steps.{Step, Give, Ask, Hungry, Begin, End, Quit, Done, Close, Take, after, may}
+use Rattle.dine_rules.specs.World.{WorldState, state_of, next_letter, step_of, local_after, site_after, is_enabled, kinds_at, placeless_kinds, events_at, enabled_events}
 
 -- ---- elements of lists
 
@@ -90,8 +90,9 @@ may_happen plan world s kind step is_site is_step needs = ap (λ (o : Option Wor
 pub record IsStill (plan : SeenPlan) (world : WorldState) (s : ℕ) : Type 0 where
   pub take : (i : ℕ) (l : Letter) → i < length (edges_of plan s) → next_letter plan world s i ≡ Some l → may plan s (state_of world s) (Take i l) ≡ false
   pub give : (i : ℕ) → i < length (edges_of plan s) → may plan s (state_of world s) (Give i) ≡ false
-  pub ends : may plan s (state_of world s) End ≡ false
+  pub ends : is_eating (state_of world s).phase ≡ false
   pub begins : may plan s (state_of world s) Begin ≡ false
+  pub quits : may plan s (state_of world s) Quit ≡ false
   pub hungers : may plan s (state_of world s) Hungry ≡ false
   pub ask : (i : ℕ) → i < length (edges_of plan s) → may plan s (state_of world s) (Ask i) ≡ false
   pub done : (i : ℕ) → i < length (edges_of plan s) → may plan s (state_of world s) (Done i) ≡ false
@@ -119,13 +120,9 @@ module _ (plan : SeenPlan) (world : WorldState) (none : enabled_events plan worl
   abbrev give_kinds : List EventKind
   give_kinds = take_kinds ++ map event.Give places
 
-  -- those without a place
-  abbrev plain_kinds : List EventKind
-  plain_kinds = event.End ∷ event.Begin ∷ event.Hungry ∷ []
-
   -- all up to the Asks
   abbrev ask_kinds : List EventKind
-  ask_kinds = give_kinds ++ plain_kinds ++ map event.Ask places
+  ask_kinds = give_kinds ++ placeless_kinds ++ map event.Ask places
 
   -- all up to the Dones
   abbrev done_kinds : List EventKind
@@ -140,16 +137,16 @@ module _ (plan : SeenPlan) (world : WorldState) (none : enabled_events plan worl
   from_ask kind h = from_done kind (in_front kind ask_kinds (map event.Done places) h)
 
   -- one up to those without a place
-  from_plain : (kind : EventKind) → IsIn kind (give_kinds ++ plain_kinds) → IsIn kind (kinds_at places)
-  from_plain kind h = from_ask kind (in_front kind (give_kinds ++ plain_kinds) (map event.Ask places) h)
+  from_plain : (kind : EventKind) → IsIn kind (give_kinds ++ placeless_kinds) → IsIn kind (kinds_at places)
+  from_plain kind h = from_ask kind (in_front kind (give_kinds ++ placeless_kinds) (map event.Ask places) h)
 
   -- one up to the Gives
   from_give : (kind : EventKind) → IsIn kind give_kinds → IsIn kind (kinds_at places)
-  from_give kind h = from_plain kind (in_front kind give_kinds plain_kinds h)
+  from_give kind h = from_plain kind (in_front kind give_kinds placeless_kinds h)
 
   -- one without a place
-  plain : (kind : EventKind) → IsIn kind plain_kinds → IsIn kind (kinds_at places)
-  plain kind h = from_plain kind (in_rest kind give_kinds plain_kinds h)
+  plain : (kind : EventKind) → IsIn kind placeless_kinds → IsIn kind (kinds_at places)
+  plain kind h = from_plain kind (in_rest kind give_kinds placeless_kinds h)
 
   -- a place of the site
   is_place : (i : ℕ) → i < length (edges_of plan s) → IsIn i places
@@ -161,10 +158,11 @@ module _ (plan : SeenPlan) (world : WorldState) (none : enabled_events plan worl
     take = λ i l within next. no_step (event.Take i) (Take i l) (from_give (event.Take i) (in_front (event.Take i) take_kinds (map event.Give places) (in_map event.Take i places (is_place i within))))
         (ap (option_map (Take i)) next);
     give = λ i within. no_step (event.Give i) (Give i) (from_give (event.Give i) (in_rest (event.Give i) take_kinds (map event.Give places) (in_map event.Give i places (is_place i within)))) refl;
-    ends = no_step event.End End (plain event.End (inl refl)) refl;
+    ends = no_step event.End (End (meal_fails plan s (state_of world s))) (plain event.End (inl refl)) refl;
     begins = no_step event.Begin Begin (plain event.Begin (inr (inl refl))) refl;
-    hungers = no_step event.Hungry Hungry (plain event.Hungry (inr (inr (inl refl)))) refl;
-    ask = λ i within. no_step (event.Ask i) (Ask i) (from_ask (event.Ask i) (in_rest (event.Ask i) (give_kinds ++ plain_kinds) (map event.Ask places) (in_map event.Ask i places (is_place i within)))) refl;
+    quits = no_step event.Quit Quit (plain event.Quit (inr (inr (inl refl)))) refl;
+    hungers = no_step event.Hungry Hungry (plain event.Hungry (inr (inr (inr (inl refl))))) refl;
+    ask = λ i within. no_step (event.Ask i) (Ask i) (from_ask (event.Ask i) (in_rest (event.Ask i) (give_kinds ++ placeless_kinds) (map event.Ask places) (in_map event.Ask i places (is_place i within)))) refl;
     done = λ i within. no_step (event.Done i) (Done i) (from_done (event.Done i) (in_rest (event.Done i) ask_kinds (map event.Done places) (in_map event.Done i places (is_place i within)))) refl;
     close = λ i within. no_step (event.Close i) (Close i) (in_rest (event.Close i) done_kinds (map event.Close places) (in_map event.Close i places (is_place i within))) refl;
   }

@@ -10,7 +10,7 @@ use Rattle.std.proofs.lemmas.List.FromFn.{length-map-range_with_len}
 use Rattle.dine_rules.specs.declared.events.Event.{Event}
 use Rattle.dine_rules.specs.declared.events.EventKind.{EventKind}
 use Rattle.dine_rules.specs.declared.events.EventKind.TheVariants as event
-use Rattle.dine_rules.specs.World.{kinds_at}
+use Rattle.dine_rules.specs.World.{kinds_at, placeless_kinds}
 
 -- ---- the kinds by their numbers
 
@@ -34,12 +34,15 @@ kind_here f d i rest h = range_here f 0 d i rest h ∙ ap (λ (n : ℕ). Some (f
 kind_last : (f : ℕ → EventKind) (d i : ℕ) → i < d → slice_get (map f (range_with_len 0 d)) i ≡ Some (f i)
 kind_last f d i h = ap (λ (kinds : List EventKind). slice_get kinds i) (sym (append-nil (map f (range_with_len 0 d)))) ∙ kind_here f d i [] h
 
--- behind three kinds
-three_past : (a b c : EventKind) (rest : List EventKind) (i : ℕ) → 3 ≤ i → slice_get (a ∷ b ∷ c ∷ rest) i ≡ slice_get rest (i - 3)
-three_past a b c rest zero h = absurd (omega arith)
-three_past a b c rest (suc zero) h = absurd (omega arith)
-three_past a b c rest (suc (suc zero)) h = absurd (omega arith)
-three_past a b c rest (suc (suc (suc i))) h = ap (slice_get rest) (let e : i ≡ suc (suc (suc i)) - 3 = omega arith in e)
+-- behind some kinds
+kinds_past : (kinds rest : List EventKind) (i : ℕ) → length kinds ≤ i → slice_get (kinds ++ rest) i ≡ slice_get rest (i - length kinds)
+kinds_past [] rest i h = ap (slice_get rest) (let e : i ≡ i - 0 = omega arith in e)
+kinds_past (kind ∷ kinds) rest zero h = absurd (omega arith)
+kinds_past (kind ∷ kinds) rest (suc i) h = kinds_past kinds rest i (omega arith) ∙ ap (slice_get rest) (let e : i - length kinds ≡ suc i - suc (length kinds) = omega arith in e)
+
+-- how many kinds have no place
+abbrev pub placeless : ℕ
+placeless = length placeless_kinds
 
 -- six lists, grouped from behind
 regroup : (a b c d e f : List EventKind) → a ++ b ++ c ++ d ++ e ++ f ≡ a ++ (b ++ (c ++ (d ++ (e ++ f))))
@@ -57,11 +60,11 @@ module _ (d : ℕ) where
   asks = map event.Ask places ++ dones
 
   abbrev pub steps : List EventKind
-  steps = event.End ∷ event.Begin ∷ event.Hungry ∷ asks
+  steps = placeless_kinds ++ asks
 
   -- all kinds, grouped from behind
   regrouped : kinds_at places ≡ map event.Take places ++ (map event.Give places ++ steps)
-  regrouped = regroup (map event.Take places) (map event.Give places) (event.End ∷ event.Begin ∷ event.Hungry ∷ []) (map event.Ask places) (map event.Done places) (map event.Close places)
+  regrouped = regroup (map event.Take places) (map event.Give places) placeless_kinds (map event.Ask places) (map event.Done places) (map event.Close places)
 
   module _ (n : ℕ) where
     -- the kind has number n
@@ -78,31 +81,31 @@ module _ (d : ℕ) where
     pub kind_give : d ≤ n → n - d < d → IsKind (event.Give (n - d))
     kind_give a b = past_takes a ∙ kind_here event.Give d (n - d) steps b
 
-    -- End, Begin and Hungry come here
+    -- those without a place come here
     pub past_gives : d ≤ n → d ≤ n - d → slice_get (kinds_at places) n ≡ slice_get steps (n - d - d)
     past_gives a b = past_takes a ∙ range_past event.Give 0 d (n - d) steps b
 
-    past_steps : d ≤ n → d ≤ n - d → 3 ≤ n - d - d → slice_get (kinds_at places) n ≡ slice_get asks (n - d - d - 3)
-    past_steps a b c = past_gives a b ∙ three_past event.End event.Begin event.Hungry asks (n - d - d) c
+    past_steps : d ≤ n → d ≤ n - d → placeless ≤ n - d - d → slice_get (kinds_at places) n ≡ slice_get asks (n - d - d - placeless)
+    past_steps a b c = past_gives a b ∙ kinds_past placeless_kinds asks (n - d - d) c
 
-    pub kind_ask : d ≤ n → d ≤ n - d → 3 ≤ n - d - d → n - d - d - 3 < d → IsKind (event.Ask (n - d - d - 3))
-    kind_ask a b c h = past_steps a b c ∙ kind_here event.Ask d (n - d - d - 3) dones h
+    pub kind_ask : d ≤ n → d ≤ n - d → placeless ≤ n - d - d → n - d - d - placeless < d → IsKind (event.Ask (n - d - d - placeless))
+    kind_ask a b c h = past_steps a b c ∙ kind_here event.Ask d (n - d - d - placeless) dones h
 
-    past_asks : d ≤ n → d ≤ n - d → 3 ≤ n - d - d → d ≤ n - d - d - 3 → slice_get (kinds_at places) n ≡ slice_get dones (n - d - d - 3 - d)
-    past_asks a b c e = past_steps a b c ∙ range_past event.Ask 0 d (n - d - d - 3) dones e
+    past_asks : d ≤ n → d ≤ n - d → placeless ≤ n - d - d → d ≤ n - d - d - placeless → slice_get (kinds_at places) n ≡ slice_get dones (n - d - d - placeless - d)
+    past_asks a b c e = past_steps a b c ∙ range_past event.Ask 0 d (n - d - d - placeless) dones e
 
-    pub kind_done : d ≤ n → d ≤ n - d → 3 ≤ n - d - d → d ≤ n - d - d - 3 → n - d - d - 3 - d < d → IsKind (event.Done (n - d - d - 3 - d))
-    kind_done a b c e h = past_asks a b c e ∙ kind_here event.Done d (n - d - d - 3 - d) (map event.Close places) h
+    pub kind_done : d ≤ n → d ≤ n - d → placeless ≤ n - d - d → d ≤ n - d - d - placeless → n - d - d - placeless - d < d → IsKind (event.Done (n - d - d - placeless - d))
+    kind_done a b c e h = past_asks a b c e ∙ kind_here event.Done d (n - d - d - placeless - d) (map event.Close places) h
 
-    pub kind_close : d ≤ n → d ≤ n - d → 3 ≤ n - d - d → d ≤ n - d - d - 3 → d ≤ n - d - d - 3 - d → n < 5 * d + 3 → IsKind (event.Close (n - d - d - 3 - d - d))
-    kind_close a b c e f h = past_asks a b c e ∙ range_past event.Done 0 d (n - d - d - 3 - d) (map event.Close places) f ∙ kind_last event.Close d (n - d - d - 3 - d - d) (omega arith)
+    pub kind_close : d ≤ n → d ≤ n - d → placeless ≤ n - d - d → d ≤ n - d - d - placeless → d ≤ n - d - d - placeless - d → n < 5 * d + placeless → IsKind (event.Close (n - d - d - placeless - d - d))
+    kind_close a b c e f h = past_asks a b c e ∙ range_past event.Done 0 d (n - d - d - placeless - d) (map event.Close places) f ∙ kind_last event.Close d (n - d - d - placeless - d - d) (omega arith)
 
 -- as many kinds as places
 length_kinds : (f : ℕ → EventKind) (d : ℕ) → length (map f (range_with_len 0 d)) ≡ d
 length_kinds f d = length-map-range_with_len f 0 d
 
 -- how many kinds there are
-pub kinds_count : (d : ℕ) → length (kinds_at (range_with_len 0 d)) ≡ 5 * d + 3
+pub kinds_count : (d : ℕ) → length (kinds_at (range_with_len 0 d)) ≡ 5 * d + placeless
 kinds_count d =
     let R = range_with_len 0 d in
     omega (
@@ -126,7 +129,7 @@ abbrev pub choices : ℕ → ℕ → List Event
 choices s d = map (λ kind. record { site = s; kind = kind }) (kinds_at (range_with_len 0 d))
 
 -- how many they are
-pub choices_count : (s d : ℕ) → length (choices s d) ≡ 5 * d + 3
+pub choices_count : (s d : ℕ) → length (choices s d) ≡ 5 * d + placeless
 choices_count s d = length-map (kinds_at (range_with_len 0 d)) (λ kind. record { site = s; kind = kind }) ∙ kinds_count d
 
 -- how many of the first events of a list pass a test
@@ -169,8 +172,8 @@ module _ (p : Event → Bool) (s d n : ℕ) (kind : EventKind) (h : slice_get (k
   passed_next t = the_next p (choices s d) n (record { site = s; kind = kind }) event_is t
 
 -- all are passed over
-pub passed_all : (p : Event → Bool) (s d : ℕ) → passed p (choices s d) (5 * d + 3) ≡ length (filter p (choices s d))
-passed_all p s d = ap (λ (events : List Event). length (filter p events)) (take_all (5 * d + 3) (choices s d) (omega (arith, choices_count s d)))
+pub passed_all : (p : Event → Bool) (s d : ℕ) → passed p (choices s d) (5 * d + placeless) ≡ length (filter p (choices s d))
+passed_all p s d = ap (λ (events : List Event). length (filter p events)) (take_all (5 * d + placeless) (choices s d) (omega (arith, choices_count s d)))
 
 -- ---- the events of all sites
 

@@ -8,10 +8,10 @@ use Rattle.dine_plan.specs.Plan.{SeenPlan, IsPlan, edges_of, site_count}
 use Rattle.dine_rules.specs.declared.events.Event.{Event}
 use Rattle.dine_rules.specs.declared.events.EventKind.{EventKind}
 use Rattle.dine_rules.specs.declared.events.EventKind.TheVariants as event
-use Rattle.dine_rules.specs.Local.{LocalState}
+use Rattle.dine_rules.specs.Local.{LocalState, meal_fails}
 use Rattle.dine_rules.specs.Steps.{IsPlaceWithin, Step, may, shape_of}
 use Rattle.dine_rules.specs.World.{Reaches, WorldState, enabled_events, events_at, is_enabled, kinds_at, next_letter, state_of, step_of, world_after}
-use Rattle.dine_rules.proofs.counting.KindNumbers.{choices, found_at, kind_ask, kind_close, kind_done, kind_give, kind_take, kinds_count, of_sites, passed, passed_next, past_gives, steps}
+use Rattle.dine_rules.proofs.counting.KindNumbers.{choices, found_at, kind_ask, kind_close, kind_done, kind_give, kind_take, kinds_count, of_sites, passed, passed_next, past_gives, placeless, steps}
 use Rattle.dine_rules.proofs.lists.EachOnce.{EachOnce, StandsIn, of_either, once_append, once_filter}
 use Rattle.dine_rules.proofs.one_site.Shapes.{event_within}
 use Rattle.dine_rules.proofs.lists.Options.{option_map_parts, some_of}
@@ -26,10 +26,11 @@ module _ (d : ℕ) where
   number_of (event.Give i) = d + i
   number_of event.End = d + d
   number_of event.Begin = d + d + 1
-  number_of event.Hungry = d + d + 2
-  number_of (event.Ask i) = d + d + 3 + i
-  number_of (event.Done i) = d + d + 3 + d + i
-  number_of (event.Close i) = d + d + 3 + d + d + i
+  number_of event.Quit = d + d + 2
+  number_of event.Hungry = d + d + 3
+  number_of (event.Ask i) = d + d + placeless + i
+  number_of (event.Done i) = d + d + placeless + d + i
+  number_of (event.Close i) = d + d + placeless + d + d + i
 
   -- its place, where it has one, is one of these
   abbrev pub IsPlaceOf : EventKind → Type 0
@@ -45,30 +46,32 @@ module _ (d : ℕ) where
   has_number (event.Give i) h = kind_give d (d + i) (omega arith) (omega arith) ∙ ap (λ (k : ℕ). Some (event.Give k)) (let e : d + i - d ≡ i = omega arith in e)
   has_number event.End h = past_gives d (d + d) (omega arith) (omega arith) ∙ ap (slice_get (steps d)) (let e : d + d - d - d ≡ 0 = omega arith in e)
   has_number event.Begin h = past_gives d (d + d + 1) (omega arith) (omega arith) ∙ ap (slice_get (steps d)) (let e : d + d + 1 - d - d ≡ 1 = omega arith in e)
-  has_number event.Hungry h = past_gives d (d + d + 2) (omega arith) (omega arith) ∙ ap (slice_get (steps d)) (let e : d + d + 2 - d - d ≡ 2 = omega arith in e)
-  has_number (event.Ask i) h = kind_ask d (d + d + 3 + i) (omega arith) (omega arith) (omega arith) (omega arith)
-      ∙ ap (λ (k : ℕ). Some (event.Ask k)) (let e : d + d + 3 + i - d - d - 3 ≡ i = omega arith in e)
-  has_number (event.Done i) h = kind_done d (d + d + 3 + d + i) (omega arith) (omega arith) (omega arith) (omega arith) (omega arith)
-      ∙ ap (λ (k : ℕ). Some (event.Done k)) (let e : d + d + 3 + d + i - d - d - 3 - d ≡ i = omega arith in e)
-  has_number (event.Close i) h = kind_close d (d + d + 3 + d + d + i) (omega arith) (omega arith) (omega arith) (omega arith) (omega arith) (omega arith)
-      ∙ ap (λ (k : ℕ). Some (event.Close k)) (let e : d + d + 3 + d + d + i - d - d - 3 - d - d ≡ i = omega arith in e)
+  has_number event.Quit h = past_gives d (d + d + 2) (omega arith) (omega arith) ∙ ap (slice_get (steps d)) (let e : d + d + 2 - d - d ≡ 2 = omega arith in e)
+  has_number event.Hungry h = past_gives d (d + d + 3) (omega arith) (omega arith) ∙ ap (slice_get (steps d)) (let e : d + d + 3 - d - d ≡ 3 = omega arith in e)
+  has_number (event.Ask i) h = kind_ask d (d + d + placeless + i) (omega arith) (omega arith) (omega arith) (omega arith)
+      ∙ ap (λ (k : ℕ). Some (event.Ask k)) (let e : d + d + placeless + i - d - d - placeless ≡ i = omega arith in e)
+  has_number (event.Done i) h = kind_done d (d + d + placeless + d + i) (omega arith) (omega arith) (omega arith) (omega arith) (omega arith)
+      ∙ ap (λ (k : ℕ). Some (event.Done k)) (let e : d + d + placeless + d + i - d - d - placeless - d ≡ i = omega arith in e)
+  has_number (event.Close i) h = kind_close d (d + d + placeless + d + d + i) (omega arith) (omega arith) (omega arith) (omega arith) (omega arith) (omega arith)
+      ∙ ap (λ (k : ℕ). Some (event.Close k)) (let e : d + d + placeless + d + d + i - d - d - placeless - d - d ≡ i = omega arith in e)
 
   -- no other number is that of the kind
   numbered : (n : ℕ) (kind other : EventKind) → kind_at n ≡ Some kind → kind_at n ≡ Some other → number_of other ≡ n → number_of kind ≡ n
   numbered n kind other is here at = ap number_of (same_Some kind other (sym is ∙ here)) ∙ at
 
-  plain_number : (n k : ℕ) (kind : EventKind) → kind_at n ≡ Some kind → d ≤ n → d ≤ n - d → n - d - d ≡ k → k < 3 → number_of kind ≡ n
+  plain_number : (n k : ℕ) (kind : EventKind) → kind_at n ≡ Some kind → d ≤ n → d ≤ n - d → n - d - d ≡ k → k < placeless → number_of kind ≡ n
   plain_number n zero kind is a b at few = numbered n kind event.End is (past_gives d n a b ∙ ap (slice_get (steps d)) at) (omega arith)
   plain_number n (suc zero) kind is a b at few = numbered n kind event.Begin is (past_gives d n a b ∙ ap (slice_get (steps d)) at) (omega arith)
-  plain_number n (suc (suc zero)) kind is a b at few = numbered n kind event.Hungry is (past_gives d n a b ∙ ap (slice_get (steps d)) at) (omega arith)
-  plain_number n (suc (suc (suc k))) kind is a b at few = absurd (omega arith)
+  plain_number n (suc (suc zero)) kind is a b at few = numbered n kind event.Quit is (past_gives d n a b ∙ ap (slice_get (steps d)) at) (omega arith)
+  plain_number n (suc (suc (suc zero))) kind is a b at few = numbered n kind event.Hungry is (past_gives d n a b ∙ ap (slice_get (steps d)) at) (omega arith)
+  plain_number n (suc (suc (suc (suc k)))) kind is a b at few = absurd (omega arith)
 
-  last_number : (n : ℕ) (kind : EventKind) → kind_at n ≡ Some kind → d ≤ n → d ≤ n - d → 3 ≤ n - d - d → number_of kind ≡ n
-  last_number n kind is a b c = elim (cases_lt (n - d - d - 3) d) [
-    | inl ask ↦ numbered n kind (event.Ask (n - d - d - 3)) is (kind_ask d n a b c ask) (omega arith)
-    | inr past ↦ elim (cases_lt (n - d - d - 3 - d) d) [
-      | inl done ↦ numbered n kind (event.Done (n - d - d - 3 - d)) is (kind_done d n a b c past done) (omega arith)
-      | inr behind ↦ numbered n kind (event.Close (n - d - d - 3 - d - d)) is
+  last_number : (n : ℕ) (kind : EventKind) → kind_at n ≡ Some kind → d ≤ n → d ≤ n - d → placeless ≤ n - d - d → number_of kind ≡ n
+  last_number n kind is a b c = elim (cases_lt (n - d - d - placeless) d) [
+    | inl ask ↦ numbered n kind (event.Ask (n - d - d - placeless)) is (kind_ask d n a b c ask) (omega arith)
+    | inr past ↦ elim (cases_lt (n - d - d - placeless - d) d) [
+      | inl done ↦ numbered n kind (event.Done (n - d - d - placeless - d)) is (kind_done d n a b c past done) (omega arith)
+      | inr behind ↦ numbered n kind (event.Close (n - d - d - placeless - d - d)) is
           (kind_close d n a b c past behind (omega (arith, slice_get_within (kinds_at (range_with_len 0 d)) n kind is, kinds_count d))) (omega arith)
     ]
   ]
@@ -78,7 +81,7 @@ module _ (d : ℕ) where
     | inl take ↦ numbered n kind (event.Take n) is (kind_take d n take) refl
     | inr a ↦ elim (cases_lt (n - d) d) [
       | inl give ↦ numbered n kind (event.Give (n - d)) is (kind_give d n a give) (omega arith)
-      | inr b ↦ elim (cases_lt (n - d - d) 3) [
+      | inr b ↦ elim (cases_lt (n - d - d) placeless) [
         | inl few ↦ plain_number n (n - d - d) kind is a b refl few
         | inr c ↦ last_number n kind is a b c
       ]
@@ -137,7 +140,7 @@ module _ (plan : SeenPlan) (world : WorldState) (s : ℕ) where
 
   -- so its place is one of the site, which has as many as edges
   pub place_of_step : length state.traffic ≡ length (edges_of plan s) → (kind : EventKind) (one : Step) → step_of plan world s kind ≡ Some one → may plan s state one ≡ true → IsPlaceOf (length (edges_of plan s)) kind
-  place_of_step degree kind one is needs = subst (λ (n : ℕ). IsPlaceWithin n (shape_of kind)) degree (event_within plan s state (next_letter plan world s) kind one is needs)
+  place_of_step degree kind one is needs = subst (λ (n : ℕ). IsPlaceWithin n (shape_of kind)) degree (event_within plan s state (meal_fails plan s state) (next_letter plan world s) kind one is needs)
 
 -- each enabled event of a world that events reach stands among the enabled ones
 pub listed : (plan : SeenPlan) (events : List Event) (world : WorldState) (e : Event) → IsPlan plan → Reaches plan events world → is_enabled plan world e ≡ true → StandsIn e (enabled_events plan world)

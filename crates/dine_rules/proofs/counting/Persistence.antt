@@ -8,8 +8,8 @@ use Rattle.dine_rules.specs.declared.letters.Letter.{Letter}
 use Rattle.dine_rules.specs.declared.events.Event.{Event}
 use Rattle.dine_rules.specs.declared.events.EventKind.{EventKind}
 use Rattle.dine_rules.specs.declared.events.EventKind.TheVariants as event
-use Rattle.dine_rules.specs.Local.{LocalState, Traffic, no_traffic, traffic_at, edge_at, neighbour_at}
-use Rattle.dine_rules.specs.Steps.{Step, Take, after, may}
+use Rattle.dine_rules.specs.Local.{LocalState, Traffic, no_traffic, traffic_at, edge_at, meal_fails, neighbour_at}
+use Rattle.dine_rules.specs.Steps.{Step, End, Take, after, may}
 use Rattle.dine_rules.specs.World.{WorldState, no_state, state_of, place_of, put_to, next_letter, step_of, local_after, site_after, world_after, is_enabled}
 use Rattle.dine_rules.proofs.lists.Counting.{slice_get-before}
 use Rattle.dine_rules.proofs.one_site.Shapes.{by_moves, moved, step_shape}
@@ -83,6 +83,7 @@ module _ (plan : SeenPlan) (world : WorldState) (s : ℕ) (step : Step) where
     step_stays (event.Take i) one h =
         let w = option_map_parts (Take i) (next_letter plan world t i) one h in
         ap (option_map (Take i)) (next_stays i w.0 w.1) ∙ ap (λ (x : Step). Some x) w.2
+    step_stays event.End one h = ap (λ (x : LocalState). Some (End (meal_fails plan t x))) state_stays ∙ h
     step_stays kind one h = h
 
 -- the world after an event is that after its step

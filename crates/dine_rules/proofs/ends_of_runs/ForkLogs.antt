@@ -1,5 +1,5 @@
 -- The log of each edge's fork, wherever it lies: lawful, and in a complete world with all meals of both ends.
-use Rattle.std.proofs.Common.{◌≡◌, ◌⊎◌, ℕ, zero, suc, ◌+◌, ◌<◌, ◌≤◌, ◌==◌, Bool, true, false, List, [], ◌∷◌, length, slice_get, Some, unwrap_or, refl, sym, ◌∙◌, ap, subst, inl, inr, arith}
+use Rattle.std.proofs.Common.{◌≡◌, ◌⊎◌, ℕ, zero, suc, ◌+◌, ◌<◌, ◌≤◌, ◌==◌, ◌||◌, Bool, true, false, List, [], ◌∷◌, length, slice_get, Some, unwrap_or, refl, sym, ◌∙◌, ap, subst, inl, inr, arith}
 use Rattle.std.specs.Option.{option_or}
 use Rattle.std.proofs.lemmas.Bool.{eqb-true, eqb-false, ltb-true, ltb-false, lt-ltb, false≢true}
 use Rattle.dine_token.specs.declared.entry.Entry.{Entry}
@@ -16,10 +16,10 @@ use Rattle.dine_rules.specs.Links.{queue_to}
 use Rattle.dine_rules.specs.Precedence.{is_sent_to, fork_log}
 use Rattle.dine_rules.specs.Steps.{fork_with}
 use Rattle.dine_rules.specs.Streams.{KeepsStreamsAt, ends_at_place, due_at_place}
-use Rattle.dine_rules.specs.World.{WorldState, IsComplete, state_of, place_of, put_to}
+use Rattle.dine_rules.specs.World.{HasAllMeals, WorldState, IsComplete, state_of, place_of, put_to}
 use Rattle.dine_rules.proofs.links.Across.{IsAcross, across, place_of-edge_at}
 use Rattle.dine_rules.proofs.one_place.Owned.{own_is}
-use Rattle.dine_rules.proofs.lists.Counting.{last_log_or-append, last_log_or-none, last_log_or-some}
+use Rattle.dine_rules.proofs.lists.Counting.{or_false, last_log_or-append, last_log_or-none, last_log_or-some}
 use Rattle.dine_rules.proofs.links.EdgeSums.{fork_of_place, one_fork_of_edge}
 use Rattle.dine_rules.proofs.links.Near.{near_log, put_count}
 use Rattle.dine_rules.proofs.one_site.InHand.{hand-meals}
@@ -30,8 +30,8 @@ use Rattle.dine_rules.proofs.one_place.Sent.{meals_of-with_meals_other}
 use Rattle.dine_rules.proofs.links.WorldStreams.{WorldKeeps, neighbour_differs}
 
 -- the log has all meals of two sites
-abbrev pub HasAllMeals : SeenPlan → ℕ → ℕ → List Entry → Type 0
-HasAllMeals plan one other log = (meals_of one log ≡ job_count plan one) × (meals_of other log ≡ job_count plan other)
+abbrev pub HasAllOfBoth : SeenPlan → WorldState → ℕ → ℕ → List Entry → Type 0
+HasAllOfBoth plan world one other log = HasAllMeals plan world one log × HasAllMeals plan world other log
 
 -- ---- at a place
 
@@ -63,7 +63,7 @@ module _ (plan : SeenPlan) (is_plan : IsPlan plan) (world : WorldState) (kept : 
       let some : 1 ≤ forks_in (put_to plan world s i) = omega (arith, ltb-true _ _ sent) in
       let w = last_log_or-some [] (put_to plan world s i) some in
       let put = there.put_forks w.0 w.1 w.2 in
-      let own : w.1 ≡ fork_with plan (edge_at plan s i) w.1.log = own_is plan (edge_at plan other other_place) w.1 put.0 ∙ ap (λ (x : ℕ). fork_with plan x w.1.log) over.same_edge in
+      let own : w.1 ≡ fork_with plan (edge_at plan s i) w.1.log w.1.value = own_is plan (edge_at plan other other_place) w.1 put.0 ∙ ap (λ (x : ℕ). fork_with plan x w.1.log w.1.value) over.same_edge in
       subst (λ (log : List Entry). IsLawful (ends_at_place plan s i) (due_at_place plan s i) log) (sym w.3) (subst (λ (f : SeenFork). IsLawful f.ends f.due f.log) own put.1)
 
   module _ (complete : IsComplete plan world) where
@@ -71,22 +71,30 @@ module _ (plan : SeenPlan) (is_plan : IsPlan plan) (world : WorldState) (kept : 
     none_sent : is_sent_to plan world s i ≡ true → ⊥
     none_sent sent = omega (arith, ltb-true _ _ sent, ap forks_in (complete.all_taken s i is_site within))
 
+    -- what a site ate is due to it, unless it has quit
+    ate_due : (t : ℕ) → t < site_count plan → (state_of world t).has_quit ≡ false → (state_of world t).ate ≡ job_count plan t
+    ate_due t is_t stays = eqb-true _ _ (sym (or_false ((state_of world t).ate == job_count plan t)) ∙ ap (λ (b : Bool). (state_of world t).ate == job_count plan t || b) (sym stays) ∙ complete.all_ate t is_t)
+
+    -- a log with all meals that a site ate has those that are due to it
+    with_due : (t : ℕ) (log : List Entry) → t < site_count plan → meals_of t log ≡ (state_of world t).ate → HasAllMeals plan world t log
+    with_due t log is_t all = record { ate = all; due = λ stays. all ∙ ate_due t is_t stays }
+
     -- a site that holds the fork put all its own meals into it
-    own_meals : meals_of s (hand_at s (state_of world s) i) ≡ job_count plan s
+    own_meals : meals_of s (hand_at s (state_of world s) i) ≡ (state_of world s).ate
     own_meals = let keeps = kept.keeps s is_site in
-        hand-meals plan s (state_of world s) is_plan keeps i (omega (arith, within, keeps.every_place)) ∙ complete.all_ate s is_site
+        hand-meals plan s (state_of world s) is_plan keeps i (omega (arith, within, keeps.every_place))
 
     -- and took it with all meals of the other end
-    other_meals : fork_at plan s (state_of world s) i ≡ 1 → meals_of other (hand_at s (state_of world s) i) ≡ job_count plan other
+    other_meals : fork_at plan s (state_of world s) i ≡ 1 → meals_of other (hand_at s (state_of world s) i) ≡ (state_of world other).ate
     other_meals held =
         let none : fork_at plan other (state_of world other) other_place ≡ 0 = omega (arith, held, fork_of_place plan is_plan world kept s i is_site within) in
         meals_of-with_meals_other other s _ (last_log_or [] (traffic_at (state_of world s) i).taken) (λ same. neighbour_differs plan s i (placed plan s i is_plan within) (sym same))
         ∙ ap (λ (l : List Letter). meals_of other (last_log_or [] l)) (complete.all_taken s i is_site within)
-        ∙ there.put_chained.last none ∙ complete.all_ate other over.is_site
+        ∙ there.put_chained.last none
 
     -- so the log in hand has all meals of both
-    held_whole : fork_at plan s (state_of world s) i ≡ 1 → HasAllMeals plan s other (hand_at s (state_of world s) i)
-    held_whole held = (own_meals, other_meals held)
+    held_whole : fork_at plan s (state_of world s) i ≡ 1 → HasAllOfBoth plan world s other (hand_at s (state_of world s) i)
+    held_whole held = (with_due s (hand_at s (state_of world s) i) is_site own_meals, with_due other (hand_at s (state_of world s) i) over.is_site (other_meals held))
 
 -- ---- at an edge
 
@@ -160,11 +168,11 @@ module _ (plan : SeenPlan) (is_plan : IsPlan plan) (world : WorldState) (kept : 
       (λ h. lawful_by _ (edge_at plan high high_at) edge_is.high_edge (sent_lawful plan is_plan world kept high high_at edge_is.high_site edge_is.high_within h))
 
   -- in a complete world it has all meals of both ends
-  pub log_whole : IsComplete plan world → HasAllMeals plan low high (fork_log plan world e)
-  log_whole complete = holds_of_log (HasAllMeals plan low high)
-      (λ h. subst (λ (o : ℕ). HasAllMeals plan low o (hand_at low (state_of world low) low_at)) low_neighbour (held_whole plan is_plan world kept low low_at edge_is.low_site edge_is.low_within complete h))
+  pub log_whole : IsComplete plan world → HasAllOfBoth plan world low high (fork_log plan world e)
+  log_whole complete = holds_of_log (HasAllOfBoth plan world low high)
+      (λ h. subst (λ (o : ℕ). HasAllOfBoth plan world low o (hand_at low (state_of world low) low_at)) low_neighbour (held_whole plan is_plan world kept low low_at edge_is.low_site edge_is.low_within complete h))
       (λ h. absurd (none_sent plan is_plan world kept low low_at edge_is.low_site edge_is.low_within complete h))
-      (λ h. let w = subst (λ (o : ℕ). HasAllMeals plan high o (hand_at high (state_of world high) high_at)) high_neighbour (held_whole plan is_plan world kept high high_at edge_is.high_site edge_is.high_within complete h) in (w.1, w.0))
+      (λ h. let w = subst (λ (o : ℕ). HasAllOfBoth plan world high o (hand_at high (state_of world high) high_at)) high_neighbour (held_whole plan is_plan world kept high high_at edge_is.high_site edge_is.high_within complete h) in (w.1, w.0))
       (λ h. absurd (none_sent plan is_plan world kept high high_at edge_is.high_site edge_is.high_within complete h))
 
   -- ---- the one fork

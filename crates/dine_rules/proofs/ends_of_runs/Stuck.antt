@@ -1,7 +1,7 @@
 -- A world that keeps its streams and in which no site may do a step is complete.
 use Rattle.std.proofs.Common.{◌≡◌, ◌⊎◌, ℕ, zero, suc, ◌+◌, ◌<◌, ◌≤◌, Bool, true, false, not, ◌&&◌, ◌||◌, ◌==◌, nat_lt, List, [], ◌∷◌, ◌++◌, length, slice_get, Some, refl, sym, ◌∙◌, ap, subst, inl, inr, arith, append-nil, zero-add, add-zero}
 use Rattle.std.specs.List.{range_with_len, list_all}
-use Rattle.std.proofs.lemmas.Bool.{true≢false, false≢true, cases_Bool, cases_eq, and_from, or_parts, not-false, not_from_false, false_from_ne_true, true_from_ne_false, lt-ltb, ltb-false, eq-eqb, eqb-false}
+use Rattle.std.proofs.lemmas.Bool.{true≢false, false≢true, cases_Bool, cases_eq, and_from, or_left, or_parts, or_right, not-false, not_from_false, false_from_ne_true, true_from_ne_false, lt-ltb, ltb-false, eq-eqb, eqb-false}
 use Rattle.dine_token.specs.Log.{is_dirty}
 use Rattle.dine_plan.specs.Plan.{SeenPlan, IsPlan, site_count, job_count, edges_of, lo_of, hi_of, other_of}
 use Rattle.dine_rules.specs.declared.letters.Letter.{Letter}
@@ -9,7 +9,7 @@ use Rattle.dine_rules.specs.declared.letters.Letter.TheVariants as letter
 use Rattle.dine_rules.specs.declared.phase.Phase.{Phase}
 use Rattle.dine_rules.specs.declared.phase.Phase.TheVariants as phase
 use Rattle.dine_rules.specs.Letters.{forks_in, requests_in, has_done, has_close}
-use Rattle.dine_rules.specs.Local.{LocalState, traffic_at, edge_at, neighbour_at, is_thinking, is_hungry, is_eating}
+use Rattle.dine_rules.specs.Local.{LocalState, traffic_at, edge_at, neighbour_at, is_thinking, is_hungry, is_eating, has_no_job_left}
 use Rattle.dine_rules.specs.Holdings.{fork_at, token_at, hand_at}
 use Rattle.dine_rules.specs.Breach.{is_allowed}
 use Rattle.dine_rules.specs.Steps.{Give, Ask, Done, Close, Take, may, is_ready}
@@ -95,8 +95,8 @@ module _ (plan : SeenPlan) (s : ℕ) (state : LocalState) (i : ℕ) (within : i 
   may_ask hungry fork token unclosed = and_from _ _ (lt-ltb _ _ within) (and_from _ _ (and_from _ _ hungry (and_from _ _ (eq-eqb _ _ token) (eq-eqb _ _ fork))) (not_from_false _ unclosed))
 
   -- it says that it is done, once
-  may_done : is_thinking state.phase ≡ true → state.ate ≡ job_count plan s → has_done (traffic_at state i).put ≡ false → has_close (traffic_at state i).put ≡ false → may plan s state (Done i) ≡ true
-  may_done thinks all undone unclosed = and_from _ _ (lt-ltb _ _ within) (and_from _ _ (and_from _ _ thinks (eq-eqb _ _ all)) (and_from _ _ (not_from_false _ undone) (not_from_false _ unclosed)))
+  may_done : is_thinking state.phase ≡ true → has_no_job_left plan s state ≡ true → has_done (traffic_at state i).put ≡ false → has_close (traffic_at state i).put ≡ false → may plan s state (Done i) ≡ true
+  may_done thinks all undone unclosed = and_from _ _ (lt-ltb _ _ within) (and_from _ _ (and_from _ _ thinks all) (and_from _ _ (not_from_false _ undone) (not_from_false _ unclosed)))
 
   -- it closes after both Dones
   may_close : has_done (traffic_at state i).put ≡ true → has_done (traffic_at state i).taken ≡ true → has_close (traffic_at state i).put ≡ false → may plan s state (Close i) ≡ true
@@ -105,12 +105,21 @@ module _ (plan : SeenPlan) (s : ℕ) (state : LocalState) (i : ℕ) (within : i 
 -- ---- a world in which no site may do a step
 
 module _ (plan : SeenPlan) (is_plan : IsPlan plan) (world : WorldState) (kept : WorldKeeps plan world) (order : (s : ℕ) → s < site_count plan → IsOrderly (state_of world s)) (still : (s : ℕ) → s < site_count plan → IsStill plan world s) where
-  -- who thinks has eaten all
-  thinker_all : (s : ℕ) → s < site_count plan → is_thinking (state_of world s).phase ≡ true → (state_of world s).ate ≡ job_count plan s
+  -- who thinks has no job left, since it may neither grow hungry nor quit
+  thinker_all : (s : ℕ) → s < site_count plan → is_thinking (state_of world s).phase ≡ true → has_no_job_left plan s (state_of world s) ≡ true
   thinker_all s is_site thinks =
       let state : LocalState = state_of world s in
-      let less : nat_lt state.ate (job_count plan s) ≡ false = rest_fails (is_thinking state.phase) (nat_lt state.ate (job_count plan s)) (still s is_site).hungers thinks in
-      omega (arith, ltb-false state.ate (job_count plan s) less, (kept.keeps s is_site).ate_within)
+      let stays : state.must_quit ≡ false = rest_fails (is_thinking state.phase) state.must_quit (still s is_site).quits thinks in
+      elim (cases_Bool state.has_quit) [
+        | inl quit ↦ or_right (state.ate == job_count plan s) state.has_quit quit
+        | inr unquit ↦
+            let may_stay : (not state.must_quit && not state.has_quit) ≡ true = and_from (not state.must_quit) (not state.has_quit) (not_from_false state.must_quit stays) (not_from_false state.has_quit unquit) in
+            let less : nat_lt state.ate (job_count plan s) ≡ false = false_from_ne_true (nat_lt state.ate (job_count plan s)) (λ left.
+            true≢false (sym (and_from (is_thinking state.phase && nat_lt state.ate (job_count plan s)) (not state.must_quit && not state.has_quit)
+            (and_from (is_thinking state.phase) (nat_lt state.ate (job_count plan s)) thinks left) may_stay) ∙ (still s is_site).hungers)) in
+            or_left (state.ate == job_count plan s) state.has_quit
+            (eq-eqb state.ate (job_count plan s) (omega (arith, ltb-false state.ate (job_count plan s) less, (kept.keeps s is_site).ate_within)))
+      ]
 
   module _ (s i : ℕ) (is_site : s < site_count plan) (within : i < length (edges_of plan s)) where
     -- the site's state

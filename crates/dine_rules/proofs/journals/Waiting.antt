@@ -8,9 +8,9 @@ use Rattle.dine_rules.specs.declared.letters.Letter.{Letter}
 use Rattle.dine_rules.specs.declared.events.Event.{Event}
 use Rattle.dine_rules.specs.declared.events.EventKind.{EventKind}
 use Rattle.dine_rules.specs.declared.events.EventKind.TheVariants as event
-use Rattle.dine_rules.specs.Local.{LocalState, Traffic, edge_at, neighbour_at, no_traffic, traffic_at}
+use Rattle.dine_rules.specs.Local.{LocalState, Traffic, edge_at, meal_fails, neighbour_at, no_traffic, traffic_at}
 use Rattle.dine_rules.specs.Breach.{is_allowed}
-use Rattle.dine_rules.specs.Steps.{Puts, Step, Take, after, shape_of}
+use Rattle.dine_rules.specs.Steps.{End, Puts, Step, Take, after, shape_of}
 use Rattle.dine_rules.specs.World.{Reaches, WorldState, is_enabled, local_after, next_letter, no_state, place_of, put_to, site_after, state_of, step_of, world_after}
 use Rattle.dine_rules.proofs.links.Across.{across}
 use Rattle.dine_rules.proofs.counting.Persistence.{set_cases, state_stays}
@@ -64,7 +64,7 @@ module _ (plan : SeenPlan) (is_plan : IsPlan plan) (world new : WorldState) (kep
       let place : ℕ = place_of plan there (edge_at plan s i) in
       elim (cases_eq there other.site) [
         | inl same ↦
-            let shape : step_shape one.step ≢ Puts place = λ is. no_letter place (sym (shape_is (next_letter plan world other.site) other.kind one.step one.step_is) ∙ is)
+            let shape : step_shape one.step ≢ Puts place = λ is. no_letter place (sym (shape_is (meal_fails plan other.site (state_of world other.site)) (next_letter plan world other.site) other.kind one.step one.step_is) ∙ is)
             (ap (λ (x : ℕ). neighbour_at plan x place) (sym same) ∙ over.back) in
             let after_step : state_of new other.site ≡ after plan other.site (state_of world other.site) one.step = ap (λ (x : WorldState). state_of x other.site) one.changes
             ∙ get_or-set_same world other.site _ no_state (let n = kept.sites in let m = one.is_site in omega arith) in
@@ -84,6 +84,7 @@ module _ (plan : SeenPlan) (is_plan : IsPlan plan) (world new : WorldState) (kep
         let few : length (state_of world s).traffic ≤ i = let e = (kept.keeps s is_site).every_place in omega arith in
         no_take plan new s i (subst (λ (x : LocalState). length x.traffic ≤ i) (sym stays) few) ∙ sym (no_take plan world s i few)
   ]
+  same_after is_site event.End = ap (λ (x : LocalState). is_some (local_after plan s x (End (meal_fails plan s x)))) stays
   same_after is_site kind = ap (λ (x : LocalState). is_some (option_and_then (local_after plan s x) (step_of plan new s kind))) stays
 
 -- An event of a site that did not act and got no letter is enabled exactly where it was.

@@ -1,11 +1,11 @@
 -- The letter that comes next to a site is one that it may take.
 use Rattle.std.proofs.Common.{◌≡◌, ◌⊎◌, ℕ, ◌+◌, ◌<◌, ◌≤◌, Bool, true, false, cond, not, ◌||◌, ◌==◌, List, [], ◌∷◌, length, slice_get, refl, sym, ◌∙◌, ap, subst, inl, inr, arith}
-use Rattle.std.proofs.lemmas.Bool.{and_from, or_left, or_right, cases_Bool, not_from_false, eqb-true, eq-eqb, lt-ltb}
+use Rattle.std.proofs.lemmas.Bool.{and_from, or_cases, or_left, or_right, cases_Bool, not_from_false, eqb-true, eq-eqb, lt-ltb}
 use Rattle.dine_token.specs.declared.entry.Entry.{Entry}
 use Rattle.dine_token.specs.Fork.{SeenFork}
 use Rattle.dine_token.specs.Log.{is_dirty, location_of, meals_of}
 use Rattle.dine_token.proofs.Logs.{is_dirty-push_move, location_of-push_move, meals_of-push_move}
-use Rattle.dine_plan.specs.Plan.{SeenPlan, job_count, lo_of}
+use Rattle.dine_plan.specs.Plan.{SeenPlan, job_count, lo_of, resigns}
 use Rattle.dine_rules.specs.declared.letters.Letter.{Letter}
 use Rattle.dine_rules.specs.declared.letters.Letter.TheVariants.{Fork, Request, Done, Close}
 use Rattle.dine_rules.specs.Letters.{forks_in, requests_in, has_done, has_close, last_log_or}
@@ -73,6 +73,14 @@ module _ (plan : SeenPlan) (s i j : ℕ) (near far : LocalState) (going : List L
     -- Done taken here was put there, and so the other end ate all its meals
     done_there : has_done (traffic_at near i).taken ≡ true → has_done (traffic_at far j).put ≡ true
     done_there done = ap has_done ends.comes ∙ has_done-append (traffic_at near i).taken coming ∙ or_left (has_done (traffic_at near i).taken) (has_done coming) done
+
+    -- where the other end put Done, a log with all meals that it ate has all that are due to it, or it resigns
+    all_or_resigns : (log : List Entry) → meals_of (neighbour_at plan s i) log ≡ far.ate → has_done (traffic_at far j).put ≡ true → has_all_of_neighbour plan s near i log ≡ true
+    all_or_resigns log theirs done = elim (or_cases (far.ate == job_count plan (neighbour_at plan s i)) far.has_quit (keeps_there.done_after_all done)) [
+      | inl all ↦ or_right (resigns plan (neighbour_at plan s i)) (meals_of (neighbour_at plan s i) log == job_count plan (neighbour_at plan s i))
+          (eq-eqb (meals_of (neighbour_at plan s i) log) (job_count plan (neighbour_at plan s i)) (theirs ∙ eqb-true _ _ all))
+      | inr quit ↦ or_left (resigns plan (neighbour_at plan s i)) (meals_of (neighbour_at plan s i) log == job_count plan (neighbour_at plan s i)) (ends.there.has_dropped quit).0
+    ]
 
     -- Done taken there was put here
     done_here : has_done (traffic_at far j).taken ≡ true → has_done (traffic_at near i).put ≡ true
@@ -188,7 +196,7 @@ module _ (plan : SeenPlan) (s i j : ℕ) (near far : LocalState) (going : List L
     fork_after_done : (not (has_done (traffic_at near i).taken) || has_all_of_neighbour plan s near i fork.log) ≡ true
     fork_after_done = elim (cases_Bool (has_done (traffic_at near i).taken)) [
       | inl done ↦ or_right (not (has_done (traffic_at near i).taken)) (has_all_of_neighbour plan s near i fork.log)
-          (eq-eqb (meals_of (neighbour_at plan s i) fork.log) (job_count plan (neighbour_at plan s i)) (fork_has_theirs ∙ (keeps_there forks ends).done_after_all (done_there forks ends done)))
+          (all_or_resigns forks ends fork.log fork_has_theirs (done_there forks ends done))
       | inr not_done ↦ or_left (not (has_done (traffic_at near i).taken)) (has_all_of_neighbour plan s near i fork.log) (not_from_false (has_done (traffic_at near i).taken) not_done)
     ]
 
@@ -209,8 +217,7 @@ module _ (plan : SeenPlan) (s i j : ℕ) (near far : LocalState) (going : List L
         let put : has_done (traffic_at far j).put ≡ true = ap has_done ends.comes ∙ has_done-append (traffic_at near i).taken (Done ∷ rest) ∙ or_right (has_done (traffic_at near i).taken) true refl in
         elim (cases_Bool (fork_at plan s near i == 1)) [
           | inl one ↦ or_right (not (fork_at plan s near i == 1)) (has_all_of_neighbour plan s near i (hand_at s near i))
-              (eq-eqb (meals_of (neighbour_at plan s i) (hand_at s near i)) (job_count plan (neighbour_at plan s i))
-              (hand_has_theirs (Done ∷ rest) ends (eqb-true (fork_at plan s near i) 1 one) ∙ (keeps_there (Done ∷ rest) ends).done_after_all put))
+              (all_or_resigns (Done ∷ rest) ends (hand_at s near i) (hand_has_theirs (Done ∷ rest) ends (eqb-true (fork_at plan s near i) 1 one)) put)
           | inr none ↦ or_left (not (fork_at plan s near i == 1)) (has_all_of_neighbour plan s near i (hand_at s near i)) (not_from_false (fork_at plan s near i == 1) none)
         ]
 

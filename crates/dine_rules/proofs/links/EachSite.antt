@@ -1,5 +1,5 @@
 -- What each step of a site keeps, holds of each site of a world that events reach from the start.
-use Rattle.std.proofs.Common.{◌≡◌, ℕ, ◌<◌, true, List, [], ◌∷◌, slice_set, Option, Some, sym, subst, inl, inr, arith}
+use Rattle.std.proofs.Common.{◌≡◌, ℕ, ◌<◌, Bool, true, List, [], ◌∷◌, slice_set, Option, Some, sym, subst, inl, inr, arith}
 use Rattle.std.proofs.lemmas.Bool.{cases_eq}
 use Rattle.std.proofs.lemmas.List.{get_or-set_same, get_or-set_other}
 use Rattle.std.proofs.lemmas.Option.{same_Some}
@@ -7,7 +7,7 @@ use Rattle.dine_plan.specs.Plan.{SeenPlan, IsPlan, site_count}
 use Rattle.dine_rules.specs.declared.events.Event.{Event}
 use Rattle.dine_rules.specs.declared.events.EventKind.{EventKind}
 use Rattle.dine_rules.specs.declared.events.EventKind.TheVariants as event
-use Rattle.dine_rules.specs.Local.{LocalState, start_of}
+use Rattle.dine_rules.specs.Local.{LocalState, meal_fails, start_of}
 use Rattle.dine_rules.specs.declared.letters.Letter.{Letter}
 use Rattle.dine_rules.specs.Steps.{Step, Break, Take, after, may, step_by}
 use Rattle.dine_rules.specs.Streams.{KeepsStreams}
@@ -21,13 +21,13 @@ IsInOrder (Break i) = ⊥
 IsInOrder step = Unit {0}
 
 -- no event of the world is a Break
-not_break : (next : ℕ → Option Letter) (kind : EventKind) (i : ℕ) → step_by next kind ≡ Some (Break i) → ⊥
-not_break next (event.Take k) i h = let w = option_map_parts (Take k) (next k) (Break i) h in let differs : ◌≡◌ {A = Step} (Take k w.0) (Break i) = w.2 in cc
-not_break next kind i h = cc
+not_break : (failed : Bool) (next : ℕ → Option Letter) (kind : EventKind) (i : ℕ) → step_by failed next kind ≡ Some (Break i) → ⊥
+not_break failed next (event.Take k) i h = let w = option_map_parts (Take k) (next k) (Break i) h in let differs : ◌≡◌ {A = Step} (Take k w.0) (Break i) = w.2 in cc
+not_break failed next kind i h = cc
 
-no_break : (next : ℕ → Option Letter) (kind : EventKind) (step : Step) → step_by next kind ≡ Some step → IsInOrder step
-no_break next kind (Break i) h = absurd (not_break next kind i h)
-no_break next kind step h = tt
+no_break : (failed : Bool) (next : ℕ → Option Letter) (kind : EventKind) (step : Step) → step_by failed next kind ≡ Some step → IsInOrder step
+no_break failed next kind (Break i) h = absurd (not_break failed next kind i h)
+no_break failed next kind step h = tt
 
 module _ (plan : SeenPlan) (is_plan : IsPlan plan) (P : ℕ → LocalState → Type 0) where
   -- it holds of each site at the start
@@ -47,7 +47,7 @@ module _ (plan : SeenPlan) (is_plan : IsPlan plan) (P : ℕ → LocalState → T
   event_holds by_step world new e kept holds h =
       let w = event_is_step plan world e new h in
       let state : LocalState = after plan e.site (state_of world e.site) w.step in
-      let next : P e.site state = by_step e.site (state_of world e.site) w.step w.is_site (kept.keeps e.site w.is_site) (holds e.site w.is_site) (no_break (next_letter plan world e.site) e.kind w.step w.step_is) w.needs in
+      let next : P e.site state = by_step e.site (state_of world e.site) w.step w.is_site (kept.keeps e.site w.is_site) (holds e.site w.is_site) (no_break (meal_fails plan e.site (state_of world e.site)) (next_letter plan world e.site) e.kind w.step w.step_is) w.needs in
       let here : state_of (slice_set world e.site state) e.site ≡ state = get_or-set_same world e.site state no_state (omega (arith, kept.sites, w.is_site)) in
       subst HoldsOfEach (sym w.changes) (λ s is_site. elim (cases_eq s e.site) [
         | inl same ↦ subst (λ (x : ℕ). P x (state_of (slice_set world e.site state) x)) (sym same) (subst (P e.site) (sym here) next)

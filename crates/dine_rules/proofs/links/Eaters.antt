@@ -8,7 +8,7 @@ use Rattle.dine_rules.specs.declared.letters.Letter.TheVariants as letter
 use Rattle.dine_rules.specs.Letters.{forks_in}
 use Rattle.dine_rules.specs.Local.{LocalState, Traffic, no_traffic, traffic_at, start_of, edge_at, is_eating}
 use Rattle.dine_rules.specs.Holdings.{EatsWithAll, forks_held, fork_at}
-use Rattle.dine_rules.specs.Steps.{Step, Give, Ask, Hungry, Begin, End, Done, Close, Break, Take, after, may, is_ready}
+use Rattle.dine_rules.specs.Steps.{Step, Give, Ask, Hungry, Begin, End, Quit, Done, Close, Break, Take, after, may, is_ready}
 use Rattle.dine_rules.proofs.lists.Counting.{none_is_not_one, forks_in-append}
 use Rattle.dine_rules.proofs.one_site.SiteSteps.{list_all-range, not_hungry_while_eating, not_thinking_while_eating}
 use Rattle.dine_rules.proofs.links.Joined.{Joined, one_fork}
@@ -55,7 +55,8 @@ module _ (plan : SeenPlan) (s : ℕ) where
   step_eats_with_all state Begin eats h eating i within =
       let ready : is_ready plan s state i ≡ true = ap (is_ready plan s state) (sym (zero-add i)) ∙ list_all-range (is_ready plan s state) 0 (length state.traffic) i (and_parts _ _ h).1 within in
       eqb-true (fork_at plan s state i) 1 (and_parts _ _ ready).0
-  step_eats_with_all state End eats h eating i within = absurd (false≢true eating)
+  step_eats_with_all state (End failed) eats h eating i within = absurd (false≢true eating)
+  step_eats_with_all state Quit eats h eating i within = absurd (not_thinking_while_eating state.phase eating (and_parts _ _ h).0)
   step_eats_with_all state (Done k) eats h eating i within = absurd (not_thinking_while_eating state.phase eating (and_parts _ _ (and_parts _ _ (and_parts _ _ h).1).0).0)
   step_eats_with_all state (Close k) eats h eating i within = changed_eats_with_all state k _ (ltb-true _ _ (and_parts _ _ h).0) (put_keeps_fork (edge_at plan s k) (traffic_at state k) letter.Close refl) eats eating i within
   step_eats_with_all state (Break k) eats h eating i within = changed_eats_with_all state k _ (ltb-true _ _ (and_parts _ _ h).0) (put_keeps_fork (edge_at plan s k) (traffic_at state k) letter.Close refl) eats eating i within

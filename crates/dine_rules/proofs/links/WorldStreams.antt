@@ -12,7 +12,7 @@ use Rattle.dine_rules.specs.declared.letters.Letter.{Letter}
 use Rattle.dine_rules.specs.declared.events.Event.{Event}
 use Rattle.dine_rules.specs.declared.events.EventKind.{EventKind}
 use Rattle.dine_rules.specs.declared.events.EventKind.TheVariants as event
-use Rattle.dine_rules.specs.Local.{LocalState, Traffic, no_traffic, traffic_at, start_of, edge_at, neighbour_at}
+use Rattle.dine_rules.specs.Local.{LocalState, Traffic, no_traffic, traffic_at, start_of, edge_at, meal_fails, neighbour_at}
 use Rattle.dine_rules.specs.Steps.{Step, Take, IsPlaceWithin, Takes, after, may, with_put}
 use Rattle.dine_rules.specs.Streams.{KeepsStreams, IsProper}
 use Rattle.dine_rules.specs.World.{WorldState, no_state, state_of, start, place_of, put_to, next_letter, step_of, local_after, site_after, world_after, after_events, Reaches, LinksAreOrdered}
@@ -143,7 +143,7 @@ module _ (plan : SeenPlan) (is_plan : IsPlan plan) (world : WorldState) (kept : 
       let there = kept.keeps (neighbour_at plan s i) over.is_site in
       let place : ℕ = place_of plan (neighbour_at plan s i) (edge_at plan s i) in
       let is_place : place < length (state_of world (neighbour_at plan s i)).traffic = omega (arith, over.within, there.every_place) in
-      is_proper-of plan (edge_at plan (neighbour_at plan s i) place) (put_to plan world s i) is_plan (placed plan (neighbour_at plan s i) place is_plan over.within).edge_within
+      is_proper-of plan (edge_at plan (neighbour_at plan s i) place) (put_to plan world s i)
       (there.places place is_place).put_forks (length (traffic_at (state_of world s) i).taken) i l next
 
   long : (i : ℕ) → i < length (state_of world s).traffic → i < length (edges_of plan s)
@@ -160,7 +160,7 @@ module _ (plan : SeenPlan) (is_plan : IsPlan plan) (world : WorldState) (kept : 
       let may_take : may plan s (state_of world s) (Take i w.0) ≡ true = subst (λ (x : Step). may plan s (state_of world s) x ≡ true) (sym w.2) may_be in
       let within : i < length (state_of world s).traffic = ltb-true _ _ (and_parts _ _ may_take).0 in
       subst (λ (x : Step). IsProper x × TakesNext plan s (state_of world s) offered x) w.2 (offer_is_proper i w.0 (long i within) w.1, w.1)
-  kind_is kind step h may_be = takes_none step (λ i is. let shape = shape_is (next_letter plan world s) kind step h in cc)
+  kind_is kind step h may_be = takes_none step (λ i is. let shape = shape_is (meal_fails plan s (state_of world s)) (next_letter plan world s) kind step h in cc)
 
   -- the site's state and its lists after the step
   module _ (step : Step) (is_proper : IsProper step) (next : TakesNext plan s (state_of world s) offered step) (needs : may plan s (state_of world s) step ≡ true) where

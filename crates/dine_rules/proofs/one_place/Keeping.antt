@@ -1,6 +1,6 @@
 -- What a site keeps at one place, and each change of the place.
 use Rattle.std.proofs.Common.{◌≡◌, ℕ, ◌+◌, ◌-◌, ◌<◌, Bool, true, false, cond, ◌&&◌, ◌||◌, ◌==◌, List, [], ◌∷◌, ◌++◌, length, slice_get, Some, refl, sym, ◌∙◌, ap, ap₂, subst, inl, inr, arith, append-nil}
-use Rattle.std.proofs.lemmas.Bool.{false≢true, and_parts, not-true, cond-true, cond-false, eqb-true, eq-eqb, false_from_ne_true, and_from, or_left}
+use Rattle.std.proofs.lemmas.Bool.{false≢true, and_parts, not-true, cond-true, cond-false, eqb-true, eq-eqb, false_from_ne_true, and_from, or_left, or_right}
 use Rattle.std.proofs.lemmas.List.{length_push}
 use Rattle.dine_token.specs.declared.entry.Entry.{Entry}
 use Rattle.dine_token.specs.declared.entry.Entry.TheVariants.{Move}
@@ -217,11 +217,11 @@ fork_is_at spot fork same_edge same_ends same_due lawful = (
 )
 
 -- what a site keeps of the letters that it put at a place
-pub record Puts (spot : Spot) (phase : Phase) (ate : ℕ) (put : List Letter) : Type 0 where
+pub record Puts (spot : Spot) (phase : Phase) (ate : ℕ) (quit : Bool) (put : List Letter) : Type 0 where
   pub lawful : IsLawfulStream spot.lower put
   pub forks : EachFork (IsForkAt spot) put
   pub requests : AreRequestsOf spot.edge put
-  pub done_after_all : has_done put ≡ true → ate ≡ spot.due_here
+  pub done_after_all : has_done put ≡ true → (ate == spot.due_here || quit) ≡ true
   pub done_thinks : has_done put ≡ true → is_thinking phase ≡ true
 
 -- the fork was sent to the site of the place
@@ -237,9 +237,9 @@ pub record Takes (spot : Spot) (put taken : List Letter) : Type 0 where
   pub come_here : EachFork (ComesHere spot) taken
   pub closed_after : has_close taken ≡ true → has_done put ≡ true
 
-pub record Keeps (spot : Spot) (phase : Phase) (ate : ℕ) (put taken : List Letter) : Type 0 where
+pub record Keeps (spot : Spot) (phase : Phase) (ate : ℕ) (quit : Bool) (put taken : List Letter) : Type 0 where
   pub balanced : BalancedBy spot phase ate put taken
-  pub puts : Puts spot phase ate put
+  pub puts : Puts spot phase ate quit put
   pub takes : Takes spot put taken
 
 -- one phase at a time
@@ -263,10 +263,10 @@ requests-push edge xs l each last k e h = elim (slice_get-push xs l (Request e) 
   | inr now ↦ last e now.1
 ]
 
-module _ (spot : Spot) (phase : Phase) (ate : ℕ) (put : List Letter) where
+module _ (spot : Spot) (phase : Phase) (ate : ℕ) (quit : Bool) (put : List Letter) where
   -- a letter that is not Done is put
   puts_other : (l : Letter) → has_done (l ∷ []) ≡ false → ((fork : SeenFork) → l ≡ Fork fork → IsForkAt spot fork) → ((e : ℕ) → l ≡ Request e → e ≡ spot.edge)
-      → IsLawfulStream spot.lower (put ++ l ∷ []) → Puts spot phase ate put → Puts spot phase ate (put ++ l ∷ [])
+      → IsLawfulStream spot.lower (put ++ l ∷ []) → Puts spot phase ate quit put → Puts spot phase ate quit (put ++ l ∷ [])
   puts_other l no_done own named lawful k = record {
     lawful = lawful;
     forks = EachFork-push (IsForkAt spot) put l k.forks own;
@@ -275,7 +275,7 @@ module _ (spot : Spot) (phase : Phase) (ate : ℕ) (put : List Letter) where
     done_thinks = λ h. k.done_thinks (done_before put l no_done h);
   }
 
-  puts_done : IsLawfulStream spot.lower (put ++ Done ∷ []) → is_thinking phase ≡ true → ate ≡ spot.due_here → Puts spot phase ate put → Puts spot phase ate (put ++ Done ∷ [])
+  puts_done : IsLawfulStream spot.lower (put ++ Done ∷ []) → is_thinking phase ≡ true → (ate == spot.due_here || quit) ≡ true → Puts spot phase ate quit put → Puts spot phase ate quit (put ++ Done ∷ [])
   puts_done lawful thinks all k = record {
     lawful = lawful;
     forks = EachFork-push (IsForkAt spot) put Done k.forks (λ other is. absurd cc);
@@ -284,9 +284,9 @@ module _ (spot : Spot) (phase : Phase) (ate : ℕ) (put : List Letter) where
     done_thinks = λ _. thinks;
   }
 
-  -- another phase or number of meals, where Done still says the same
-  puts_still : (new_phase : Phase) (meals : ℕ) → (has_done put ≡ true → (meals ≡ spot.due_here) × (is_thinking new_phase ≡ true)) → Puts spot phase ate put → Puts spot new_phase meals put
-  puts_still new_phase meals still k = record {
+  -- another phase or number of meals, or a site that quits, where Done still says the same
+  puts_still : (new_phase : Phase) (meals : ℕ) (new_quit : Bool) → (has_done put ≡ true → ((meals == spot.due_here || new_quit) ≡ true) × (is_thinking new_phase ≡ true)) → Puts spot phase ate quit put → Puts spot new_phase meals new_quit put
+  puts_still new_phase meals new_quit still k = record {
     lawful = k.lawful;
     forks = k.forks;
     requests = k.requests;
@@ -328,48 +328,48 @@ module _ (spot : Spot) (put taken : List Letter) where
     closed_after = λ _. done_put;
   }
 
-module _ (spot : Spot) (phase : Phase) (ate : ℕ) (put taken : List Letter) where
-  pub Keeps-give : IsSpot spot → Keeps spot phase ate put taken → fork_here spot put taken ≡ 1 → token_here spot put taken ≡ 1 → is_dirty (hand_here spot ate taken) ≡ true → has_close put ≡ false
+module _ (spot : Spot) (phase : Phase) (ate : ℕ) (quit : Bool) (put taken : List Letter) where
+  pub Keeps-give : IsSpot spot → Keeps spot phase ate quit put taken → fork_here spot put taken ≡ 1 → token_here spot put taken ≡ 1 → is_dirty (hand_here spot ate taken) ≡ true → has_close put ≡ false
       → (fork : SeenFork) → fork.edge ≡ spot.edge → fork.ends ≡ spot.ends → fork.due ≡ spot.due → fork.log ≡ hand_here spot ate taken ++ Move spot.other ∷ []
-      → Keeps spot phase ate (put ++ Fork fork ∷ []) taken
+      → Keeps spot phase ate quit (put ++ Fork fork ∷ []) taken
   Keeps-give is_spot k one_fork one_token dirty is_open fork same_edge same_ends same_due is_log =
       let held = Held-along spot phase ate _ _ (requests_in put) _ _ _ _ _ _ _ one_fork one_token refl refl refl k.balanced.held in
       let lawful = given_lawful spot phase ate (requests_in put) (last_log_or [] put) (last_log_or [] taken) is_spot held dirty in
       let own : IsForkAt spot fork = fork_is_at spot fork same_edge same_ends same_due (subst (λ (l : List Entry). IsLawful spot.ends spot.due l) (sym is_log) lawful) in
       record {
         balanced = Balanced-give spot phase ate put taken is_spot k.balanced one_fork one_token dirty fork is_log;
-        puts = puts_other spot phase ate put (Fork fork) refl (λ other is. subst (IsForkAt spot) (same_fork fork other is) own) (λ e is. absurd cc)
+        puts = puts_other spot phase ate quit put (Fork fork) refl (λ other is. subst (IsForkAt spot) (same_fork fork other is) own) (λ e is. absurd cc)
             (stream-push_fork spot.lower put fork k.puts.lawful is_open (omega (arith, k.balanced.counts))) k.puts;
         takes = takes_still spot put taken (Fork fork) k.takes;
       }
 
-  pub Keeps-ask : Keeps spot phase ate put taken → fork_here spot put taken ≡ 0 → token_here spot put taken ≡ 1 → is_hungry phase ≡ true → has_close put ≡ false
-      → Keeps spot phase ate (put ++ Request spot.edge ∷ []) taken
+  pub Keeps-ask : Keeps spot phase ate quit put taken → fork_here spot put taken ≡ 0 → token_here spot put taken ≡ 1 → is_hungry phase ≡ true → has_close put ≡ false
+      → Keeps spot phase ate quit (put ++ Request spot.edge ∷ []) taken
   Keeps-ask k no_fork one_token hungry is_open = record {
     balanced = Balanced-ask spot phase ate put taken k.balanced no_fork one_token hungry spot.edge;
-    puts = puts_other spot phase ate put (Request spot.edge) refl (λ other is. absurd cc) (λ e is. cc)
+    puts = puts_other spot phase ate quit put (Request spot.edge) refl (λ other is. absurd cc) (λ e is. cc)
         (stream-push_request spot.lower put spot.edge k.puts.lawful is_open (false_from_ne_true (has_done put) (λ h. hungry_not_thinking phase hungry (k.puts.done_thinks h))) (omega (arith, k.balanced.counts))) k.puts;
     takes = takes_still spot put taken (Request spot.edge) k.takes;
   }
 
-  pub Keeps-done : Keeps spot phase ate put taken → is_thinking phase ≡ true → ate ≡ spot.due_here → has_done put ≡ false → has_close put ≡ false
-      → Keeps spot phase ate (put ++ Done ∷ []) taken
+  pub Keeps-done : Keeps spot phase ate quit put taken → is_thinking phase ≡ true → (ate == spot.due_here || quit) ≡ true → has_done put ≡ false → has_close put ≡ false
+      → Keeps spot phase ate quit (put ++ Done ∷ []) taken
   Keeps-done k thinks all no_done is_open = record {
     balanced = Balanced-put_mark spot phase ate put taken Done refl refl (λ log. refl) refl k.balanced;
-    puts = puts_done spot phase ate put (stream-push_done spot.lower put k.puts.lawful is_open no_done) thinks all k.puts;
+    puts = puts_done spot phase ate quit put (stream-push_done spot.lower put k.puts.lawful is_open no_done) thinks all k.puts;
     takes = takes_still spot put taken Done k.takes;
   }
 
-  pub Keeps-close : Keeps spot phase ate put taken → has_close put ≡ false → Keeps spot phase ate (put ++ Close ∷ []) taken
+  pub Keeps-close : Keeps spot phase ate quit put taken → has_close put ≡ false → Keeps spot phase ate quit (put ++ Close ∷ []) taken
   Keeps-close k is_open = record {
     balanced = Balanced-put_mark spot phase ate put taken Close refl refl (λ log. refl) refl k.balanced;
-    puts = puts_other spot phase ate put Close refl (λ other is. absurd cc) (λ e is. absurd cc) (stream-push_close spot.lower put k.puts.lawful is_open) k.puts;
+    puts = puts_other spot phase ate quit put Close refl (λ other is. absurd cc) (λ e is. absurd cc) (stream-push_close spot.lower put k.puts.lawful is_open) k.puts;
     takes = takes_still spot put taken Close k.takes;
   }
 
-  pub Keeps-take_fork : Keeps spot phase ate put taken → fork_here spot put taken ≡ 0 → token_here spot put taken ≡ 0 → has_close taken ≡ false
+  pub Keeps-take_fork : Keeps spot phase ate quit put taken → fork_here spot put taken ≡ 0 → token_here spot put taken ≡ 0 → has_close taken ≡ false
       → (fork : SeenFork) → IsForkAt spot fork → ComesHere spot fork → meals_of spot.site fork.log ≡ ate
-      → Keeps spot phase ate put (taken ++ Fork fork ∷ [])
+      → Keeps spot phase ate quit put (taken ++ Fork fork ∷ [])
   Keeps-take_fork k no_fork no_token is_open fork is_fork comes_here all =
       let parts = and_parts _ _ comes_here in
       let own : IsForkAt spot fork × ComesHere spot fork = (is_fork, comes_here) in
@@ -380,8 +380,8 @@ module _ (spot : Spot) (phase : Phase) (ate : ℕ) (put taken : List Letter) whe
             (stream-push_fork spot.higher taken fork k.takes.lawful is_open (omega (arith, k.balanced.counts))) k.takes;
       }
 
-  pub Keeps-take_request : Keeps spot phase ate put taken → fork_here spot put taken ≡ 1 → token_here spot put taken ≡ 0 → meals_of spot.other (hand_here spot ate taken) < spot.due_there → has_close taken ≡ false → has_done taken ≡ false
-      → (edge : ℕ) → edge ≡ spot.edge → Keeps spot phase ate put (taken ++ Request edge ∷ [])
+  pub Keeps-take_request : Keeps spot phase ate quit put taken → fork_here spot put taken ≡ 1 → token_here spot put taken ≡ 0 → meals_of spot.other (hand_here spot ate taken) < spot.due_there → has_close taken ≡ false → has_done taken ≡ false
+      → (edge : ℕ) → edge ≡ spot.edge → Keeps spot phase ate quit put (taken ++ Request edge ∷ [])
   Keeps-take_request k one_fork no_token left is_open no_done edge names = record {
     balanced = Balanced-take_request spot phase ate put taken k.balanced one_fork no_token left edge;
     puts = k.puts;
@@ -389,31 +389,39 @@ module _ (spot : Spot) (phase : Phase) (ate : ℕ) (put taken : List Letter) whe
         (stream-push_request spot.higher taken edge k.takes.lawful is_open no_done (omega (arith, k.balanced.counts))) k.takes;
   }
 
-  pub Keeps-take_done : Keeps spot phase ate put taken → has_close taken ≡ false → has_done taken ≡ false → Keeps spot phase ate put (taken ++ Done ∷ [])
+  pub Keeps-take_done : Keeps spot phase ate quit put taken → has_close taken ≡ false → has_done taken ≡ false → Keeps spot phase ate quit put (taken ++ Done ∷ [])
   Keeps-take_done k is_open no_done = record {
     balanced = Balanced-take_mark spot phase ate put taken Done refl refl (λ log. refl) refl k.balanced;
     puts = k.puts;
     takes = takes_other spot put taken Done refl (λ other is. absurd cc) (λ e is. absurd cc) (stream-push_done spot.higher taken k.takes.lawful is_open no_done) k.takes;
   }
 
-  pub Keeps-take_close : Keeps spot phase ate put taken → has_close taken ≡ false → has_done taken ≡ true → has_done put ≡ true → Keeps spot phase ate put (taken ++ Close ∷ [])
+  pub Keeps-take_close : Keeps spot phase ate quit put taken → has_close taken ≡ false → has_done taken ≡ true → has_done put ≡ true → Keeps spot phase ate quit put (taken ++ Close ∷ [])
   Keeps-take_close k is_open done done_put = record {
     balanced = Balanced-take_mark spot phase ate put taken Close refl refl (λ log. refl) refl k.balanced;
     puts = k.puts;
     takes = takes_close spot put taken is_open done done_put k.takes;
   }
 
-  pub Keeps-begin : IsSpot spot → (new_phase : Phase) → Keeps spot phase ate put taken → is_hungry phase ≡ true → fork_here spot put taken ≡ 1 → ate < spot.due_here → Keeps spot new_phase (ate + 1) put taken
+  pub Keeps-begin : IsSpot spot → (new_phase : Phase) → Keeps spot phase ate quit put taken → is_hungry phase ≡ true → fork_here spot put taken ≡ 1 → ate < spot.due_here → Keeps spot new_phase (ate + 1) quit put taken
   Keeps-begin is_spot new_phase k hungry one_fork left = record {
     balanced = Balanced-begin spot phase ate put taken is_spot new_phase k.balanced one_fork left;
-    puts = puts_still spot phase ate put new_phase (ate + 1) (λ h. absurd (hungry_not_thinking phase hungry (k.puts.done_thinks h))) k.puts;
+    puts = puts_still spot phase ate quit put new_phase (ate + 1) quit (λ h. absurd (hungry_not_thinking phase hungry (k.puts.done_thinks h))) k.puts;
     takes = k.takes;
   }
 
-  pub Keeps-phase : (new_phase : Phase) → Keeps spot phase ate put taken → (is_hungry phase ≡ true → is_hungry new_phase ≡ true) → (has_done put ≡ true → is_thinking phase ≡ true → is_thinking new_phase ≡ true)
-      → Keeps spot new_phase ate put taken
+  pub Keeps-phase : (new_phase : Phase) → Keeps spot phase ate quit put taken → (is_hungry phase ≡ true → is_hungry new_phase ≡ true) → (has_done put ≡ true → is_thinking phase ≡ true → is_thinking new_phase ≡ true)
+      → Keeps spot new_phase ate quit put taken
   Keeps-phase new_phase k still_hungry still_thinks = record {
     balanced = Balanced-phase spot phase ate put taken new_phase k.balanced still_hungry;
-    puts = puts_still spot phase ate put new_phase ate (λ h. (k.puts.done_after_all h, still_thinks h (k.puts.done_thinks h))) k.puts;
+    puts = puts_still spot phase ate quit put new_phase ate quit (λ h. (k.puts.done_after_all h, still_thinks h (k.puts.done_thinks h))) k.puts;
+    takes = k.takes;
+  }
+
+  -- a site that quits keeps its phase and its meals
+  pub Keeps-quit : Keeps spot phase ate quit put taken → Keeps spot phase ate true put taken
+  Keeps-quit k = record {
+    balanced = k.balanced;
+    puts = puts_still spot phase ate quit put phase ate true (λ h. (or_right (ate == spot.due_here) true refl, k.puts.done_thinks h)) k.puts;
     takes = k.takes;
   }

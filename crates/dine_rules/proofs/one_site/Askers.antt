@@ -12,7 +12,7 @@ use Rattle.dine_rules.specs.declared.letters.Letter.TheVariants as letter
 use Rattle.dine_rules.specs.Letters.{forks_in, requests_in, last_log_or}
 use Rattle.dine_rules.specs.Local.{LocalState, Traffic, no_traffic, traffic_at, start_of, edge_at}
 use Rattle.dine_rules.specs.Holdings.{forks_held, tokens_held, fork_at, token_at, hand_at, with_meals_to}
-use Rattle.dine_rules.specs.Steps.{Step, Give, Ask, Hungry, Begin, End, Done, Close, Break, Take, IsPlaceWithin, after, may, is_ready}
+use Rattle.dine_rules.specs.Steps.{Step, Give, Ask, Hungry, Begin, End, Quit, Done, Close, Break, Take, IsPlaceWithin, after, may, is_ready}
 use Rattle.dine_rules.specs.StepLists.{LeadTo, begins_in, is_give_at}
 use Rattle.dine_rules.proofs.lists.Counting.{none_is_not_one, forks_in-append, requests_in-append, last_log_or-append}
 use Rattle.dine_rules.proofs.one_place.Hands.{hand-more}
@@ -51,7 +51,8 @@ module _ (plan : SeenPlan) (s : ℕ) where
   step_within state (Take j letter.Close) few h = within_set state j _ few (ltb-true _ _ (and_parts _ _ h).0) (within_taken state j letter.Close (λ log. refl) few)
   step_within state Hungry few h = few
   step_within state Begin few h = λ i. omega (arith, few i)
-  step_within state End few h = few
+  step_within state (End failed) few h = few
+  step_within state Quit few h = few
   step_within state step few h = by_moves plan s state IsWithin (step_shape step) (after plan s state step) (moved plan s state step)
       (λ j l is. within_set state j _ few (subst (IsPlaceWithin (length state.traffic)) is (may_within plan s state step h)) (few j))
       (λ j l is. absurd cc) (λ same is. absurd cc)
@@ -154,7 +155,8 @@ module _ (plan : SeenPlan) (s i : ℕ) where
       set_waits state j _ asked (ltb-true _ _ parts.0) (not_here state j (fork_at plan s) 1 0 asked.one_fork none (λ e. omega arith))
   step_waits state Hungry asked h no_give no_begin = waits_from state _ asked refl refl (IsSame-refl (traffic_at state i))
   step_waits state Begin asked h no_give no_begin = absurd (no_begin refl)
-  step_waits state End asked h no_give no_begin = waits_from state _ asked refl refl (IsSame-refl (traffic_at state i))
+  step_waits state Quit asked h no_give no_begin = waits_from state _ asked refl refl (IsSame-refl (traffic_at state i))
+  step_waits state (End failed) asked h no_give no_begin = waits_from state _ asked refl refl (IsSame-refl (traffic_at state i))
   step_waits state (Done j) asked h no_give no_begin =
       set_waits state j _ asked (ltb-true _ _ (and_parts _ _ h).0) (λ same. IsSame-put (traffic_at state j) letter.Done refl refl)
   step_waits state (Close j) asked h no_give no_begin =

@@ -1,18 +1,20 @@
 -- What a link has of a site's letters is in order: a front of them, and a front and Close.
-use Rattle.std.proofs.Common.{◌≡◌, ℕ, ◌+◌, ◌<◌, ◌==◌, Bool, true, false, not, ◌||◌, List, [], ◌∷◌, ◌++◌, length, Some, refl, sym, ◌∙◌, ap, subst, inl, inr, arith, append_assoc}
+use Rattle.std.proofs.Common.{◌≡◌, ℕ, ◌+◌, ◌<◌, ◌==◌, Bool, true, false, not, ◌||◌, List, [], ◌∷◌, ◌++◌, length, Some, refl, sym, ◌∙◌, ap, inl, inr, arith, append_assoc}
 use Rattle.std.specs.List.{slice_get}
 use Rattle.std.proofs.lemmas.Bool.{and_parts, eqb-true, false≢true}
 use Rattle.std.proofs.lemmas.List.{append-nil}
 use Rattle.dine_token.specs.declared.entry.Entry.{Entry}
 use Rattle.dine_token.specs.Log.{meals_of}
-use Rattle.dine_plan.specs.Plan.{SeenPlan, lo_of, other_of}
+use Rattle.dine_plan.specs.Plan.{SeenPlan, other_of}
 use Rattle.dine_rules.specs.declared.letters.Letter.{Letter}
 use Rattle.dine_rules.specs.declared.letters.Letter.TheVariants.{Fork, Request, Done, Close}
 use Rattle.dine_rules.specs.Holdings.{forks_held}
-use Rattle.dine_rules.specs.Letters.{forks_in, has_close, has_done, last_log_or, requests_in}
-use Rattle.dine_rules.specs.Local.{LocalState, Traffic, edge_at, traffic_at}
-use Rattle.dine_rules.specs.Streams.{CarriesOnTaken, IsChained, IsPutInOrder, KeepsStreams, is_alternating, is_close_last, is_done_last, is_lower_at, logs_of}
+use Rattle.dine_rules.specs.Letters.{forks_among, forks_in, has_close, has_done, last_log_or, requests_in}
+use Rattle.dine_rules.specs.Local.{LocalState, edge_at, traffic_at}
+use Rattle.dine_rules.specs.Streams.{CarriesOnTaken, IsPutInOrder, KeepsStreams, is_alternating, is_close_last, is_done_last, is_lower_at, logs_of}
 use Rattle.dine_rules.proofs.lists.Counting.{forks_in-append, has_close-append, has_done-append, last_log_or-append, last_log_or-none, logs_of-append, requests_in-append, slice_get-before, slice_get-push}
+use Rattle.dine_rules.proofs.lists.Forks.{forks_among-before}
+use Rattle.dine_rules.proofs.one_place.Values.{values_along, values-put}
 use Rattle.dine_rules.proofs.lists.Turns.{open_before, stream-push_close}
 
 -- ---- a front of a stream
@@ -83,6 +85,8 @@ front_in_order plan s i state front rest more keeps within is_front =
             let away : forks_held plan s edge (traffic_at state i) ≡ 0 = omega (arith, gone, forks, came, here.forks_counted) in
             ap (meals_of s) (sym (ap (last_log_or []) (sym whole) ∙ last_log_or-append [] front rest ∙ last_log_or-none (last_log_or [] front) rest none)) ∙ here.put_chained.last away;
       };
+      values = values_along plan s edge (traffic_at state i) (record { put = front; taken = taken ++ more }) here.put_values
+          (λ k fork is. ap (λ (letters : List Letter). slice_get (forks_among letters) k) (sym whole) ∙ forks_among-before front rest k fork is) (λ k fork is. forks_among-before taken more k fork is);
       forks = λ k fork is. here.put_forks k fork (ap (λ (letters : List Letter). slice_get letters k) (sym whole) ∙ slice_get-before front rest (Fork fork) k is);
       requests = λ k e is. here.put_requests k e (ap (λ (letters : List Letter). slice_get letters k) (sym whole) ∙ slice_get-before front rest (Request e) k is);
     }
@@ -105,6 +109,7 @@ push_close_in_order plan s i ate put taken still_open order =
         answers = λ higher k log is. order.chained.answers higher k log (logged k log is);
         last = λ gone. (let same = forks_in-append put (Close ∷ []) in ap (meals_of s) (last_log_or-append [] put (Close ∷ [])) ∙ order.chained.last (omega (arith, gone, same)));
       };
+      values = values-put plan s (edge_at plan s i) (record { put = put; taken = taken }) order.values Close refl;
       forks = λ k fork is. elim (slice_get-push put Close (Fork fork) k is) [ inl before ↦ order.forks k fork before | inr at ↦ absurd (let e = at.1 in cc) ];
       requests = λ k e is. elim (slice_get-push put Close (Request e) k is) [ inl before ↦ order.requests k e before | inr at ↦ absurd (let e = at.1 in cc) ];
     }

@@ -7,7 +7,7 @@ use Rattle.dine_token.specs.declared.entry.Entry.TheVariants.{Move}
 use Rattle.dine_token.specs.Fork.{SeenFork}
 use Rattle.dine_token.specs.Log.{is_dirty, location_of, meals_of}
 use Rattle.dine_token.proofs.Logs.{is_dirty-push_move, location_of-push_move}
-use Rattle.dine_plan.specs.Plan.{SeenPlan, job_count, lo_of, hi_of}
+use Rattle.dine_plan.specs.Plan.{SeenPlan, job_count, lo_of, hi_of, resigns}
 use Rattle.dine_rules.specs.declared.letters.Letter.{Letter}
 use Rattle.dine_rules.specs.declared.letters.Letter.TheVariants.{Fork, Request, Done, Close}
 use Rattle.dine_rules.specs.declared.breach.Breach.{Breach}
@@ -122,6 +122,15 @@ differs a b h = eqb-false a b (not-true (a == b) h)
 from_differs : (a b : ℕ) → a ≢ b → not (a == b) ≡ true
 from_differs a b h = not_from_false (a == b) (ne_eqb a b h)
 
+-- a site that does not resign lacks meals where it neither resigns nor has all of them
+lacks_meals : (resigning : Bool) (a b : ℕ) → not (resigning || a == b) ≡ true → (resigning ≡ false) × (a ≢ b)
+lacks_meals true a b h = absurd (false≢true h)
+lacks_meals false a b h = (refl, differs a b h)
+
+from_lacks : (resigning : Bool) (a b : ℕ) → resigning ≡ false → a ≢ b → not (resigning || a == b) ≡ true
+from_lacks true a b stays other = absurd (false≢true (sym stays))
+from_lacks false a b stays other = from_differs a b other
+
 -- ---- logs and forks
 
 -- a log that ends in a Move to the site was sent there
@@ -214,7 +223,8 @@ module _ (plan : SeenPlan) (s : ℕ) (state : LocalState) (i : ℕ) where
         | inl meals ↦ OtherMealsOfOurs (differs (meals_of s fork.log) state.ate meals)
         | inr rest ↦ elim rest [
           | inl done ↦ let parts = and_parts done_taken (not (has_all_of_neighbour plan s state i fork.log)) done in
-              LacksMealsAfterDone parts.0 (differs (meals_of there fork.log) (job_count plan there) parts.1)
+              let lacks = lacks_meals (resigns plan there) (meals_of there fork.log) (job_count plan there) parts.1 in
+              LacksMealsAfterDone lacks.0 parts.0 lacks.1
           | inr never ↦ absurd (false≢true never)
         ]
       ]
@@ -244,7 +254,8 @@ module _ (plan : SeenPlan) (s : ℕ) (state : LocalState) (i : ℕ) where
   applies Done DoneOutOfTurn h = elim (or_cases _ _ h) [
     | inl twice ↦ DoneTwice twice
     | inr before ↦ let parts = and_parts (fork_at plan s state i == 1) (not (has_all_of_neighbour plan s state i (hand_at s state i))) before in
-        DoneBeforeAll (eqb-true (fork_at plan s state i) 1 parts.0) (differs (meals_of there (hand_at s state i)) (job_count plan there) parts.1)
+        let lacks = lacks_meals (resigns plan there) (meals_of there (hand_at s state i)) (job_count plan there) parts.1 in
+        DoneBeforeAll lacks.0 (eqb-true (fork_at plan s state i) 1 parts.0) lacks.1
   ]
   applies Close ClosedEarly h = elim (or_cases _ _ h) [
     | inl taken ↦ DoneNotTaken (not-true done_taken taken)
@@ -268,7 +279,7 @@ module _ (plan : SeenPlan) (s : ℕ) (state : LocalState) (i : ℕ) where
   strange_tested fork (NotSentHere other) = strange_from fork (inr (inl (not_from_false _ (false_from_ne_true (was_sent_to (lo_of plan (edge_at plan s i)) s fork.log) (λ sent.
       let w = ends_in_move_here (lo_of plan (edge_at plan s i)) s fork.log sent in other w.0 w.1)))))
   strange_tested fork (OtherMealsOfOurs other) = strange_from fork (inr (inr (inl (from_differs (meals_of s fork.log) state.ate other))))
-  strange_tested fork (LacksMealsAfterDone done other) = strange_from fork (inr (inr (inr (inl (and_from _ _ done (from_differs (meals_of there fork.log) (job_count plan there) other))))))
+  strange_tested fork (LacksMealsAfterDone stays done other) = strange_from fork (inr (inr (inr (inl (and_from _ _ done (from_lacks (resigns plan there) (meals_of there fork.log) (job_count plan there) stays other))))))
 
   request_from : (edge : ℕ) → OneOf5 (not (token_at plan s state i == 0)) (not (fork_at plan s state i == 1)) done_taken (not (edge == edge_at plan s i)) (nat_le (job_count plan there) (meals_of there (hand_at s state i)))
       → test (Request edge) RequestOutOfTurn ≡ true
@@ -287,7 +298,7 @@ module _ (plan : SeenPlan) (s : ℕ) (state : LocalState) (i : ℕ) where
 
   done_tested : IsDoneOutOfTurn plan s state i → test Done DoneOutOfTurn ≡ true
   done_tested (DoneTwice done) = or_left _ _ done
-  done_tested (DoneBeforeAll one other) = or_right _ _ (and_from _ _ (eq-eqb (fork_at plan s state i) 1 one) (from_differs (meals_of there (hand_at s state i)) (job_count plan there) other))
+  done_tested (DoneBeforeAll stays one other) = or_right _ _ (and_from _ _ (eq-eqb (fork_at plan s state i) 1 one) (from_lacks (resigns plan there) (meals_of there (hand_at s state i)) (job_count plan there) stays other))
 
   close_tested : IsCloseEarly plan s state i → test Close ClosedEarly ≡ true
   close_tested (DoneNotTaken other) = or_left _ _ (not_from_false done_taken other)

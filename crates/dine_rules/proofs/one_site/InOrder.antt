@@ -7,7 +7,7 @@ use Rattle.dine_rules.specs.declared.letters.Letter.{Letter}
 use Rattle.dine_rules.specs.declared.letters.Letter.TheVariants as letter
 use Rattle.dine_rules.specs.Letters.{has_done, has_close}
 use Rattle.dine_rules.specs.Local.{LocalState, Traffic, no_traffic, traffic_at, start_of, edge_at}
-use Rattle.dine_rules.specs.Steps.{Step, Give, Ask, Hungry, Begin, End, Done, Close, Break, Take, after, may}
+use Rattle.dine_rules.specs.Steps.{Step, Give, Ask, Hungry, Begin, End, Quit, Done, Close, Break, Take, after, may}
 use Rattle.dine_rules.specs.Streams.{is_orderly}
 use Rattle.dine_rules.proofs.lists.Counting.{has_done-append, has_close-append, or_false}
 use Rattle.dine_rules.proofs.one_site.Site.{no_traffic_yet}
@@ -67,7 +67,8 @@ module _ (plan : SeenPlan) (s : ℕ) (state : LocalState) (order : IsOrderly sta
   step_in_order (Ask k) in_order h = changed_in_order k _ (ltb-true _ _ (and_parts _ _ h).0) (put_in_order (traffic_at state k) (letter.Request (edge_at plan s k)) refl (order k))
   step_in_order Hungry in_order h = order
   step_in_order Begin in_order h = order
-  step_in_order End in_order h = order
+  step_in_order (End failed) in_order h = order
+  step_in_order Quit in_order h = order
   step_in_order (Done k) in_order h = changed_in_order k _ (ltb-true _ _ (and_parts _ _ h).0) (put_in_order (traffic_at state k) letter.Done refl (order k))
   step_in_order (Close k) in_order h =
       let parts = and_parts _ _ h in

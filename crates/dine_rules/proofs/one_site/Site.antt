@@ -12,6 +12,7 @@ use Rattle.dine_rules.specs.Letters.{forks_in, requests_in, last_log_or}
 use Rattle.dine_rules.specs.Local.{LocalState, Traffic, no_traffic, traffic_at, start_of, edge_at, neighbour_at}
 use Rattle.dine_rules.specs.Holdings.{fork_at, token_at, hand_at, with_meals_to}
 use Rattle.dine_rules.specs.Breach.{was_sent_to}
+use Rattle.dine_rules.specs.Values.{AreValuesChained}
 use Rattle.dine_rules.specs.Streams.{KeepsStreamsAt, KeepsStreams, ends_at_place, due_at_place, has_asked_since_meal, IsLawfulStream, logs_of}
 use Rattle.dine_rules.proofs.lists.Counting.{length-logs_of, last_log_or-none, last_log_or-some, last_log_or-at, forks_in_turn, none_or_some}
 use Rattle.dine_rules.proofs.one_place.Hands.{location_of-hand}
@@ -135,7 +136,7 @@ in_hand_here spot ate F taken is_spot each one_fork = location_of-hand spot.ends
 
 module _ (plan : SeenPlan) (s : ℕ) (state : LocalState) (i : ℕ) where
   abbrev KeepsHere : Type 0
-  KeepsHere = Keeps (spot_at plan s i) state.phase state.ate (traffic_at state i).put (traffic_at state i).taken
+  KeepsHere = Keeps (spot_at plan s i) state.phase state.ate state.has_quit (traffic_at state i).put (traffic_at state i).taken
 
   pub Keeps-from : IsPlaced plan s i → KeepsStreamsAt plan s state i → KeepsHere
   Keeps-from is_placed k =
@@ -191,12 +192,13 @@ module _ (plan : SeenPlan) (s : ℕ) (state : LocalState) (i : ℕ) where
         };
       }
 
-  pub Keeps-to : IsPlaced plan s i → KeepsHere → KeepsStreamsAt plan s state i
-  Keeps-to is_placed k =
+  pub Keeps-to : IsPlaced plan s i → KeepsHere → AreValuesChained plan s (edge_at plan s i) (traffic_at state i) → KeepsStreamsAt plan s state i
+  Keeps-to is_placed k values =
       let is_spot = spot_is plan s i is_placed in
       record {
         put_lawful = k.puts.lawful;
         put_chained = record { first = k.balanced.chained.first; next = k.balanced.chained.next; answers = k.balanced.chained.answers; last = k.balanced.held.all_sent };
+        put_values = values;
         put_forks = k.puts.forks;
         put_requests = k.puts.requests;
         taken_lawful = subst (λ (b : Bool). IsLawfulStream b (traffic_at state i).taken) (sym (higher_is (spot_at plan s i) is_spot)) k.takes.lawful;
@@ -223,7 +225,7 @@ module _ (plan : SeenPlan) (s : ℕ) (state : LocalState) (i : ℕ) where
 
 -- ---- the start
 
-pub Keeps-start : (spot : Spot) → IsSpot spot → Keeps spot Thinking 0 [] []
+pub Keeps-start : (spot : Spot) → IsSpot spot → Keeps spot Thinking 0 false [] []
 Keeps-start spot is_spot =
     let one = one_end spot is_spot in
     record {
@@ -277,6 +279,10 @@ Keeps-start spot is_spot =
       };
     }
 
+-- no Fork is put yet
+no_values : (plan : SeenPlan) (s edge : ℕ) → AreValuesChained plan s edge no_traffic
+no_values plan s edge = record { first = λ low fork h. absurd cc; next = λ low k fork h. absurd cc; answers = λ high k fork h. absurd cc }
+
 pub no_traffic_yet : (edges : List ℕ) (i : ℕ) → get_or (map (λ edge. no_traffic) edges) i no_traffic ≡ no_traffic
 no_traffic_yet [] i = refl
 no_traffic_yet (edge ∷ edges) zero = refl
@@ -287,9 +293,13 @@ start_keeps plan s is_plan within = record {
   places = λ i h.
       let is_placed = placed plan s i is_plan (omega (arith, length-map (edges_of plan s) (λ edge. no_traffic))) in
       Keeps-to plan s (start_of plan s) i is_placed
-      (subst (λ (t : Traffic). Keeps (spot_at plan s i) Thinking 0 t.put t.taken) (sym (no_traffic_yet (edges_of plan s) i)) (Keeps-start (spot_at plan s i) (spot_is plan s i is_placed)));
+      (subst (λ (t : Traffic). Keeps (spot_at plan s i) Thinking 0 false t.put t.taken) (sym (no_traffic_yet (edges_of plan s) i)) (Keeps-start (spot_at plan s i) (spot_is plan s i is_placed)))
+      (subst (AreValuesChained plan s (edge_at plan s i)) (sym (no_traffic_yet (edges_of plan s) i)) (no_values plan s (edge_at plan s i)));
   every_place = length-map (edges_of plan s) (λ edge. no_traffic);
   ate_within = omega arith;
   hungry_has_left = λ h. absurd (false≢true h);
   eater_has_begun = λ h. absurd (false≢true h);
+  must_drop = λ h. absurd (false≢true h);
+  has_dropped = λ h. absurd (false≢true h);
+  quits_once = λ h. refl;
 }

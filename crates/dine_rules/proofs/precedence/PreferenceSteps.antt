@@ -2,17 +2,16 @@
 use Rattle.std.proofs.Common.{◌≡◌, ◌≢◌, ◌⊎◌, ℕ, ◌+◌, ◌<◌, ◌≤◌, Bool, true, false, cond, not, ◌||◌, ◌==◌, nat_lt, List, [], ◌∷◌, ◌++◌, length, get_or, slice_set, refl, sym, ◌∙◌, ap, inl, inr, arith, zero-add}
 use Rattle.std.proofs.lemmas.Bool.{and_parts, not-true, cond-true, cond-false, eq-eqb, ne_eqb, eqb-true, le-ltb, lt-ltb}
 use Rattle.dine_token.specs.declared.entry.Entry.{Entry}
-use Rattle.dine_token.specs.declared.entry.Entry.TheVariants.{Move}
 use Rattle.dine_token.specs.Log.{is_dirty, location_of, meals_of}
 use Rattle.dine_token.proofs.Logs.{is_dirty-push_meal}
-use Rattle.dine_plan.specs.Plan.{SeenPlan, job_count, lo_of, hi_of}
+use Rattle.dine_plan.specs.Plan.{SeenPlan, lo_of, hi_of}
 use Rattle.dine_rules.specs.declared.letters.Letter.{Letter}
 use Rattle.dine_rules.specs.declared.letters.Letter.TheVariants as letter
 use Rattle.dine_rules.specs.Letters.{forks_in, has_done, has_close, last_log_or}
-use Rattle.dine_rules.specs.Local.{LocalState, Traffic, no_traffic, traffic_at, edge_at, neighbour_at, is_eating}
+use Rattle.dine_rules.specs.Local.{LocalState, Traffic, no_traffic, traffic_at, edge_at, is_eating}
 use Rattle.dine_rules.specs.Holdings.{fork_at, token_at, hand_at, hand, with_meals_to}
-use Rattle.dine_rules.specs.Breach.{was_sent_to, is_fork_of}
-use Rattle.dine_rules.specs.Steps.{Step, Give, Ask, Hungry, Begin, End, Done, Close, Break, Take, after, may, is_open, is_ready, fork_with, with_put, with_taken}
+use Rattle.dine_rules.specs.Breach.{was_sent_to, is_fork_of, has_all_of_neighbour}
+use Rattle.dine_rules.specs.Steps.{Step, Give, Ask, Hungry, Begin, End, Quit, Done, Close, Break, Take, after, may, is_open, is_ready, given_fork, with_put, with_taken}
 use Rattle.dine_rules.specs.Streams.{KeepsStreams}
 use Rattle.dine_rules.proofs.lists.Counting.{forks_in-append, last_log_or-append}
 use Rattle.dine_rules.proofs.one_place.Hands.{hand-same, hand-more}
@@ -96,7 +95,7 @@ module _ (plan : SeenPlan) (s i : ℕ) where
       let rest = and_parts _ _ needs.1 in
       let dirty : is_dirty (hand_at s state k) ≡ true = rest.0 in
       let open_here : is_open plan s state k ≡ true = rest.1 in
-      let l : Letter = letter.Fork (fork_with plan (edge_at plan s k) (hand_at s state k ++ Move (neighbour_at plan s k) ∷ [])) in
+      let l : Letter = letter.Fork (given_fork plan s state k) in
       set_changes state k (record { put = (traffic_at state k).put ++ l ∷ []; taken = (traffic_at state k).taken }) (λ e is. inr (inl (record {
         held = ap (λ (x : ℕ). fork_at plan s state x) e ∙ held;
         dirty = ap (λ (x : ℕ). is_dirty (hand_at s state x)) e ∙ dirty;
@@ -111,7 +110,7 @@ module _ (plan : SeenPlan) (s i : ℕ) where
       let allowing = and_parts _ _ parts.1 in
       let not_closed : not (has_close (traffic_at state k).taken) ≡ true = allowing.0 in
       let allowed = and_parts _ _ allowing.1 in
-      let after_done : (not (has_done (traffic_at state k).taken) || meals_of (neighbour_at plan s k) fork.log == job_count plan (neighbour_at plan s k)) ≡ true = allowed.1 in
+      let after_done : (not (has_done (traffic_at state k).taken) || has_all_of_neighbour plan s state k fork.log) ≡ true = allowed.1 in
       let rest = and_parts _ _ allowed.0 in
       let log = and_parts _ _ rest.1 in
       let front = and_parts _ _ rest.0 in
@@ -140,7 +139,8 @@ module _ (plan : SeenPlan) (s i : ℕ) where
   step_changes state (Ask k) other h = put_changes state k _ refl
   step_changes state Hungry other h = inl (same_still state (after plan s state Hungry) refl refl)
   step_changes state Begin other h = absurd (other refl)
-  step_changes state End other h = inl (same_still state (after plan s state End) refl refl)
+  step_changes state (End failed) other h = inl (same_still state (after plan s state (End failed)) refl refl)
+  step_changes state Quit other h = inl (same_still state (after plan s state Quit) refl refl)
   step_changes state (Done k) other h = put_changes state k letter.Done refl
   step_changes state (Close k) other h = put_changes state k letter.Close refl
   step_changes state (Break k) other h = put_changes state k letter.Close refl

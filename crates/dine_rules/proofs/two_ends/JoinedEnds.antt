@@ -235,6 +235,7 @@ module _ (plan : SeenPlan) (s : ℕ) (state : LocalState) (i : ℕ) (keeps : Kee
   pub accounts_for_fork : AccountsForFork plan s (edge_at plan s i) state.ate (traffic_at state i)
   accounts_for_fork = record {
     chained = kept_here.put_chained;
+    values = kept_here.put_values;
     put_forks = kept_here.put_forks;
     ate_within = keeps.ate_within;
     last_within = kept_here.last_within;

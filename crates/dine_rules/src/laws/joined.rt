@@ -2,15 +2,17 @@
 
 ghost use Rattle.std.specs.Prelude.{◌≡◌, ◌<◌, ◌≤◌, ◌+◌, Bool, List, Some, false, length, true, ℕ};
 ghost use mathlib.Core.List.{IsPrefix};
+ghost use Rattle.dine_token.specs.declared.entry.Entry.{Entry};
 ghost use Rattle.dine_plan.specs.Plan.{IsPlan, SeenPlan, edge_count, edges_of, hi_of, lo_of, site_count};
 ghost use Rattle.dine_rules.specs.Breach.{first_breach, is_allowed};
 ghost use Rattle.dine_rules.specs.Examples.{broken_off, pair};
 ghost use Rattle.dine_rules.specs.Holdings.{forks_held, tokens_held};
-ghost use Rattle.dine_rules.specs.JoinedEnds.{AccountsForFork, AccountsForToken, AreEndsOfEdge, AreLinked, AreWhollyTaken, HaveOneWholeFork, next_between, traffic_across};
+ghost use Rattle.dine_rules.specs.JoinedEnds.{AccountsForFork, AccountsForToken, AreEndsOfEdge, AreForksLinked, AreLinked, AreWhollyTaken, HaveOneWholeFork, IsWholeLog, next_between, traffic_across};
 ghost use Rattle.dine_rules.specs.Letters.{has_close};
 ghost use Rattle.dine_rules.specs.Links.{ForEachLink};
 ghost use Rattle.dine_rules.specs.Local.{LocalState, Traffic, edge_at, neighbour_at, start_of, traffic_at};
 ghost use Rattle.dine_rules.specs.Streams.{IsLawfulStream, KeepsStreams};
+ghost use Rattle.dine_rules.specs.Values.{TellsValues, added_up, has_no_set, value_by};
 ghost use Rattle.dine_rules.specs.World.{IsComplete, WorldState, next_letter, place_of, state_of};
 ghost use Rattle.dine_rules.specs.declared.breach.Breach.{Breach};
 ghost use Rattle.dine_rules.specs.declared.breach.Breach.TheVariants.{ClosedEarly};
@@ -78,6 +80,26 @@ pub fn linked_ends_have_at_most_one_fork_and_token()
     ensures token { (plan : SeenPlan) (edge : ℕ) (low high : Traffic) → IsPlan plan → edge < edge_count plan
         → AccountsForToken plan (lo_of plan edge) edge low → AccountsForToken plan (hi_of plan edge) edge high → AreLinked low high
         → tokens_held plan (lo_of plan edge) edge low + tokens_held plan (hi_of plan edge) edge high ≤ 1 }
+{}
+
+/// At two ends of an edge, of which each took in order the first of the Forks that the other put, and which both account for the fork, each
+/// Fork that was put and the fork in hand have the value that their log gives: the plan's, after the acts of the log's meals in order. So it
+/// is also where sites broke off. A whole log gives, where no job of the plan sets a value, what all jobs of both ends add up to.
+pub fn values_are_those_of_the_logs()
+    ensures low { (plan : SeenPlan) (edge low_ate high_ate : ℕ) (low high : Traffic) → IsPlan plan → edge < edge_count plan
+        → AccountsForFork plan (lo_of plan edge) edge low_ate low → AccountsForFork plan (hi_of plan edge) edge high_ate high → AreForksLinked low high
+        → TellsValues plan (lo_of plan edge) edge low_ate low }
+    ensures high { (plan : SeenPlan) (edge low_ate high_ate : ℕ) (low high : Traffic) → IsPlan plan → edge < edge_count plan
+        → AccountsForFork plan (lo_of plan edge) edge low_ate low → AccountsForFork plan (hi_of plan edge) edge high_ate high → AreForksLinked low high
+        → TellsValues plan (hi_of plan edge) edge high_ate high }
+    ensures linked { (low high : Traffic) → AreLinked low high → AreForksLinked low high }
+    ensures added_up { (plan : SeenPlan) (edge low_ate high_ate : ℕ) (log : List Entry) → IsPlan plan → edge < edge_count plan → has_no_set plan ≡ true
+        → IsWholeLog plan edge low_ate high_ate log → value_by plan edge log ≡ added_up plan edge low_ate high_ate }
+{}
+
+/// In every world that events reach from the start the values are those of the logs, at each place of each site.
+pub fn reached_worlds_have_the_values_of_their_logs()
+    ensures { ForEachLink (λ plan world s i. TellsValues plan s (edge_at plan s i) (state_of world s).ate (traffic_at (state_of world s) i)) }
 {}
 
 /// Two ends of an edge, of which each took all that the other put, hold exactly one fork if both account for it. Its log is lawful

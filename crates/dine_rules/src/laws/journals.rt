@@ -1,19 +1,20 @@
 //! Laws on journals, the events of each site in its order, and on the orders that hold all of them in one list.
 
-ghost use Rattle.std.specs.Prelude.{◌≡◌, ◌≢◌, ◌<◌, ◌++◌, List, Option, Some, [], ◌∷◌, false, length, true, ℕ};
-ghost use Rattle.dine_plan.specs.Plan.{IsPlan, SeenPlan, edges_of, site_count};
+ghost use Rattle.std.specs.Prelude.{◌≡◌, ◌≢◌, ◌<◌, ◌+◌, ◌++◌, Bool, List, None, Option, Some, [], ◌∷◌, false, length, slice_get, true, ℕ};
+ghost use Rattle.dine_plan.specs.Plan.{IsPlan, SeenPlan, act_of, edges_of, job_count, job_of, name_of, resigns, site_count};
+ghost use Rattle.dine_rules.specs.Outcomes.{with_outcomes};
 ghost use Rattle.dine_token.specs.declared.entry.Entry.TheVariants.{Meal, Move};
-ghost use Rattle.dine_rules.specs.Examples.{pair};
+ghost use Rattle.dine_rules.specs.Examples.{pair, resigning};
 ghost use Rattle.dine_rules.specs.Holdings.{fork_at, hand_at};
-ghost use Rattle.dine_rules.specs.JournalExamples.{accepted_as, higher_journal, left_by, lower_journal, merged, ready_after};
-ghost use Rattle.dine_rules.specs.Journals.{AreStatesAfter, IsFrontOf, IsJournal, IsOrderOf, IsPlacedToEnd, IsWholeOrder, OrdersGrow, part_of};
+ghost use Rattle.dine_rules.specs.JournalExamples.{accepted_as, higher_journal, left_by, lower_journal, merged, quit_by, ready_after};
+ghost use Rattle.dine_rules.specs.Journals.{AreStatesAfter, FailAsShown, IsFrontOf, IsJournal, IsOrderOf, IsPlacedToEnd, IsWholeOrder, OrdersGrow, outcomes_in, part_of};
 ghost use Rattle.dine_rules.specs.Local.{LocalState, edge_at, neighbour_at, start_of};
 ghost use Rattle.dine_rules.specs.Precedence.{fork_log};
 ghost use Rattle.dine_rules.specs.Steps.{Puts, Step, after, may, shape_of, step_by};
 ghost use Rattle.dine_rules.specs.World.{IsComplete, Reaches, WorldState, is_enabled, state_of, world_after};
 ghost use Rattle.dine_rules.specs.declared.events.Event.{Event};
 ghost use Rattle.dine_rules.specs.declared.events.EventKind.{EventKind};
-ghost use Rattle.dine_rules.specs.declared.events.EventKind.TheVariants.{Ask, Begin, Done, End, Hungry, Take};
+ghost use Rattle.dine_rules.specs.declared.events.EventKind.TheVariants.{Ask, Begin, Done, End, Hungry, Quit, Take};
 ghost use Rattle.dine_rules.specs.declared.letters.Kind4.TheVariants as kind;
 ghost use Rattle.dine_rules.specs.declared.letters.Letter.{Letter};
 ghost use Rattle.dine_rules.specs.declared.letters.Letter.TheVariants as letter;
@@ -55,22 +56,44 @@ pub fn orders_grow_by_each_event()
 /// A journal is empty at the start, and grows by each event of its site, whatever letters come next.
 pub fn journals_grow_by_each_event()
     ensures start { (plan : SeenPlan) (s : ℕ) → IsJournal plan s [] (start_of plan s) }
-    ensures event { (plan : SeenPlan) (s : ℕ) (journal : List EventKind) (state : LocalState) (kind : EventKind) (next : ℕ → Option Letter) (step : Step)
-        → IsJournal plan s journal state → step_by next kind ≡ Some step → may plan s state step ≡ true
+    ensures event { (plan : SeenPlan) (s : ℕ) (journal : List EventKind) (state : LocalState) (kind : EventKind) (failed : Bool) (next : ℕ → Option Letter) (step : Step)
+        → IsJournal plan s journal state → step_by failed next kind ≡ Some step → may plan s state step ≡ true
         → IsJournal plan s (journal ++ kind ∷ []) (after plan s state step) }
 {}
 
 /// An order of the sites' journals that the world accepts leads to the world in which each site is in the state that its journal
-/// led it to.
+/// led it to, where the plan's jobs fail as the journals show.
 pub fn journals_fix_the_world()
     ensures { (plan : SeenPlan) (journals : List (List EventKind)) (states world : WorldState) (events : List Event) → IsPlan plan
-        → AreStatesAfter plan journals states → IsOrderOf journals events → Reaches plan events world → world ≡ states }
+        → AreStatesAfter plan journals states → FailAsShown plan journals states → IsOrderOf journals events → Reaches plan events world → world ≡ states }
+{}
+
+/// A plan with other outcomes of its jobs is a plan, with these outcomes, and else the same sites, jobs and edges. What journals led
+/// to they lead to also there, since they show outcomes of their own: the plan's count in a world alone.
+pub fn journals_stand_for_other_outcomes()
+    ensures plan { (plan : SeenPlan) (fails : List (List Bool)) → IsPlan plan → IsPlan (with_outcomes plan fails) }
+    ensures outcomes { (plan : SeenPlan) (fails : List (List Bool)) (own : List Bool) (s k : ℕ) (failed : Bool) → slice_get fails s ≡ Some own → slice_get own k ≡ Some failed
+        → k < job_count plan s → (job_of (with_outcomes plan fails) s (k + 1)).fails ≡ failed }
+    ensures own { (plan : SeenPlan) → with_outcomes plan [] ≡ plan }
+    ensures sites { (plan : SeenPlan) (fails : List (List Bool)) → site_count (with_outcomes plan fails) ≡ site_count plan }
+    ensures names { (plan : SeenPlan) (fails : List (List Bool)) (s : ℕ) → name_of (with_outcomes plan fails) s ≡ name_of plan s }
+    ensures resigning { (plan : SeenPlan) (fails : List (List Bool)) (s : ℕ) → resigns (with_outcomes plan fails) s ≡ resigns plan s }
+    ensures jobs { (plan : SeenPlan) (fails : List (List Bool)) (s : ℕ) → job_count (with_outcomes plan fails) s ≡ job_count plan s }
+    ensures job_names { (plan : SeenPlan) (fails : List (List Bool)) (s k : ℕ) → (job_of (with_outcomes plan fails) s k).name ≡ (job_of plan s k).name }
+    ensures turns { (plan : SeenPlan) (fails : List (List Bool)) (s k : ℕ) → (job_of (with_outcomes plan fails) s k).turns ≡ (job_of plan s k).turns }
+    ensures acts { (plan : SeenPlan) (fails : List (List Bool)) (s k : ℕ) → act_of (with_outcomes plan fails) s k ≡ act_of plan s k }
+    ensures edges { (plan : SeenPlan) (fails : List (List Bool)) → (with_outcomes plan fails).edges ≡ plan.edges }
+    ensures values { (plan : SeenPlan) (fails : List (List Bool)) → (with_outcomes plan fails).values ≡ plan.values }
+    ensures journal { (plan : SeenPlan) (fails : List (List Bool)) (s : ℕ) (journal : List EventKind) (state : LocalState)
+        → IsJournal plan s journal state → IsJournal (with_outcomes plan fails) s journal state }
+    ensures states { (plan : SeenPlan) (fails : List (List Bool)) (journals : List (List EventKind)) (states : WorldState)
+        → AreStatesAfter plan journals states → AreStatesAfter (with_outcomes plan fails) journals states }
 {}
 
 /// So the log of each edge's fork in that world is the one that lies in the hand of the site that holds the fork.
 pub fn journals_and_links_fix_the_logs()
     ensures { (plan : SeenPlan) (journals : List (List EventKind)) (states world : WorldState) (events : List Event) (s i : ℕ) → IsPlan plan
-        → AreStatesAfter plan journals states → IsOrderOf journals events → Reaches plan events world
+        → AreStatesAfter plan journals states → FailAsShown plan journals states → IsOrderOf journals events → Reaches plan events world
         → s < site_count plan → i < length (edges_of plan s) → fork_at plan s (state_of states s) i ≡ 1
         → fork_log plan world (edge_at plan s i) ≡ hand_at s (state_of states s) i }
 {}
@@ -78,6 +101,8 @@ pub fn journals_and_links_fix_the_logs()
 /// The journals of a pair with one job each. The lower site goes as far as it can alone, and then the higher, and so on: this
 /// order is accepted, and one that starts with the higher site too. Where the higher site takes twice after the lower's first four
 /// events, no event more can be placed. A site's journal gives what it ate and put.
+///
+/// A journal shows which meals failed: the last one before each Quit. A site that resigns may quit after one that is not its last, once.
 pub fn journals_go_as_worked()
     ensures lowest_first { accepted_as (merged (0 ∷ 0 ∷ 0 ∷ 0 ∷ 1 ∷ 1 ∷ 0 ∷ 0 ∷ 1 ∷ 1 ∷ 1 ∷ 1 ∷ 1 ∷ 0 ∷ 0 ∷ 1 ∷ 0 ∷ 1 ∷ []) lower_journal higher_journal)
         ≡ Some (18, Meal 0 1 ∷ Move 1 ∷ Meal 1 1 ∷ []) }
@@ -88,4 +113,12 @@ pub fn journals_go_as_worked()
     ensures stuck { ready_after ((Hungry ∷ Begin ∷ End ∷ Done 0 ∷ []) ∷ (Take 0 ∷ Take 0 ∷ []) ∷ [])
         (merged (0 ∷ 0 ∷ 0 ∷ 0 ∷ 1 ∷ []) (Hungry ∷ Begin ∷ End ∷ Done 0 ∷ []) (Take 0 ∷ Take 0 ∷ [])) ≡ Some (false, false) }
     ensures left { left_by 0 (letter.Request 0 ∷ letter.Done ∷ letter.Close ∷ []) lower_journal ≡ Some (1, kind.Done ∷ kind.Fork ∷ kind.Close ∷ []) }
+    ensures outcomes { outcomes_in false (Hungry ∷ Begin ∷ End ∷ Hungry ∷ Begin ∷ End ∷ Quit ∷ Done 0 ∷ []) ≡ false ∷ true ∷ [] }
+    ensures quits { quit_by resigning 0 (Hungry ∷ Begin ∷ End ∷ Hungry ∷ Begin ∷ End ∷ Quit ∷ Done 0 ∷ []) ≡ Some (2, true) }
+    ensures quits_early { quit_by resigning 0 (Hungry ∷ Begin ∷ End ∷ Quit ∷ []) ≡ Some (1, true) }
+    ensures quits_unfed { quit_by resigning 0 (Quit ∷ []) ≡ None }
+    ensures quits_twice { quit_by resigning 0 (Hungry ∷ Begin ∷ End ∷ Quit ∷ Quit ∷ []) ≡ None }
+    ensures hungry_behind { quit_by resigning 0 (Hungry ∷ Begin ∷ End ∷ Quit ∷ Hungry ∷ []) ≡ None }
+    ensures quits_late { quit_by resigning 0 (Hungry ∷ Begin ∷ End ∷ Hungry ∷ Begin ∷ End ∷ Hungry ∷ Begin ∷ End ∷ Quit ∷ []) ≡ None }
+    ensures never_quits { quit_by (pair 3 1) 0 (Hungry ∷ Begin ∷ End ∷ Quit ∷ []) ≡ None }
 {}

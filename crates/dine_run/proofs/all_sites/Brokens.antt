@@ -14,15 +14,17 @@ use Rattle.dine_rules.specs.declared.breach.Breach.TheVariants.{AfterClose, Clos
 use Rattle.dine_rules.specs.declared.letters.Letter.{Letter}
 use Rattle.dine_rules.specs.declared.letters.Letter.TheVariants.{Fork, Request, Done, Close}
 use Rattle.dine_rules.specs.Breach.{breach_before_close, first_breach}
-use Rattle.dine_rules.specs.Holdings.{fork_at, hand_at}
-use Rattle.dine_rules.specs.JoinedEnds.{AreEndsOfEdge, AreLinked, next_between}
-use Rattle.dine_rules.specs.Letters.{forks_in, has_close}
+use Rattle.dine_rules.specs.Holdings.{fork_at}
+use Rattle.dine_rules.specs.JoinedEnds.{AccountsForFork, AreEndsOfEdge, AreForksLinked, AreLinked, next_between}
+use Rattle.dine_rules.specs.Letters.{forks_among, forks_in, has_close}
 use Rattle.dine_rules.specs.Local.{LocalState, Traffic, edge_at, neighbour_at, start_of, traffic_at}
-use Rattle.dine_rules.specs.Steps.{fork_with}
+use Rattle.dine_rules.specs.Steps.{hand_fork, hand_fork_at}
+use Rattle.dine_rules.specs.Values.{TellsValues, value_by}
 use Rattle.dine_rules.specs.Streams.{IsPutInOrder, KeepsStreams, is_close_last}
 use Rattle.dine_rules.specs.World.{place_of}
 use Rattle.dine_rules.proofs.links.Across.{across, edge_at-place_of, place_of-edge_at}
 use Rattle.dine_rules.proofs.lists.Counting.{forks_in-append, prefix_forks}
+use Rattle.dine_rules.proofs.lists.Forks.{forks_among-append, forks_among-before, forks_among-prefix}
 use Rattle.dine_rules.proofs.one_place.Placed.{placed}
 use Rattle.dine_rules.proofs.lists.Turns.{open_before, slice_get-behind}
 use Rattle.dine_core.specs.Core.{forks_in_hand}
@@ -122,6 +124,26 @@ puts_prefix met by_core on_link fit = elim fit.link [
   | inl whole ↦ ([], append-nil on_link ∙ whole ∙ ap (λ (l : List Letter). l ++ fit.closing) (sym (append-nil fit.front)) ∙ sym fit.core)
   | inr cut ↦ (fit.closing, ap (λ (l : List Letter). l ++ fit.closing) (cut.0 ∙ sym (append-nil fit.front)) ∙ sym fit.core)
 ]
+
+-- the Forks on the link are, in order, the first of those that the core put
+puts_first : (met : Bool) (refused : Option Letter) (by_core on_link : List Letter) → PutsFit met refused by_core on_link
+    → (k : ℕ) (fork : SeenFork) → slice_get (forks_among on_link) k ≡ Some fork → slice_get (forks_among by_core) k ≡ Some fork
+puts_first met refused by_core on_link fit k fork at =
+    ap (λ (letters : List Letter). slice_get (forks_among letters) k) fit.core
+    ∙ forks_among-before (fit.front ++ option_to_list refused) fit.closing k fork (forks_among-before fit.front (option_to_list refused) k fork in_front)
+  where
+    no_fork_closes : (closing : List Letter) → (closing ≡ []) ⊎ (closing ≡ Close ∷ []) → forks_among closing ≡ []
+    no_fork_closes closing (inl none) = ap forks_among none
+    no_fork_closes closing (inr close) = ap forks_among close
+
+    in_front : slice_get (forks_among fit.front) k ≡ Some fork
+    in_front = elim fit.link [
+      | inl whole ↦
+          let same : forks_among on_link ≡ forks_among fit.front =
+          ap forks_among whole ∙ forks_among-append fit.front fit.closing ∙ ap (λ (forks : List SeenFork). forks_among fit.front ++ forks) (no_fork_closes fit.closing fit.closes) ∙ append-nil (forks_among fit.front) in
+          ap (λ (forks : List SeenFork). slice_get forks k) (sym same) ∙ at
+      | inr cut ↦ ap (λ (letters : List Letter). slice_get (forks_among letters) k) (sym cut.0) ∙ at
+    ]
 
 is_close : (letter : Letter) → (letter ≡ Close) ⊎ (letter ≢ Close)
 is_close (Fork fork) = inr (λ same. cc)
@@ -394,13 +416,13 @@ module _ {Lane Tx Closed Rx Identity D : Type 0} {live : Tx → SeenEnd Identity
       omega (arith, low.put, low.taken, high.put, high.taken, low_counted, high_counted, starts_low, starts_high, from_low, from_high)
 
   -- a fork that a site holds is the one in hand of its edge
-  held_is : (s i : ℕ) → i < length (edges_of plan s) → fork_at plan s (states s) i ≡ 1 → fork_in_hand plan states (edge_at plan s i) ≡ Some (fork_with plan (edge_at plan s i) (hand_at s (states s) i))
+  held_is : (s i : ℕ) → i < length (edges_of plan s) → fork_at plan s (states s) i ≡ 1 → fork_in_hand plan states (edge_at plan s i) ≡ Some (hand_fork_at plan s (states s) i)
   held_is s i inside held =
       let edge = edge_at plan s i in
       let p = placed plan s i all.is_plan inside in
       let place = place_of-edge_at plan s i inside in
       let here : held_at_end plan states s edge ≡ 1 = ap (fork_at plan s (states s)) place ∙ held in
-      let is : fork_at_end plan states s edge ≡ fork_with plan edge (hand_at s (states s) i) = ap (λ j. fork_with plan edge (hand_at s (states s) j)) place in
+      let is : fork_at_end plan states s edge ≡ hand_fork plan s edge (states s).ate (traffic_at (states s) i) = ap (λ j. hand_fork plan s edge (states s).ate (traffic_at (states s) j)) place in
       let one = at_most_one edge p.edge_within in
       elim p.sides [
         | inl low ↦
@@ -428,7 +450,7 @@ module _ {Lane Tx Closed Rx Identity D : Type 0} {live : Tx → SeenEnd Identity
       let hands = in_hand plan s (states s) 0 (length (states s).traffic) i (omega arith) (omega (arith, place.0, left.ended.keeps.every_place)) held in
       in_all (fork_at_end plan states s edge) ends s end.0 end.1
       (subst (IsIn (fork_at_end plan states s edge)) (sym left.forks)
-      (subst (λ e. IsIn (fork_with plan e (hand_at s (states s) i)) (forks_in_hand plan s (states s) (all_places (states s)))) place.1 hands))
+      (subst (λ e. IsIn (hand_fork plan s e (states s).ate (traffic_at (states s) i)) (forks_in_hand plan s (states s) (all_places (states s)))) place.1 hands))
 
   in_some_hand : (edge : ℕ) → edge < edge_count plan → (f : SeenFork) → fork_in_hand plan states edge ≡ Some f → IsIn f (forks_left ends) × (f.edge ≡ edge)
   in_some_hand edge within f is =
@@ -448,26 +470,15 @@ module _ {Lane Tx Closed Rx Identity D : Type 0} {live : Tx → SeenEnd Identity
             ]
       ]
 
-  -- the forks that are found, and all that the sites left, by these states
-  pub states_left : AreStatesLeft plan (map out_of ends) links (found (laid (forks_left ends) (replicate (edge_count plan) None)))
-  states_left = record {
-    states = states;
-    ended = λ s out at.
-        let end = end_for all s out at in
-        let left = left_by s end.0 end.1 in
-        subst (λ (o : SiteOut D). HasEnded plan s (states s) (links_of plan links s) (told_in o)) end.2
-        (ended_along plan s (states s) (links_at (seen_ports live shut taking end.0.ports.items)) (links_of plan links s) (told_in (out_of end.0)) (λ i within.
-        let ports = ports_at s i (omega (arith, within, left.ended.keeps.every_place)) in
-        links_there (seen_ports live shut taking end.0.ports.items) i ports.near (stands_at (record { site = s; at = i }) ports.near end.0 end.1 ports.at_near) ∙ sym ports.has) left.ended);
-    at_most_one = at_most_one;
-    found =
-        let slots = laid (forks_left ends) (replicate (edge_count plan) None) in
-        let count : length slots ≡ edge_count plan = length-laid (forks_left ends) (replicate (edge_count plan) None) ∙ length-replicate (edge_count plan) None in
-        found_given (fork_in_hand plan states) slots 0 (λ k within.
-        let inside : k < edge_count plan = omega (arith, within, count) in
-        slot_given (fork_in_hand plan states) (forks_left ends) (edge_count plan) k all_given (in_some_hand k inside) inside ∙ ap (λ j. Some (fork_in_hand plan states j)) (sym (zero-add k)))
-        ∙ ap (λ n. filter_map (fork_in_hand plan states) (range_with_len 0 n)) count;
-  }
+  -- each site ended in its state
+  ended_left : (s : ℕ) (out : SiteOut D) → slice_get (map out_of ends) s ≡ Some out → HasEnded plan s (states s) (links_of plan links s) (told_in out)
+  ended_left s out at =
+      let end = end_for all s out at in
+      let left = left_by s end.0 end.1 in
+      subst (λ (o : SiteOut D). HasEnded plan s (states s) (links_of plan links s) (told_in o)) end.2
+      (ended_along plan s (states s) (links_at (seen_ports live shut taking end.0.ports.items)) (links_of plan links s) (told_in (out_of end.0)) (λ i within.
+      let ports = ports_at s i (omega (arith, within, left.ended.keeps.every_place)) in
+      links_there (seen_ports live shut taking end.0.ports.items) i ports.near (stands_at (record { site = s; at = i }) ports.near end.0 end.1 ports.at_near) ∙ sym ports.has) left.ended)
 
   traffic_is : (s i : ℕ) → traffic_on (links_of plan links s i) ≡ traffic_of plan links s (edge_at plan s i)
   traffic_is s i = elim (cases_Bool (lo_of plan (edge_at plan s i) == s)) [ inl low ↦ rw low refl | inr high ↦ rw high refl ]
@@ -481,7 +492,7 @@ module _ {Lane Tx Closed Rx Identity D : Type 0} {live : Tx → SeenEnd Identity
         let end = end_of all s is_site in
         let at : slice_get (map out_of ends) s ≡ Some (out_of end.0) = slice_get-map out_of ends s ∙ ap (option_map out_of) end.1 in
         let ate_at : slice_get (map (λ (out : SiteOut D). out.ate) (map out_of ends)) s ≡ Some end.0.ate = slice_get-map (λ (out : SiteOut D). out.ate) (map out_of ends) s ∙ ap (option_map (λ (out : SiteOut D). out.ate)) at in
-        let ended = states_left.ended s (out_of end.0) at in
+        let ended = ended_left s (out_of end.0) at in
         subst (λ (t : Traffic). IsPutInOrder plan s i (get_or (map (λ (out : SiteOut D). out.ate) (map out_of ends)) s 0) t) (traffic_is s i)
         (subst (λ n. IsPutInOrder plan s i n (traffic_on (links_of plan links s i))) (sym (get_or_from_slice_get (map (λ (out : SiteOut D). out.ate) (map out_of ends)) s end.0.ate 0 ate_at ∙ ended.ate))
         (ended.in_order i (omega (arith, inside, ended.keeps.every_place))));
@@ -512,3 +523,75 @@ module _ {Lane Tx Closed Rx Identity D : Type 0} {live : Tx → SeenEnd Identity
         (puts_by live shut taking plan there.site (states there.site) far_end.0 far there.at ports.far stands_there)
         (takes_by live shut taking plan s (states s) end.0 left i ports.near stands ∙ ap (λ o. (traffic_at (states s) i).taken ++ option_to_list o) stray)
         (takes_by live shut taking plan there.site (states there.site) far_end.0 far there.at ports.far stands_there) ports.comes.prefix ports.goes.prefix ports.comes.nothing_after_close breached.first
+
+  module _ (fork_law : (plan : SeenPlan) (s i : ℕ) (state : LocalState) → KeepsStreams plan s state → i < length (edges_of plan s) → AccountsForFork plan s (edge_at plan s i) state.ate (traffic_at state i))
+      (low_values : (plan : SeenPlan) (edge low_ate high_ate : ℕ) (low high : Traffic) → IsPlan plan → edge < edge_count plan → AccountsForFork plan (lo_of plan edge) edge low_ate low → AccountsForFork plan (hi_of plan edge) edge high_ate high → AreForksLinked low high → TellsValues plan (lo_of plan edge) edge low_ate low)
+      (high_values : (plan : SeenPlan) (edge low_ate high_ate : ℕ) (low high : Traffic) → IsPlan plan → edge < edge_count plan → AccountsForFork plan (lo_of plan edge) edge low_ate low → AccountsForFork plan (hi_of plan edge) edge high_ate high → AreForksLinked low high → TellsValues plan (hi_of plan edge) edge high_ate high) where
+    accounts : (s edge : ℕ) → s < site_count plan → edge < edge_count plan → is_end plan s edge ≡ true → AccountsForFork plan s edge (states s).ate (traffic_at (states s) (place_of plan s edge))
+    accounts s edge is_site within is =
+        let place = edge_at-place_of plan s edge within is in
+        subst (λ e. AccountsForFork plan s e (states s).ate (traffic_at (states s) (place_of plan s edge))) place.1 (fork_law plan s (place_of plan s edge) (states s) (keeps_at s is_site) place.0)
+
+    -- the Forks that came over a link are the first of those that the core at its other end put
+    came : (near far : Spot) (rx tx : SeenPort Identity) → near.site < site_count plan → far.site < site_count plan → port_at (rows_left live shut taking ends) near ≡ Some rx → port_at (rows_left live shut taking ends) far ≡ Some tx
+        → IsPrefix rx.rx.letters tx.tx.letters → (k : ℕ) (fork : SeenFork) → slice_get (forks_among (traffic_at (states near.site) near.at).taken) k ≡ Some fork → slice_get (forks_among (traffic_at (states far.site) far.at).put) k ≡ Some fork
+    came near far rx tx is_near is_far at_near at_far prefix k fork at =
+        let here = end_of all near.site is_near in
+        let there = end_of all far.site is_far in
+        let taken = takes_by live shut taking plan near.site (states near.site) here.0 (left_by near.site here.0 here.1) near.at rx (stands_at near rx here.0 here.1 at_near) in
+        let stray = option_to_list (breached_at near.at here.0.fault here.0.stray) in
+        puts_first tx.tx.refused (refused_at far.at there.0.fault there.0.stray) (traffic_at (states far.site) far.at).put tx.tx.letters
+        (puts_by live shut taking plan far.site (states far.site) there.0 (left_by far.site there.0 there.1) far.at tx (stands_at far tx there.0 there.1 at_far)) k fork
+        (forks_among-prefix rx.rx.letters tx.tx.letters prefix k fork
+        (ap (λ (letters : List Letter). slice_get (forks_among letters) k) taken ∙ forks_among-before (traffic_at (states near.site) near.at).taken stray k fork at))
+
+    linked : (edge : ℕ) → edge < edge_count plan → AreForksLinked (traffic_at (states (lo_of plan edge)) (place_of plan (lo_of plan edge) edge)) (traffic_at (states (hi_of plan edge)) (place_of plan (hi_of plan edge) edge))
+    linked edge within =
+        let w = are_wired edge within in
+        let low = low_site edge within in
+        let high = all.is_plan.within edge within in
+        record {
+          comes = came (low_spot plan edge) (high_spot plan edge) w.low w.high low high w.at_low w.at_high (comes edge within).prefix;
+          goes = came (high_spot plan edge) (low_spot plan edge) w.high w.low high low w.at_high w.at_low (goes edge within).prefix;
+        }
+
+    -- a fork in the hand of an end has the value of its log
+    low_value : (edge : ℕ) → edge < edge_count plan → (fork_at_end plan states (lo_of plan edge) edge).value ≡ value_by plan edge (fork_at_end plan states (lo_of plan edge) edge).log
+    low_value edge within = (low_values plan edge _ _ _ _ all.is_plan within (accounts (lo_of plan edge) edge (low_site edge within) within (low_end edge)) (accounts (hi_of plan edge) edge (all.is_plan.within edge within) within (high_end edge)) (linked edge within)).in_hand
+
+    high_value : (edge : ℕ) → edge < edge_count plan → (fork_at_end plan states (hi_of plan edge) edge).value ≡ value_by plan edge (fork_at_end plan states (hi_of plan edge) edge).log
+    high_value edge within = (high_values plan edge _ _ _ _ all.is_plan within (accounts (lo_of plan edge) edge (low_site edge within) within (low_end edge)) (accounts (hi_of plan edge) edge (all.is_plan.within edge within) within (high_end edge)) (linked edge within)).in_hand
+
+    values_left : (edge : ℕ) (fork : SeenFork) → edge < edge_count plan → fork_in_hand plan states edge ≡ Some fork → fork.value ≡ value_by plan edge fork.log
+    values_left edge fork within is =
+        let lo = lo_of plan edge in
+        let hi = hi_of plan edge in
+        elim (cases_eq (held_at_end plan states lo edge) 1) [
+          | inl held ↦
+              let same : fork_at_end plan states lo edge ≡ fork = same_Some (fork_at_end plan states lo edge) fork (sym (cond-true (held_at_end plan states lo edge == 1) _ _ (eq-eqb _ 1 held)) ∙ is) in
+              subst (λ (f : SeenFork). f.value ≡ value_by plan edge f.log) same (low_value edge within)
+          | inr away ↦
+              let rest = sym (cond-false (held_at_end plan states lo edge == 1) _ _ (ne_eqb _ 1 away)) ∙ is in
+              elim (cases_eq (held_at_end plan states hi edge) 1) [
+                | inl held ↦
+                    let same : fork_at_end plan states hi edge ≡ fork = same_Some (fork_at_end plan states hi edge) fork (sym (cond-true (held_at_end plan states hi edge == 1) _ _ (eq-eqb _ 1 held)) ∙ rest) in
+                    subst (λ (f : SeenFork). f.value ≡ value_by plan edge f.log) same (high_value edge within)
+                | inr nowhere ↦ absurd (none-some fork (sym (cond-false (held_at_end plan states hi edge == 1) _ _ (ne_eqb _ 1 nowhere)) ∙ rest))
+              ]
+        ]
+
+    -- the forks that are found, and all that the sites left, by these states
+    pub states_left : AreStatesLeft plan (map out_of ends) links (found (laid (forks_left ends) (replicate (edge_count plan) None)))
+    states_left = record {
+      states = states;
+      ended = ended_left;
+      at_most_one = at_most_one;
+      values = values_left;
+      found =
+          let slots = laid (forks_left ends) (replicate (edge_count plan) None) in
+          let count : length slots ≡ edge_count plan = length-laid (forks_left ends) (replicate (edge_count plan) None) ∙ length-replicate (edge_count plan) None in
+          found_given (fork_in_hand plan states) slots 0 (λ k within.
+          let inside : k < edge_count plan = omega (arith, within, count) in
+          slot_given (fork_in_hand plan states) (forks_left ends) (edge_count plan) k all_given (in_some_hand k inside) inside ∙ ap (λ j. Some (fork_in_hand plan states j)) (sym (zero-add k)))
+          ∙ ap (λ n. filter_map (fork_in_hand plan states) (range_with_len 0 n)) count;
+    }

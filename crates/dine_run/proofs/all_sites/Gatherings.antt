@@ -2,7 +2,7 @@
 use Rattle.std.proofs.Common.{◌≡◌, ◌⊎◌, ℕ, zero, suc, ◌+◌, ◌*◌, ◌<◌, ◌==◌, ◌&&◌, ◌++◌, Bool, true, false, List, [], ◌∷◌, All, length, map, get_or, slice_get, Option, Some, None, is_some, option_map, option_to_list, if◌then◌else◌, refl, sym, ◌∙◌, ap, subst, inl, inr, arith}
 use Rattle.std.specs.declared.thread.PromisedHandle.{PromisedHandle}
 use Rattle.std.specs.List.{AllZip, position, range_with_len}
-use Rattle.std.proofs.lemmas.Bool.{and_parts, eqb-true, true≢false, false≢true}
+use Rattle.std.proofs.lemmas.Bool.{and_parts, eqb-true, or_cases, true≢false, false≢true}
 use Rattle.std.proofs.lemmas.List.{length-map, append-nil}
 use Rattle.std.proofs.lemmas.List.Elements.{All-append, All-cons}
 use Rattle.std.proofs.lemmas.List.Quantifiers.{position-Some}
@@ -10,15 +10,15 @@ use Rattle.std.proofs.lemmas.Option.{same_Some, none-some, slice_get-map, slice_
 use Rattle.std.proofs.lemmas.Slice.Zip.{AllZip-long}
 use Rattle.std.proofs.Math.Nat.{zero-add}
 use Rattle.dine_token.specs.Fork.{SeenFork}
-use Rattle.dine_plan.specs.Plan.{SeenPlan, IsPlan, site_count, edge_count, edges_of, job_count, lo_of, hi_of}
+use Rattle.dine_plan.specs.Plan.{SeenPlan, IsPlan, site_count, edge_count, edges_of, job_count, lo_of, hi_of, resigns}
 use Rattle.dine_plan.proofs.ListLemmas.{position_none_at}
 use Rattle.dine_rules.specs.declared.letters.Letter.{Letter}
 use Rattle.dine_rules.specs.declared.letters.Letter.TheVariants.{Fork, Request, Done, Close}
 use Rattle.dine_rules.specs.Letters.{has_close, has_done}
-use Rattle.dine_rules.specs.Local.{LocalState, no_traffic, traffic_at, edge_at}
-use Rattle.dine_rules.specs.Holdings.{fork_at, hand_at}
+use Rattle.dine_rules.specs.Local.{LocalState, no_traffic, traffic_at}
+use Rattle.dine_rules.specs.Holdings.{fork_at}
 use Rattle.dine_rules.specs.Streams.{IsClosedInOrder, is_close_last, is_orderly}
-use Rattle.dine_rules.specs.Steps.{fork_with}
+use Rattle.dine_rules.specs.Steps.{hand_fork_at}
 use Rattle.dine_rules.proofs.one_place.Placed.{placed}
 use Rattle.dine_rules.proofs.one_site.SiteSteps.{list_all-range}
 use Rattle.dine_rules.proofs.lists.Turns.{ends_in_close}
@@ -33,7 +33,7 @@ use Rattle.dine_run.specs.declared.site_end.SiteFault.{SiteFault}
 use Rattle.dine_run.specs.declared.slots.Spot.{Spot}
 use Rattle.dine_run.specs.declared.threads.Setup.{Setup}
 use Rattle.dine_run.specs.private.Collecting.{AreForksOf, AreLinksLeft, AreWholeEnds, IsTakenToClose, forks_left, out_of, rows_left}
-use Rattle.dine_run.specs.Diners.{HasEaten}
+use Rattle.dine_run.specs.Diners.{HasEaten, HeedsFailures}
 use Rattle.dine_run.specs.Gathered.{AreFinishedOuts, AreLinksOf, AreOutsOf, IsClosedWhole, IsFinishedOut, IsLowestFault, IsOutOf, link_from_low, link_from_high, no_link}
 use Rattle.dine_run.specs.Ports.{SeenPort, SameLinks, seen_port, seen_ports}
 use Rattle.dine_run.specs.private.Seats.{AreSeatsOf, IsReady, LeavesSeat, seat_of, seen_site_end}
@@ -43,6 +43,7 @@ use Rattle.dine_run.specs.private.Setups.{IsSetUp, rows_of_seats}
 use Rattle.dine_run.specs.private.Spots.{low_spot, high_spot}
 use Rattle.dine_run.specs.private.Wirings.{AreWired, port_at}
 use Rattle.dine_run.proofs.one_site.AtPlaces.{links_there}
+use Rattle.dine_run.proofs.one_site.Quits.{quit_told}
 use Rattle.dine_run.proofs.lists.Lists.{all_at}
 use Rattle.dine_run.proofs.lists.Seen.{there_is}
 use Rattle.dine_run.proofs.lists.Zips.{AllZip-at}
@@ -91,10 +92,10 @@ all_where P false x xs here rest = rest
 
 -- what is so of each fork that a site holds is so of all forks in its hand
 pub forks_each : (P : SeenFork → Type 0) (plan : SeenPlan) (s : ℕ) (state : LocalState) (a n : ℕ)
-    → ((i : ℕ) → i < a + n → fork_at plan s state i ≡ 1 → P (fork_with plan (edge_at plan s i) (hand_at s state i))) → All P (forks_in_hand plan s state (range_with_len a n))
+    → ((i : ℕ) → i < a + n → fork_at plan s state i ≡ 1 → P (hand_fork_at plan s state i)) → All P (forks_in_hand plan s state (range_with_len a n))
 forks_each P plan s state a zero each = λ k d none. absurd (omega (arith, none))
 forks_each P plan s state a (suc n) each =
-    all_where P (fork_at plan s state a == 1) (fork_with plan (edge_at plan s a) (hand_at s state a)) (forks_in_hand plan s state (range_with_len (a + 1) n))
+    all_where P (fork_at plan s state a == 1) (hand_fork_at plan s state a) (forks_in_hand plan s state (range_with_len (a + 1) n))
     (λ held. each a (omega arith) (eqb-true (fork_at plan s state a) 1 held))
     (forks_each P plan s state (a + 1) n (λ i within. each i (omega (arith, within))))
 
@@ -137,6 +138,7 @@ module _ {Lane Tx Closed Rx Identity D : Type 0} {live : Tx → SeenEnd Identity
     pub at : slice_get seats s ≡ Some seat
     pub left : IsLeft plan s (seen_ports live shut taking seat.ports.items) (seen_site_end live shut taking end)
     pub eaten : HasEaten calls marks fits end.ate end.failed seat.diner end.diner
+    pub heeds : HeedsFailures (resigns plan s) end.journal.items (calls seat.diner) (calls end.diner)
     pub degree : length end.ports.items ≡ length (edges_of plan s)
 
   pub left_at : (s : ℕ) (end : SiteEnd Lane D Tx Closed Rx) → slice_get ends s ≡ Some end → LeftAt s end
@@ -152,6 +154,7 @@ module _ {Lane Tx Closed Rx Identity D : Type 0} {live : Tx → SeenEnd Identity
         at = pair.1;
         left = left;
         eaten = pair.2.eaten;
+        heeds = subst (λ (does : Bool). HeedsFailures does end.journal.items (calls seat.diner) (calls end.diner)) (here.0.stands.resigns ∙ ap (resigns plan) here.1) pair.2.heeds;
         degree =
             sym (length-map end.ports.items (seen_port live shut taking)) ∙ left.count ∙ length-map seat.ports.items (seen_port live shut taking)
             ∙ ready_here.ports ∙ here.0.stands.degree ∙ length-map (edges_of plan seat.packed.site) (λ edge. no_traffic) ∙ ap (λ n. length (edges_of plan n)) here.1;
@@ -308,7 +311,10 @@ module _ {Lane Tx Closed Rx Identity D : Type 0} {live : Tx → SeenEnd Identity
         subst (IsFinishedOut plan s) end.2 (record {
           no_fault = none;
           no_stray = left.ended.no_stray (ap hands_back none);
-          ate_all = left.ended.ate ∙ eqb-true left.state.ate (job_count plan s) (and_parts _ _ (and_parts _ _ (left.ended.finished none)).0).1;
+          has_no_job_left = elim (or_cases (left.state.ate == job_count plan s) left.state.has_quit (and_parts _ _ (and_parts _ _ (left.ended.finished none)).0).1) [
+            | inl all_eaten ↦ inl (left.ended.ate ∙ eqb-true left.state.ate (job_count plan s) all_eaten)
+            | inr quit ↦ inr ((left.ended.keeps.has_dropped quit).0, sym (quit_told plan s end.0.journal.items left.state (left.ended.did_all none)) ∙ quit)
+          ];
         })
 
   -- every site has its diner, called for the meals that it ate
@@ -323,6 +329,7 @@ module _ {Lane Tx Closed Rx Identity D : Type 0} {live : Tx → SeenEnd Identity
           site = here.left.site;
           ate = omega (arith, here.left.ended.ate, here.left.ended.keeps.ate_within);
           eaten = subst (λ d. HasEaten calls marks fits end.0.ate end.0.failed d end.0.diner) same here.eaten;
+          heeds = subst (λ d. HeedsFailures (resigns plan s) end.0.journal.items (calls d) (calls end.0.diner)) same here.heeds;
         });
   }
 

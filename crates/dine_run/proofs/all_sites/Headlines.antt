@@ -1,20 +1,24 @@
 -- From what all sites left to the headline: one fork an edge, its log, and the tokens.
-use Rattle.std.proofs.Common.{◌≡◌, ◌≢◌, ◌⊎◌, ℕ, zero, suc, ◌+◌, ◌*◌, ◌<◌, ◌≤◌, ◌==◌, Bool, true, List, [], ◌∷◌, All, filter, length, map, replicate, slice_get, Option, Some, None, option_map, refl, sym, ◌∙◌, ap, subst, inl, inr, arith, if◌then◌else◌}
+use Rattle.std.proofs.Common.{◌≡◌, ◌≢◌, ◌⊎◌, ℕ, zero, suc, ◌+◌, ◌*◌, ◌<◌, ◌≤◌, ◌==◌, ◌||◌, Bool, true, false, List, [], ◌∷◌, All, filter, length, map, replicate, slice_get, Option, Some, None, option_map, refl, sym, ◌∙◌, ap, ap₂, subst, inl, inr, arith, if◌then◌else◌}
 use Rattle.std.specs.List.{range_with_len}
-use Rattle.std.proofs.lemmas.Bool.{and_parts, cases_eq, cond-true, cond-false, eq-eqb, ne_eqb, or_left, or_right}
+use Rattle.std.specs.Prelude.{nat_lt}
+use Rattle.std.proofs.lemmas.Bool.{and_parts, cases_Bool, cases_eq, eqb-true, false_from_ne_true, le-ltb, lt-ltb, true≢false, cond-true, cond-false, eq-eqb, ne_eqb, or_left, or_right}
 use Rattle.std.proofs.lemmas.List.{ext_get_or, get_or-map, length-map, length-replicate}
 use Rattle.std.proofs.Math.Nat.{zero-add}
 use Rattle.std.proofs.lemmas.Option.{get_or_from_slice_get, same_Some, slice_get-map, slice_get_within, none-some}
 use Rattle.dine_token.specs.Fork.{SeenFork}
-use Rattle.dine_plan.specs.Plan.{SeenPlan, IsPlan, site_count, edge_count, edges_of, is_end, lo_of, hi_of}
-use Rattle.dine_rules.specs.Holdings.{forks_held, tokens_held, fork_at, token_at, hand, hand_at}
-use Rattle.dine_rules.specs.JoinedEnds.{AccountsForFork, AccountsForToken, AreWhollyTaken, HaveOneWholeFork, IsWholeLog}
+use Rattle.dine_plan.specs.Plan.{SeenPlan, IsPlan, site_count, edge_count, edges_of, is_end, job_count, lo_of, hi_of}
+use Rattle.dine_rules.specs.Holdings.{forks_held, tokens_held, fork_at, token_at, hand}
+use Rattle.dine_rules.specs.JoinedEnds.{AccountsForFork, AccountsForToken, AreForksLinked, AreWhollyTaken, HaveOneWholeFork, IsWholeLog}
 use Rattle.dine_rules.specs.declared.events.EventKind.{EventKind}
 use Rattle.dine_rules.specs.declared.phase.Phase.{Phase}
 use Rattle.dine_rules.specs.declared.phase.Phase.TheVariants.{Thinking, Hungry, Eating}
 use Rattle.dine_rules.specs.Journals.{IsJournal, journal_of}
 use Rattle.dine_rules.specs.Local.{LocalState, Traffic, edge_at, is_thinking, no_traffic, traffic_at}
-use Rattle.dine_rules.specs.Steps.{fork_with}
+use Rattle.dine_rules.specs.Steps.{fork_by, fork_with, hand_fork_at}
+use Rattle.dine_rules.specs.Values.{TellsValues, hand_value, value_by}
+use Rattle.dine_rules.specs.Letters.{forks_among}
+use Rattle.dine_rules.specs.declared.letters.Letter.{Letter}
 use Rattle.dine_rules.specs.Streams.{KeepsStreams}
 use Rattle.dine_rules.specs.World.{place_of}
 use Rattle.dine_rules.proofs.links.Across.{edge_at-place_of, place_of-edge_at}
@@ -41,11 +45,30 @@ use Rattle.dine_run.proofs.lists.Seen.{there_is}
 use Rattle.dine_run.proofs.lists.Writes.{same_spot}
 
 -- two states are the same, part by part
-same_state : (a b : LocalState) → a.phase ≡ b.phase → a.ate ≡ b.ate → a.traffic ≡ b.traffic → a ≡ b
-same_state a b phase ate traffic =
-    ap (λ p. let x : LocalState = record { phase = p; ate = a.ate; traffic = a.traffic } in x) phase
-    ∙ ap (λ n. let x : LocalState = record { phase = b.phase; ate = n; traffic = a.traffic } in x) ate
-    ∙ ap (λ t. let x : LocalState = record { phase = b.phase; ate = b.ate; traffic = t } in x) traffic
+same_state : (a b : LocalState) → a.phase ≡ b.phase → a.ate ≡ b.ate → a.must_quit ≡ b.must_quit → a.has_quit ≡ b.has_quit → a.traffic ≡ b.traffic → a ≡ b
+same_state a b phase ate must has traffic =
+    ap (λ p. let x : LocalState = record a { phase = p } in x) phase
+    ∙ ap (λ n. let x : LocalState = record a { phase = b.phase; ate = n } in x) ate
+    ∙ ap (λ q. let x : LocalState = record { phase = b.phase; ate = b.ate; must_quit = q; has_quit = a.has_quit; traffic = a.traffic } in x) must
+    ∙ ap (λ q. let x : LocalState = record b { has_quit = q; traffic = a.traffic } in x) has
+    ∙ ap (λ t. let x : LocalState = record b { traffic = t } in x) traffic
+
+-- a site that has no job left does not have to quit, and it has quit where it did not eat all
+quits_done : (plan : SeenPlan) (s : ℕ) (state : LocalState) → KeepsStreams plan s state → (state.ate == job_count plan s || state.has_quit) ≡ true → (state.must_quit ≡ false) × (state.has_quit ≡ nat_lt state.ate (job_count plan s))
+quits_done plan s state keeps done = elim (cases_Bool state.has_quit) [
+  | inl quit ↦ (
+    false_from_ne_true state.must_quit (λ must. true≢false (sym quit ∙ keeps.quits_once must)),
+    quit ∙ sym (lt-ltb state.ate (job_count plan s) (keeps.has_dropped quit).2),
+  )
+  | inr went ↦
+      let all : state.ate ≡ job_count plan s = eqb-true state.ate (job_count plan s) (eaten (state.ate == job_count plan s) state.has_quit done went) in (
+        false_from_ne_true state.must_quit (λ must. omega (arith, all, (keeps.must_drop must).2)),
+        went ∙ sym (le-ltb state.ate (job_count plan s) (omega (arith, all))),
+      )
+] where
+  eaten : (b c : Bool) → (b || c) ≡ true → c ≡ false → b ≡ true
+  eaten true c h none = refl
+  eaten false c h none = absurd (true≢false (sym h ∙ none))
 
 thinks : (p : Phase) → is_thinking p ≡ true → p ≡ Thinking
 thinks Thinking h = refl
@@ -54,10 +77,10 @@ thinks Eating h = absurd cc
 
 -- a fork that a site holds at a place is among those in its hand
 pub in_hand : (plan : SeenPlan) (s : ℕ) (state : LocalState) (a n i : ℕ) → a ≤ i → i < a + n → fork_at plan s state i ≡ 1
-    → IsIn (fork_with plan (edge_at plan s i) (hand_at s state i)) (forks_in_hand plan s state (range_with_len a n))
+    → IsIn (hand_fork_at plan s state i) (forks_in_hand plan s state (range_with_len a n))
 in_hand plan s state a zero i low high held = absurd (omega (arith, low, high))
 in_hand plan s state a (suc n) i low high held =
-    let fork : ℕ → SeenFork = λ j. fork_with plan (edge_at plan s j) (hand_at s state j) in
+    let fork : ℕ → SeenFork = λ j. hand_fork_at plan s state j in
     let rest = forks_in_hand plan s state (range_with_len (a + 1) n) in
     elim (cases_eq a i) [
       | inl same ↦ subst (λ j. IsIn (fork j) (if fork_at plan s state a == 1 then fork a ∷ rest else rest)) same
@@ -150,8 +173,9 @@ module _ {Lane Tx Closed Rx Identity D : Type 0} {live : Tx → SeenEnd Identity
   state_is : (s : ℕ) (end : SiteEnd Lane D Tx Closed Rx) (at : slice_get ends s ≡ Some end) → (left_at all s end at).left.state ≡ state_left plan ates links s
   state_is s end at =
       let left = (left_at all s end at).left in
-      let finished = left.ended.finished (no_fault s end at) in
-      same_state left.state (state_left plan ates links s) (thinks left.state.phase (and_parts _ _ (and_parts _ _ finished).0).0) (ate_is s end at)
+      let finished = and_parts _ _ (and_parts _ _ (left.ended.finished (no_fault s end at))).0 in
+      let quits = quits_done plan s left.state left.ended.keeps finished.1 in
+      same_state left.state (state_left plan ates links s) (thinks left.state.phase finished.0) (ate_is s end at) quits.0 (quits.1 ∙ ap (λ n. nat_lt n (job_count plan s)) (ate_is s end at))
       (ext_get_or no_traffic left.state.traffic (map (traffic_of plan links s) (edges_of plan s)) (left.ended.keeps.every_place ∙ sym (length-map (edges_of plan s) (traffic_of plan links s)))
       (λ i within. let inside : i < length (edges_of plan s) = omega (arith, within, left.ended.keeps.every_place) in
       did_at s end at i inside ∙ sym (get_or-map (traffic_of plan links s) (edges_of plan s) i 0 no_traffic inside)))
@@ -170,6 +194,8 @@ module _ {Lane Tx Closed Rx Identity D : Type 0} {live : Tx → SeenEnd Identity
       (token_law : (plan : SeenPlan) (s i : ℕ) (state : LocalState) → IsPlan plan → KeepsStreams plan s state → i < length (edges_of plan s) → AccountsForToken plan s (edge_at plan s i) (traffic_at state i))
       (joined_fork : (plan : SeenPlan) (edge low_ate high_ate : ℕ) (low high : Traffic) → IsPlan plan → edge < edge_count plan → AccountsForFork plan (lo_of plan edge) edge low_ate low → AccountsForFork plan (hi_of plan edge) edge high_ate high → AreWhollyTaken low high → HaveOneWholeFork plan edge low_ate high_ate low high)
       (joined_token : (plan : SeenPlan) (edge : ℕ) (low high : Traffic) → IsPlan plan → edge < edge_count plan → AccountsForToken plan (lo_of plan edge) edge low → AccountsForToken plan (hi_of plan edge) edge high → AreWhollyTaken low high → tokens_held plan (lo_of plan edge) edge low + tokens_held plan (hi_of plan edge) edge high ≡ 1)
+      (low_values : (plan : SeenPlan) (edge low_ate high_ate : ℕ) (low high : Traffic) → IsPlan plan → edge < edge_count plan → AccountsForFork plan (lo_of plan edge) edge low_ate low → AccountsForFork plan (hi_of plan edge) edge high_ate high → AreForksLinked low high → TellsValues plan (lo_of plan edge) edge low_ate low)
+      (high_values : (plan : SeenPlan) (edge low_ate high_ate : ℕ) (low high : Traffic) → IsPlan plan → edge < edge_count plan → AccountsForFork plan (lo_of plan edge) edge low_ate low → AccountsForFork plan (hi_of plan edge) edge high_ate high → AreForksLinked low high → TellsValues plan (hi_of plan edge) edge high_ate high)
       (closed : All IsClosedWhole links) where
     -- each end of an edge accounts for its fork and its token, by the links' lists
     accounts_fork : (s edge : ℕ) → s < site_count plan → edge < edge_count plan → is_end plan s edge ≡ true → AccountsForFork plan s edge (ate_of plan ates links s) (traffic_of plan links s edge)
@@ -208,13 +234,38 @@ module _ {Lane Tx Closed Rx Identity D : Type 0} {live : Tx → SeenEnd Identity
       goes = (closed (2 * edge) no_link (omega (arith, within, are_left.count))).taken;
     }
 
+    low_accounts : (edge : ℕ) → edge < edge_count plan → AccountsForFork plan (lo_of plan edge) edge (ate_of plan ates links (lo_of plan edge)) (low_traffic links edge)
+    low_accounts edge within = subst (AccountsForFork plan (lo_of plan edge) edge (ate_of plan ates links (lo_of plan edge))) (of_low edge) (accounts_fork (lo_of plan edge) edge (low_site edge within) within (low_end edge))
+
+    high_accounts : (edge : ℕ) → edge < edge_count plan → AccountsForFork plan (hi_of plan edge) edge (ate_of plan ates links (hi_of plan edge)) (high_traffic links edge)
+    high_accounts edge within = subst (AccountsForFork plan (hi_of plan edge) edge (ate_of plan ates links (hi_of plan edge))) (of_high edge within) (accounts_fork (hi_of plan edge) edge (all.is_plan.within edge within) within (high_end edge))
+
     -- one of the two ends has the fork, with a whole log
     one_whole : (edge : ℕ) → edge < edge_count plan → HaveOneWholeFork plan edge (ate_of plan ates links (lo_of plan edge)) (ate_of plan ates links (hi_of plan edge)) (low_traffic links edge) (high_traffic links edge)
     one_whole edge within =
         joined_fork plan edge (ate_of plan ates links (lo_of plan edge)) (ate_of plan ates links (hi_of plan edge)) (low_traffic links edge) (high_traffic links edge) all.is_plan within
-        (subst (AccountsForFork plan (lo_of plan edge) edge (ate_of plan ates links (lo_of plan edge))) (of_low edge) (accounts_fork (lo_of plan edge) edge (low_site edge within) within (low_end edge)))
-        (subst (AccountsForFork plan (hi_of plan edge) edge (ate_of plan ates links (hi_of plan edge))) (of_high edge within) (accounts_fork (hi_of plan edge) edge (all.is_plan.within edge within) within (high_end edge)))
-        (taken_whole edge within)
+        (low_accounts edge within) (high_accounts edge within) (taken_whole edge within)
+
+    -- all Forks that were put are taken
+    linked : (edge : ℕ) → edge < edge_count plan → AreForksLinked (low_traffic links edge) (high_traffic links edge)
+    linked edge within =
+        let taken = taken_whole edge within in
+        record {
+          comes = λ k fork at. ap (λ (letters : List Letter). slice_get (forks_among letters) k) (sym taken.comes) ∙ at;
+          goes = λ k fork at. ap (λ (letters : List Letter). slice_get (forks_among letters) k) (sym taken.goes) ∙ at;
+        }
+
+    -- the value in the hand of an end is that of the log
+    value_in_hand : (s edge : ℕ) → edge < edge_count plan → (lo_of plan edge ≡ s) ⊎ (hi_of plan edge ≡ s)
+        → hand_value plan s edge (ate_of plan ates links s) (traffic_of plan links s edge) ≡ value_by plan edge (hand s (ate_of plan ates links s) (traffic_of plan links s edge))
+    value_in_hand s edge within (inl low) =
+        subst (λ x. hand_value plan x edge (ate_of plan ates links x) (traffic_of plan links x edge) ≡ value_by plan edge (hand x (ate_of plan ates links x) (traffic_of plan links x edge))) low
+        (subst (λ t. hand_value plan (lo_of plan edge) edge (ate_of plan ates links (lo_of plan edge)) t ≡ value_by plan edge (hand (lo_of plan edge) (ate_of plan ates links (lo_of plan edge)) t)) (sym (of_low edge))
+        (low_values plan edge _ _ (low_traffic links edge) (high_traffic links edge) all.is_plan within (low_accounts edge within) (high_accounts edge within) (linked edge within)).in_hand)
+    value_in_hand s edge within (inr high) =
+        subst (λ x. hand_value plan x edge (ate_of plan ates links x) (traffic_of plan links x edge) ≡ value_by plan edge (hand x (ate_of plan ates links x) (traffic_of plan links x edge))) high
+        (subst (λ t. hand_value plan (hi_of plan edge) edge (ate_of plan ates links (hi_of plan edge)) t ≡ value_by plan edge (hand (hi_of plan edge) (ate_of plan ates links (hi_of plan edge)) t)) (sym (of_high edge within))
+        (high_values plan edge _ _ (low_traffic links edge) (high_traffic links edge) all.is_plan within (low_accounts edge within) (high_accounts edge within) (linked edge within)).in_hand)
 
     -- the log of an end that holds the fork is the one in hand
     low_log : (edge : ℕ) → forks_held plan (lo_of plan edge) edge (low_traffic links edge) ≡ 1 → log_in_hand plan ates links edge ≡ hand (lo_of plan edge) (ate_of plan ates links (lo_of plan edge)) (low_traffic links edge)
@@ -236,19 +287,20 @@ module _ {Lane Tx Closed Rx Identity D : Type 0} {live : Tx → SeenEnd Identity
         ap (hand (hi_of plan edge) (ate_of plan ates links (hi_of plan edge))) (of_high edge within) ∙ sym (high_log edge (λ there. omega (arith, one, here, there)))) held
 
     abbrev pub the_fork : ℕ → SeenFork
-    the_fork edge = fork_with plan edge (log_in_hand plan ates links edge)
+    the_fork edge = fork_by plan edge (log_in_hand plan ates links edge)
 
     -- a fork that a site holds is the one of its edge
     held_fork : (s : ℕ) (end : SiteEnd Lane D Tx Closed Rx) (at : slice_get ends s ≡ Some end) (i : ℕ) → i < length (edges_of plan s) → fork_at plan s (left_at all s end at).left.state i ≡ 1
-        → fork_with plan (edge_at plan s i) (hand_at s (left_at all s end at).left.state i) ≡ the_fork (edge_at plan s i)
+        → hand_fork_at plan s (left_at all s end at).left.state i ≡ the_fork (edge_at plan s i)
     held_fork s end at i inside held =
         let state = (left_at all s end at).left.state in
         let edge = edge_at plan s i in
         let p = placed plan s i all.is_plan inside in
         let side : (lo_of plan edge ≡ s) ⊎ (hi_of plan edge ≡ s) = elim p.sides [ inl low ↦ inl low.0 | inr high ↦ inr high.0 ] in
-        ap (fork_with plan edge)
-        (ap (λ n. hand s n (traffic_at state i)) (ate_is s end at) ∙ ap (hand s (ate_of plan ates links s)) (did_at s end at i inside)
-        ∙ held_log s edge p.edge_within side (ap (forks_held plan s edge) (sym (did_at s end at i inside)) ∙ held))
+        let log = held_log s edge p.edge_within side (ap (forks_held plan s edge) (sym (did_at s end at i inside)) ∙ held) in
+        ap₂ (fork_with plan edge)
+        (ap₂ (λ (n : ℕ) (t : Traffic). hand s n t) (ate_is s end at) (did_at s end at i inside) ∙ log)
+        (ap₂ (λ (n : ℕ) (t : Traffic). hand_value plan s edge n t) (ate_is s end at) (did_at s end at i inside) ∙ value_in_hand s edge p.edge_within side ∙ ap (value_by plan edge) log)
 
     only_one : (edge : ℕ) → All (IsOnly edge (the_fork edge)) (forks_left ends)
     only_one edge = forks_of_all (IsOnly edge (the_fork edge)) ends (λ s end at.

@@ -1,5 +1,5 @@
 -- One element is taken out, with the last one in its place, and another is put in.
-use Rattle.std.proofs.Common.{◌≡◌, ℕ, ◌+◌, ◌-◌, ◌<◌, List, [], ◌∷◌, ◌++◌, length, map, set, get_or, Option, Some, option_map, refl, sym, ◌∙◌, ap, subst, inl, inr, arith, length-set, length-append}
+use Rattle.std.proofs.Common.{◌≡◌, ℕ, ◌+◌, ◌-◌, ◌<◌, List, [], ◌∷◌, ◌++◌, length, map, set, get_or, Some, option_map, refl, sym, ◌∙◌, ap, subst, inl, inr, arith, length-set, length-append}
 use Rattle.std.specs.List.{slice_get, swap, swap_remove}
 use Rattle.std.proofs.lemmas.Bool.{cases_eq}
 use Rattle.std.proofs.lemmas.Option.{same_Some, slice_get-map}

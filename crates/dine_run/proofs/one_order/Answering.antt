@@ -1,5 +1,5 @@
 -- What is answered at the end of the search.
-use Rattle.std.proofs.Common.{◌≡◌, ◌≢◌, ℕ, ◌<◌, ◌≤◌, List, [], ◌∷◌, ◌++◌, length, get_or, Some, None, refl, sym, ◌∙◌, ap, inl, inr, arith, append-nil, length-append}
+use Rattle.std.proofs.Common.{◌≡◌, ◌≢◌, ℕ, ◌<◌, ◌≤◌, List, [], ◌∷◌, ◌++◌, length, get_or, Some, None, Result, Ok, Err, IfErr, IsErrAnd, refl, sym, ◌∙◌, ap, subst, inl, inr, arith, append-nil, length-append}
 use mathlib.Core.List.{IsPrefix}
 use Rattle.std.proofs.lemmas.Bool.{cases_lt}
 use Rattle.std.proofs.lemmas.List.{get_or_past}
@@ -9,6 +9,8 @@ use Rattle.dine_rules.specs.declared.events.EventKind.{EventKind}
 use Rattle.dine_rules.specs.Journals.{IsOrderOf, IsPlacedToEnd, IsWholeOrder, journal_of, part_of}
 use Rattle.dine_rules.specs.World.{IsComplete, Reaches, WorldState, enabled_events}
 use Rattle.dine_core.specs.Worlds.{SeenWorld}
+use Rattle.dine_run.specs.declared.orders.OrderFault.{OrderFault}
+use Rattle.dine_run.specs.declared.orders.OrderFault.TheVariants.{Memory}
 use Rattle.dine_run.specs.Orders.{FirstLeft, HasNoOrder, IsNotClosed, IsSearched, IsStuckAt}
 
 -- what the laws say of a world at the end of a search
@@ -85,3 +87,8 @@ module _ (plan : SeenPlan) (journals : List (List EventKind)) (placed : List Eve
     accepted = done.to_end.accepted;
     complete = complete plan placed done.state done.stands.reached.is_plan done.to_end.accepted (empty (enabled_events plan done.state) closed);
   }
+
+-- where memory was refused, it is told
+pub memory_told : {A : Type 0} (result : Result A OrderFault) → IsErrAnd result (λ fault. fault ≡ Memory) → (P : OrderFault → Type 0) → P Memory → IfErr result P
+memory_told (Ok answer) told P holds = absurd told
+memory_told (Err fault) told P holds = subst P (sym told) holds

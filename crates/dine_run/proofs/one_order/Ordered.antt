@@ -10,18 +10,21 @@ use Rattle.dine_plan.specs.Plan.{SeenPlan, IsPlan, edge_count, edges_of, hi_of, 
 use Rattle.dine_rules.specs.declared.events.Event.{Event}
 use Rattle.dine_rules.specs.declared.events.EventKind.{EventKind}
 use Rattle.dine_rules.specs.Holdings.{fork_at, forks_held, hand, hand_at}
-use Rattle.dine_rules.specs.Journals.{AreStatesAfter, IsJournal, IsOrderOf, journal_of}
+use Rattle.dine_rules.specs.Journals.{AreStatesAfter, FailAsShown, IsJournal, IsOrderOf, journal_of}
 use Rattle.dine_rules.specs.JoinedEnds.{AreEndsOfEdge}
 use Rattle.dine_rules.specs.Links.{ForEachLink}
 use Rattle.dine_rules.specs.Local.{LocalState, Traffic, edge_at, neighbour_at, no_traffic, traffic_at}
 use Rattle.dine_rules.specs.Precedence.{fork_log}
-use Rattle.dine_rules.specs.Steps.{fork_with}
+use Rattle.dine_rules.specs.Steps.{fork_by}
 use Rattle.dine_rules.specs.World.{LinksAreOrdered, Reaches, WorldState, no_state, place_of, put_to, state_of}
 use Rattle.dine_core.specs.Worlds.{fork_seen, forks_seen}
 use Rattle.dine_link.specs.Links.{SeenLink}
 use Rattle.dine_run.specs.Gathered.{high_traffic, link_from_high, link_from_low, low_traffic, no_link, traffic_of}
 use Rattle.dine_run.specs.Headline as headline_specs
 use Rattle.dine_run.specs.Headline.{IsHeadline, IsTheFork, ate_of}
+use Rattle.dine_rules.proofs.journals.OtherOutcomes.{plan-stays, states-stay}
+use Rattle.dine_run.specs.Orders.{plan_shown, shown_by}
+use Rattle.dine_run.proofs.one_order.Shown.{fail_as_shown, fork_shown, sites_shown}
 use Rattle.dine_run.specs.Journals.{AreJournals, state_left, states_left}
 
 -- what an end of an edge put and took: the lower end, and another
@@ -41,7 +44,7 @@ pub record Known : Type 0 where
   pub edges : (plan : SeenPlan) (s i : ℕ) → IsPlan plan → i < length (edges_of plan s) → edge_at plan s i < edge_count plan
   pub sites : (plan : SeenPlan) (s i : ℕ) → IsPlan plan → i < length (edges_of plan s) → neighbour_at plan s i < site_count plan
   pub fixed : (plan : SeenPlan) (journals : List (List EventKind)) (states world : WorldState) (events : List Event) → IsPlan plan
-      → AreStatesAfter plan journals states → IsOrderOf journals events → Reaches plan events world → world ≡ states
+      → AreStatesAfter plan journals states → FailAsShown plan journals states → IsOrderOf journals events → Reaches plan events world → world ≡ states
   pub held : ForEachLink (λ plan world s i. fork_at plan s (state_of world s) i ≡ 1 → fork_log plan world (edge_at plan s i) ≡ hand_at s (state_of world s) i)
 
 module _ (known : Known) (plan : SeenPlan) (ates : List ℕ) (links : List SeenLink) (forks : List SeenFork) (is_plan : IsPlan plan) (headline : IsHeadline plan ates links forks) where
@@ -84,7 +87,13 @@ module _ (known : Known) (plan : SeenPlan) (ates : List ℕ) (links : List SeenL
             (subst (λ (x : Traffic). IsPrefix (high_traffic links edge).taken x.put) (sym (of_low plan links other edge (sym across))) (prefix_high edge is_edge))
       ]))
 
-  module _ (journals : List (List EventKind)) (are_journals : AreJournals plan ates links journals) (events : List Event) (world : WorldState) (holds : IsOrderOf journals events) (reached : Reaches plan events world) where
+  module _ (journals : List (List EventKind)) (are_journals : AreJournals plan ates links journals) (events : List Event) (world : WorldState) (holds : IsOrderOf journals events) (reached : Reaches (plan_shown plan journals) events world) where
+    abbrev other : SeenPlan
+    other = plan_shown plan journals
+
+    is_plan_too : IsPlan other
+    is_plan_too = plan-stays plan (shown_by plan journals) is_plan
+
     world_is : world ≡ states
     world_is =
         let after : AreStatesAfter plan journals states = record {
@@ -92,20 +101,21 @@ module _ (known : Known) (plan : SeenPlan) (ates : List ℕ) (links : List SeenL
           each = λ s is_site. subst (IsJournal plan s (journal_of journals s)) (sym (state_is s is_site)) (are_journals s is_site);
           links = linked;
         } in
-        known.fixed plan journals states world events is_plan after holds reached
+        known.fixed other journals states world events is_plan_too (states-stay plan (shown_by plan journals) journals states after)
+        (fail_as_shown plan journals states (λ s is_site. ap (λ (x : LocalState). x.must_quit) (state_is s is_site))) holds reached
 
     -- the log of the world is that in the hand of the end that holds the fork
     log_is : (s i edge : ℕ) (traffic : Traffic) → s < site_count plan → i < length (edges_of plan s) → edge_at plan s i ≡ edge → traffic_of plan links s edge ≡ traffic → forks_held plan s edge traffic ≡ 1
-        → hand s (ate_of plan ates links s) traffic ≡ fork_log plan world edge
+        → hand s (ate_of plan ates links s) traffic ≡ fork_log other world edge
     log_is s i edge traffic is_site within is same held =
         let here : traffic_at (state_of world s) i ≡ traffic = ap (λ (x : WorldState). traffic_at (state_of x s) i) world_is ∙ traffic_is s i is_site within ∙ ap (traffic_of plan links s) is ∙ same in
         let ate : (state_of world s).ate ≡ ate_of plan ates links s = ap (λ (x : WorldState). (state_of x s).ate) world_is ∙ ap (λ (x : LocalState). x.ate) (state_is s is_site) in
         let one : fork_at plan s (state_of world s) i ≡ 1 = ap (forks_held plan s (edge_at plan s i)) here ∙ ap (λ (e : ℕ). forks_held plan s e traffic) is ∙ held in
-        sym (ap (fork_log plan world) (sym is) ∙ known.held plan events world s i is_plan reached is_site within one
+        sym (ap (fork_log other world) (sym is) ∙ known.held other events world s i is_plan_too reached (omega (arith, is_site, sites_shown plan journals)) within one
         ∙ ap (λ (n : ℕ). hand s n (traffic_at (state_of world s) i)) ate ∙ ap (hand s (ate_of plan ates links s)) here)
 
     log_of : (edge : ℕ) → edge < edge_count plan → forks_held plan (lo_of plan edge) edge (low_traffic links edge) + forks_held plan (hi_of plan edge) edge (high_traffic links edge) ≡ 1
-        → headline_specs.log_in_hand plan ates links edge ≡ fork_log plan world edge
+        → headline_specs.log_in_hand plan ates links edge ≡ fork_log other world edge
     log_of edge within one =
         let low : ℕ = lo_of plan edge in
         let high : ℕ = hi_of plan edge in
@@ -122,11 +132,11 @@ module _ (known : Known) (plan : SeenPlan) (ates : List ℕ) (links : List SeenL
               ∙ log_is high (place_of plan high edge) edge (high_traffic links edge) top ends.within_there (ends.same_edge ∙ known.edge plan edge is_plan within) (of_high plan links high edge far) (omega (arith, one, away))
         ]
 
-    pub forks_of_order : forks ≡ forks_seen plan world
+    pub forks_of_order : forks ≡ forks_seen other world
     forks_of_order =
         let count : length forks ≡ edge_count plan = sym (length-map forks (λ (x : SeenFork). x.edge)) ∙ ap length headline.one_fork_an_edge ∙ length-range_with_len 0 (edge_count plan) in
-        let past : SeenFork = fork_seen plan world 0 in
-        ext_get_or past forks (forks_seen plan world) (count ∙ sym (length-map-range_with_len (fork_seen plan world) 0 (edge_count plan))) (λ edge below.
+        let past : SeenFork = fork_seen other world 0 in
+        ext_get_or past forks (forks_seen other world) (count ∙ sym (length-map-range_with_len (fork_seen other world) 0 (edge_count plan))) (λ edge below.
         let within : edge < edge_count plan = omega (arith, count, below) in
         let the = headline.each_fork edge (get_or forks edge past) (slice_get-get_or forks edge past below) in
-        the.in_hand ∙ ap (fork_with plan edge) (log_of edge within the.one) ∙ sym (get_or-map-range_with_len (fork_seen plan world) 0 (edge_count plan) edge edge past within (omega arith)))
+        the.in_hand ∙ ap (fork_by plan edge) (log_of edge within the.one) ∙ fork_shown plan journals edge (fork_log other world edge) ∙ sym (get_or-map-range_with_len (fork_seen other world) 0 (edge_count plan) edge edge past within (omega arith)))

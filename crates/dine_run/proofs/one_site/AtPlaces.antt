@@ -1,5 +1,5 @@
 -- What holds at each place, and of the state as a whole, when a letter is put or taken at one place.
-use Rattle.std.proofs.Common.{◌≡◌, ℕ, ◌<◌, true, false, List, [], ◌∷◌, ◌++◌, length, map, set, get_or, Option, Some, None, option_map, sym, ◌∙◌, ap, subst, inl, inr, length-set}
+use Rattle.std.proofs.Common.{◌≡◌, ℕ, ◌<◌, Bool, true, false, List, [], ◌∷◌, ◌++◌, length, map, set, get_or, Option, Some, None, option_map, sym, ◌∙◌, ap, subst, inl, inr, length-set}
 use Rattle.std.specs.List.{slice_get}
 use Rattle.std.proofs.lemmas.Option.{get_or_from_slice_get, slice_get-map}
 use Rattle.std.proofs.lemmas.List.{get_or-set_same, get_or-set_other, set-get_or}
@@ -128,15 +128,15 @@ opens-break i plan s state h =
 
 -- what a law says: a journal grows by each event that its site may do
 abbrev pub JournalsGrow : Type 0
-JournalsGrow = (plan : SeenPlan) (s : ℕ) (journal : List EventKind) (state : LocalState) (kind : EventKind) (next : ℕ → Option Letter) (step : Step) → IsJournal plan s journal state
-    → step_by next kind ≡ Some step → may plan s state step ≡ true → IsJournal plan s (journal ++ kind ∷ []) (after plan s state step)
+JournalsGrow = (plan : SeenPlan) (s : ℕ) (journal : List EventKind) (state : LocalState) (kind : EventKind) (failed : Bool) (next : ℕ → Option Letter) (step : Step) → IsJournal plan s journal state
+    → step_by failed next kind ≡ Some step → may plan s state step ≡ true → IsJournal plan s (journal ++ kind ∷ []) (after plan s state step)
 
 -- an event more of the journal
 pub did_step : {Identity : Type 0} (grows : JournalsGrow) (plan : SeenPlan) (given : List (SeenPort Identity)) (run : SeenRun Identity) (running : IsRunning plan given run) (kind : EventKind) (step : Step) (core : SeenCore)
-    (next : ℕ → Option Letter) → step_by next kind ≡ Some step → CoreStep plan running.state step run.core core → IsJournal plan core.site (run.journal ++ kind ∷ []) (after plan run.core.site running.state step)
-did_step grows plan given run running kind step core next is_step did =
+    (failed : Bool) (next : ℕ → Option Letter) → step_by failed next kind ≡ Some step → CoreStep plan running.state step run.core core → IsJournal plan core.site (run.journal ++ kind ∷ []) (after plan run.core.site running.state step)
+did_step grows plan given run running kind step core failed next is_step did =
     subst (λ (s : ℕ). IsJournal plan s (run.journal ++ kind ∷ []) (after plan run.core.site running.state step)) (sym did.site)
-    (grows plan run.core.site run.journal running.state kind next step running.did is_step did.allowed.needs)
+    (grows plan run.core.site run.journal running.state kind failed next step running.did is_step did.allowed.needs)
 
 module _ {Identity : Type 0} (plan : SeenPlan) (given : List (SeenPort Identity)) (i : ℕ) (step : Step) (l : Letter) (opens : Opens i step) where
   -- the state once the core put the letter
@@ -147,7 +147,7 @@ module _ {Identity : Type 0} (plan : SeenPlan) (given : List (SeenPort Identity)
       subst (λ (new : LocalState). HasState plan given (record { core = core; ports = run.ports; bell = run.bell; journal = journal }) new) did.0
       (has-step plan given run state step core journal has did.1 (ap (λ (new : LocalState). is_eating new.phase) did.0 ∙ has.rests))
 
-  pub putting : JournalsGrow → (kind : EventKind) → step_by (λ j. None) kind ≡ Some step → (run : SeenRun Identity) (core : SeenCore) (journal : List EventKind) → journal ≡ run.journal ++ kind ∷ [] → CorePuts i step run.core core l → IsRunning plan given run
+  pub putting : JournalsGrow → (kind : EventKind) → step_by false (λ j. None) kind ≡ Some step → (run : SeenRun Identity) (core : SeenCore) (journal : List EventKind) → journal ≡ run.journal ++ kind ∷ [] → CorePuts i step run.core core l → IsRunning plan given run
       → IsPutting i l plan given (record { core = core; ports = run.ports; bell = run.bell; journal = journal })
   putting grows kind is_step run core journal noted puts running =
       let did = puts plan running.state running.has.keeps running.has.stands in
@@ -160,5 +160,5 @@ module _ {Identity : Type 0} (plan : SeenPlan) (given : List (SeenPort Identity)
         lists = running.lists;
         heard = running.heard;
         did = subst (λ (kinds : List EventKind). IsJournal plan core.site kinds (with_put i l running.state)) (sym noted)
-            (subst (λ (new : LocalState). IsJournal plan core.site (run.journal ++ kind ∷ []) new) did.0 (did_step grows plan given run running kind step core (λ j. None) is_step did.1));
+            (subst (λ (new : LocalState). IsJournal plan core.site (run.journal ++ kind ∷ []) new) did.0 (did_step grows plan given run running kind step core false (λ j. None) is_step did.1));
       }

@@ -1,5 +1,5 @@
 -- A site goes on its way: each event leaves it running.
-use Rattle.std.proofs.Common.{◌≡◌, ℕ, zero, suc, ◌+◌, ◌<◌, ◌≤◌, ◌^◌, true, false, List, [], ◌∷◌, ◌++◌, length, map, set, get_or, Option, Some, None, refl, sym, ◌∙◌, ap, subst, arith, length-append, length-set}
+use Rattle.std.proofs.Common.{◌≡◌, ℕ, zero, suc, ◌+◌, ◌<◌, ◌≤◌, ◌^◌, Bool, true, false, List, [], ◌∷◌, ◌++◌, length, map, set, get_or, Option, Some, None, refl, sym, ◌∙◌, ap, subst, arith, length-append, length-set}
 use Rattle.std.specs.List.{slice_get, All}
 use Rattle.std.proofs.lemmas.Option.{slice_get_within}
 use Rattle.std.proofs.lemmas.List.{get_or-set_same}
@@ -9,7 +9,7 @@ use Rattle.dine_rules.specs.declared.events.EventKind.TheVariants as event
 use Rattle.dine_rules.specs.declared.letters.Letter.{Letter}
 use Rattle.dine_rules.specs.declared.letters.Letter.TheVariants as letter
 use Rattle.dine_rules.specs.Local.{LocalState, Traffic, no_traffic, traffic_at, start_of}
-use Rattle.dine_rules.specs.Steps.{Hungry, Begin, End, Take, after, with_put, with_taken}
+use Rattle.dine_rules.specs.Steps.{Hungry, Begin, End, Quit, Take, after, with_put, with_taken}
 use Rattle.dine_rules.specs.Streams.{KeepsStreams}
 use Rattle.dine_rules.specs.Journals.{IsJournal}
 use Rattle.dine_link.specs.Bells.{SeenBell}
@@ -82,7 +82,7 @@ module _ {Identity : Type 0} (plan : SeenPlan) (given : List (SeenPort Identity)
         (runs-taken (traffic_at running.state i) port (running.lists i port at) l) (λ j t p ne h. h);
     heard = running.heard;
     did = subst (λ (kinds : List EventKind). IsJournal plan core.site kinds (with_taken i l running.state)) (sym noted)
-        (did_step grows plan given run running (event.Take i) (Take i l) core (λ j. Some l) refl (steps plan running.state running.has.keeps running.has.stands));
+        (did_step grows plan given run running (event.Take i) (Take i l) core false (λ j. Some l) refl (steps plan running.state running.has.keeps running.has.stands));
   }
 
   pub take_room : ((plan : SeenPlan) (s : ℕ) (state : LocalState) (j : ℕ) → IsPlan plan → s < site_count plan → KeepsStreams plan s state → j < length state.traffic → length (traffic_at state j).taken ≤ 2003)
@@ -119,29 +119,39 @@ module _ {Identity : Type 0} (plan : SeenPlan) (given : List (SeenPort Identity)
     lists = running.lists;
     heard = running.heard;
     did = subst (λ (kinds : List EventKind). IsJournal plan core.site kinds (after plan run.core.site running.state Hungry)) (sym noted)
-        (did_step grows plan given run running event.Hungry Hungry core (λ j. None) refl (steps plan running.state running.has.keeps running.has.stands));
+        (did_step grows plan given run running event.Hungry Hungry core false (λ j. None) refl (steps plan running.state running.has.keeps running.has.stands));
   }
 
-  pub eat_runs : JournalsGrow → (eating core : SeenCore) (forks : List SeenFork) (first journal : List EventKind) → first ≡ run.journal ++ event.Begin ∷ [] → journal ≡ first ++ event.End ∷ [] → CoreSteps Begin run.core eating
+  pub quit_runs : JournalsGrow → (core : SeenCore) (journal : List EventKind) → journal ≡ run.journal ++ event.Quit ∷ [] → CoreSteps Quit run.core core → IsRunning plan given run → IsRunning plan given (record { core = core; ports = run.ports; bell = run.bell; journal = journal })
+  quit_runs grows core journal noted steps running = record {
+    state = after plan run.core.site running.state Quit;
+    has = has-step plan given run running.state Quit core journal running.has (steps plan running.state running.has.keeps running.has.stands) running.has.rests;
+    lists = running.lists;
+    heard = running.heard;
+    did = subst (λ (kinds : List EventKind). IsJournal plan core.site kinds (after plan run.core.site running.state Quit)) (sym noted)
+        (did_step grows plan given run running event.Quit Quit core false (λ j. None) refl (steps plan running.state running.has.keeps running.has.stands));
+  }
+
+  pub eat_runs : JournalsGrow → (failed : Bool) (eating core : SeenCore) (forks : List SeenFork) (first journal : List EventKind) → first ≡ run.journal ++ event.Begin ∷ [] → journal ≡ first ++ event.End ∷ [] → CoreSteps Begin run.core eating
       → ForEachState run.core (λ plan state. forks ≡ forks_in_hand plan run.core.site (after plan run.core.site state Begin) (all_places state))
-      → ForEachState eating (λ plan state. forks ≡ forks_in_hand plan eating.site state (all_places state) → CoreStep plan state End eating core)
+      → ForEachState eating (λ plan state. forks ≡ forks_in_hand plan eating.site state (all_places state) → CoreStep plan state (End failed) eating core)
       → IsRunning plan given run → IsRunning plan given (record { core = core; ports = run.ports; bell = run.bell; journal = journal })
-  eat_runs grows eating core forks first journal began_noted ended_noted begins in_hand ends running =
+  eat_runs grows failed eating core forks first journal began_noted ended_noted begins in_hand ends running =
       let state = after plan run.core.site running.state Begin in
       let began = begins plan running.state running.has.keeps running.has.stands in
       let hands = in_hand plan running.state running.has.keeps running.has.stands ∙ ap (λ (s : ℕ). forks_in_hand plan s state (all_places state)) (sym began.site) in
       let ended = ends plan state began.keeps began.stands hands in
       record {
-        state = after plan eating.site state End;
-        has = has-core plan given run running.state (after plan eating.site state End) core journal running.has (ended.site ∙ began.site) ended.stands ended.keeps refl;
+        state = after plan eating.site state (End failed);
+        has = has-core plan given run running.state (after plan eating.site state (End failed)) core journal running.has (ended.site ∙ began.site) ended.stands ended.keeps refl;
         lists = running.lists;
         heard = running.heard;
-        did = subst (λ (s : ℕ). IsJournal plan s journal (after plan eating.site state End)) (sym ended.site)
-            (subst (λ (kinds : List EventKind). IsJournal plan eating.site kinds (after plan eating.site state End)) (sym ended_noted)
-            (grows plan eating.site first state event.End (λ j. None) End
+        did = subst (λ (s : ℕ). IsJournal plan s journal (after plan eating.site state (End failed))) (sym ended.site)
+            (subst (λ (kinds : List EventKind). IsJournal plan eating.site kinds (after plan eating.site state (End failed))) (sym ended_noted)
+            (grows plan eating.site first state event.End failed (λ j. None) (End failed)
             (subst (λ (s : ℕ). IsJournal plan s first state) (sym began.site)
             (subst (λ (kinds : List EventKind). IsJournal plan run.core.site kinds state) (sym began_noted)
-            (grows plan run.core.site run.journal running.state event.Begin (λ j. None) Begin running.did refl began.allowed.needs)))
+            (grows plan run.core.site run.journal running.state event.Begin false (λ j. None) Begin running.did refl began.allowed.needs)))
             refl ended.allowed.needs));
       }
 

@@ -8,7 +8,7 @@ use Rattle.dine_run.specs.declared.diner.Call.{Call}
 use Rattle.dine_run.specs.declared.seats.EndOf.{EndOf}
 use Rattle.dine_run.specs.declared.seats.Seat.{Seat}
 use Rattle.dine_run.specs.declared.site_end.SiteEnd.{SiteEnd}
-use Rattle.dine_run.specs.Diners.{HasEaten}
+use Rattle.dine_run.specs.Diners.{HasEaten, HeedsFailures}
 use Rattle.dine_run.specs.Ports.{IsFreshPort, seen_ports}
 use Rattle.dine_run.specs.SiteEnds.{SeenSiteEnd, IsLeft}
 
@@ -45,6 +45,7 @@ module _ {Lane Tx Closed Rx Identity D : Type 0} (live : Tx → SeenEnd Identity
   pub record LeavesSeat (calls : D → List Call) (marks : D → List Bool) (fits : List Bool → ℕ → Bool → Bool) (seat : Seat Lane D Tx Closed Rx) (end : SiteEnd Lane D Tx Closed Rx) : Type 0 where
     pub left : (plan : SeenPlan) → IsFreshFor plan seat.packed → IsLeft plan seat.packed.site (seen_ports live shut taking seat.ports.items) (seen_site_end end)
     pub eaten : HasEaten calls marks fits end.ate end.failed seat.diner end.diner
+    pub heeds : HeedsFailures seat.packed.resigns end.journal.items (calls seat.diner) (calls end.diner)
 
 -- each site in order has a core that is fresh for the plan
 abbrev pub AreSeatsOf : {Lane Tx Closed Rx D : Type 0} → SeenPlan → List (Seat Lane D Tx Closed Rx) → Type 0

@@ -6,7 +6,7 @@ ghost use Rattle.dine_rules.specs.World.{start};
 ghost use Rattle.dine_rules.specs.declared.events.Event.{Event};
 ghost use Rattle.dine_rules.specs.declared.events.EventKind.{EventKind};
 ghost use Rattle.dine_core.specs.Worlds.{IsWorldOf, SeenWorld};
-ghost use Rattle.dine_run.specs.Orders.{FindsNext, IsFound, IsSearched, IsSearching, kind_at, lists_in, receiver_of};
+ghost use Rattle.dine_run.specs.Orders.{FindsNext, IsFound, IsSearched, IsSearching, kind_at, lists_in, plan_shown, receiver_of};
 
 use dine_core::{Event, EventKind, World};
 use dine_plan::Plan;
@@ -22,10 +22,10 @@ pub(super) fn place_all(
     world: &mut World,
     counts: &mut [u32],
 ) -> Result<Vec<Event>, AllocError>
-    requires world { IsWorldOf plan.now (start plan.now) world.old }
+    requires world { let shown = plan_shown plan.now (lists_in journals.now) in IsWorldOf shown (start shown) world.old }
     requires journals { length journals.now ≡ site_count plan.now }
     requires counts { counts.old ≡ replicate (site_count plan.now) 0 }
-    ensures { IfOk result (λ placed. IsSearched plan.now (lists_in journals.now) placed.items counts.new world.new) }
+    ensures { IfOk result (λ placed. IsSearched (plan_shown plan.now (lists_in journals.now)) (lists_in journals.now) placed.items counts.new world.new) }
 {
     laws::events_are_bounded();
     let mut placed = Vec::new(alloc);
@@ -68,10 +68,11 @@ fn next_kind(journals: &[Vec<EventKind>], counts: &[u32], site: u32) -> Option<E
 }
 
 // Counts an event that was placed, and puts the site into the set that gets a letter by it.
+#[tactic(auto, using(crate::proofs::one_order::Shown::sites_shown))]
 fn note(plan: &Plan, event: Event, counts: &mut [u32], untried: &mut BitSet64)
-    requires { (lists : List (List EventKind)) × (placed : List Event) × (seen : SeenWorld) × IsFound plan.now lists placed counts.old untried.old event seen }
-    ensures { (lists : List (List EventKind)) (placed : List Event) (seen : SeenWorld) → IsFound plan.now lists placed counts.old untried.old event seen
-        → IsSearching plan.now lists (placed ++ event ∷ []) counts.new untried.new seen }
+    requires { (lists : List (List EventKind)) × (placed : List Event) × (seen : SeenWorld) × IsFound (plan_shown plan.now lists) lists placed counts.old untried.old event seen }
+    ensures { (lists : List (List EventKind)) (placed : List Event) (seen : SeenWorld) → IsFound (plan_shown plan.now lists) lists placed counts.old untried.old event seen
+        → IsSearching (plan_shown plan.now lists) lists (placed ++ event ∷ []) counts.new untried.new seen }
 {
     laws::orders_grow_by_each_event();
     laws::disabled_events_wait_for_a_letter();
@@ -95,6 +96,10 @@ fn receiver(plan: &Plan, event: Event) -> Option<u32>
             let edge = plan.edges_of(event.site)[i as usize];
             Some(plan.other(edge, event.site))
         }
-        EventKind::Take(_) | EventKind::End | EventKind::Begin | EventKind::Hungry => None,
+        EventKind::Take(_)
+        | EventKind::End
+        | EventKind::Begin
+        | EventKind::Quit
+        | EventKind::Hungry => None,
     }
 }

@@ -10,7 +10,7 @@ ghost use Rattle.dine_link.specs.Closing.{is_close};
 ghost use Rattle.dine_link.specs.Waking.{seen_wants};
 ghost use Rattle.dine_run.specs.Ports.{ChangesAt, SendsClose, SeenPort, seen_ports};
 ghost use Rattle.dine_run.specs.SiteEnds.{IsSiteEnd};
-ghost use Rattle.dine_run.specs.Running.{ClosedBelow, EatsOn, ForSome, GoesOn, GoesToEnd, HasStopped, IsPutting, IsReady, IsRunning, Leads, MayEnd, SameMeals, StaysStopped, seen_run};
+ghost use Rattle.dine_run.specs.Running.{ClosedBelow, EatsOn, ForSome, GoesOn, GoesToEnd, HasStopped, HeedsOn, IsPutting, IsReady, IsRunning, Leads, MayEnd, SameMeals, StaysStopped, seen_run};
 
 use crate::diner::Diner;
 use crate::port::{Closed, Port, Sent};
@@ -63,6 +63,8 @@ impl<L: Lane, D: Diner> Running<L, D> {
         requires ready { IsReady D.room_left self.old }
         ensures way { Leads IsRunning (GoesToEnd result) (seen_run L.seen_tx L.seen_closed L.seen_rx self.old) (seen_run L.seen_tx L.seen_closed L.seen_rx self.new) }
         ensures eats { EatsOn D.calls D.marks D.fits self.old self.new }
+        ensures heeds { HeedsOn D.calls self.old self.new }
+        ensures resigns { self.new.core.resigns ≡ self.old.core.resigns }
         ensures site { self.new.core.site ≡ self.old.core.site }
     {
         for _ in rt.forever() {
@@ -82,6 +84,8 @@ impl<L: Lane, D: Diner> Running<L, D> {
         ensures way { Leads IsRunning (GoesOn result) (seen_run L.seen_tx L.seen_closed L.seen_rx self.old) (seen_run L.seen_tx L.seen_closed L.seen_rx self.new) }
         ensures ready { IsReady D.room_left self.new }
         ensures eats { EatsOn D.calls D.marks D.fits self.old self.new }
+        ensures heeds { HeedsOn D.calls self.old self.new }
+        ensures resigns { self.new.core.resigns ≡ self.old.core.resigns }
         ensures site { self.new.core.site ≡ self.old.core.site }
     {
         for _ in rt.forever() {
@@ -101,6 +105,8 @@ impl<L: Lane, D: Diner> Running<L, D> {
         ensures way { Leads IsRunning (GoesOn result) (seen_run L.seen_tx L.seen_closed L.seen_rx self.old) (seen_run L.seen_tx L.seen_closed L.seen_rx self.new) }
         ensures ready { IsReady D.room_left self.new }
         ensures eats { EatsOn D.calls D.marks D.fits self.old self.new }
+        ensures heeds { HeedsOn D.calls self.old self.new }
+        ensures resigns { self.new.core.resigns ≡ self.old.core.resigns }
         ensures site { self.new.core.site ≡ self.old.core.site }
     {
         self.make_room(if kind == EventKind::Begin { 2 } else { 1 })?;
@@ -136,6 +142,8 @@ impl<L: Lane, D: Diner> Running<L, D> {
         ensures way { Leads IsRunning (GoesOn result) (seen_run L.seen_tx L.seen_closed L.seen_rx self.old) (seen_run L.seen_tx L.seen_closed L.seen_rx self.new) }
         ensures ready { IsReady D.room_left self.new }
         ensures eats { EatsOn D.calls D.marks D.fits self.old self.new }
+        ensures heeds { HeedsOn D.calls self.old self.new }
+        ensures resigns { self.new.core.resigns ≡ self.old.core.resigns }
         ensures site { self.new.core.site ≡ self.old.core.site }
     {
         laws::journals_grow_by_each_event();
@@ -169,11 +177,16 @@ impl<L: Lane, D: Diner> Running<L, D> {
                 self.journal.push_reserved(EventKind::Hungry);
                 Ok(())
             }
+            EventKind::Quit => {
+                self.core.quit();
+                self.journal.push_reserved(EventKind::Quit);
+                Ok(())
+            }
             EventKind::End | EventKind::Take(_) => unreachable!(),
         }
     }
 
-    // Eats one meal, with room for its begin and its end in the journal.
+    // Eats one meal, with room for its begin and its end in the journal. The core is told whether its job failed.
     fn eat(&mut self)
         requires running { ForSome IsRunning (seen_run L.seen_tx L.seen_closed L.seen_rx self.old) }
         requires ready { IsReady D.room_left self.old }
@@ -182,6 +195,8 @@ impl<L: Lane, D: Diner> Running<L, D> {
         ensures way { Leads IsRunning IsRunning (seen_run L.seen_tx L.seen_closed L.seen_rx self.old) (seen_run L.seen_tx L.seen_closed L.seen_rx self.new) }
         ensures ready { IsReady D.room_left self.new }
         ensures eats { EatsOn D.calls D.marks D.fits self.old self.new }
+        ensures heeds { HeedsOn D.calls self.old self.new }
+        ensures resigns { self.new.core.resigns ≡ self.old.core.resigns }
         ensures site { self.new.core.site ≡ self.old.core.site }
     {
         laws::journals_grow_by_each_event();
@@ -189,7 +204,7 @@ impl<L: Lane, D: Diner> Running<L, D> {
         self.journal.push_reserved(EventKind::Begin);
         let ok = self.diner.eat(meal.k(), &meal).is_ok();
         self.failed += u32::from(!ok);
-        self.core.end(meal);
+        self.core.end(meal, !ok);
         self.journal.push_reserved(EventKind::End);
     }
 
@@ -346,6 +361,7 @@ impl<L: Lane, D: Diner> Running<L, D> {
         }) }
         ensures ate { result.ate ≡ self.core.ate }
         ensures failed { result.failed ≡ self.failed }
+        ensures journal { result.journal.items ≡ self.journal.items }
         ensures diner { result.diner ≡ self.diner }
     {
         laws::letters_cut_short_are_in_order();

@@ -99,7 +99,7 @@ fn sent(rt: &impl Abort, alloc: Global, edge: u32) -> Letter
     requires { edge < 3 }
     ensures { is_close result ≡ false }
 {
-    let fork = Fork::open(alloc, edge, edge, 3, 0, 1).expect(rt, "memory");
+    let fork = Fork::open(alloc, edge, edge, 3, 0, 1, 0).expect(rt, "memory");
     Letter::Fork(Held::take(fork).give(3))
 }
 

@@ -95,7 +95,7 @@ fn second_request_is_out_of_turn(rt: HostRuntime) {
 fn fork_too_many<L: Lane, R: Wait + Abort>(rt: &R, alloc: Global) {
     let (mut ringer, bell) = one_ringer(rt, alloc);
     let (mut far_tx, rx) = link_from::<L>(rt, alloc, 0, 1);
-    let fork = Fork::open(alloc, 0, 0, 1, 1, 1).expect(rt, "memory");
+    let fork = Fork::open(alloc, 0, 0, 1, 1, 1, 0).expect(rt, "memory");
     assert!(rt; L::put(rt, &mut far_tx, Letter::Fork(fork)).is_ok());
     assert_eq!(rt; ringer.ring(rt), Ok(()));
     let (end, put) = met::<L, R>(rt, alloc, 0, rx, bell);
@@ -113,7 +113,7 @@ fn second_fork_is_out_of_turn(rt: HostRuntime) {
 fn fork_of_another_edge<L: Lane, R: Wait + Abort>(rt: &R, alloc: Global) {
     let (mut ringer, bell) = one_ringer(rt, alloc);
     let (mut far_tx, rx) = link_from::<L>(rt, alloc, 0, 0);
-    let fork = Fork::open(alloc, 7, 0, 1, 1, 1).expect(rt, "memory");
+    let fork = Fork::open(alloc, 7, 0, 1, 1, 1, 0).expect(rt, "memory");
     assert!(rt; L::put(rt, &mut far_tx, Letter::Fork(fork)).is_ok());
     assert_eq!(rt; ringer.ring(rt), Ok(()));
     let (end, put) = met::<L, R>(rt, alloc, 1, rx, bell);

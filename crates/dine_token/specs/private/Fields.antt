@@ -13,6 +13,7 @@ seen_kept fork = record {
   ends = (fork.lower, fork.higher);
   due = (fork.lower_due, fork.higher_due);
   log = entries_of fork.periods.items;
+  value = fork.value;
 }
 
 -- the fork that the fields of a `Fork` stand for

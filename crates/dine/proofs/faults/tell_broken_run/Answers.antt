@@ -1,5 +1,5 @@
 -- What went out of the first part, or this part and what went out of the rest.
-use Rattle.std.proofs.Common.{◌++◌, ◌∷◌, [], codes, refl, append_assoc}
+use Rattle.std.proofs.Common.{◌∷◌, [], codes, append_assoc}
 use Rattle.dine.specs.Faults.{broken_run_line, numbered, site_fault_words, whole_line}
 use Rattle.dine_words.proofs.OutputLemmas.{Appends-more, WritesPrefix-begun, WritesPrefix-more}
 use Rattle.dine.proofs.faults.tell_broken_run.Goals as goal

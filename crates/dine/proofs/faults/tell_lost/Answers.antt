@@ -1,5 +1,5 @@
 -- What went out of the first part, or this part and what went out of the rest.
-use Rattle.std.proofs.Common.{◌++◌, ◌∷◌, [], codes, refl, append_assoc}
+use Rattle.std.proofs.Common.{◌∷◌, [], refl}
 use Rattle.dine.specs.Faults.{lost_words, whole_line}
 use Rattle.dine_words.proofs.OutputLemmas.{Appends-more, WritesPrefix-begun, WritesPrefix-more}
 use Rattle.dine.proofs.faults.tell_lost.Goals as goal

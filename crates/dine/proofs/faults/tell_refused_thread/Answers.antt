@@ -1,7 +1,7 @@
 -- What went out of the first part, or this part and what went out of the rest.
-use Rattle.std.proofs.Common.{◌++◌, ◌∷◌, [], codes, refl, append_assoc}
+use Rattle.std.proofs.Common.{◌∷◌, [], refl}
 use Rattle.dine.specs.Faults.{refused_thread_line, whole_line}
-use Rattle.dine_words.proofs.OutputLemmas.{Appends-more, WritesPrefix-begun, WritesPrefix-more}
+use Rattle.dine_words.proofs.OutputLemmas.{WritesPrefix-begun, WritesPrefix-more}
 use Rattle.dine.proofs.faults.tell_refused_thread.Goals as goal
 
 pub returns-in_err-write_numbered-clause-begun : goal.returns-in_err-write_numbered-clause-begun

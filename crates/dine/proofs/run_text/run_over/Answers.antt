@@ -1,5 +1,5 @@
 -- What was gathered has the rows of the plan; and a fault is told as `run` answered it.
-use Rattle.std.proofs.Common.{◌≡◌, ◌≢◌, ◌<◌, ◌∙◌, refl, List, Result, Ok, Err, IfErr, IsErrAnd, length, vec_items, vec_len, ap, subst, sym, arith}
+use Rattle.std.proofs.Common.{◌≡◌, ◌≢◌, ◌∙◌, refl, Result, Ok, Err, IfErr, IsErrAnd, length, vec_items, vec_len, ap, subst, sym, arith}
 use Rattle.std.specs.Global.{Vec}
 use Rattle.dine_plan.specs.Plan.{SeenPlan, site_count}
 use Rattle.dine_run.specs.Headline.{FaultIs}
@@ -38,7 +38,7 @@ run-requires-clause-room g c κs within many s diner at = diner_has_room c.args.
 pub table_text-requires : goal.table_text-requires
 table_text-requires g c =
     let gathered = c.in_ok-gathered.gathered in
-    due_rows c.args.plan.now (vec_items gathered.forks) (vec_items gathered.sites) (vec_items gathered.links) c.in_ok-diners.diners.items c.in_ok-diners.ensures.diners c.open_diners.ensures.plan c.in_ok-gathered.ensures.headline c.in_ok-gathered.ensures.sites c.in_ok-gathered.ensures.finished
+    due_rows c.args.plan.now (vec_items gathered.forks) (vec_items gathered.sites) (vec_items gathered.links) c.in_ok-diners.diners.items c.in_ok-diners.ensures.diners c.open_diners.ensures.plan c.in_ok-gathered.ensures.headline c.in_ok-gathered.ensures.sites c.in_ok-gathered.ensures.finished c.values_are_those_of_the_logs.ensures.added_up
 
 pub returns-in_err-gathered-clause-fault : goal.returns-in_err-gathered-clause-fault
 returns-in_err-gathered-clause-fault g c other =

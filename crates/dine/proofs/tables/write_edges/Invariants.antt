@@ -8,5 +8,5 @@ use Rattle.dine.proofs.tables.write_edges.Given as goal
 abbrev pub invariant-loop-row : goal.invariant-loop-row
 invariant-loop-row l = record {
   between : IsBetweenRecords l.table;
-  text : text_so_far l.table ≡ edges_header ++ flat_map (edge_record l.plan) (take l.row-index l.rows);
+  text : text_so_far l.table ≡ edges_header l.plan ++ flat_map (edge_record l.plan) (take l.row-index l.rows);
 }

@@ -1,12 +1,14 @@
 use Rattle.std.proofs.Common.{◌++◌, ℕ, List, ◌∙◌, ap}
+use Rattle.dine_core.specs.Outcomes.{with_outcomes}
 use Rattle.dine_logs.specs.Logs.{edge_lines, events_line}
 use Rattle.dine_logs.proofs.logs.world_text.Goals as goal
 
 pub returns : goal.returns
-returns c state stands =
+returns c fails state stands =
     let plan = c.args.plan.now in
-    let lines = edge_lines plan state in
+    let shown = with_outcomes plan fails in
+    let lines = edge_lines plan shown state in
     let value = ap (λ v. v.items) c.into_bytes.ensures.value in
     value ∙ c.in_ok-push_events_line.ensures
-    ∙ ap (λ (l : List ℕ). l ++ events_line c.args.events c.bound.result) (c.in_ok-push_lines.ensures state stands ∙ ap (λ (l : List ℕ). l ++ lines) c.new-text.ensures.bytes)
-    ∙ ap (λ (n : ℕ). lines ++ events_line c.args.events n) (c.bound.ensures.bound plan state stands)
+    ∙ ap (λ (l : List ℕ). l ++ events_line c.args.events c.bound.result) (c.in_ok-push_lines.ensures fails state stands ∙ ap (λ (l : List ℕ). l ++ lines) c.new-text.ensures.bytes)
+    ∙ ap (λ (n : ℕ). lines ++ events_line c.args.events n) (c.bound.ensures.bound shown state stands)

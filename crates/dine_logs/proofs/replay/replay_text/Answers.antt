@@ -1,8 +1,10 @@
 -- The choices lead from the start to a world, the first enabled events lead on from there, and the two counts come to that
 -- of the whole run.
-use Rattle.std.proofs.Common.{◌≡◌, ◌+◌, ◌∙◌, ap₂, arith, sym}
+use Rattle.std.proofs.Common.{◌≡◌, ◌+◌, ◌∙◌, Bool, List, [], ap, ap₂, arith, subst, sym}
 use Rattle.std.proofs.lemmas.Result.{IfOk-weaker}
 use Rattle.dine_core.specs.Schedules.{after_choices, from_here, replay, whole_run}
+use Rattle.dine_plan.specs.Plan.{SeenPlan}
+use Rattle.dine_core.specs.Outcomes.{with_outcomes}
 use Rattle.dine_core.specs.World.{WorldState, start}
 use Rattle.dine_core.specs.Worlds.{IsWorldOf}
 use Rattle.dine_logs.specs.Logs.{world_text}
@@ -21,7 +23,7 @@ world_text-text-requires c =
     let plan = c.args.plan.now in
     let chosen = c.replay-chosen.ensures plan (start plan) c.in_ok-world.ensures in
     let finished = c.finish-finished.ensures.run plan (replay plan (from_here (start plan)) c.args.choices.now).world chosen.stands in
-    (_, finished.stands)
+    ([], (after_choices plan c.args.choices.now).world, subst (λ (shown : SeenPlan). IsWorldOf shown (after_choices plan c.args.choices.now).world c.finish-finished.new.self) (sym (c.journals_stand_for_other_outcomes.ensures.own plan)) finished.stands)
 
 pub returns : goal.returns
 returns c =
@@ -30,5 +32,10 @@ returns c =
     let finished = c.finish-finished.ensures.run plan (replay plan (from_here (start plan)) c.args.choices.now).world chosen.stands in
     let whole = c.whole_runs_go_on_after_the_choices.ensures in
     let counted : c.replay-chosen.result + c.finish-finished.result ≡ (whole_run plan c.args.choices.now).events = omega (arith, chosen.counted, finished.counted, whole.events plan c.args.choices.now) in
-    IfOk-weaker c.world_text-text.result (λ text. (state : WorldState) → IsWorldOf plan state c.finish-finished.new.self → text.items ≡ world_text plan state (c.replay-chosen.result + c.finish-finished.result)) _
-    (λ text is. is (after_choices plan c.args.choices.now).world finished.stands ∙ ap₂ (world_text plan) (sym (whole.world plan c.args.choices.now)) counted) c.world_text-text.ensures
+    let own : with_outcomes plan [] ≡ plan = c.journals_stand_for_other_outcomes.ensures.own plan in
+    let world = (after_choices plan c.args.choices.now).world in
+    let counts = c.replay-chosen.result + c.finish-finished.result in
+    IfOk-weaker c.world_text-text.result
+    (λ text. (fails : List (List Bool)) (state : WorldState) → IsWorldOf (with_outcomes plan fails) state c.finish-finished.new.self → text.items ≡ world_text plan (with_outcomes plan fails) state counts) _
+    (λ text is. is [] world (subst (λ (shown : SeenPlan). IsWorldOf shown world c.finish-finished.new.self) (sym own) finished.stands) ∙ ap (λ (shown : SeenPlan). world_text plan shown world counts) own
+    ∙ ap₂ (world_text plan plan) (sym (whole.world plan c.args.choices.now)) counted) c.world_text-text.ensures

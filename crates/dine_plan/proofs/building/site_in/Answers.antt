@@ -10,4 +10,4 @@ jobs_in-requires c = rw c.items_at.ensures c.requires
 pub returns : goal.returns
 unfolding site_in
 returns c =
-    rw (c.in_ok-name.ensures.ok ∙ c.text_at.ensures, c.in_ok-jobs.ensures, c.items_at.ensures)
+    rw (c.in_ok-name.ensures.ok ∙ c.text_at.ensures, c.in_ok-jobs.ensures, c.items_at.ensures, c.resigns_in-resigns.ensures)

@@ -11,9 +11,9 @@ returns-then-has_other_key c =
 pub returns-then-any : goal.returns-then-any
 unfolding refuses_unknown_key
 returns-then-any c =
-    rw (sym c.has_other_key.ensures ∙ c.if-has_other_key.false, sym (any_seen site_has_other_key c.items_at-sites.result.now _ c.any.result c.any.ensures.ran (cc) (λ x b q k. search (rules, tests)) c.items_at-sites.ensures) ∙ c.if-any.true)
+    rw (sym c.has_other_key.ensures ∙ c.if-has_other_key.false, ← c.is_second-second.ensures, sym (any_seen (site_has_other_key c.is_second-second.result) c.items_at-sites.result.now _ c.any.result c.any.ensures.ran (cc) (λ x b q k. search (rules, tests)) c.items_at-sites.ensures) ∙ c.if-any.true)
 
 pub returns : goal.returns
 unfolding refuses_unknown_key
 returns c =
-    rw (sym c.has_other_key.ensures ∙ c.if-has_other_key.false, sym (any_seen site_has_other_key c.items_at-sites.result.now _ c.any.result c.any.ensures.ran (cc) (λ x b q k. search (rules, tests)) c.items_at-sites.ensures) ∙ c.if-any.false) (any_seen (has_other_key edge_keys) c.items_at-edges.result.now _ c.any-2.result c.any-2.ensures.ran (cc) (λ x b q k. search (rules, tests)) c.items_at-edges.ensures)
+    rw (sym c.has_other_key.ensures ∙ c.if-has_other_key.false, ← c.is_second-second.ensures, sym (any_seen (site_has_other_key c.is_second-second.result) c.items_at-sites.result.now _ c.any.result c.any.ensures.ran (cc) (λ x b q k. search (rules, tests)) c.items_at-sites.ensures) ∙ c.if-any.false) (any_seen (has_other_key (edge_keys c.is_second-second.result)) c.items_at-edges.result.now _ c.any-2.result c.any-2.ensures.ran (cc) (λ x b q k. search (rules, tests)) c.items_at-edges.ensures)

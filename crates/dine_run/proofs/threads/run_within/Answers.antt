@@ -43,9 +43,10 @@ returns-in-None-clause-headline g c =
     let left = ended_well g c in
     let accounts = c.kept_streams_account_for_fork_and_token.ensures in
     let whole = c.joined_ends_have_one_whole_fork_and_one_token.ensures in
+    let values = c.values_are_those_of_the_logs.ensures in
     let links = vec_items c.collect-forks.result.2 in
     let joined = all_joined left links c.collect-forks.ensures.links (wired g c) c.collect-forks.ensures.in_order (links_by_edge left links c.collect-forks.ensures.links (wired g c)) in
-    let whole_run = headline left (no_fault g c) links c.collect-forks.ensures.links (wired g c) accounts.fork accounts.token whole.fork whole.token (closed g c) joined in
+    let whole_run = headline left (no_fault g c) links c.collect-forks.ensures.links (wired g c) accounts.fork accounts.token whole.fork whole.token values.low values.high (closed g c) joined in
     subst (λ (outs : List (SiteOut _)). IsHeadline c.args.plan.now (map (λ (out : SiteOut _). out.ate) outs) links (vec_items c.collect-forks.result.0)) (sym c.collect-forks.ensures.sites)
     (subst (IsHeadline c.args.plan.now (map (λ (out : SiteOut _). out.ate) (map out_of (vec_items c.join_all.new.ends))) links) (sym c.collect-forks.ensures.forks) whole_run)
 
@@ -53,9 +54,10 @@ pub returns-in-None-clause-tokens : goal.returns-in-None-clause-tokens
 returns-in-None-clause-tokens g c =
     let accounts = c.kept_streams_account_for_fork_and_token.ensures in
     let whole = c.joined_ends_have_one_whole_fork_and_one_token.ensures in
+    let values = c.values_are_those_of_the_logs.ensures in
     let links = vec_items c.collect-forks.result.2 in
     subst (AreTokensOf c.args.plan.now links) (sym c.collect-forks.ensures.sites)
-    (tokens_stand (ended_well g c) (no_fault g c) links c.collect-forks.ensures.links (wired g c) accounts.fork accounts.token whole.fork whole.token (closed g c))
+    (tokens_stand (ended_well g c) (no_fault g c) links c.collect-forks.ensures.links (wired g c) accounts.fork accounts.token whole.fork whole.token values.low values.high (closed g c))
 
 pub returns-in-None-clause-finished : goal.returns-in-None-clause-finished
 returns-in-None-clause-finished g c = subst (AreFinishedOuts c.args.plan.now) (sym c.collect-forks.ensures.sites) (outs_are_finished (ended_well g c) (no_fault g c))
@@ -72,7 +74,8 @@ returns-clause-fault g c =
     let links = vec_items c.collect-forks.result.2 in
     let outs = outs_of_diners left (vec_items c.args.diners) c.in-Ok.ensures.diners in
     let lowest = lowest_found left c.in-Some-fault.site (ap (position (λ (end : SiteEnd _ _ _ _ _). is_some end.fault)) (sym c.as_slice.ensures.value) ∙ sym c.in-Some-fault.ensures) in
-    let states = states_left left links c.collect-forks.ensures.links wired c.collect-forks.ensures.in_order in
+    let values = c.values_are_those_of_the_logs.ensures in
+    let states = states_left left links c.collect-forks.ensures.links wired c.collect-forks.ensures.in_order c.kept_streams_account_for_fork_and_token.ensures.fork values.low values.high in
     let early = all_closed_early left links c.collect-forks.ensures.links wired c.collect-forks.ensures.in_order c.refused_letters_are_closes.ensures.early in (
       omega (arith, c.if-len-sites.false, c.len.ensures, c.sites.ensures.count),
       subst (λ (found : List (SiteOut _)). AllJoined c.args.plan.now (map (λ (out : SiteOut _). out.ate) found) links) (sym c.collect-forks.ensures.sites)

@@ -8,7 +8,7 @@ use Rattle.dine_core.specs.declared.site.places.Place.{Place}
 use Rattle.dine_core.specs.private.SiteFields.{seen, HasRoom}
 use Rattle.dine_core.specs.Core.{SeenCore}
 use Rattle.dine_rules.specs.Steps.{Begin}
-use Rattle.dine_core.specs.Places.{can_begin, forks_of, lifted, begun, IsMealOf, IsSound}
+use Rattle.dine_core.specs.Places.{can_begin, next_act, forks_of, lifted, begun, IsMealOf, IsSound}
 use Rattle.dine_core.proofs.one_site.CoreSteps.{stepped}
 use Rattle.dine_core.proofs.one_site.SiteTests.{may_begin}
 use Rattle.dine_core.proofs.one_site.Eating.{all_may_eat, forks_are_all, fork_at_place, is_meal, sound_begun, stands_begun, in_hand_begun}
@@ -53,7 +53,7 @@ returns-clause-meal c =
     let core = c.args.self.now in
     let sound : IsSound core = subst IsSound c.self.view_is c.self.invariant.sound in
     let site : c.begin.result.site ≡ core.site = grind (arith, common_steps) in
-    let forks : c.begin.result.forks ≡ map (eaten core.site (core.ate + 1)) (forks_of core.places) = grind (arith, common_steps) in
+    let forks : c.begin.result.forks ≡ map (eaten core.site (core.ate + 1) (next_act core)) (forks_of core.places) = grind (arith, common_steps) in
     let k : c.begin.result.k ≡ core.ate + 1 = grind (arith, common_steps) in
     subst (λ (new : SeenCore). IsMealOf new c.begin.result) (sym (returns-clause-core c)) (is_meal core sound c.requires c.begin.result site k forks)
 
@@ -67,5 +67,5 @@ pub returns-clause-in_hand : goal.returns-clause-in_hand
 returns-clause-in_hand c plan state keeps stands =
     let core = c.args.self.now in
     let sound : IsSound core = subst IsSound c.self.view_is c.self.invariant.sound in
-    let forks : c.begin.result.forks ≡ map (eaten core.site (core.ate + 1)) (forks_of core.places) = grind (arith, common_steps) in
+    let forks : c.begin.result.forks ≡ map (eaten core.site (core.ate + 1) (next_act core)) (forks_of core.places) = grind (arith, common_steps) in
     forks ∙ in_hand_begun core sound c.requires plan state keeps stands

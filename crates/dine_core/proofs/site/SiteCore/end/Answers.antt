@@ -1,11 +1,11 @@
-use Rattle.std.proofs.Common.{◌≡◌, ◌∙◌, ℕ, true, List, length, vec_capacity, refl, sym, ap, subst, arith}
+use Rattle.std.proofs.Common.{◌≡◌, ◌∙◌, ℕ, Bool, true, List, length, vec_capacity, refl, sym, ap, subst, arith}
 use Rattle.std.proofs.lemmas.Grind.{common_steps}
 use Rattle.dine_core.specs.declared.site.places.Place.{Place}
 use Rattle.dine_rules.specs.Local.{is_eating}
 use Rattle.dine_core.specs.private.SiteFields.{seen, HasRoom}
 use Rattle.dine_core.specs.Core.{SeenCore}
 use Rattle.dine_rules.specs.Steps.{End}
-use Rattle.dine_core.specs.Places.{laid_down, ended, IsMealOf, IsSound}
+use Rattle.dine_core.specs.Places.{laid_down, drops_jobs, ended, IsMealOf, IsSound}
 use Rattle.dine_core.proofs.one_site.CoreSteps.{stepped}
 use Rattle.dine_core.proofs.own_events.Marked.{length-laid_down}
 use Rattle.dine_core.proofs.one_site.SiteTests.{may_end}
@@ -19,8 +19,8 @@ pub returns-clause-step : goal.returns-clause-step
 returns-clause-step c plan state keeps stands forks =
     let core = c.args.self.now in
     let sound : IsSound core = subst IsSound c.self.view_is c.self.invariant.sound in
-    stepped plan state core stands keeps End _ _ (returns-clause-core c) refl tt (may_end plan state core stands keeps c.requires.eating)
-    (stands_ended core c.args.meal sound c.requires.eating c.requires.meal plan state stands forks)
+    stepped plan state core stands keeps (End c.args.failed) _ _ (returns-clause-core c) refl tt (may_end plan state core stands keeps c.args.failed c.requires.eating)
+    (stands_ended core c.args.meal sound c.requires.eating c.requires.meal c.args.failed plan state stands forks)
 
 pub invariant_of-self : goal.invariant_of-self
 invariant_of-self c =
@@ -29,9 +29,11 @@ invariant_of-self c =
     let eating : is_eating old.phase ≡ true = subst (λ (core : SeenCore). is_eating core.phase ≡ true) (sym c.self.view_is) c.requires.eating in
     let is : IsMealOf old c.args.meal = subst (λ (core : SeenCore). IsMealOf core c.args.meal) (sym c.self.view_is) c.requires.meal in
     let laid : c.lay_down.new.self ≡ laid_down old.places c.args.meal.forks = grind (arith, common_steps) in
+    let drops : c.drops_jobs-must_quit.result ≡ drops_jobs c.args.failed old = c.drops_jobs-must_quit.ensures ∙ ap (drops_jobs c.args.failed) (sym c.self.view_is) in
     let same : length c.lay_down.new.self ≡ length old.places = ap length laid ∙ length-laid_down old.places c.args.meal.forks in
     record {
-      sound = subst (λ (l : List Place). IsSound (record (ended c.args.meal.forks old) { places = l })) (sym laid) (sound_ended old c.args.meal kept.sound eating is);
+      sound = subst (λ (b : Bool). IsSound (record (ended c.args.failed c.args.meal.forks old) { must_quit = b; places = c.lay_down.new.self })) (sym drops)
+          (subst (λ (l : List Place). IsSound (record (ended c.args.failed c.args.meal.forks old) { places = l })) (sym laid) (sound_ended old c.args.meal kept.sound eating is c.args.failed));
       no_hands = grind (arith, common_steps);
       room_for_hands = λ awake.
           omega (arith, same, c.lay_down.ensures.room, ap vec_capacity c.replace.ensures.after, ap length c.end-hands.ensures, is.count, c.end-hands.result.ok.0, c.end-hands.result.ok.1);

@@ -14,4 +14,4 @@ pub returns-clause-step : goal.returns-clause-step
 returns-clause-step c plan state keeps stands =
     let core = c.args.self.now in
     stepped plan state core stands keeps Hungry _ _ (returns-clause-hungry c) refl tt (may_hunger plan state core stands keeps c.requires)
-    (stands-hungered plan state core stands (and_parts _ _ c.requires).0)
+    (stands-hungered plan state core stands (and_parts _ _ (and_parts _ _ c.requires).0).0)

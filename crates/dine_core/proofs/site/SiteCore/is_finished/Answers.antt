@@ -3,8 +3,8 @@ use Rattle.std.proofs.lemmas.Grind.{common_steps}
 use Rattle.dine_core.proofs.lists.Ranges.{finished_by}
 use Rattle.dine_core.proofs.site.SiteCore.is_finished.Goals as goal
 
-pub returns-then-self-clause-finished : goal.returns-then-self-clause-finished
-returns-then-self-clause-finished c = grind (arith, common_steps)
+pub returns-then-has_nothing_due-clause-finished : goal.returns-then-has_nothing_due-clause-finished
+returns-then-has_nothing_due-clause-finished c = grind (arith, common_steps)
 
-pub returns-then-self-clause-by_lists : goal.returns-then-self-clause-by_lists
-returns-then-self-clause-by_lists c plan state keeps stands = returns-then-self-clause-finished c ∙ finished_by plan state c.args.self.now stands
+pub returns-then-has_nothing_due-clause-by_lists : goal.returns-then-has_nothing_due-clause-by_lists
+returns-then-has_nothing_due-clause-by_lists c plan state keeps stands = returns-then-has_nothing_due-clause-finished c ∙ finished_by plan state c.args.self.now stands

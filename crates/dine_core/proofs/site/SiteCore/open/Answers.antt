@@ -5,7 +5,7 @@ use Rattle.dine_core.proofs.site.SiteCore.open.Goals as goal
 
 pub invariant_of-result : goal.invariant_of-result
 invariant_of-result c = record {
-  sound = sound_start c.args.plan.now c.args.site c.jobs.result c.in_ok-places.places c.jobs.ensures.plan c.jobs.ensures.count c.in_ok-places.ensures;
+  sound = sound_start c.args.plan.now c.args.site c.jobs.result _ _ c.in_ok-places.places c.jobs.ensures.plan c.requires.site c.jobs.ensures.count c.in_ok-acts.ensures c.in_ok-places.ensures;
   no_hands = grind (arith, common_steps);
   room_for_hands = λ awake. grind (arith, common_steps);
   room = record {

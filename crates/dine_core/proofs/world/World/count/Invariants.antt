@@ -8,5 +8,5 @@ use Rattle.dine_core.proofs.world.World.count.Given as goal
 abbrev pub invariant-loop-site : goal.invariant-loop-site
 invariant-loop-site l = record {
   counted : ForEachWorld l.self (λ plan world. l.count ≡ length (of_sites (is_enabled plan world) (events_at plan) l.site));
-  few : l.count ≤ 2563 * l.site;
+  few : l.count ≤ 2564 * l.site;
 }

@@ -8,7 +8,7 @@ use Rattle.dine_rules.specs.Steps.{Step, after, may, shape_of, with_taken}
 use Rattle.dine_rules.specs.Steps as step
 use Rattle.dine_core.specs.Core.{SeenCore, forks_in_hand}
 use Rattle.dine_core.specs.Places.{breach_at, place_at}
-use Rattle.dine_core.specs.WorldSites.{SiteStep, SiteSteps, TakesAllowed, can_do, meets_no_breach, meal_of, next_in, step_in}
+use Rattle.dine_core.specs.WorldSites.{SiteStep, SiteSteps, TakesAllowed, can_do, meets_no_breach, meal_of, next_in, outcomes_of, step_in}
 use Rattle.dine_core.specs.Standing.{all_places}
 use Rattle.dine_core.proofs.one_site.Breaches.{breach_is, may_take}
 use Rattle.dine_core.proofs.all_sites.OpenedSites.{none_applies, meal-taken, meal_is, within_of}
@@ -20,7 +20,7 @@ returns-in-Begin-clause-does c plan state one keeps eats world_site is =
     let core = c.args.world_site.now.core in
     let new = c.begin.new.world_site in
     let links = c.args.links.now in
-    let same : step.Begin ≡ one = same_Some _ _ (sym (ap (step_in links core) c.in-Begin.is) ∙ is) in
+    let same : step.Begin ≡ one = same_Some _ _ (sym (ap (step_in c.args.world_site.now.outcomes links core) c.in-Begin.is) ∙ is) in
     let site : new.core.site ≡ core.site = ap (λ (x : SeenCore). x.site) c.begin.ensures.core in
     let eaten = some_of new.meal _ c.begin.ensures.meal in
     let next : LocalState = after plan core.site state step.Begin in
@@ -32,6 +32,7 @@ returns-in-Begin-clause-does c plan state one keeps eats world_site is =
       stands = record {
         core = (c.begin.ensures.step plan state keeps world_site.core).stands;
         meal = meal ∙ ap (λ (x : ℕ). meal_of plan x next) (sym site);
+        outcomes = c.begin.ensures.outcomes ∙ world_site.outcomes ∙ ap (outcomes_of plan) (sym site);
       };
       letters = refl;
     }))
@@ -46,7 +47,7 @@ returns-in-Take-clause-does c plan state one keeps eats world_site is =
     let turn : meets_no_breach core i (next_in links core i) ≡ true = subst (λ (k : EventKind). TakesAllowed links core (shape_of k)) c.in-Take.is c.requires.allowed in
     let did = some_of (next_in links core i) _ c.take.ensures.core in
     let l = did.0 in
-    let same : step.Take i l ≡ one = same_Some _ _ (sym (ap (step_in links core) c.in-Take.is ∙ ap (option_map (step.Take i)) did.1) ∙ is) in
+    let same : step.Take i l ≡ one = same_Some _ _ (sym (ap (step_in c.args.world_site.now.outcomes links core) c.in-Take.is ∙ ap (option_map (step.Take i)) did.1) ∙ is) in
     let within : i < length core.places = within_of i (length core.places) _ can in
     let allowed : breach_at core.site core.ate (place_at core i) l ≡ None = none_applies _ (sym (ap (meets_no_breach core i) did.1) ∙ turn) in
     let may_be : may plan core.site state (step.Take i l) ≡ true = may_take plan state core world_site.core keeps i within l (sym (breach_is plan state core world_site.core keeps i within l) ∙ allowed) in
@@ -58,6 +59,7 @@ returns-in-Take-clause-does c plan state one keeps eats world_site is =
       stands = record {
         core = (did.2.1 plan state keeps world_site.core).stands;
         meal = c.take.ensures.meal ∙ world_site.meal ∙ sym (meal-taken plan core.site state i l eats may_be) ∙ ap (λ (x : ℕ). meal_of plan x next) (sym site);
+        outcomes = c.take.ensures.outcomes ∙ world_site.outcomes ∙ ap (outcomes_of plan) (sym site);
       };
       letters = c.take.ensures.links;
     }))

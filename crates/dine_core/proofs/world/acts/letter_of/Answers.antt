@@ -32,7 +32,7 @@ pub close-requires-clause-may : goal.close-requires-clause-may
 close-requires-clause-may c = (and_parts _ _ (sym (ap (can_do [] c.args.core.now) c.in-Close.is) ∙ c.requires.can [])).1
 
 pub returns-in-Done-clause-step : goal.returns-in-Done-clause-step
-returns-in-Done-clause-step c = puts_as c.args.kind (event.Done c.in-Done.i) c.in-Done.i (step.Done c.in-Done.i) c.args.core.now c.done.new.self c.done.result c.in-Done.is refl refl c.done.ensures.step
+returns-in-Done-clause-step c = puts_as c.args.kind (event.Done c.in-Done.i) c.in-Done.i (step.Done c.in-Done.i) c.args.core.now c.done.new.self c.done.result c.in-Done.is refl (λ failed. refl) c.done.ensures.step
 
 pub returns-in-Close-clause-step : goal.returns-in-Close-clause-step
-returns-in-Close-clause-step c = puts_as c.args.kind (event.Close c.in-Close.i) c.in-Close.i (step.Close c.in-Close.i) c.args.core.now c.close.new.self c.close.result c.in-Close.is refl refl c.close.ensures.step
+returns-in-Close-clause-step c = puts_as c.args.kind (event.Close c.in-Close.i) c.in-Close.i (step.Close c.in-Close.i) c.args.core.now c.close.new.self c.close.result c.in-Close.is refl (λ failed. refl) c.close.ensures.step

@@ -1,5 +1,8 @@
 use Rattle.std.proofs.Common.{◌≡◌, arith, subst}
-use Rattle.dine_plan.specs.Plan.{site_count}
+use Rattle.dine_plan.specs.Plan.{SeenPlan, site_count}
+use Rattle.dine_rules.specs.Outcomes.{with_outcomes}
+use Rattle.dine_core.specs.Worlds.{lists_of}
+use Rattle.dine_rules.proofs.journals.OtherOutcomes.{sites-same}
 use Rattle.dine_core.proofs.all_sites.WorldOpened.{AreFresh, fresh_more, fresh_stand}
 use Rattle.dine_core.proofs.world.opening.sites_of.Goals as goal
 
@@ -11,5 +14,6 @@ loop-site-preserved c = record {
 
 pub returns : goal.returns
 returns c =
-    let all : c.loop-site.site ≡ site_count c.args.plan.now = omega arith in
-    fresh_stand _ _ (subst (λ n. AreFresh c.args.plan.now n c.loop-site.sites.items) all c.loop-site.invariant.so_far)
+    let other : SeenPlan = with_outcomes c.args.plan.now (lists_of c.args.fails.now) in
+    let all : c.loop-site.site ≡ site_count other = omega (arith, sites-same c.args.plan.now (lists_of c.args.fails.now)) in
+    fresh_stand _ _ (subst (λ n. AreFresh other n c.loop-site.sites.items) all c.loop-site.invariant.so_far)

@@ -1,4 +1,4 @@
-use Rattle.std.proofs.Common.{◌≡◌, ◌+◌, ◌-◌, ◌<◌, ◌≤◌, List, [], ◌∷◌, ◌++◌, length, sym, ◌∙◌, ap, subst, inl, inr, arith, vec_capacity}
+use Rattle.std.proofs.Common.{ℕ, ◌≡◌, ◌+◌, ◌-◌, ◌<◌, ◌≤◌, List, [], ◌∷◌, ◌++◌, length, sym, ◌∙◌, ap, subst, inl, inr, arith, vec_capacity}
 use Rattle.std.specs.List.{All}
 use Rattle.std.proofs.lemmas.List.Elements.{All-get_or}
 use Rattle.dine_token.specs.declared.entry.Entry.{Entry}
@@ -6,7 +6,8 @@ use Rattle.dine_token.specs.declared.entry.Entry.TheVariants.{Meal}
 use Rattle.dine_token.specs.declared.fork.Kept.{Kept}
 use Rattle.dine_token.specs.declared.period.Period.{Period}
 use Rattle.dine_token.specs.Periods.{entries_of}
-use Rattle.dine_token.specs.Fork.{SeenFork, MayEat, eaten}
+use Rattle.dine_token.specs.Fork.{MayEat, eaten}
+use Rattle.dine_token.specs.Values.{applied}
 use Rattle.dine_token.specs.private.Fields.{seen_kept, IsKept}
 use Rattle.dine_token.proofs.Periods.{length-periods_of}
 use Rattle.dine_token.proofs.Forks.{periods_small}
@@ -37,7 +38,8 @@ invariant_of-self c =
     let old = c.deref_mut-kept.result.now in
     let inv = subst IsKept (sym c.deref_mut-kept.ensures.value) c.self.invariant in
     let items = c.if-site-kept.kept.periods.items in
-    let may : MayEat c.args.site c.args.k (seen_kept old) = subst (MayEat c.args.site c.args.k) (sym (ap seen_kept c.deref_mut-kept.ensures.value ∙ c.self.view_is)) c.requires in
+    let value : c.apply-value.result ≡ applied c.args.act old.value = c.apply-value.ensures ∙ ap (applied c.args.act) (ap (λ (f : Kept). f.value) (c.deref.ensures ∙ sym c.deref_mut-kept.ensures.value)) in
+    let may : MayEat c.args.site c.args.k (seen_kept old) = subst (MayEat c.args.site c.args.k) (sym (ap seen_kept c.deref_mut-kept.ensures.value ∙ c.self.view_is)) c.requires.may_eat in
     let same : items ≡ old.periods.items = elim c.if-site-kept.branch [
       | then-site-kept w ↦ ap (λ (f : Kept). f.periods.items) w.kept-is
       | else-site-kept w ↦ ap (λ (f : Kept). f.periods.items) w.kept-is
@@ -46,14 +48,16 @@ invariant_of-self c =
     elim c.if-site-kept.branch [
       | then-site-kept w ↦
           let is = w.kept-is in
-          kept_eaten old _ c.args.site c.args.k inv may
-          (ap (λ (log : List Entry). record (seen_kept c.if-site-kept.kept) { log = log }) kept.1 ∙ ap (λ (f : Kept). eaten c.args.site c.args.k (record (seen_kept f) { log = entries_of old.periods.items })) is)
+          kept_eaten old _ c.args.site c.args.k c.args.act inv may c.requires.act
+          (ap (λ (log : List Entry). record (seen_kept c.if-site-kept.kept) { log = log }) kept.1 ∙ ap (λ (f : Kept). record (seen_kept f) { log = entries_of old.periods.items ++ Meal c.args.site c.args.k ∷ [] }) is
+          ∙ ap (λ (v : ℕ). record (seen_kept old) { log = entries_of old.periods.items ++ Meal c.args.site c.args.k ∷ []; value = v }) value)
           (ap (λ (f : Kept). f.location) is) (ap (λ (f : Kept). f.dirty) is) kept.0 (ap (λ (f : Kept). vec_capacity f.periods) is)
           (inl (w.if-site-kept.true, ap (λ (f : Kept). f.lower_meals) is, ap (λ (f : Kept). f.higher_meals) is))
       | else-site-kept w ↦
           let is = w.kept-is in
-          kept_eaten old _ c.args.site c.args.k inv may
-          (ap (λ (log : List Entry). record (seen_kept c.if-site-kept.kept) { log = log }) kept.1 ∙ ap (λ (f : Kept). eaten c.args.site c.args.k (record (seen_kept f) { log = entries_of old.periods.items })) is)
+          kept_eaten old _ c.args.site c.args.k c.args.act inv may c.requires.act
+          (ap (λ (log : List Entry). record (seen_kept c.if-site-kept.kept) { log = log }) kept.1 ∙ ap (λ (f : Kept). record (seen_kept f) { log = entries_of old.periods.items ++ Meal c.args.site c.args.k ∷ [] }) is
+          ∙ ap (λ (v : ℕ). record (seen_kept old) { log = entries_of old.periods.items ++ Meal c.args.site c.args.k ∷ []; value = v }) value)
           (ap (λ (f : Kept). f.location) is) (ap (λ (f : Kept). f.dirty) is) kept.0 (ap (λ (f : Kept). vec_capacity f.periods) is)
           (inr (w.if-site-kept.false, ap (λ (f : Kept). f.lower_meals) is, ap (λ (f : Kept). f.higher_meals) is))
     ]
@@ -64,18 +68,20 @@ returns-clause-eaten c =
     let inv = subst IsKept (sym c.deref_mut-kept.ensures.value) c.self.invariant in
     let items = c.if-site-kept.kept.periods.items in
     let view = ap seen_kept c.deref_mut-kept.ensures.value ∙ c.self.view_is in
-    let may : MayEat c.args.site c.args.k (seen_kept old) = subst (MayEat c.args.site c.args.k) (sym view) c.requires in
-    let same : seen_kept c.if-site-kept.kept ≡ seen_kept old = elim c.if-site-kept.branch [
-      | then-site-kept w ↦ ap seen_kept w.kept-is
-      | else-site-kept w ↦ ap seen_kept w.kept-is
-    ] in
+    let value : c.apply-value.result ≡ applied c.args.act old.value = c.apply-value.ensures ∙ ap (applied c.args.act) (ap (λ (f : Kept). f.value) (c.deref.ensures ∙ sym c.deref_mut-kept.ensures.value)) in
+    let may : MayEat c.args.site c.args.k (seen_kept old) = subst (MayEat c.args.site c.args.k) (sym view) c.requires.may_eat in
     let same_items : items ≡ old.periods.items = elim c.if-site-kept.branch [
       | then-site-kept w ↦ ap (λ (f : Kept). f.periods.items) w.kept-is
       | else-site-kept w ↦ ap (λ (f : Kept). f.periods.items) w.kept-is
     ] in
     let kept = items_eaten old items c.len-last.result c.index_mut.result.now c.args.site c.args.k inv may same_items c.index_mut.ensures.value (omega (arith, c.len-last.ensures, c.if-site-kept.kept.periods.ok.0)) in
-    ap (λ (log : List Entry). record (seen_kept c.if-site-kept.kept) { log = log }) kept.1 ∙ ap (λ (f : SeenFork). record f { log = (seen_kept old).log ++ Meal c.args.site c.args.k ∷ [] }) same
-    ∙ ap (eaten c.args.site c.args.k) view
+    let same : record (seen_kept c.if-site-kept.kept) { log = entries_of old.periods.items ++ Meal c.args.site c.args.k ∷ [] } ≡ record (seen_kept old) { log = entries_of old.periods.items ++ Meal c.args.site c.args.k ∷ []; value = c.apply-value.result } = elim c.if-site-kept.branch [
+      | then-site-kept w ↦ ap (λ (f : Kept). record (seen_kept f) { log = entries_of old.periods.items ++ Meal c.args.site c.args.k ∷ [] }) w.kept-is
+      | else-site-kept w ↦ ap (λ (f : Kept). record (seen_kept f) { log = entries_of old.periods.items ++ Meal c.args.site c.args.k ∷ [] }) w.kept-is
+    ] in
+    ap (λ (log : List Entry). record (seen_kept c.if-site-kept.kept) { log = log }) kept.1 ∙ same
+    ∙ ap (λ (v : ℕ). record (seen_kept old) { log = entries_of old.periods.items ++ Meal c.args.site c.args.k ∷ []; value = v }) value
+    ∙ ap (eaten c.args.site c.args.k c.args.act) view
 
 pub returns-clause-proper : goal.returns-clause-proper
 returns-clause-proper c = (invariant_of-self c).proper

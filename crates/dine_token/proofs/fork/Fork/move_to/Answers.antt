@@ -3,7 +3,7 @@ use Rattle.dine_token.specs.declared.entry.Entry.{Entry}
 use Rattle.dine_token.specs.Log.{meals_of}
 use Rattle.dine_token.specs.Periods.{entries_of}
 use Rattle.dine_token.specs.Fork.{SeenFork, IsFork, MayMove, moved}
-use Rattle.dine_token.specs.private.Fields.{seen, seen_kept, IsKept}
+use Rattle.dine_token.specs.private.Fields.{seen_kept, IsKept}
 use Rattle.dine_token.proofs.Periods.{period}
 use Rattle.dine_token.proofs.Forks.{room_to_move, due_small}
 use Rattle.dine_token.proofs.Kept.{kept_moved, log_moved}

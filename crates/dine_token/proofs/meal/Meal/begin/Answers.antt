@@ -10,10 +10,10 @@ get_or-map_over f xs ys i d within is =
     let size : length (map f (take i xs)) ≡ i = length-map (take i xs) f ∙ length-take-le i xs (omega arith) in
     ap (λ (l : List SeenFork). get_or l i d) is ∙ get_or-append_right (map f (take i xs)) (drop i xs) i i d size (omega arith) ∙ get_or-drop i xs (i - i) d ∙ ap (λ (n : ℕ). get_or xs n d) (omega arith)
 
-pub eat-requires : goal.eat-requires
-eat-requires c =
+pub eat-requires-clause-may_eat : goal.eat-requires-clause-may_eat
+eat-requires-clause-may_eat c =
     let within : c.loop-hand.hand-index < length c.args.hands.items = omega (arith, c.loop-hand-test.true, c.deref_mut-hand-items.ensures.len, ap length c.deref_mut-hand-items.ensures.value) in
-    let same = get_or-map_over (eaten c.args.site c.args.k) c.args.hands.items c.loop-hand.hand-items c.loop-hand.hand-index c.hand-item.result within c.loop-hand.invariant in
+    let same = get_or-map_over (eaten c.args.site c.args.k c.args.act) c.args.hands.items c.loop-hand.hand-items c.loop-hand.hand-index c.hand-item.result within c.loop-hand.invariant in
     subst (MayEat c.args.site c.args.k) (sym same) (c.requires.may_eat c.loop-hand.hand-index c.hand-item.result within)
 
 pub loop-hand-init : goal.loop-hand-init
@@ -22,14 +22,14 @@ loop-hand-init c = c.deref_mut-hand-items.ensures.value
 pub loop-hand-preserved : goal.loop-hand-preserved
 loop-hand-preserved c =
     let within : c.loop-hand.hand-index < length c.args.hands.items = omega (arith, c.loop-hand-test.true, ap length c.deref_mut-hand-items.ensures.value) in
-    let step = map_over_more (eaten c.args.site c.args.k) c.args.hands.items c.loop-hand.hand-items c.loop-hand.hand-index c.hand-item.result within c.loop-hand.invariant c.hand-item.is in
-    ap (λ (fork : SeenFork). set c.loop-hand.hand-items c.loop-hand.hand-index fork) (c.eat.ensures.eaten ∙ ap (eaten c.args.site c.args.k) (sym c.hand-item.is)) ∙ step
+    let step = map_over_more (eaten c.args.site c.args.k c.args.act) c.args.hands.items c.loop-hand.hand-items c.loop-hand.hand-index c.hand-item.result within c.loop-hand.invariant c.hand-item.is in
+    ap (λ (fork : SeenFork). set c.loop-hand.hand-items c.loop-hand.hand-index fork) (c.eat.ensures.eaten ∙ ap (eaten c.args.site c.args.k c.args.act) (sym c.hand-item.is)) ∙ step
 
 pub returns-clause-forks : goal.returns-clause-forks
 returns-clause-forks c =
     let xs = c.args.hands.items in
     let ys = c.loop-hand.hand-items in
-    let f = eaten c.args.site c.args.k in
+    let f = eaten c.args.site c.args.k c.args.act in
     let over : length xs ≤ c.loop-hand.hand-index = omega (arith, c.loop-hand-test.false, ap length c.deref_mut-hand-items.ensures.value) in
     let size : length ys ≡ length xs = omega (arith, c.loop-hand.auto.hand-items, ap length c.deref_mut-hand-items.ensures.value) in
     let done : ys ≡ map f xs = c.loop-hand.invariant ∙ ap (λ (l : List SeenFork). map f l ++ drop c.loop-hand.hand-index xs) (take_all c.loop-hand.hand-index xs over)

@@ -1,12 +1,20 @@
-use Rattle.std.proofs.Common.{refl, subst}
+use Rattle.std.proofs.Common.{◌≡◌, ◌||◌, true, refl, subst, sym}
+use Rattle.std.proofs.lemmas.Bool.{and_parts, or_left}
+use Rattle.std.specs.Prelude.{nat_lt}
+use Rattle.dine_core.specs.Core.{SeenCore}
+use Rattle.dine_core.specs.NextEvent.{can_by_itself}
+use Rattle.dine_core.specs.Places.{can_quit}
+use Rattle.dine_rules.specs.Local.{is_thinking}
+use Rattle.dine_rules.specs.declared.events.EventKind.{EventKind}
 use Rattle.dine_rules.specs.declared.events.EventKind.TheVariants as event
 use Rattle.dine_rules.specs.declared.letters.Letter.{Letter}
 use Rattle.dine_rules.specs.declared.letters.Letter.TheVariants as letter
-use Rattle.dine_run.specs.Running.{SeenRun, seen_run}
+use Rattle.dine_run.specs.Running.{SeenRun, IsHeeding, seen_run}
 use Rattle.dine_core.specs.Standing.{CorePuts}
 use Rattle.dine_rules.specs.Steps.{Give, Ask, Done, Close}
 use Rattle.dine_run.proofs.one_site.AtPlaces.{opens-give, opens-ask, opens-done, opens-close, putting}
-use Rattle.dine_run.proofs.one_site.Ways.{hungry_runs}
+use Rattle.dine_run.proofs.one_site.Ways.{hungry_runs, quit_runs}
+use Rattle.dine_run.proofs.one_site.Heeding.{heeding_as}
 use Rattle.dine_run.proofs.site_loop.running.Running.perform.Goals as goal
 
 pub put-requires-clause-putting : goal.put-requires-clause-putting
@@ -59,3 +67,17 @@ pub returns-in-Hungry-clause-way : goal.returns-in-Hungry-clause-way
 returns-in-Hungry-clause-way g c plan given running =
     let run : SeenRun g.L.Lane.Identity = seen_run g.L.Lane.seen_tx g.L.Lane.seen_closed g.L.Lane.seen_rx c.args.self.now in
     hungry_runs plan given run c.journals_grow_by_each_event.ensures.event c.hungry.new.self c.push_reserved-in-Hungry.new.self.items c.push_reserved-in-Hungry.ensures.items c.hungry.ensures.step running
+
+pub returns-in-Quit-clause-way : goal.returns-in-Quit-clause-way
+returns-in-Quit-clause-way g c plan given running =
+    let run : SeenRun g.L.Lane.Identity = seen_run g.L.Lane.seen_tx g.L.Lane.seen_closed g.L.Lane.seen_rx c.args.self.now in
+    quit_runs plan given run c.journals_grow_by_each_event.ensures.event c.quit.new.self c.push_reserved-in-Quit.new.self.items c.push_reserved-in-Quit.ensures.items c.quit.ensures.step running
+
+pub returns-in-Quit-clause-heeds : goal.returns-in-Quit-clause-heeds
+returns-in-Quit-clause-heeds g c first heeding =
+    let core = c.args.self.now.core in
+    let calls = g.D.Diner.calls c.args.self.now.diner in
+    let can : can_quit core ≡ true = subst (λ (kind : EventKind). can_by_itself core kind ≡ true) c.in-Quit.is c.requires.may in
+    subst (λ (x : SeenCore). IsHeeding x.resigns (x.must_quit || x.has_quit) (nat_lt x.ate x.due) first calls) (sym c.quit.ensures.quit)
+    (heeding_as core.resigns (core.must_quit || core.has_quit) (nat_lt core.ate core.due) core.resigns true (nat_lt core.ate core.due) first calls calls refl
+    (sym (or_left core.must_quit core.has_quit (and_parts (is_thinking core.phase) core.must_quit can).1)) refl refl heeding)

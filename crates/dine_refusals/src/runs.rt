@@ -1,0 +1,75 @@
+// Runs of the pair, each site on a thread of its own.
+ghost use Rattle.std.specs.Prelude.{◌≡◌, ◌≤◌, Some, slice_get, IfOk};
+ghost use Rattle.dine_plan.specs.Plan.{job_count};
+
+use crate::calls::Told;
+use crate::pair::pair;
+use dine::PlanDiner;
+use dine_link::Lane;
+use dine_plan::Plan;
+use dine_run::{Joined, RunFault, run};
+use std::alloc::{AllocError, Global};
+use std::sync::Wait;
+use std::thread::Threads;
+
+// A diner for each site, with room for its jobs.
+fn diners(alloc: Global, plan: &Plan) -> Result<Vec<PlanDiner>, AllocError>
+    ensures { IfOk result (λ diners. (s : _) (diner : _) → slice_get diners.items s ≡ Some diner → job_count plan.now s ≤ diner.room) }
+{
+    let mut diners = Vec::new(alloc);
+    for site in 0..plan.sites() {
+        diners.push(PlanDiner::open(alloc, plan, site)?)?;
+    }
+    Ok(diners)
+}
+
+/// The diner of the pair's lower site.
+pub fn diner(alloc: Global) -> Result<Told, AllocError> {
+    let plan = pair(alloc)?;
+    if plan.sites() == 0 {
+        return Ok(Told::Another);
+    }
+    match PlanDiner::open(alloc, &plan, 0) {
+        Ok(_) => Ok(Told::Whole),
+        Err(_) => Ok(Told::Memory),
+    }
+}
+
+// What a run answered in which this is the lowest site with a fault.
+fn broken_at(site: u32, joined: &Joined<PlanDiner>) -> Told {
+    match joined.sites.get(site as usize) {
+        Some(out) => match out.fault {
+            Some(fault) => Told::Broken(site, fault),
+            None => Told::Another,
+        },
+        None => Told::Another,
+    }
+}
+
+// What a run answered that gathered nothing, or not all.
+fn told_of(fault: &RunFault<PlanDiner>) -> Told {
+    match fault {
+        RunFault::Memory => Told::Memory,
+        RunFault::Thread(site) => Told::Thread(*site),
+        RunFault::Broken { site, joined } => broken_at(*site, joined),
+        RunFault::DinersDiffer { .. } => Told::Another,
+    }
+}
+
+/// A run of the pair over links of a lane. It may wait.
+pub fn run_pair<L: Lane + 'static, R: Threads + Wait + Copy + Send + 'static>(
+    rt: &R,
+    alloc: Global,
+) -> Result<Told, AllocError>
+where
+    L::Tx: 'static,
+    L::ClosedTx: 'static,
+    L::Rx: 'static,
+{
+    let plan = pair(alloc)?;
+    let diners = diners(alloc, &plan)?;
+    match run::<L, PlanDiner, R>(rt, alloc, &plan, diners) {
+        Ok(_gathered) => Ok(Told::Whole),
+        Err(fault) => Ok(told_of(&fault)),
+    }
+}

@@ -1,0 +1,19 @@
+-- A plan whose jobs have other outcomes. A world with given outcomes is a world of such a plan.
+use Rattle.std.specs.Prelude.{Bool, List, [], ◌∷◌}
+use Rattle.dine_plan.specs.Plan.{SeenPlan, SeenSite, SeenJob}
+
+-- the jobs, each with the outcome that stands at its place in the list; one past the end of the list keeps its own
+abbrev pub jobs_with : List SeenJob → List Bool → List SeenJob
+jobs_with [] fails = []
+jobs_with (job ∷ jobs) [] = job ∷ jobs
+jobs_with (job ∷ jobs) (failed ∷ fails) = record job { fails = failed } ∷ jobs_with jobs fails
+
+-- the sites, each with the outcomes that stand at its place in the list; one past the end of the list keeps its own
+abbrev pub sites_with : List SeenSite → List (List Bool) → List SeenSite
+sites_with [] fails = []
+sites_with (site ∷ sites) [] = site ∷ sites
+sites_with (site ∷ sites) (own ∷ fails) = record site { jobs = jobs_with site.jobs own } ∷ sites_with sites fails
+
+-- the plan with these outcomes of its jobs: a list for each site, with a value for each of its jobs that says whether it fails
+abbrev pub with_outcomes : SeenPlan → List (List Bool) → SeenPlan
+with_outcomes plan fails = record plan { sites = sites_with plan.sites fails }

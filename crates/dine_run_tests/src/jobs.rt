@@ -1,0 +1,74 @@
+// Runs of jobs of which nothing is proved.
+use crate::graphs::{plan_text, resigning_pair};
+use dine_run::{Job, JobFault, Jobs, RingLane, SeatFault, read_plan, run};
+use std::alloc::{AllocError, Global};
+use std::test::Fail;
+
+// Counts its jobs, and one of them fails.
+#[derive(Drop)]
+struct Counter {
+    done: u32,
+    fails_at: u32,
+}
+
+impl Job for Counter {
+    fn run(&mut self, k: u32) -> Result<(), JobFault> {
+        self.done = self.done.wrapping_add(1);
+        if k == self.fails_at {
+            Err(JobFault)
+        } else {
+            Ok(())
+        }
+    }
+}
+
+fn counters(alloc: Global, count: u32, fails_at: u32) -> Result<Vec<Counter>, AllocError> {
+    let mut jobs = Vec::new(alloc);
+    for _ in 0..count {
+        jobs.push(Counter { done: 0, fails_at })?;
+    }
+    Ok(jobs)
+}
+
+#[test]
+fn each_job_is_done_once_and_noted(rt: HostRuntime) -> Result<(), Fail> {
+    let alloc = rt.alloc();
+    let graph = resigning_pair(alloc)?;
+    let text = plan_text(alloc, &graph)?;
+    let plan = read_plan(alloc, text.as_str()).expect(&rt, "a plan");
+    for fails_at in 0..3u32 {
+        let Ok(diners) = Jobs::seat(alloc, &plan, counters(alloc, 2, fails_at)?) else {
+            return Err(Fail::new("no diners"));
+        };
+        let Ok(gathered) = run::<RingLane, Jobs<Counter>, HostRuntime>(&rt, alloc, &plan, diners)
+        else {
+            return Err(Fail::new("no run"));
+        };
+        // The first site drops its jobs behind one that failed.
+        let meals = if fails_at == 0 { 3 } else { fails_at };
+        for (site, ate) in gathered.sites.iter().zip([meals, 1]) {
+            assert_eq!(rt; (site.ate, site.diner.job.done), (ate, ate));
+            assert_eq!(rt; site.diner.calls().len(), ate as usize);
+            for call in site.diner.calls() {
+                assert_eq!(rt; call.ok, call.k != fails_at);
+            }
+        }
+    }
+    Ok(())
+}
+
+#[test]
+fn jobs_that_are_not_as_many_as_sites_are_handed_back(rt: HostRuntime) -> Result<(), Fail> {
+    let alloc = rt.alloc();
+    let graph = resigning_pair(alloc)?;
+    let text = plan_text(alloc, &graph)?;
+    let plan = read_plan(alloc, text.as_str()).expect(&rt, "a plan");
+    for count in [0, 1, 3] {
+        let Err(SeatFault::JobsDiffer(back)) = Jobs::seat(alloc, &plan, counters(alloc, count, 0)?)
+        else {
+            return Err(Fail::new("jobs were taken"));
+        };
+        assert_eq!(rt; back.len(), count as usize);
+    }
+    Ok(())
+}

@@ -1,0 +1,18 @@
+-- What a meal does to the value of an edge: a number that the two ends of the edge share, and that their fork carries.
+use Rattle.std.specs.Prelude.{ℕ, ◌+◌, ◌≤◌}
+use Rattle.dine_token.specs.declared.act.Act.{Act}
+use Rattle.dine_token.specs.declared.act.Act.TheVariants.{Add, Set}
+
+-- the amount of an act
+abbrev pub amount_of : Act → ℕ
+amount_of (Add amount) = amount
+amount_of (Set amount) = amount
+
+-- an act as a meal may do it: its amount is at most 1,000,000
+abbrev pub IsAct : Act → Type 0
+IsAct act = amount_of act ≤ 1000000
+
+-- a value after an act: Add adds its amount, Set puts it in the value's place
+abbrev pub applied : Act → ℕ → ℕ
+applied (Add amount) value = value + amount
+applied (Set amount) value = amount

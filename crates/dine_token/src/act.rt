@@ -1,0 +1,25 @@
+//! What a meal does to the value of an edge.
+ghost use Rattle.std.specs.Prelude.{◌≡◌, ◌<◌, ◌^◌};
+ghost use Rattle.dine_token.specs.Values.{applied};
+
+/// What a meal does to the value of each edge of its site. An amount is at most 1,000,000.
+#[derive(Clone, Copy, Debug, PartialEq, Eq)]
+pub enum Act {
+    /// The amount is added.
+    Add(u64),
+    /// The amount takes the place of the value.
+    Set(u64),
+}
+
+impl Act {
+    // The value after the act.
+    pub(crate) fn apply(self, value: u64) -> u64
+        requires fits { applied self value < 2 ^ 64 }
+        ensures { result ≡ applied self value }
+    {
+        match self {
+            Act::Add(amount) => value + amount,
+            Act::Set(amount) => amount,
+        }
+    }
+}

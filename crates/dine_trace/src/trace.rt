@@ -1,0 +1,96 @@
+//! The steps of a schedule.
+
+use crate::edges::push_edges;
+use crate::events::push_event;
+use crate::faults::Fault;
+use dine_core::{Event, World};
+use dine_logs::replay_text;
+use dine_plan::Plan;
+use dine_words::write_out;
+use std::alloc::{AllocError, Global};
+use std::io::Write;
+
+/// Shows each step of the plan's schedule, and then what `dine replay` prints.
+pub fn show_plan<W: Write>(
+    alloc: Global,
+    plan: &Plan,
+    choices: &[u32],
+    output: &mut W,
+) -> Result<(), Fault> {
+    let mut world = World::open(alloc, plan)?;
+    let shown = show_steps(alloc, plan, &mut world, choices, output);
+    let _ = world.into_forks();
+    shown?;
+    let text = replay_text(alloc, plan, choices)?;
+    write_out(output, text.as_slice())?;
+    Ok(())
+}
+
+// Shows the steps of the choices, and those after them.
+fn show_steps<W: Write>(
+    alloc: Global,
+    plan: &Plan,
+    world: &mut World,
+    choices: &[u32],
+    output: &mut W,
+) -> Result<(), Fault> {
+    let mut steps = 0;
+    for choice in choices {
+        steps = show_step(alloc, plan, world, "chosen", *choice, steps, output)?;
+    }
+    // No world has more events than its bound.
+    for _ in 0..world.bound() {
+        if world.count() == 0 {
+            break;
+        }
+        steps = show_step(alloc, plan, world, "first", 0, steps, output)?;
+    }
+    Ok(())
+}
+
+// Shows the enabled events, does the one with this number where there is one, and shows what the edges are then. It
+// answers how many steps there were by then, of which so many were before.
+fn show_step<W: Write>(
+    alloc: Global,
+    plan: &Plan,
+    world: &mut World,
+    why: &str,
+    choice: u32,
+    before: u64,
+    output: &mut W,
+) -> Result<u64, Fault> {
+    let steps = before.saturating_add(1);
+    let mut text = format!(in alloc; "step {steps}\n")?;
+    push_enabled(&mut text, plan, world)?;
+    let done = does(world, choice);
+    write!(text, "{why} {choice}")?;
+    if !done {
+        text.push_str(", which is none of them\n")?;
+        write_out(output, text.as_bytes())?;
+        return Ok(before);
+    }
+    text.push('\n')?;
+    push_edges(&mut text, plan, world)?;
+    write_out(output, text.as_bytes())?;
+    Ok(steps)
+}
+
+// Adds a line for each enabled event to the text: its number, and what it is in words.
+fn push_enabled(text: &mut String, plan: &Plan, world: &World) -> Result<(), AllocError> {
+    for n in 0..world.count() {
+        if let Some(event) = world.enabled(n) {
+            write!(text, "  {n} ")?;
+            push_event(text, plan, world, event)?;
+            text.push('\n')?;
+        }
+    }
+    Ok(())
+}
+
+// Does the enabled event with this number. Where there is none it answers false, and nothing changes.
+fn does(world: &mut World, choice: u32) -> bool {
+    match world.enabled(choice) {
+        Some(event) => world.step(event).is_ok(),
+        None => false,
+    }
+}
