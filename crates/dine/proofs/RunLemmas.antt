@@ -83,7 +83,8 @@ end_behind : (jobs : List SeenJob) (call : Call) (calls : List Call) → call.ok
 end_behind jobs call calls went (inl all) = inl (omega (arith, all))
 end_behind jobs call calls went (inr had) = inr (last_behind call calls had.before had.last went had.called had.failed)
 
--- where no call comes behind one that failed, and they are for all jobs or the last one failed, they are for the jobs up to the first that fails
+-- where no call comes behind one that failed, and they are for all jobs or the last one failed, they are for the jobs
+-- up to the first that fails
 done_so : (jobs : List SeenJob) (call : Call) (calls : List Call) (ok fails : Bool) → call.ok ≡ ok → not ok ≡ fails → StopsAtFailed [] (call ∷ calls) → (call.ok ≡ true → length calls ≡ done_to_failed jobs)
     → suc (length calls) ≡ 1 + cond fails 0 (done_to_failed jobs)
 done_so jobs call calls false false went same stops rest = absurd cc

@@ -45,7 +45,8 @@ abbrev pub IsDone : Option Asked → Option (List ℕ) → Option (List ℕ) →
 IsDone None left before after = ⊥
 IsDone (Some command) left before after = Writes (IsTextOf command) left before after
 
--- the first bytes of a text of what is asked for were written, all of them or some; where nothing is asked for, this is never so
+-- the first bytes of a text of what is asked for were written, all of them or some; where nothing is asked for, this is
+-- never so
 abbrev pub IsPartDone : Option Asked → Option (List ℕ) → Option (List ℕ) → Option (List ℕ) → Type 0
 IsPartDone None left before after = ⊥
 IsPartDone (Some command) left before after = WritesPart (IsTextOf command) left before after
@@ -70,7 +71,8 @@ pub record FailsRun (asked : Asked) (plan : SeenPlan) (told : Fault) : Type 0 wh
   pub names : NamesSite plan told
   pub tells : TellsRun plan told
 
--- a run was asked for and a plan was read, and the fault tells at which site of the plan the run failed, by an answer that `run` may give
+-- a run was asked for and a plan was read, and the fault tells at which site of the plan the run failed, by an answer
+-- that `run` may give
 pub record IsFailedRun (command : Option Asked) (told : Fault) (left : Option (List ℕ)) : Type 0 where
   pub table : Table
   pub links : Links
@@ -80,9 +82,10 @@ pub record IsFailedRun (command : Option Asked) (told : Fault) (left : Option (L
   pub names : NamesSite plan told
   pub tells : TellsRun plan told
 
--- How a fault ended the program: its cause has the status, and what was written of its line is a beginning of it. The output
--- holds what it held, but where writing failed. A refused plan is told with its own cause, a run fails only where one
--- was asked for and at a site of the plan that was read, and input was too long only where it has more bytes than the limit.
+-- How a fault ended the program: its cause has the status, and what was written of its line is a beginning of it. The
+-- output holds what it held, but where writing failed. A refused plan is told with its own cause, a run fails only
+-- where one was asked for and at a site of the plan that was read, and input was too long only where it has more bytes
+-- than the limit.
 pub record EndsByFault (command : Option Asked) (ended : Status) (left before after told_before told_after : Option (List ℕ)) : Type 0 where
   pub cause : Fault
   pub ends_so : status_of cause ≡ ended

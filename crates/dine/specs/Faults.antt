@@ -46,7 +46,8 @@ fault_of_input input.Failed = fault.ReadingFailed
 fault_of_input input.TooLong = fault.InputTooLong
 fault_of_input input.Memory = fault.OutOfMemory
 
--- the fault that an error is with which `env::args` answers no words; want of memory is told apart from every other kind
+-- the fault that an error is with which `env::args` answers no words; want of memory is told apart from every other
+-- kind
 abbrev pub fault_of_arguments : ErrorKind → Fault
 fault_of_arguments kind.OutOfMemory = fault.OutOfMemory
 fault_of_arguments _ = fault.Usage
@@ -60,8 +61,8 @@ fault_of_text cause = fault.NoPlan cause
 abbrev pub fault_at : List (SiteOut SeenPlanDiner) → ℕ → SiteFault
 fault_at outs site = unwrap_or (option_and_then (λ (out : SiteOut SeenPlanDiner). out.fault) (slice_get outs site)) site_fault.NotStarted
 
--- the fault that an answer of `run` is: a refused thread by its own site, and a broken run by the site that `run` told and the
--- fault that this site ended with
+-- the fault that an answer of `run` is: a refused thread by its own site, and a broken run by the site that `run` told
+-- and the fault that this site ended with
 abbrev pub fault_of_run : RunFault SeenPlanDiner → Fault
 fault_of_run (run.DinersDiffer given diners) = fault.DinersDiffer
 fault_of_run run.Memory = fault.OutOfMemory
@@ -95,7 +96,8 @@ refused_thread_line site = numbered (codes "dine: run refused: thread of site ")
 abbrev pub broken_run_line : ℕ → SiteFault → List ℕ
 broken_run_line site cause = numbered (codes "dine: run broken at site ") site ++ site_fault_words cause
 
--- the line that tells of a fault, without its line feed; that of a plan ends in its cause, as the plan's fault prints it
+-- the line that tells of a fault, without its line feed; that of a plan ends in its cause, as the plan's fault prints
+-- it
 abbrev pub line_of : Fault → Option (List ℕ)
 line_of fault.Usage = Some (codes "dine: usage: dine [run [--table edges|sites] [--links channel|ring] | replay [--choices LIST] | check]")
 line_of (fault.NoPlan cause) = None

@@ -3,8 +3,8 @@ use Rattle.std.specs.Prelude.{ℕ, Bool, false, not, List, ◌∷◌, map, slice
 use Rattle.dine_plan.specs.Plan.{SeenPlan, SeenJob, jobs_of}
 use Rattle.dine_run.specs.declared.diner.Call.{Call}
 
--- a diner of a plan: the calls so far, in order, for each job of its site whether it fails, for how many more calls there is room, and the
--- word to which the turns so far led
+-- a diner of a plan: the calls so far, in order, for each job of its site whether it fails, for how many more calls
+-- there is room, and the word to which the turns so far led
 pub record SeenPlanDiner : Type 0 where
   pub calls : List Call
   pub marks : List Bool

@@ -33,8 +33,9 @@ failing_jobs plan s = count_by (λ (job : SeenJob). job.fails) (take (meals_at p
 abbrev pub failing_by_site : SeenPlan → List ℕ
 failing_by_site plan = map (failing_jobs plan) (range_with_len 0 (site_count plan))
 
--- The text is a table of a run: for each edge the meals of its two ends and a value that it may have after them, or for each site its meals
--- and how many of them fail. Where no job sets a value there is one such text: the law `tables_without_set_are_of_the_plan`.
+-- The text is a table of a run: for each edge the meals of its two ends and a value that it may have after them, or for
+-- each site its meals and how many of them fail. Where no job sets a value there is one such text: the law
+-- `tables_without_set_are_of_the_plan`.
 abbrev pub IsRunText : Table → SeenPlan → List ℕ → Type 0
 IsRunText Edges plan text = (values : List ℕ) × AreDueValues plan (meals_at plan) values × (text ≡ edges_table plan (due_edge_rows plan (meals_at plan) values))
 IsRunText Sites plan text = text ≡ sites_table plan (due_site_rows plan (meals_at plan) (failing_by_site plan))

@@ -10,7 +10,8 @@ use Rattle.dine_run.specs.declared.tables.SiteRow.{SiteRow}
 abbrev pub record_text : List (List ℕ) → List ℕ
 record_text fields = join_with_byte 44 fields ++ codes "\n"
 
--- The numbers in a row are those of an edge and of two sites of the plan; that they are the ends of that edge it leaves out.
+-- The numbers in a row are those of an edge and of two sites of the plan; that they are the ends of that edge it leaves
+-- out.
 pub record IsEdgeRowOf (plan : SeenPlan) (row : EdgeRow) : Type 0 where
   pub edge_in : row.edge < edge_count plan
   pub lo_in : row.lo < site_count plan

@@ -11,8 +11,9 @@ use std::{env, io};
 
 /// The words in a list, of what `env::args` answered: all of them, in order. The first is the program's own name.
 ///
-/// Where it answered an error there are none, and the fault is `OutOfMemory` where memory was refused, and else `Usage`: a
-/// word that is no UTF-8 is no word of the program. It is `OutOfMemory` too where there is no memory for the list.
+/// Where it answered an error there are none, and the fault is `OutOfMemory` where memory was refused, and else
+/// `Usage`: a word that is no UTF-8 is no word of the program. It is `OutOfMemory` too where there is no memory for the
+/// list.
 pub fn words_of(alloc: Global, given: io::Result<env::Args>) -> Result<Vec<String>, Fault>
     ensures words { IfOk result (λ words. IsOkAnd given (λ arguments. words.items ≡ into_iter_items arguments)) }
     ensures refused { IfErr given (λ error. IsErrOf result (fault_of_arguments (error_kind error))) }

@@ -19,10 +19,10 @@ use std::thread::Threads;
 /// Does what the words say with the input, and writes the text that it makes to `output`. The first word is the
 /// program's own name.
 ///
-/// The first fault ends it, and one line to `faults` tells of it: words that `clap` refuses, a bad LIST, a table or a kind of links
-/// that there is not (nothing is read), an input that can't be read or is too long, a text that is no plan, a run that is refused a thread
-/// or in which a site ends with a fault, want of memory, an output that can't be written. That the line can't be printed is told
-/// to nobody. It may wait.
+/// The first fault ends it, and one line to `faults` tells of it: words that `clap` refuses, a bad LIST, a table or a
+/// kind of links that there is not (nothing is read), an input that can't be read or is too long, a text that is no
+/// plan, a run that is refused a thread or in which a site ends with a fault, want of memory, an output that can't be
+/// written. That the line can't be printed is told to nobody. It may wait.
 pub fn run_cmd<H: Threads + Wait + Copy + Send + 'static, R: Read, W: Write, F: Write>(
     rt: &H,
     alloc: Global,

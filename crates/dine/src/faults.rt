@@ -188,7 +188,8 @@ impl From<RunFault<PlanDiner>> for Fault {
     }
 }
 
-// The fault that the site of this number ended with. `run` tells no site as broken that has none; that would be one not started.
+// The fault that the site of this number ended with. `run` tells no site as broken that has none; that would be one not
+// started.
 fn fault_at(outs: &[SiteOut<PlanDiner>], site: u32) -> SiteFault
     ensures { result ≡ fault_at outs.now site }
 {

@@ -25,12 +25,12 @@ const NO_CHORE: Chore = Chore {
     fails: false,
 };
 
-/// The diner of one site of a plan. In meal `k`, from 1, it does job `k` of the site: it takes the job's turns, and answers
-/// `JobFault` exactly where the job fails. A meal without a job takes no turn and goes well.
+/// The diner of one site of a plan. In meal `k`, from 1, it does job `k` of the site: it takes the job's turns, and
+/// answers `JobFault` exactly where the job fails. A meal without a job takes no turn and goes well.
 ///
-/// A turn is one step of xorshift on a word of 32 bits that the diner keeps from meal to meal. Each step needs the one before
-/// it, so a compiler has no shorter way to the word, as it has for a loop that only counts. A job takes at most 1,000,000
-/// turns. All memory is taken by `open`; a meal takes none.
+/// A turn is one step of xorshift on a word of 32 bits that the diner keeps from meal to meal. Each step needs the one
+/// before it, so a compiler has no shorter way to the word, as it has for a loop that only counts. A job takes at most
+/// 1,000,000 turns. All memory is taken by `open`; a meal takes none.
 #[derive(Drop)]
 pub struct PlanDiner {
     log: CallLog,
@@ -48,8 +48,8 @@ impl Model for PlanDiner {
 }
 
 impl PlanDiner {
-    /// A diner for the jobs of the site, whose number is below `sites` of the plan. It has made no call, and has room for one
-    /// call for each job, 0 to 1,000.
+    /// A diner for the jobs of the site, whose number is below `sites` of the plan. It has made no call, and has room
+    /// for one call for each job, 0 to 1,000.
     ///
     /// It takes memory for the calls and the jobs, and answers `AllocError` where that is refused.
     pub fn open(alloc: Global, plan: &Plan, site: u32) -> Result<PlanDiner, AllocError>
@@ -83,8 +83,8 @@ impl PlanDiner {
         self.log.calls()
     }
 
-    /// The word to which all turns so far led: 2,463,534,242 before the first, and after each turn the next word of xorshift with the
-    /// shifts 13, 17 and 5.
+    /// The word to which all turns so far led: 2,463,534,242 before the first, and after each turn the next word of
+    /// xorshift with the shifts 13, 17 and 5.
     pub fn word(&self) -> u32
         ensures { result ≡ self.now.word }
     {

@@ -15,10 +15,11 @@ use std::alloc::{AllocError, Global};
 use std::sync::Wait;
 use std::thread::Threads;
 
-/// The table of a run of the plan: every site does its jobs on a thread of its own, over links of this kind. It may wait.
+/// The table of a run of the plan: every site does its jobs on a thread of its own, over links of this kind. It may
+/// wait.
 ///
-/// Fails where memory or a thread is refused, and where a site ended with a fault, which names the lowest such site. All
-/// threads that were started have ended then.
+/// Fails where memory or a thread is refused, and where a site ended with a fault, which names the lowest such site.
+/// All threads that were started have ended then.
 pub fn run_text<H: Threads + Wait + Copy + Send + 'static>(
     rt: &H,
     alloc: Global,

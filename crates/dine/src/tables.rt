@@ -9,8 +9,9 @@ use dine_plan::Plan;
 use dine_run::{EdgeRow, SiteRow};
 use std::alloc::{AllocError, Global};
 
-/// The table of edges: the header `edge,lo,hi,lo_meals,hi_meals`, and for each row a record of the edge's number, the names
-/// of its two ends and their meals. A plan of version 2 has one column more, `value`. Each record ends with one line feed.
+/// The table of edges: the header `edge,lo,hi,lo_meals,hi_meals`, and for each row a record of the edge's number, the
+/// names of its two ends and their meals. A plan of version 2 has one column more, `value`. Each record ends with one
+/// line feed.
 ///
 /// The numbers in the rows are those of edges and sites of the plan. It answers `AllocError` where memory is refused.
 pub fn write_edges(alloc: Global, plan: &Plan, rows: &[EdgeRow]) -> Result<Vec<u8>, AllocError>
@@ -25,8 +26,8 @@ pub fn write_edges(alloc: Global, plan: &Plan, rows: &[EdgeRow]) -> Result<Vec<u
     bytes_of(table)
 }
 
-/// The table of sites: the header `site,meals,failed`, and for each row a record of the site's name, its meals and those of
-/// them whose job failed. Each record ends with one line feed.
+/// The table of sites: the header `site,meals,failed`, and for each row a record of the site's name, its meals and
+/// those of them whose job failed. Each record ends with one line feed.
 ///
 /// The numbers in the rows are those of sites of the plan. It answers `AllocError` where memory is refused.
 pub fn write_sites(alloc: Global, plan: &Plan, rows: &[SiteRow]) -> Result<Vec<u8>, AllocError>

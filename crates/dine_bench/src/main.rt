@@ -1,6 +1,7 @@
-//! Measures `run` alone: reads a plan, runs it so many times over links of one kind, and writes the median, the least and the most
-//! of the wall time of `run`, in microseconds, to standard error. Standard output has the kind of links and the number of runs.
-//! With `world` it measures a world of one thread, from its opening to the forks after its last event.
+//! Measures `run` alone: reads a plan, runs it so many times over links of one kind, and writes the median, the least
+//! and the most of the wall time of `run`, in microseconds, to standard error. Standard output has the kind of links
+//! and the number of runs. With `world` it measures a world of one thread, from its opening to the forks after its last
+//! event.
 //!
 //! usage: dine_bench channel|ring|world RUNS < PLAN
 #![tactic(auto)]
@@ -22,7 +23,8 @@ use std::sync::Wait;
 use std::thread::Threads;
 use std::time::Instant;
 
-// How many bytes are taken and given back before the clock runs, so that what an earlier run freed is brought together then.
+// How many bytes are taken and given back before the clock runs, so that what an earlier run freed is brought together
+// then.
 const SETTLING: usize = 1 << 22;
 
 // A diner for each site, with room for its jobs.

@@ -1,4 +1,5 @@
--- One core: its places stand for a state, each test and each step for the state's, and a breach for the first by the whole lists.
+-- One core: its places stand for a state, each test and each step for the state's, and a breach for the first by the
+-- whole lists.
 pub mod PlacesAfter
 pub mod Stands
 pub mod Sound

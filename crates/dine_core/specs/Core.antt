@@ -1,5 +1,5 @@
--- A site core as contracts see it, and the states of whole lists that it stands for. A core keeps nothing of letters that came and went, so
--- many states of whole lists have the same core, and a core alone tells no list.
+-- A site core as contracts see it, and the states of whole lists that it stands for. A core keeps nothing of letters
+-- that came and went, so many states of whole lists have the same core, and a core alone tells no list.
 use Rattle.std.specs.Prelude.{◌≡◌, ℕ, ◌<◌, ◌==◌, Bool, List, [], ◌∷◌, length, slice_index_or, Option, Some, None, if◌then◌else◌}
 use Rattle.dine_token.specs.declared.act.Act.{Act}
 use Rattle.dine_token.specs.Log.{meals_of}
@@ -28,7 +28,8 @@ pub record SeenCore : Type 0 where
   pub has_quit : Bool
   pub places : List Place
 
--- What a core keeps at the place of an edge, for a site in this phase that ate so many meals, with these letters put and taken.
+-- What a core keeps at the place of an edge, for a site in this phase that ate so many meals, with these letters put
+-- and taken.
 module _ (plan : SeenPlan) (s : ℕ) (phase : Phase) (ate edge : ℕ) (traffic : Traffic) where
   -- The fork: in hand as the whole lists give it, in the meal, or not held. Of a fork in the meal the core keeps
   -- how many meals of the other end it has.

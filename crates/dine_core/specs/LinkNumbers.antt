@@ -2,8 +2,8 @@
 use Rattle.std.specs.Prelude.{ℕ, ◌+◌, ◌*◌, ◌==◌, if◌then◌else◌}
 use Rattle.dine_core.specs.declared.site.places.Place.{Place}
 
--- the number of the link that leads to end s of an edge with this lower end: link 2e leads to the higher end of edge e, link 2e + 1 to its
--- lower end
+-- the number of the link that leads to end s of an edge with this lower end: link 2e leads to the higher end of edge e,
+-- link 2e + 1 to its lower end
 abbrev pub link_number_to : ℕ → ℕ → ℕ → ℕ
 link_number_to s edge lower = 2 * edge + (if lower == s then 1 else 0)
 

@@ -1,5 +1,5 @@
--- What a site core reads off a place, and what it does there. The rules are those of `Steps` and `Breach` in `dine_rules`, read off what
--- the core keeps; that they come to the same is what the contracts prove.
+-- What a site core reads off a place, and what it does there. The rules are those of `Steps` and `Breach` in
+-- `dine_rules`, read off what the core keeps; that they come to the same is what the contracts prove.
 use Rattle.std.specs.Prelude.{◌≡◌, ◌⊎◌, ℕ, ◌+◌, ◌<◌, ◌≤◌, ◌==◌, ◌&&◌, ◌||◌, not, nat_lt, nat_le, Bool, true, false, List, [], ◌∷◌, ◌++◌, length, map, All, slice_index_or, slice_set, Option, Some, None, is_some, option_to_list, if◌then◌else◌}
 use Rattle.std.specs.List.{list_all}
 use Rattle.dine_token.specs.declared.act.Act.{Act}
@@ -262,8 +262,8 @@ IsLiftable s place = OnHere (λ fork. IsEnd fork (neighbour_of s place)) place.f
 abbrev pub with_place : ℕ → Place → SeenCore → SeenCore
 with_place i place core = record core { places = slice_set core.places i place }
 
--- The fork is right in hand at the place: it has the place's edge, ends and due numbers, lies at the site, and has all meals that the site
--- ate.
+-- The fork is right in hand at the place: it has the place's edge, ends and due numbers, lies at the site, and has all
+-- meals that the site ate.
 pub record FitsPlace (s ate : ℕ) (place : Place) (fork : SeenFork) : Type 0 where
   pub edge : fork.edge ≡ place.edge
   pub ends : fork.ends ≡ place.ends
@@ -277,8 +277,8 @@ FitsSlot s ate eating place Away = eating ≡ false
 FitsSlot s ate eating place (Here fork) = (eating ≡ false) × FitsPlace s ate place fork
 FitsSlot s ate eating place (InMeal meals) = eating ≡ true
 
--- A place that is right for the core: the site is one of its ends, with the core's due meals; its slot is right, and its token
--- is that of the edge; where the fork is held and was asked for, the other end has meals left.
+-- A place that is right for the core: the site is one of its ends, with the core's due meals; its slot is right, and
+-- its token is that of the edge; where the fork is held and was asked for, the other end has meals left.
 pub record IsSoundPlace (core : SeenCore) (place : Place) : Type 0 where
   pub ordered : place.ends.0 < place.ends.1
   pub end : (core.site ≡ place.ends.0) ⊎ (core.site ≡ place.ends.1)
@@ -287,8 +287,8 @@ pub record IsSoundPlace (core : SeenCore) (place : Place) : Type 0 where
   pub asked : is_held place.fork ≡ true → is_some place.token ≡ true → meals_in (neighbour_of core.site place) place.fork < due_of_neighbour core.site place
   pub token : (edge : ℕ) → place.token ≡ Some edge → edge ≡ place.edge
 
--- All places are right, each meal has an act, of at most 1,000,000, and no more meals are eaten than due, and fewer while the site is
--- hungry.
+-- All places are right, each meal has an act, of at most 1,000,000, and no more meals are eaten than due, and fewer
+-- while the site is hungry.
 pub record IsSound (core : SeenCore) : Type 0 where
   pub places : All (IsSoundPlace core) core.places
   pub acts : length core.acts ≡ core.due

@@ -30,8 +30,8 @@ ForEachState core P = (plan : SeenPlan) (state : LocalState) → KeepsStreams pl
 abbrev pub TellsMay : SeenCore → Step → Bool → Type 0
 TellsMay core step test = ForEachState core (λ plan state. test ≡ may plan core.site state step)
 
--- The core did the step, which the state allows: it is the same site, it stands for the state after the step, and that state
--- keeps the streams.
+-- The core did the step, which the state allows: it is the same site, it stands for the state after the step, and that
+-- state keeps the streams.
 pub record CoreStep (plan : SeenPlan) (state : LocalState) (step : Step) (old new : SeenCore) : Type 0 where
   pub allowed : LocalStep plan old.site state step (after plan old.site state step)
   pub site : new.site ≡ old.site

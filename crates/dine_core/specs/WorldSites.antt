@@ -1,4 +1,5 @@
--- A site of the world, with the meal that it eats, and the links around it. Public clauses reach these by `IsWorldOf` alone.
+-- A site of the world, with the meal that it eats, and the links around it. Public clauses reach these by `IsWorldOf`
+-- alone.
 use Rattle.std.specs.Prelude.{◌≡◌, ℕ, ◌-◌, ◌<◌, ◌&&◌, not, nat_lt, Bool, false, true, List, [], ◌∷◌, ◌++◌, map, length, drop, slice_get, slice_index_or, slice_set, Option, Some, None, is_some, option_and_then, MatchOption, if◌then◌else◌}
 use Rattle.dine_token.specs.Meal.{SeenMeal}
 use Rattle.dine_plan.specs.Plan.{SeenPlan, SeenJob, jobs_of}

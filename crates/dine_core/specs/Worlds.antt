@@ -1,5 +1,6 @@
--- The world as contracts see it, and the states of whole lists that it stands for. A World keeps no letter that came and went, so many
--- states have the same World, and a clause by `ForEachWorld` holds for each. That there is one is the invariant of the type.
+-- The world as contracts see it, and the states of whole lists that it stands for. A World keeps no letter that came
+-- and went, so many states have the same World, and a clause by `ForEachWorld` holds for each. That there is one is the
+-- invariant of the type.
 use Rattle.std.specs.Prelude.{◌≡◌, ℕ, ◌*◌, ◌<◌, Bool, false, List, length, map, slice_get, slice_index_or, Vec, Option, Some, None}
 use Rattle.std.specs.declared.alloc.Global.{Global}
 use Rattle.std.specs.List.{range_with_len}
@@ -107,7 +108,8 @@ pub record RunsTo (plan : SeenPlan) (run : Counted) (events : ℕ) (new : SeenWo
   pub counted : run.events ≡ events
   pub stands : IsWorldOf plan run.world new
 
--- the fork of an edge in a state, wherever it lies: with the plan's ends and due numbers, its log, and the value that the log gives
+-- the fork of an edge in a state, wherever it lies: with the plan's ends and due numbers, its log, and the value that
+-- the log gives
 abbrev pub fork_seen : SeenPlan → WorldState → ℕ → SeenFork
 fork_seen plan world e = fork_by plan e (fork_log plan world e)
 

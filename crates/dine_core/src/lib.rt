@@ -1,5 +1,5 @@
-//! The code of the hygienic solution: one site, and the world of all sites in one thread. The rules and their laws are those of
-//! `dine_rules`, and are handed on.
+//! The code of the hygienic solution: one site, and the world of all sites in one thread. The rules and their laws are
+//! those of `dine_rules`, and are handed on.
 #![tactic(auto)]
 
 pub mod site;

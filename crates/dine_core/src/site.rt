@@ -40,8 +40,8 @@ use std::alloc::{AllocError, Global};
 use std::marker::Model;
 use std::mem;
 
-/// A site: its phase, how many meals it ate, and at each place of its list of edges the fork, the token and what was said.
-/// It does one local step at a time, and each step puts or takes at most one letter. It has to be spent, by
+/// A site: its phase, how many meals it ate, and at each place of its list of edges the fork, the token and what was
+/// said. It does one local step at a time, and each step puts or takes at most one letter. It has to be spent, by
 /// [`SiteCore::into_parts`].
 ///
 /// The rules are those of Chandy and Misra's hygienic solution (ACM TOPLAS 6(4), 1984).
@@ -84,11 +84,11 @@ impl Model for SiteCore {
 }
 
 impl SiteCore {
-    /// The site `site` of the plan, before its first step: it thinks. It takes memory for all that comes, once, and fails where
-    /// that is refused; the forks and tokens are dropped then.
+    /// The site `site` of the plan, before its first step: it thinks. It takes memory for all that comes, once, and
+    /// fails where that is refused; the forks and tokens are dropped then.
     ///
-    /// `forks` are newly opened, those of the edges where the site is the lower end, and `tokens` those of the edges where it
-    /// is the higher end, each in edge order.
+    /// `forks` are newly opened, those of the edges where the site is the lower end, and `tokens` those of the edges
+    /// where it is the higher end, each in edge order.
     pub fn open(
         alloc: Global,
         plan: &Plan,
@@ -479,8 +479,8 @@ impl SiteCore {
         Some(Letter::Close)
     }
 
-    /// Takes a letter that came at place `i`. A letter that is not in turn is handed back with the cause, and then nothing
-    /// changes.
+    /// Takes a letter that came at place `i`. A letter that is not in turn is handed back with the cause, and then
+    /// nothing changes.
     pub fn take(&mut self, i: u32, letter: Letter) -> Result<(), (Letter, Breach)>
         requires { i < length self.old.places }
         ensures breach { MatchResult result (λ _. breach_at self.old.site self.old.ate (place_at self.old i) letter ≡ None) (λ e. breach_at self.old.site self.old.ate (place_at self.old i) letter ≡ Some e.1) }

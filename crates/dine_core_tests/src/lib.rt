@@ -1,5 +1,5 @@
-//! The tests of `dine_plan` and `dine_core`, by what anyone can see of them. There is nothing else here, so that neither crate is proved
-//! a second time for them.
+//! The tests of `dine_plan` and `dine_core`, by what anyone can see of them. There is nothing else here, so that
+//! neither crate is proved a second time for them.
 #![tactic(auto)]
 
 #[cfg(test)]

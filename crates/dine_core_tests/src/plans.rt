@@ -1,4 +1,5 @@
-// The reader of plan texts, and what a plan tells. The texts that it refuses are in tests/texts/, which tools/texts tries.
+// The reader of plan texts, and what a plan tells. The texts that it refuses are in tests/texts/, which tools/texts
+// tries.
 ghost use Rattle.std.specs.Prelude.{◌<◌};
 ghost use Rattle.dine_plan.specs.Plan.{site_count};
 
@@ -149,7 +150,8 @@ ends = ["a", "b"]
 value = 1000000
 "#;
 
-// What version 2 of the format has beside version 1: each site that resigns is marked, and + or = stands before the amount of an act.
+// What version 2 of the format has beside version 1: each site that resigns is marked, and + or = stands before the
+// amount of an act.
 pub(crate) fn second_in_short(alloc: Global, plan: &Plan) -> Result<String, AllocError> {
     let mut out = format!(in alloc; "{}:", plan.version())?;
     for site in 0..plan.sites() {

@@ -762,7 +762,8 @@ fn valued(rt: &impl Abort, alloc: Global, act: &str) -> Plan {
     read_plan(alloc, text.as_str()).expect(rt, "a plan")
 }
 
-// A fork of the edge that was opened with the value, with which `a` has eaten once without adding, and which went to `b`.
+// A fork of the edge that was opened with the value, with which `a` has eaten once without adding, and which went to
+// `b`.
 fn foreign(rt: &impl Abort, alloc: Global, value: u64) -> Letter {
     assert!(rt; value <= 1_000_000);
     let fork = Fork::open(alloc, 0, 0, 1, 1, 1, value).expect(rt, "memory");

@@ -310,8 +310,8 @@ fn choices_of_no_event_are_passed_over(rt: HostRuntime) {
     higher_ate_first(&rt, &plan, world);
 }
 
-// After the choices and all that is left, the fork of two sites with these jobs has these periods, each as its site, its first meal and
-// how many.
+// After the choices and all that is left, the fork of two sites with these jobs has these periods, each as its site,
+// its first meal and how many.
 fn has_periods(
     rt: &impl Abort,
     alloc: Global,

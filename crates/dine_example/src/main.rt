@@ -1,16 +1,19 @@
-//! A first caller of `dine_run`, to start one of your own from: units go round a ring of accounts, and none is lost or made up.
+//! A first caller of `dine_run`, to start one of your own from: units go round a ring of accounts, and none is lost or
+//! made up.
 //!
-//! 1. **Write a plan.** A text names the sites, the jobs of each and the edges, and `read_plan` reads it. Sites that share
-//!    something need an edge. Here a site takes from its own account and pays into that of the next site. So each account is
-//!    used by two sites, and these have an edge.
-//! 2. **Write a diner**, as `teller.rt` does: a struct with a `CallLog` and what you keep beside it. Its method `eat` does the job
-//!    of meal `k` and notes the call. `run` asks for room for all jobs of the site, and promises one call for each, in order. What
-//!    your own fields have to do with the calls is yours to say in a ghost field, as `one_each` does.
+//! 1. **Write a plan.** A text names the sites, the jobs of each and the edges, and `read_plan` reads it. Sites that
+//!    share something need an edge. Here a site takes from its own account and pays into that of the next site. So each
+//!    account is used by two sites, and these have an edge.
+//! 2. **Write a diner**, as `teller.rt` does: a struct with a `CallLog` and what you keep beside it. Its method `eat`
+//!    does the job of meal `k` and notes the call. `run` asks for room for all jobs of the site, and promises one call
+//!    for each, in order. What your own fields have to do with the calls is yours to say in a ghost field, as
+//!    `one_each` does.
 //! 3. **Call `run`** with the plan and a diner for each site, as `settle` does. Each site runs on a thread of its own.
-//! 4. **Take what comes back.** `Gathered` has the diners by site, the forks with the log of all meals, and the links. So `settle`
-//!    can promise each balance and the total, whatever the schedule was.
-//! 5. **Ask for one order** of what the threads did. Each site left its journal, and `order` puts all journals into one list, which a
-//!    world of one thread accepts, as `order_of` does. It goes to standard error, since it is another one after each run.
+//! 4. **Take what comes back.** `Gathered` has the diners by site, the forks with the log of all meals, and the links.
+//!    So `settle` can promise each balance and the total, whatever the schedule was.
+//! 5. **Ask for one order** of what the threads did. Each site left its journal, and `order` puts all journals into one
+//!    list, which a world of one thread accepts, as `order_of` does. It goes to standard error, since it is another one
+//!    after each run.
 #![tactic(auto)]
 
 mod teller;

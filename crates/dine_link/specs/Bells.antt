@@ -1,4 +1,5 @@
--- Bells and their ringers, as contracts see them. How many rings a bell holds, and that what was rung is told, they leave out.
+-- Bells and their ringers, as contracts see them. How many rings a bell holds, and that what was rung is told, they
+-- leave out.
 use Rattle.std.specs.Prelude.{ℕ, Bool, true, false, ◌+◌, Option, List, [], ◌∷◌, ◌++◌}
 use Rattle.crossbeam_channel.specs.declared.flavors.array.Rows.{Rows}
 use Rattle.crossbeam_channel.specs.declared.flavors.array.Key.{Key}
@@ -22,8 +23,8 @@ pub record SeenRinger : Type 0 where
   pub rings : ℕ
   pub refused : Bool
 
--- A bell: what tells it from every other, its degree, which is how many ringers it was opened with, the numbers that it told
--- so far, in order, and whether a wait for it was ever refused.
+-- A bell: what tells it from every other, its degree, which is how many ringers it was opened with, the numbers that it
+-- told so far, in order, and whether a wait for it was ever refused.
 pub record SeenBell : Type 0 where
   pub identity : BellId
   pub degree : ℕ

@@ -25,8 +25,8 @@ taken_from (Ring ends) = received ends.consumer
 abbrev pub seen_link : Inside → SeenLink
 seen_link link = record { edge = link.edge; from = link.from; put = put_in link.ends; taken = taken_from link.ends; put_refused = link.put_refused; take_refused = link.take_refused }
 
--- The numbers that are kept are the lengths of the lists, `shut` says that the put list ends in Close, the taken list is a prefix of the
--- put list, and nothing was put behind Close.
+-- The numbers that are kept are the lengths of the lists, `shut` says that the put list ends in Close, the taken list
+-- is a prefix of the put list, and nothing was put behind Close.
 pub record IsKeptLink (link : Inside) : Type 0 where
   pub put : link.put ≡ length (put_in link.ends)
   pub taken : link.taken ≡ length (taken_from link.ends)

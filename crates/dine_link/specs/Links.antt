@@ -1,6 +1,6 @@
--- Links and their ends, as contracts see them. A link is one direction of an edge. That a letter arrives, how many a link holds, when
--- anything was put or taken, and how often or before which letter a step was refused they leave out. Two lists do not say in which order
--- the events of two sites were.
+-- Links and their ends, as contracts see them. A link is one direction of an edge. That a letter arrives, how many a
+-- link holds, when anything was put or taken, and how often or before which letter a step was refused they leave out.
+-- Two lists do not say in which order the events of two sites were.
 use Rattle.std.specs.Prelude.{◌≡◌, ℕ, Bool, true, List, [], ◌∷◌, ◌++◌, ◌||◌, false}
 use mathlib.Core.List.{IsPrefix}
 use Rattle.dine_rules.specs.declared.letters.Letter.{Letter}
@@ -11,8 +11,8 @@ pub record LinkName (Identity : Type 0) : Type 0 where
   pub edge : ℕ
   pub from : ℕ
 
--- An end of a link: the name of the link, all letters that were put or taken at this end so far, in order, and whether a step
--- of this end was ever refused.
+-- An end of a link: the name of the link, all letters that were put or taken at this end so far, in order, and whether
+-- a step of this end was ever refused.
 pub record SeenEnd (Identity : Type 0) : Type 0 where
   pub link : LinkName Identity
   pub letters : List Letter

@@ -14,7 +14,8 @@ seen_awaited awaited = record { requests = awaited.requests; forks = awaited.for
 abbrev pub seen_wants : Wants → Option SeenWants
 seen_wants wants = option_map seen_awaited wants.only
 
--- A ring of the ringer of that number for a letter of that kind wakes the bell. What a site waits for is said of places below 64.
+-- A ring of the ringer of that number for a letter of that kind wakes the bell. What a site waits for is said of places
+-- below 64.
 abbrev pub wakes : Option SeenWants → ℕ → Kind4 → Bool
 wakes None number kind = true
 wakes (Some wants) number kind = nat_le 64 number || is_wanted wants number kind

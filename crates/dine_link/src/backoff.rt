@@ -1,8 +1,9 @@
 // How a step that can't be done yet waits before the next try.
 //
-// Over a ring it gives the processor up a few times, and from then on sleeps for a moment at a time: nobody has to wake it. Over a channel
-// under a rule it tries a few times with the processor given up between them, and only then sleeps until it is woken.
-// A thread that has gone to sleep costs microseconds to wake, and the other end is mostly just about to act.
+// Over a ring it gives the processor up a few times, and from then on sleeps for a moment at a time: nobody has to wake
+// it. Over a channel under a rule it tries a few times with the processor given up between them, and only then sleeps
+// until it is woken. A thread that has gone to sleep costs microseconds to wake, and the other end is mostly just about
+// to act.
 ghost use Rattle.std.specs.Prelude.{◌≡◌, MatchOption, MatchResult};
 ghost use Rattle.crossbeam_channel.specs.Claims.{view, IsSeatAt};
 ghost use Rattle.crossbeam_channel.specs.Ends.{sends_on, receives_on, ruled_capacity};

@@ -20,8 +20,8 @@ use std::sync::{Arc, Wait};
 // How many rings that were not yet told a bell has room for, for each ringer.
 const RINGS_EACH: usize = 4;
 
-/// Rings one bell, with a number of its own. Contracts see which bell, the number, how often it rang, and whether a ring was
-/// ever refused.
+/// Rings one bell, with a number of its own. Contracts see which bell, the number, how often it rang, and whether a
+/// ring was ever refused.
 #[derive(Drop)]
 pub struct Ringer {
     number: u32,
@@ -43,8 +43,8 @@ impl Model for Ringer {
     ghost invariant = { IsRinger };
 }
 
-/// Tells the numbers of the ringers that rang. Contracts see what tells it from every other bell, its degree, which is how many
-/// ringers it was opened with, the numbers that it told, and whether a wait was ever refused.
+/// Tells the numbers of the ringers that rang. Contracts see what tells it from every other bell, its degree, which is
+/// how many ringers it was opened with, the numbers that it told, and whether a wait was ever refused.
 #[derive(Drop)]
 pub struct Bell {
     degree: u32,
@@ -67,9 +67,9 @@ impl Model for Bell {
 }
 
 impl Bell {
-    /// A bell of `degree` ringers and these, in the order of their numbers from 0. They ring this bell, and nobody has rung.
-    /// The bell has room for four times as many rings as there are ringers, and for at least one. Without ringers nobody
-    /// can ring it.
+    /// A bell of `degree` ringers and these, in the order of their numbers from 0. They ring this bell, and nobody has
+    /// rung. The bell has room for four times as many rings as there are ringers, and for at least one. Without ringers
+    /// nobody can ring it.
     ///
     /// Fails where memory is refused.
     pub fn open(alloc: Global, degree: u32) -> Result<(Vec<Ringer>, Bell), LinkFault>
@@ -101,7 +101,8 @@ impl Bell {
     /// Tells the number of a ringer that rang, which is below the degree. Each ring is told once. It may wait, where no
     /// ring is left to tell, and then any ring wakes it.
     ///
-    /// Fails where the channel beneath refuses, and then no ring was taken from the bell, which keeps that a wait was refused.
+    /// Fails where the channel beneath refuses, and then no ring was taken from the bell, which keeps that a wait was
+    /// refused.
     pub fn wait<R: Wait>(&mut self, rt: &R) -> Result<u32, Lost>
         ensures below { IfOk result (λ number. number < self.new.degree) }
         ensures told { MatchResult result (λ number. self.new ≡ after_telling number self.old) (λ _. self.new ≡ after_refused_wait self.old) }
@@ -109,8 +110,8 @@ impl Bell {
         self.wait_for(rt, Wants::anything())
     }
 
-    /// The same, but once no ring is left to tell it sleeps until a ring that it wants, one that is not for a letter, or so many
-    /// that it has no room for more. Rings that it does not want lie until then, and are told in their turn.
+    /// The same, but once no ring is left to tell it sleeps until a ring that it wants, one that is not for a letter,
+    /// or so many that it has no room for more. Rings that it does not want lie until then, and are told in their turn.
     ///
     /// Fails as `wait` does.
     pub fn wait_for<R: Wait>(&mut self, rt: &R, wants: Wants) -> Result<u32, Lost>
@@ -141,8 +142,8 @@ impl Bell {
             .ok()
     }
 
-    // The same, and where none is left the bell is noted as asleep. A ringer sends and looks under this lock too, so each ring is
-    // either told here or finds the bell asleep.
+    // The same, and where none is left the bell is noted as asleep. A ringer sends and looks under this lock too, so
+    // each ring is either told here or finds the bell asleep.
     fn lie_down<R: Wait>(&mut self, rt: &R, wants: Wants) -> Option<u32>
         ensures below { IfSome result (λ number. number < self.new.degree) }
         ensures told { MatchOption result (self.new ≡ self.old) (λ number. self.new ≡ after_telling number self.old) }
@@ -199,7 +200,8 @@ fn make_ringers(
 impl Ringer {
     /// Rings the bell with its number, and wakes it, whatever it waits for. It may wait, where the bell is full.
     ///
-    /// Fails where the channel beneath refuses, and then the bell was not rung, and the ringer keeps that a ring was refused.
+    /// Fails where the channel beneath refuses, and then the bell was not rung, and the ringer keeps that a ring was
+    /// refused.
     pub fn ring<R: Wait>(&mut self, rt: &R) -> Result<(), Lost>
         ensures { MatchResult result (λ _. self.new ≡ after_ring self.old) (λ _. self.new ≡ after_refused_ring self.old) }
     {
@@ -214,8 +216,8 @@ impl Ringer {
         Ok(())
     }
 
-    /// The same for a letter of that kind: a bell that sleeps is woken only if it wants that letter. Where the bell is full it
-    /// is woken and waited for, as by `ring`.
+    /// The same for a letter of that kind: a bell that sleeps is woken only if it wants that letter. Where the bell is
+    /// full it is woken and waited for, as by `ring`.
     ///
     /// Fails as `ring` does.
     pub fn ring_for<R: Wait>(&mut self, rt: &R, kind: Kind4) -> Result<(), Lost>
@@ -241,8 +243,8 @@ impl Ringer {
         self.waker.sleeper.rest.lock(rt).is_asleep()
     }
 
-    // Sends the number where there is room, and tells whether the bell has to be woken. Both under one lock: a bell that lies down
-    // finds the ring, or is found asleep by it.
+    // Sends the number where there is room, and tells whether the bell has to be woken. Both under one lock: a bell
+    // that lies down finds the ring, or is found asleep by it.
     fn sound<R: Wait>(&mut self, rt: &R, kind: Kind4) -> Result<bool, TrySendError<u32>>
         ensures { MatchResult result (λ _. self.new ≡ after_ring self.old) (λ _. self.new ≡ self.old) }
     {

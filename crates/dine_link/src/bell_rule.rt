@@ -1,5 +1,5 @@
-// The rule of a bell's channel, and the steps that its passes may do. A pass is a token without bytes, and what it knows
-// exists in proofs alone.
+// The rule of a bell's channel, and the steps that its passes may do. A pass is a token without bytes, and what it
+// knows exists in proofs alone.
 use crossbeam_channel::protocol::{Lesson, Outcome, Protocol, Split};
 use std::collections::LinkedList;
 

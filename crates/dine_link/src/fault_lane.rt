@@ -12,14 +12,16 @@ use dine_rules::Letter;
 use std::alloc::Global;
 use std::sync::Wait;
 
-/// The end of a [`FaultLane`]'s link that letters are put in: the end of a channel, and how many puts and closes it still lets through.
+/// The end of a [`FaultLane`]'s link that letters are put in: the end of a channel, and how many puts and closes it
+/// still lets through.
 #[derive(Drop)]
 pub struct FaultTx {
     tx: ChannelTx,
     left: Option<u32>,
 }
 
-/// The end of a [`FaultLane`]'s link that letters are taken from: the end of a channel, and how many takes it still lets through.
+/// The end of a [`FaultLane`]'s link that letters are taken from: the end of a channel, and how many takes it still
+/// lets through.
 #[derive(Drop)]
 pub struct FaultRx {
     rx: ChannelRx,
@@ -41,7 +43,8 @@ fn spend(left: &mut Option<u32>) -> bool
     }
 }
 
-/// The end, which from now on lets `left` puts and closes through and then refuses each; with None it refuses none by itself.
+/// The end, which from now on lets `left` puts and closes through and then refuses each; with None it refuses none by
+/// itself.
 ///
 /// A step that the channel refuses counts too.
 pub fn fault_tx(tx: ChannelTx, left: Option<u32>) -> FaultTx
@@ -61,9 +64,9 @@ pub fn fault_rx(rx: ChannelRx, left: Option<u32>) -> FaultRx
     FaultRx { rx, left }
 }
 
-/// Links over channels whose ends refuse steps though the other end is there, for tests of what is done after a refusal. Those of
-/// [`Lane::pair`] refuse none by themselves: [`fault_tx`] and [`fault_rx`] make an end of a channel one that does. What they refuse they keep
-/// as a channel's ends do.
+/// Links over channels whose ends refuse steps though the other end is there, for tests of what is done after a
+/// refusal. Those of [`Lane::pair`] refuse none by themselves: [`fault_tx`] and [`fault_rx`] make an end of a channel
+/// one that does. What they refuse they keep as a channel's ends do.
 pub struct FaultLane;
 
 impl Lane for FaultLane {

@@ -9,8 +9,8 @@ pub enum LinkFault {
     Memory,
 }
 
-/// The link or the bell refused the step: the other end is gone. The caller's own end is as it was, but that it keeps that a step of
-/// it was refused.
+/// The link or the bell refused the step: the other end is gone. The caller's own end is as it was, but that it keeps
+/// that a step of it was refused.
 #[derive(Clone, Copy, Debug, PartialEq, Eq, Error)]
 #[error("the other end of the link is gone")]
 pub struct Lost;

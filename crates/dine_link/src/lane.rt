@@ -22,8 +22,9 @@ pub enum TxEnd<L: Lane> {
     Shut(L::ClosedTx),
 }
 
-/// A kind of links. A link has two ends, which may be in two threads: what is put in the one is taken from the other, in
-/// order and each letter once. A link holds at most four letters that were put and not yet taken. Ends may be dropped.
+/// A kind of links. A link has two ends, which may be in two threads: what is put in the one is taken from the other,
+/// in order and each letter once. A link holds at most four letters that were put and not yet taken. Ends may be
+/// dropped.
 ///
 /// Where the other end was dropped, a step over a channel is refused. Over a ring no step is: it tries again for ever
 /// ([`crate::RingLane`]). Each end keeps whether a step of it was ever refused.
@@ -40,7 +41,8 @@ pub trait Lane: Send {
     // What tells one link from every other.
     ghost Identity: { Type 0 };
 
-    // The ends as contracts see them: their link, all that was put in them or taken from them, and whether they met a refusal.
+    // The ends as contracts see them: their link, all that was put in them or taken from them, and whether they met a
+    // refusal.
     ghost seen_tx: { Self.Tx → SeenEnd Identity };
 
     ghost seen_closed: { Self.ClosedTx → SeenEnd Identity };

@@ -19,8 +19,8 @@ pub enum BothEnds {
 /// Both ends of a link after its use, of any lane. Only [`crate::Lane::reconcile`] makes one. It keeps the ends, so
 /// letters that were put and not taken are dropped with it.
 ///
-/// Contracts see its edge, the site that put, the lists of all letters put and of all taken, and whether a step of either
-/// end was refused.
+/// Contracts see its edge, the site that put, the lists of all letters put and of all taken, and whether a step of
+/// either end was refused.
 #[derive(Drop)]
 pub struct LinkEnd {
     edge: u32,
@@ -76,7 +76,8 @@ impl LinkEnd {
         }
     }
 
-    /// The same link, of which these refusals are told too. It is for a lane that wraps another and refuses steps itself.
+    /// The same link, of which these refusals are told too. It is for a lane that wraps another and refuses steps
+    /// itself.
     pub fn and_refused(self, put: bool, take: bool) -> LinkEnd
         ensures { result ≡ also_refused put take self }
     {

@@ -118,8 +118,8 @@ impl Pushing {
 
 /// Links over rings. No step is ever refused.
 ///
-/// So an end whose other end is gone is not told so: a put in a full ring or a take from an empty one gives the processor
-/// up 64 times, and from then on naps for 50 microseconds and tries again, for ever.
+/// So an end whose other end is gone is not told so: a put in a full ring or a take from an empty one gives the
+/// processor up 64 times, and from then on naps for 50 microseconds and tries again, for ever.
 pub struct RingLane;
 
 impl Lane for RingLane {

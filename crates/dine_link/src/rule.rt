@@ -1,11 +1,11 @@
-// The rule of a link's channel, and the steps that its passes may do. A pass is a token without bytes, and what it knows
-// exists in proofs alone.
+// The rule of a link's channel, and the steps that its passes may do. A pass is a token without bytes, and what it
+// knows exists in proofs alone.
 use crossbeam_channel::protocol::{Join, Lesson, Outcome, Protocol, Split};
 use dine_rules::Letter;
 use std::collections::LinkedList;
 
-// What a pass knows: whether it may put, whether it may take, and the letters that were put and taken by it. No value of
-// it is made.
+// What a pass knows: whether it may put, whether it may take, and the letters that were put and taken by it. No value
+// of it is made.
 pub struct Known {
     pub puts: bool,
     pub takes: bool,

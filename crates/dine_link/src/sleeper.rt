@@ -67,8 +67,8 @@ impl Rest {
         slept
     }
 
-    // Notes a ring for a letter of that kind, and tells whether it wakes the bell: one that the bell wants does, and the last one
-    // that it has room for, so that nobody waits for room beside a bell that sleeps.
+    // Notes a ring for a letter of that kind, and tells whether it wakes the bell: one that the bell wants does, and
+    // the last one that it has room for, so that nobody waits for room beside a bell that sleeps.
     pub fn note(&mut self, number: u32, kind: Kind4) -> bool
         ensures woken { result ≡ (self.old.asleep && (wakes (seen_wants self.old.wants) number kind || nat_le self.old.room 1)) }
         ensures asleep { self.new.asleep ≡ (self.old.asleep && not result) }

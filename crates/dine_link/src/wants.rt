@@ -27,8 +27,8 @@ impl Wants {
         Wants { only: None }
     }
 
-    /// A ring for a Request by one of these ringers wakes the bell, for the last of so many Forks, for each Done and for each
-    /// Close. Where no fork is lacking, each Fork does. A ringer whose number is 64 or more always wakes it.
+    /// A ring for a Request by one of these ringers wakes the bell, for the last of so many Forks, for each Done and
+    /// for each Close. Where no fork is lacking, each Fork does. A ringer whose number is 64 or more always wakes it.
     pub fn of(requests: BitSet64, forks: u32) -> Wants
         ensures { seen_wants result ≡ Some (record { requests = requests; forks = forks }) }
     {

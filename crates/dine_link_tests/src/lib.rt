@@ -1,4 +1,5 @@
-//! The tests of links, bells and gates. There is nothing else here, so that no other crate is proved a second time for them.
+//! The tests of links, bells and gates. There is nothing else here, so that no other crate is proved a second time for
+//! them.
 #![tactic(auto)]
 
 #[cfg(test)]

@@ -146,8 +146,8 @@ fn two_threads_pass_forks_with_their_logs(rt: HostRuntime) -> Result<(), Fail> {
     Ok(())
 }
 
-// 20 Requests and Close, all taken; and three Requests, of which one is taken. What is left in a link is dropped with its
-// LinkEnd, and counts as put alone.
+// 20 Requests and Close, all taken; and three Requests, of which one is taken. What is left in a link is dropped with
+// its LinkEnd, and counts as put alone.
 fn close_and_leave<L, R>(rt: R, alloc: Global) -> Result<(), Fail>
 where
     R: Threads + Wait + Abort + Copy + Send + 'static,

@@ -26,8 +26,8 @@ module _ (named : ℕ → List ℕ) where
   entries_text separator [] = []
   entries_text separator (entry ∷ log) = separator ++ entry_text entry ++ entries_text (codes ", ") log
 
-  -- the line of an edge: its number, the names of its ends, the lower first, a colon, its log, and what is told of its value; without
-  -- entries nothing stands behind the colon but that
+  -- the line of an edge: its number, the names of its ends, the lower first, a colon, its log, and what is told of its
+  -- value; without entries nothing stands behind the colon but that
   abbrev pub edge_line : ℕ → ℕ × ℕ → List Entry → List ℕ → List ℕ
   edge_line edge ends log told = codes "edge " ++ decimal edge ++ codes " " ++ named ends.0 ++ codes " " ++ named ends.1 ++ codes ":" ++ entries_text (codes " ") log ++ told ++ codes "\n"
 

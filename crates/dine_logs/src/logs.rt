@@ -19,8 +19,8 @@ use std::alloc::{AllocError, Global};
 
 mod meal_texts;
 
-/// The text of the world, which was opened for the plan with its own outcomes or with others, after so many events: the log of each edge, in
-/// version 2 with its value, and the last line.
+/// The text of the world, which was opened for the plan with its own outcomes or with others, after so many events: the
+/// log of each edge, in version 2 with its value, and the last line.
 pub fn world_text(
     alloc: Global,
     plan: &Plan,
@@ -108,8 +108,8 @@ fn push_each_meal(
     Ok(())
 }
 
-// Adds the meals of the period to the text, in one part of its site's text. A log holds no meal that is not due, so that
-// text has them; no proof says so here, and without it they are added one after the other.
+// Adds the meals of the period to the text, in one part of its site's text. A log holds no meal that is not due, so
+// that text has them; no proof says so here, and without it they are added one after the other.
 fn push_meals(
     text: &mut String,
     plan: &Plan,

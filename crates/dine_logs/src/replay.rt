@@ -7,8 +7,8 @@ use dine_core::{World, laws};
 use dine_plan::Plan;
 use std::alloc::{AllocError, Global};
 
-/// The text of the plan's world, in which the choices are done one after the other, and then the first enabled event again
-/// and again until none is enabled. A choice with no event is passed over.
+/// The text of the plan's world, in which the choices are done one after the other, and then the first enabled event
+/// again and again until none is enabled. A choice with no event is passed over.
 pub fn replay_text(alloc: Global, plan: &Plan, choices: &[u32]) -> Result<Vec<u8>, AllocError>
     ensures { IfOk result (λ text. text.items ≡ replay_text choices.now plan.now) }
 {

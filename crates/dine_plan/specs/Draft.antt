@@ -6,7 +6,8 @@ use Rattle.dine_token.specs.declared.act.Act.TheVariants.{Add}
 use Rattle.dine_plan.specs.declared.drafts.DraftJob.{DraftJob}
 use Rattle.dine_plan.specs.declared.drafts.DraftEdge.{DraftEdge}
 
--- a site: its name as it was told, which may be no name, its jobs, and whether it drops those that it has left once one failed
+-- a site: its name as it was told, which may be no name, its jobs, and whether it drops those that it has left once one
+-- failed
 pub record SeenDraftSite : Type 0 where
   pub name : List ℕ
   pub jobs : List DraftJob

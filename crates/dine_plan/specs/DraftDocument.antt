@@ -13,7 +13,8 @@ use Rattle.dine_plan.specs.declared.faults.PlanFault.TheVariants.{NotToml, Versi
 use Rattle.dine_plan.specs.Draft.{SeenDraftSite, Draft}
 use Rattle.dine_plan.specs.Refusals.{first_refusal}
 
--- a whole number as a text writes it; one above the greatest that TOML has is written as that one, which each limit refuses too
+-- a whole number as a text writes it; one above the greatest that TOML has is written as that one, which each limit
+-- refuses too
 abbrev pub whole : ℕ → Data
 whole n = integer (pos (min n 9223372036854775807))
 
@@ -45,7 +46,8 @@ site_table site =
 abbrev pub names_told : List SeenDraftSite → List (List ℕ)
 names_told sites = map (λ (site : SeenDraftSite). site.name) sites
 
--- what stands for an end: the name of the site, or the empty text, which is no site's name, where there is no site of this number
+-- what stands for an end: the name of the site, or the empty text, which is no site's name, where there is no site of
+-- this number
 abbrev pub end_name : List (List ℕ) → ℕ → List ℕ
 end_name names s = slice_index_or names s []
 

@@ -6,7 +6,8 @@ use Rattle.dine_token.specs.declared.act.Act.{Act}
 use Rattle.dine_token.specs.declared.act.Act.TheVariants.{Add}
 use Rattle.dine_token.specs.Values.{IsAct}
 
--- a job: its name, 1 to 32 bytes, its turns, at most 1,000,000, whether it fails, and what its meal does to the value of each edge
+-- a job: its name, 1 to 32 bytes, its turns, at most 1,000,000, whether it fails, and what its meal does to the value
+-- of each edge
 pub record SeenJob : Type 0 where
   pub name : List ℕ
   pub turns : ℕ
@@ -19,7 +20,8 @@ pub record SeenSite : Type 0 where
   pub jobs : List SeenJob
   pub resigns : Bool
 
--- a plan: the version of its format, 1 to 64 sites, and at most 512 edges, each with its lower and its higher end and a value, numbered from 0
+-- a plan: the version of its format, 1 to 64 sites, and at most 512 edges, each with its lower and its higher end and a
+-- value, numbered from 0
 pub record SeenPlan : Type 0 where
   pub version : ℕ
   pub sites : List SeenSite
@@ -114,7 +116,8 @@ is_name_byte b = is_ascii_alphanumeric b || (b == 95) || (b == 45)
 abbrev pub is_name : List ℕ → Bool
 is_name bytes = nat_le 1 (length bytes) && nat_le (length bytes) 32 && list_all is_name_byte bytes
 
--- What holds of every plan: its limits, names that differ among sites, and edges between two sites, no two of them the same.
+-- What holds of every plan: its limits, names that differ among sites, and edges between two sites, no two of them the
+-- same.
 pub record IsPlan (p : SeenPlan) : Type 0 where
   pub first_version : 1 ≤ p.version
   pub last_version : p.version ≤ 2

@@ -96,7 +96,8 @@ refuses_version doc = not (option_map_or is_version (get (codes "version") doc) 
 unfoldable pub site_has_other_key : Bool → Data → Bool
 site_has_other_key second site = has_other_key (site_keys second) site || list_any (has_other_key (job_keys second)) (jobs_in site)
 
--- cause 3: the document, a site, a job or an edge has a key that the format does not name for it in the document's version
+-- cause 3: the document, a site, a job or an edge has a key that the format does not name for it in the document's
+-- version
 unfoldable pub refuses_unknown_key : Data → Bool
 refuses_unknown_key doc =
     has_other_key document_keys doc || list_any (site_has_other_key (is_second doc)) (sites_in doc) || list_any (has_other_key (edge_keys (is_second doc))) (edges_in doc)

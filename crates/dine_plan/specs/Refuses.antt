@@ -1,5 +1,5 @@
--- The causes to refuse a document, each as a fact of the whole document, and the first of them. The law `first_refusal_is_first` joins them
--- with `first_refusal`.
+-- The causes to refuse a document, each as a fact of the whole document, and the first of them. The law
+-- `first_refusal_is_first` joins them with `first_refusal`.
 use Rattle.std.specs.Prelude.{◌≡◌, ℕ, ◌<◌, ◌≤◌, ◌⊎◌, Bool, IsTrue, List, [], map, length, slice_index_or, Option, None}
 use Rattle.std.specs.Str.{bytes_eq}
 use Rattle.toml.specs.Data.{Data, table, no_members}

@@ -14,7 +14,8 @@ use std::alloc::{AllocError, Global};
 use std::marker::Model;
 use toml::Value;
 
-// How many jobs of a site are kept at most, one more than a site may have. A site that was to have more is refused for these.
+// How many jobs of a site are kept at most, one more than a site may have. A site that was to have more is refused for
+// these.
 const MAX_KEPT_JOBS: u32 = 1_001;
 
 // A job as it was told. Its number, from 1, is its name.
@@ -42,10 +43,10 @@ pub(crate) struct DraftEdge {
     pub(crate) value: u64,
 }
 
-/// A plan on its way, of version 2 of the format: sites, their jobs and edges are told one by one, and `finish` answers the
-/// plan. Nothing is checked before: a plan that can't be is refused by `finish` for the cause for which `read_plan` refuses
-/// the text that says the same. Sites and edges are numbered from 0 in the order in which they are told, and the jobs of a
-/// site from 1. A job's name is its number, as `1`.
+/// A plan on its way, of version 2 of the format: sites, their jobs and edges are told one by one, and `finish` answers
+/// the plan. Nothing is checked before: a plan that can't be is refused by `finish` for the cause for which `read_plan`
+/// refuses the text that says the same. Sites and edges are numbered from 0 in the order in which they are told, and
+/// the jobs of a site from 1. A job's name is its number, as `1`.
 #[derive(Debug, Drop)]
 pub struct PlanBuilder {
     alloc: Global,
@@ -77,9 +78,10 @@ impl PlanBuilder {
         }
     }
 
-    /// Tells of a site of this name with so many jobs, and answers its number. Its jobs take no turns, go well and add 0, and
-    /// it goes on after a job that failed, until more is told of it. Of a site with more than 1,000 jobs, which `finish`
-    /// refuses, the first 1,001 are kept. Where memory is refused, and at the 4,294,967,295th site, the builder stays as it is.
+    /// Tells of a site of this name with so many jobs, and answers its number. Its jobs take no turns, go well and add
+    /// 0, and it goes on after a job that failed, until more is told of it. Of a site with more than 1,000 jobs, which
+    /// `finish` refuses, the first 1,001 are kept. Where memory is refused, and at the 4,294,967,295th site, the
+    /// builder stays as it is.
     pub fn site(&mut self, name: &str, jobs: u32) -> Result<u32, AllocError>
         ensures number { IfOk result (λ s. s ≡ length self.old.sites) }
         ensures told { OnOk result (self.new ≡ with_site name.now jobs self.old) }
@@ -99,9 +101,9 @@ impl PlanBuilder {
         Ok(number as u32)
     }
 
-    /// Tells of an edge between two sites, in either order, and answers its number. Its value is 0 until another is told. The
-    /// sites may be told later: an end that is no site's number by then is refused by `finish`. Where memory is refused, and at
-    /// the 4,294,967,295th edge, the builder stays as it is.
+    /// Tells of an edge between two sites, in either order, and answers its number. Its value is 0 until another is
+    /// told. The sites may be told later: an end that is no site's number by then is refused by `finish`. Where memory
+    /// is refused, and at the 4,294,967,295th edge, the builder stays as it is.
     pub fn edge(&mut self, a: u32, b: u32) -> Result<u32, AllocError>
         ensures number { IfOk result (λ e. e ≡ length self.old.edges) }
         ensures told { OnOk result (self.new ≡ with_edge a b self.old) }
@@ -115,8 +117,8 @@ impl PlanBuilder {
         Ok(number as u32)
     }
 
-    /// Tells the value of an edge before the first meal, at most 1,000,000 in a plan, and answers whether there is such an edge.
-    /// Where there is none, nothing changes.
+    /// Tells the value of an edge before the first meal, at most 1,000,000 in a plan, and answers whether there is such
+    /// an edge. Where there is none, nothing changes.
     pub fn value(&mut self, edge: u32, value: u64) -> bool
         ensures found { result ≡ has_edge edge self.old }
         ensures told { self.new ≡ with_value edge value self.old }
@@ -128,8 +130,8 @@ impl PlanBuilder {
         true
     }
 
-    /// Tells that a site drops the jobs that it has left once one failed, and answers whether there is such a site. Where there
-    /// is none, nothing changes.
+    /// Tells that a site drops the jobs that it has left once one failed, and answers whether there is such a site.
+    /// Where there is none, nothing changes.
     pub fn resign(&mut self, site: u32) -> bool
         ensures found { result ≡ has_site site self.old }
         ensures told { self.new ≡ with_resigning site self.old }
@@ -141,8 +143,8 @@ impl PlanBuilder {
         true
     }
 
-    /// Tells how many turns job `k` of a site takes, at most 1,000,000 in a plan, and answers whether there is such a job. Where
-    /// there is none, nothing changes.
+    /// Tells how many turns job `k` of a site takes, at most 1,000,000 in a plan, and answers whether there is such a
+    /// job. Where there is none, nothing changes.
     pub fn turns(&mut self, site: u32, k: u32, turns: u32) -> bool
         ensures found { result ≡ has_job site k self.old }
         ensures told { self.new ≡ with_turns site k turns self.old }
@@ -156,7 +158,8 @@ impl PlanBuilder {
         }
     }
 
-    /// Tells that job `k` of a site fails, and answers whether there is such a job. Where there is none, nothing changes.
+    /// Tells that job `k` of a site fails, and answers whether there is such a job. Where there is none, nothing
+    /// changes.
     pub fn fails(&mut self, site: u32, k: u32) -> bool
         ensures found { result ≡ has_job site k self.old }
         ensures told { self.new ≡ with_failure site k self.old }
@@ -170,8 +173,8 @@ impl PlanBuilder {
         }
     }
 
-    /// Tells what the meal of job `k` of a site does to the value of each edge of the site, by an amount of at most 1,000,000 in
-    /// a plan, and answers whether there is such a job. Where there is none, nothing changes.
+    /// Tells what the meal of job `k` of a site does to the value of each edge of the site, by an amount of at most
+    /// 1,000,000 in a plan, and answers whether there is such a job. Where there is none, nothing changes.
     pub fn act(&mut self, site: u32, k: u32, act: Act) -> bool
         ensures found { result ≡ has_job site k self.old }
         ensures told { self.new ≡ with_act site k act self.old }
@@ -205,10 +208,10 @@ impl PlanBuilder {
         self.sites[site as usize].jobs[(k - 1) as usize] = job;
     }
 
-    /// The plan that was told. It comes exactly where no cause of `PlanFault` before `Memory` holds of the text that says the
-    /// same, and it is the plan of that text; otherwise the first cause that holds, at the least position. `Memory` comes at
-    /// any point where memory runs out, and stands for no other cause. The causes in the form of a text, `TwoActs` and
-    /// `UnknownPolicy` never come. The builder stays as it is.
+    /// The plan that was told. It comes exactly where no cause of `PlanFault` before `Memory` holds of the text that
+    /// says the same, and it is the plan of that text; otherwise the first cause that holds, at the least position.
+    /// `Memory` comes at any point where memory runs out, and stands for no other cause. The causes in the form of a
+    /// text, `TwoActs` and `UnknownPolicy` never come. The builder stays as it is.
     pub fn finish(&self) -> Result<Plan, PlanFault>
         ensures unrefused { OnOk result (first_fault_of self.now ≡ None) }
         ensures plan { IfOk result (λ p. p ≡ plan_told self.now) }
@@ -219,8 +222,8 @@ impl PlanBuilder {
         read_tables(self.alloc, &Value::Table(document))
     }
 
-    /// The text that says what was told, in version 2 of the format: `read_plan` answers of it what `finish` answers. Fails
-    /// where memory is refused.
+    /// The text that says what was told, in version 2 of the format: `read_plan` answers of it what `finish` answers.
+    /// Fails where memory is refused.
     pub fn text(&self) -> Result<String, AllocError>
         ensures { IfOk result (λ s. Says (string_bytes s) self.now) }
     {

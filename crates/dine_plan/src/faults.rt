@@ -54,7 +54,8 @@ pub enum PlanFault {
 }
 
 impl PlanFault {
-    /// The number of the cause, 1 to 20, in the order in which the causes are looked for. `Memory`, which comes at any point, is 16.
+    /// The number of the cause, 1 to 20, in the order in which the causes are looked for. `Memory`, which comes at any
+    /// point, is 16.
     pub fn number(&self) -> u32
         ensures { result ≡ number_of_fault self.now }
     {

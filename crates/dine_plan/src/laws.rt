@@ -25,8 +25,8 @@ pub fn loops_and_pairs_are_of_known_ends()
     ensures pairs { (doc : Data) (edge : ℕ) → Refuses doc (UnknownEnd edge) → Refuses doc (EdgeTwice edge) → ⊥ }
 {}
 
-/// What a builder answers is what `read_plan` answers of any text that says what the builder was told: the same plan, or the
-/// same refusal.
+/// What a builder answers is what `read_plan` answers of any text that says what the builder was told: the same plan,
+/// or the same refusal.
 pub fn built_is_read()
     ensures faults { (text : List ℕ) (told : Draft) → Says text told → first_fault text ≡ first_fault_of told }
     ensures plans { (text : List ℕ) (told : Draft) (p : SeenPlan) → Says text told → first_fault_of told ≡ None → IsPlanOf text p ↔ (p ≡ plan_told told) }

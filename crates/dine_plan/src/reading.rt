@@ -17,9 +17,9 @@ use crate::sites::first_site_fault;
 use std::alloc::Global;
 use toml::Value;
 
-/// Reads a plan text, version 1 or 2 of the format. The plan comes exactly where no cause of `PlanFault` before `Memory`
-/// holds of the text, and otherwise the first one that holds, at the least position. `Memory` comes at any point where
-/// memory runs out, and stands for no other cause.
+/// Reads a plan text, version 1 or 2 of the format. The plan comes exactly where no cause of `PlanFault` before
+/// `Memory` holds of the text, and otherwise the first one that holds, at the least position. `Memory` comes at any
+/// point where memory runs out, and stands for no other cause.
 pub fn read_plan(alloc: Global, text: &str) -> Result<Plan, PlanFault>
     ensures unrefused { OnOk result (first_fault text.now ≡ None) }
     ensures plan { IfOk result (IsPlanOf text.now) }

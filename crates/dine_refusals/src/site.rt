@@ -147,8 +147,8 @@ fn next_kind<L: Lane, R: Wait>(rt: &R, letters: &mut L::Rx) -> Option<Kind4>
     }
 }
 
-/// Tells how the lower site of the pair ended: its fault, whether a letter was handed back, its meals, its forks and tokens, the events
-/// of its journal, and the kinds of the letters that it put.
+/// Tells how the lower site of the pair ended: its fault, whether a letter was handed back, its meals, its forks and
+/// tokens, the events of its journal, and the kinds of the letters that it put.
 pub fn tell<L: Lane, R: Wait + Print>(rt: &R, alloc: Global) -> io::Result<()> {
     let (end, mut letters) = lower_of_pair::<L, R>(rt, alloc)?;
     let held = (end.forks.len(), end.tokens.len());

@@ -1,4 +1,5 @@
--- All sites of a reached world: what lies between two ends, one fork and one token an edge, and the letter that comes next.
+-- All sites of a reached world: what lies between two ends, one fork and one token an edge, and the letter that comes
+-- next.
 pub mod Across
 pub mod WorldStreams
 pub mod EachSite

@@ -1,4 +1,5 @@
--- One place of a site: which edge is there, the fork and the token, the log in hand, and the letters that were put and taken.
+-- One place of a site: which edge is there, the fork and the token, the log in hand, and the letters that were put and
+-- taken.
 pub mod Placed
 pub mod Hands
 pub mod Owned

@@ -36,10 +36,10 @@ module _ (plan : SeenPlan) (s : ℕ) (state : LocalState) (i : ℕ) where
   abbrev pub has_all_of_neighbour : List Entry → Bool
   has_all_of_neighbour log = resigns plan (neighbour_at plan s i) || meals_of (neighbour_at plan s i) log == job_count plan (neighbour_at plan s i)
 
-  -- The letters that are allowed before Close. A Request comes where the fork is and the token is not, from a site that has meals left and
-  -- is not done. A Fork comes where neither is, just sent here, with all meals that this site ate and, after Done, all of the other's, unless
-  -- that one resigns. Done comes once, and where the fork is here, it has all meals of its sender, unless that one resigns. Close comes after
-  -- Done was taken and put. [paper: arrival]
+  -- The letters that are allowed before Close. A Request comes where the fork is and the token is not, from a site that
+  -- has meals left and is not done. A Fork comes where neither is, just sent here, with all meals that this site ate
+  -- and, after Done, all of the other's, unless that one resigns. Done comes once, and where the fork is here, it has
+  -- all meals of its sender, unless that one resigns. Close comes after Done was taken and put. [paper: arrival]
   abbrev pub may_come : Letter → Bool
   may_come (Request edge) = edge == edge_at plan s i && (token_at plan s state i == 0 && fork_at plan s state i == 1)
       && (not (has_done (traffic_at state i).taken) && nat_lt (meals_of (neighbour_at plan s i) (hand_at s state i)) (job_count plan (neighbour_at plan s i)))

@@ -1,5 +1,6 @@
--- What a site holds, counted from whole lists of letters. Numbers are cut off at 0. In every state that the steps reach nothing is:
--- `forks_counted` and `tokens_counted` of `KeepsStreamsAt` say so. The log in hand means something only where the fork is held.
+-- What a site holds, counted from whole lists of letters. Numbers are cut off at 0. In every state that the steps reach
+-- nothing is: `forks_counted` and `tokens_counted` of `KeepsStreamsAt` say so. The log in hand means something only
+-- where the fork is held.
 use Rattle.std.specs.Prelude.{◌≡◌, ℕ, zero, suc, true, ◌<◌, length, ◌+◌, ◌-◌, ◌==◌, List, [], ◌∷◌, ◌++◌, if◌then◌else◌}
 use Rattle.dine_token.specs.declared.entry.Entry.{Entry}
 use Rattle.dine_token.specs.declared.entry.Entry.TheVariants.{Meal}
@@ -12,7 +13,8 @@ use Rattle.dine_rules.specs.Local.{LocalState, Traffic, traffic_at, edge_at, is_
 abbrev pub forks_held : SeenPlan → ℕ → ℕ → Traffic → ℕ
 forks_held plan s edge traffic = (if lo_of plan edge == s then 1 else 0) + forks_in traffic.taken - forks_in traffic.put
 
--- how many tokens an end holds: at the start the higher one, one more for a Request taken, one fewer for one put [paper: one fork, arrival]
+-- how many tokens an end holds: at the start the higher one, one more for a Request taken, one fewer for one put
+-- [paper: one fork, arrival]
 abbrev pub tokens_held : SeenPlan → ℕ → ℕ → Traffic → ℕ
 tokens_held plan s edge traffic = (if hi_of plan edge == s then 1 else 0) + requests_in traffic.taken - requests_in traffic.put
 

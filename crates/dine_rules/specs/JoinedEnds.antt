@@ -1,6 +1,6 @@
--- The two ends of an edge, by whole lists alone: what each end put and took, and how many meals it ate. So they are left when threads have
--- joined. Lists that fit need not come from an order of events, and none is asked for here. Whether a letter that was put will be taken
--- they leave out.
+-- The two ends of an edge, by whole lists alone: what each end put and took, and how many meals it ate. So they are
+-- left when threads have joined. Lists that fit need not come from an order of events, and none is asked for here.
+-- Whether a letter that was put will be taken they leave out.
 use Rattle.std.specs.Prelude.{◌≡◌, ℕ, ◌+◌, ◌<◌, ◌≤◌, List, [], length, slice_get, Option, Some, if◌then◌else◌, ◌==◌}
 use mathlib.Core.List.{IsPrefix}
 use Rattle.dine_token.specs.declared.entry.Entry.{Entry}
@@ -29,7 +29,8 @@ pub record AreLinked (here there : Traffic) : Type 0 where
   pub comes : IsPrefix here.taken there.put
   pub goes : IsPrefix there.taken here.put
 
--- The Forks that each end took are, in order, the first of those that the other put. So it is also where a letter between them was refused.
+-- The Forks that each end took are, in order, the first of those that the other put. So it is also where a letter
+-- between them was refused.
 pub record AreForksLinked (here there : Traffic) : Type 0 where
   pub comes : (k : ℕ) (fork : SeenFork) → slice_get (forks_among here.taken) k ≡ Some fork → slice_get (forks_among there.put) k ≡ Some fork
   pub goes : (k : ℕ) (fork : SeenFork) → slice_get (forks_among there.taken) k ≡ Some fork → slice_get (forks_among here.put) k ≡ Some fork
@@ -47,8 +48,8 @@ next_between here there = slice_get there.put (length here.taken)
 abbrev pub traffic_across : SeenPlan → WorldState → ℕ → ℕ → Traffic
 traffic_across plan world s i = traffic_at (state_of world (neighbour_at plan s i)) (place_of plan (neighbour_at plan s i) (edge_at plan s i))
 
--- An end accounts for the fork: the Forks that it put are those of the edge, lawful and in a chain with their values, and it ate
--- at most the meals that are due to it, and at least those that the last Fork which it took has of it.
+-- An end accounts for the fork: the Forks that it put are those of the edge, lawful and in a chain with their values,
+-- and it ate at most the meals that are due to it, and at least those that the last Fork which it took has of it.
 pub record AccountsForFork (plan : SeenPlan) (s edge ate : ℕ) (traffic : Traffic) : Type 0 where
   pub chained : IsChained plan s edge ate traffic
   pub values : AreValuesChained plan s edge traffic

@@ -1,4 +1,5 @@
--- Journals: the events of each site, in its order; and the orders that hold all of them in one list. The order in time they leave out.
+-- Journals: the events of each site, in its order; and the orders that hold all of them in one list. The order in time
+-- they leave out.
 use Rattle.std.specs.Prelude.{◌≡◌, ◌≢◌, ℕ, ◌+◌, ◌<◌, ◌==◌, Bool, true, false, List, [], ◌∷◌, ◌++◌, filter, length, map, slice_get, slice_index_or, Option, Some, None, option_and_then}
 use mathlib.Core.List.{IsPrefix}
 use Rattle.dine_plan.specs.Plan.{SeenPlan, IsPlan, edges_of, job_count, job_of, site_count}
@@ -16,8 +17,8 @@ use Rattle.dine_rules.specs.World.{WorldState, IsComplete, LinksAreOrdered, Reac
 abbrev pub next_of_these : (ℕ → List Letter) → LocalState → ℕ → Option Letter
 next_of_these letters state i = slice_get (letters i) (length (traffic_at state i).taken)
 
--- the outcome that a journal shows of the meal that ended before these events: it failed where the site quits before another meal ends. Where
--- these are all and the site did neither, the outcome is `last`.
+-- the outcome that a journal shows of the meal that ended before these events: it failed where the site quits before
+-- another meal ends. Where these are all and the site did neither, the outcome is `last`.
 abbrev pub fails_before : Bool → List EventKind → Bool
 fails_before last [] = last
 fails_before last (event.Quit ∷ kinds) = true
@@ -39,9 +40,10 @@ abbrev pub state_after_all : SeenPlan → ℕ → (ℕ → List Letter) → Bool
 state_after_all plan s letters last state [] = Some state
 state_after_all plan s letters last state (kind ∷ kinds) = option_and_then (λ next. state_after_all plan s letters last next kinds) (state_after plan s letters (fails_before last kinds) state kind)
 
--- The journal of a site in this state: its events, done from the start with the letters that it took, lead to the state, and so to
--- all that it put, to its phase and to the meals that it ate. The outcomes of its meals are those that the journal shows: the last meal before
--- each Quit failed, and no other did but the last one of a site that has to quit and has not yet.
+-- The journal of a site in this state: its events, done from the start with the letters that it took, lead to the
+-- state, and so to all that it put, to its phase and to the meals that it ate. The outcomes of its meals are those that
+-- the journal shows: the last meal before each Quit failed, and no other did but the last one of a site that has to
+-- quit and has not yet.
 abbrev pub IsJournal : SeenPlan → ℕ → List EventKind → LocalState → Type 0
 IsJournal plan s journal state = state_after_all plan s (λ i. (traffic_at state i).taken) state.must_quit (start_of plan s) journal ≡ Some state
 
@@ -63,15 +65,17 @@ IsOrderOf journals events = (s : ℕ) → part_of s events ≡ journal_of journa
 abbrev pub IsFrontOf : List (List EventKind) → List Event → Type 0
 IsFrontOf journals events = (s : ℕ) → IsPrefix (part_of s events) (journal_of journals s)
 
--- An order of the journals that the world accepts from its start on, each event in its turn, and that makes the world complete.
+-- An order of the journals that the world accepts from its start on, each event in its turn, and that makes the world
+-- complete.
 pub record IsWholeOrder (plan : SeenPlan) (journals : List (List EventKind)) (events : List Event) : Type 0 where
   pub world : WorldState
   pub holds_journals : IsOrderOf journals events
   pub accepted : Reaches plan events world
   pub complete : IsComplete plan world
 
--- What an enabled event adds to a list of events that the world accepts: the list goes on by it. It is an event of a site of the plan,
--- at one of the site's places where it has one. It is one more of its site, and no other site has one more.
+-- What an enabled event adds to a list of events that the world accepts: the list goes on by it. It is an event of a
+-- site of the plan, at one of the site's places where it has one. It is one more of its site, and no other site has one
+-- more.
 pub record OrdersGrow : Type 0 where
   pub accepted : (plan : SeenPlan) (events : List Event) (world new : WorldState) (e : Event) → Reaches plan events world → world_after plan world e ≡ Some new → Reaches plan (events ++ e ∷ []) new
   pub is_site : (plan : SeenPlan) (world new : WorldState) (e : Event) → world_after plan world e ≡ Some new → e.site < site_count plan
@@ -108,7 +112,8 @@ pub record IsPlacedToEnd (plan : SeenPlan) (journals : List (List EventKind)) (p
 
 -- ---- the states that journals lead to
 
--- The journal of each site led it to its state, with the letters that it took, and these are the first that the other end put.
+-- The journal of each site led it to its state, with the letters that it took, and these are the first that the other
+-- end put.
 pub record AreStatesAfter (plan : SeenPlan) (journals : List (List EventKind)) (states : WorldState) : Type 0 where
   pub sites : length states ≡ site_count plan
   pub each : (s : ℕ) → s < site_count plan → IsJournal plan s (journal_of journals s) (state_of states s)

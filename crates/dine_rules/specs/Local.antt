@@ -10,8 +10,8 @@ pub record Traffic : Type 0 where
   pub put : List Letter
   pub taken : List Letter
 
--- a site: what it does, how many meals it began, whether it has to quit before it grows hungry again, whether it has quit, and its traffic at
--- each place, in edge order [paper: neighbours]
+-- a site: what it does, how many meals it began, whether it has to quit before it grows hungry again, whether it has
+-- quit, and its traffic at each place, in edge order [paper: neighbours]
 pub record LocalState : Type 0 where
   pub phase : Phase
   pub ate : ℕ

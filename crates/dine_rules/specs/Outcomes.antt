@@ -14,6 +14,7 @@ sites_with [] fails = []
 sites_with (site ∷ sites) [] = site ∷ sites
 sites_with (site ∷ sites) (own ∷ fails) = record site { jobs = jobs_with site.jobs own } ∷ sites_with sites fails
 
--- the plan with these outcomes of its jobs: a list for each site, with a value for each of its jobs that says whether it fails
+-- the plan with these outcomes of its jobs: a list for each site, with a value for each of its jobs that says whether
+-- it fails
 abbrev pub with_outcomes : SeenPlan → List (List Bool) → SeenPlan
 with_outcomes plan fails = record plan { sites = sites_with plan.sites fails }

@@ -27,7 +27,8 @@ fork_log plan world edge =
     unwrap_or (option_or (log_near plan world (lo_of plan edge) (place_of plan (lo_of plan edge) edge))
     (log_near plan world (hi_of plan edge) (place_of plan (hi_of plan edge) edge))) []
 
--- the end with precedence, by the log: where a clean fork went, and else the end where the dirty fork is not [paper: precedence]
+-- the end with precedence, by the log: where a clean fork went, and else the end where the dirty fork is not
+-- [paper: precedence]
 abbrev pub preferred_in : ℕ → ℕ → List Entry → ℕ
 preferred_in lo hi log = let at = location_of lo log in
     if is_dirty log then (if at == lo then hi else lo) else at
@@ -40,7 +41,8 @@ preferred_end plan world edge = preferred_in (lo_of plan edge) (hi_of plan edge)
 abbrev pub StandsBefore : ℕ → ℕ → List ℕ → Type 0
 StandsBefore a b sites = (front middle rest : List ℕ) × (sites ≡ front ++ a ∷ middle ++ b ∷ rest)
 
--- Precedence has no cycle: some list of all sites, each once, has the preferred end of each edge before the other end. [paper: precedence]
+-- Precedence has no cycle: some list of all sites, each once, has the preferred end of each edge before the other end.
+-- [paper: precedence]
 pub record IsAcyclic (plan : SeenPlan) (world : WorldState) : Type 0 where
   pub order : List ℕ
   pub each_once : IsPermutation order (range_with_len 0 (site_count plan))

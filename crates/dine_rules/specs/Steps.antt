@@ -16,8 +16,8 @@ use Rattle.dine_rules.specs.Holdings.{hand, fork_at, token_at, hand_at}
 use Rattle.dine_rules.specs.Values.{hand_value, value_by}
 use Rattle.dine_rules.specs.Breach.{is_allowed}
 
--- The steps of a site. A number is a place. End says whether the job of the meal failed. Take takes the letter that lies next there; Break
--- gives the link up after a fault, and is no step of the world in one thread.
+-- The steps of a site. A number is a place. End says whether the job of the meal failed. Take takes the letter that
+-- lies next there; Break gives the link up after a fault, and is no step of the world in one thread.
 pub data Step : Type 0 where
   Give : ℕ → Step
   Ask : ℕ → Step
@@ -79,8 +79,8 @@ module _ (plan : SeenPlan) (s : ℕ) where
   abbrev pub is_ready : LocalState → ℕ → Bool
   is_ready state i = fork_at plan s state i == 1 && (not (is_dirty (hand_at s state i)) || token_at plan s state i == 0)
 
-  -- the site drops its jobs left after a meal that failed: it resigns, and has some left. No more is kept of an outcome, so a journal need not
-  -- show any other failure.
+  -- the site drops its jobs left after a meal that failed: it resigns, and has some left. No more is kept of an
+  -- outcome, so a journal need not show any other failure.
   abbrev pub drops_jobs : LocalState → Bool → Bool
   drops_jobs state failed = failed && resigns plan s && nat_lt state.ate (job_count plan s)
 
@@ -104,8 +104,8 @@ module _ (plan : SeenPlan) (s : ℕ) where
   may state (Break i) = nat_lt i (length state.traffic) && (not (is_eating state.phase) && is_open state i)
   may state (Take i l) = nat_lt i (length state.traffic) && is_allowed plan s state i l
 
-  -- What each step changes. A given fork has the log and the value in hand, and the Move to the other end; a meal counts as it begins.
-  -- After a meal that failed a site that resigns has to quit, where it has jobs left.
+  -- What each step changes. A given fork has the log and the value in hand, and the Move to the other end; a meal
+  -- counts as it begins. After a meal that failed a site that resigns has to quit, where it has jobs left.
   -- [paper: request rule, release rule, arrival]
   abbrev pub after : LocalState → Step → LocalState
   after state (Give i) = with_put i (letter.Fork (given_fork plan s state i)) state
@@ -148,14 +148,15 @@ IsPlaceWithin n (Takes i) = i < n
 IsPlaceWithin n (Puts i) = i < n
 IsPlaceWithin n Alone = Unit {0}
 
--- what an event of this shape does to the letters of its site: one more is taken at its place, one more is put there, or none moves
+-- what an event of this shape does to the letters of its site: one more is taken at its place, one more is put there,
+-- or none moves
 abbrev pub MovesBy : Shape → LocalState → LocalState → Type 0
 MovesBy (Takes i) old new = (l : Letter) × (new ≡ with_taken i l old)
 MovesBy (Puts i) old new = (l : Letter) × (new ≡ with_put i l old)
 MovesBy Alone old new = new.traffic ≡ old.traffic
 
--- the step that an event is, by the outcome of the meal that ends, and by the next letter at each place: a Take takes that letter, where there
--- is one
+-- the step that an event is, by the outcome of the meal that ends, and by the next letter at each place: a Take takes
+-- that letter, where there is one
 abbrev pub step_by : Bool → (ℕ → Option Letter) → EventKind → Option Step
 step_by failed next (event.Take i) = option_map (Take i) (next i)
 step_by failed next (event.Give i) = Some (Give i)

@@ -40,8 +40,8 @@ is_close_last (Fork fork ∷ letters) = is_close_last letters
 is_close_last (Request edge ∷ letters) = is_close_last letters
 is_close_last (Done ∷ letters) = is_close_last letters
 
--- The letters of one direction: Forks and Requests take turns, a Fork first from the lower end and a Request first from the higher; no
--- Request stands behind Done, and nothing behind Close. [paper: request rule, release rule]
+-- The letters of one direction: Forks and Requests take turns, a Fork first from the lower end and a Request first from
+-- the higher; no Request stands behind Done, and nothing behind Close. [paper: request rule, release rule]
 pub record IsLawfulStream (from_lower : Bool) (letters : List Letter) : Type 0 where
   pub alternating : is_alternating from_lower letters ≡ true
   pub done_last : is_done_last letters ≡ true
@@ -69,7 +69,8 @@ logs_of (Request edge ∷ letters) = logs_of letters
 logs_of (Done ∷ letters) = logs_of letters
 logs_of (Close ∷ letters) = logs_of letters
 
--- The log is the one before, with meals of the site numbered on from those in it, and the Move to the other end. [paper: release rule]
+-- The log is the one before, with meals of the site numbered on from those in it, and the Move to the other end.
+-- [paper: release rule]
 pub record CarriesOn (s to : ℕ) (before log : List Entry) : Type 0 where
   pub meals : ℕ
   pub is : log ≡ before ++ meals_from s (meals_of s before + 1) meals ++ Move to ∷ []
@@ -86,9 +87,10 @@ pub record CarriesOnTaken (s to : ℕ) (taken : List (List Entry)) (k : ℕ) (lo
   pub is_taken : slice_get taken k ≡ Some before
   pub carries : CarriesOnEaten s to before log
 
--- The chain of a site at an edge. Its first Fork from the lower end carries on the empty log, and may go without a meal. Each other Fork
--- that it puts carries on the Fork taken before it, which is there: from the lower end the next one the k-th taken, from the higher end the
--- k-th one the k-th. Where the fork is gone, the last Fork put has all meals that the site ate. [paper: clean and dirty, release rule]
+-- The chain of a site at an edge. Its first Fork from the lower end carries on the empty log, and may go without a
+-- meal. Each other Fork that it puts carries on the Fork taken before it, which is there: from the lower end the next
+-- one the k-th taken, from the higher end the k-th one the k-th. Where the fork is gone, the last Fork put has all
+-- meals that the site ate. [paper: clean and dirty, release rule]
 pub record IsChained (plan : SeenPlan) (s edge ate : ℕ) (traffic : Traffic) : Type 0 where
   pub first : (lo_of plan edge == s) ≡ true → (log : List Entry) → slice_get (logs_of traffic.put) 0 ≡ Some log → CarriesOn s (other_of plan edge s) [] log
   pub next : (lo_of plan edge == s) ≡ true → (k : ℕ) (log : List Entry) → slice_get (logs_of traffic.put) (k + 1) ≡ Some log → CarriesOnTaken s (other_of plan edge s) (logs_of traffic.taken) k log
@@ -121,7 +123,8 @@ abbrev pub has_asked_since_meal : SeenPlan → ℕ → LocalState → ℕ → Bo
 has_asked_since_meal plan s state i = (fork_at plan s state i == 0 && token_at plan s state i == 0)
     || (fork_at plan s state i == 1 && not (is_dirty (hand_at s state i)))
 
--- What a site keeps at one place, whatever letters it is offered. [paper: one fork, clean and dirty, request rule, release rule, arrival]
+-- What a site keeps at one place, whatever letters it is offered.
+-- [paper: one fork, clean and dirty, request rule, release rule, arrival]
 pub record KeepsStreamsAt (plan : SeenPlan) (s : ℕ) (state : LocalState) (i : ℕ) : Type 0 where
   -- what it put is a lawful stream, in a chain with their values, of lawful forks, and asks for the edge's fork
   pub put_lawful : IsLawfulStream (is_lower_at plan s i) (traffic_at state i).put
@@ -129,7 +132,8 @@ pub record KeepsStreamsAt (plan : SeenPlan) (s : ℕ) (state : LocalState) (i : 
   pub put_values : AreValuesChained plan s (edge_at plan s i) (traffic_at state i)
   pub put_forks : AreLawfulForks plan (edge_at plan s i) (traffic_at state i).put
   pub put_requests : AreRequestsOf (edge_at plan s i) (traffic_at state i).put
-  -- what it took is a lawful stream of the other end's direction, each Close behind a Done, of lawful forks, and asks for this fork
+  -- what it took is a lawful stream of the other end's direction, each Close behind a Done, of lawful forks, and asks
+  -- for this fork
   pub taken_lawful : IsLawfulStream (not (is_lower_at plan s i)) (traffic_at state i).taken
   pub taken_orderly : is_orderly (traffic_at state i).taken ≡ true
   pub taken_forks : AreLawfulForks plan (edge_at plan s i) (traffic_at state i).taken
@@ -164,8 +168,8 @@ pub record KeepsStreamsAt (plan : SeenPlan) (s : ℕ) (state : LocalState) (i : 
 abbrev pub MayDropJobs : SeenPlan → ℕ → LocalState → Type 0
 MayDropJobs plan s state = (resigns plan s ≡ true) × (is_thinking state.phase ≡ true) × (state.ate < job_count plan s)
 
--- What a site keeps: the same at every place, never more meals than are due, and one at least while it eats. Who has to quit, or has quit,
--- resigns, thinks and ate fewer meals than are due; and nobody quits twice.
+-- What a site keeps: the same at every place, never more meals than are due, and one at least while it eats. Who has to
+-- quit, or has quit, resigns, thinks and ate fewer meals than are due; and nobody quits twice.
 pub record KeepsStreams (plan : SeenPlan) (s : ℕ) (state : LocalState) : Type 0 where
   pub places : (i : ℕ) → i < length state.traffic → KeepsStreamsAt plan s state i
   pub every_place : length state.traffic ≡ length (edges_of plan s)
@@ -176,8 +180,8 @@ pub record KeepsStreams (plan : SeenPlan) (s : ℕ) (state : LocalState) : Type 
   pub has_dropped : state.has_quit ≡ true → MayDropJobs plan s state
   pub quits_once : state.must_quit ≡ true → state.has_quit ≡ false
 
--- What a site put at place i is in order, by what it ate and took there: a lawful stream, of lawful forks, in a chain with their values,
--- that asks for the edge's fork.
+-- What a site put at place i is in order, by what it ate and took there: a lawful stream, of lawful forks, in a chain
+-- with their values, that asks for the edge's fork.
 pub record IsPutInOrder (plan : SeenPlan) (s i ate : ℕ) (traffic : Traffic) : Type 0 where
   pub lawful : IsLawfulStream (is_lower_at plan s i) traffic.put
   pub chained : IsChained plan s (edge_at plan s i) ate traffic

@@ -1,5 +1,6 @@
--- The value of an edge: a number that its two ends share, and that each meal of theirs changes by the act of its job. It goes with the fork.
--- So it is told in two ways, and in every world that events reach these agree: by what a site took and ate, and by a log.
+-- The value of an edge: a number that its two ends share, and that each meal of theirs changes by the act of its job.
+-- It goes with the fork. So it is told in two ways, and in every world that events reach these agree: by what a site
+-- took and ate, and by a log.
 use Rattle.std.specs.List.{list_all}
 use Rattle.std.specs.Prelude.{◌≡◌, ℕ, zero, suc, ◌+◌, ◌-◌, ◌==◌, Bool, true, false, List, [], ◌∷◌, slice_get, Some}
 use Rattle.dine_token.specs.declared.entry.Entry.{Entry}
@@ -67,14 +68,16 @@ pub record TellsValues (plan : SeenPlan) (s edge ate : ℕ) (traffic : Traffic) 
   pub put : HaveValuesOfLogs plan edge traffic.put
   pub in_hand : hand_value plan s edge ate traffic ≡ value_by plan edge (hand s ate traffic)
 
--- The k-th of the Forks taken, from 0, is there, and the fork has its value after the site's meals that the fork's log has more.
+-- The k-th of the Forks taken, from 0, is there, and the fork has its value after the site's meals that the fork's log
+-- has more.
 pub record CarriesValue (plan : SeenPlan) (s : ℕ) (taken : List SeenFork) (k : ℕ) (fork : SeenFork) : Type 0 where
   pub before : SeenFork
   pub is_taken : slice_get taken k ≡ Some before
   pub carries : fork.value ≡ value_to plan s (meals_of s fork.log) before.log before.value
 
--- The values of the Forks that a site puts at an edge, as `IsChained` has their logs: the first one from the lower end has the plan's, each
--- other one that of the Fork taken before it, after the site's meals since. Of the values that come nothing is asked.
+-- The values of the Forks that a site puts at an edge, as `IsChained` has their logs: the first one from the lower end
+-- has the plan's, each other one that of the Fork taken before it, after the site's meals since. Of the values that
+-- come nothing is asked.
 pub record AreValuesChained (plan : SeenPlan) (s edge : ℕ) (traffic : Traffic) : Type 0 where
   pub first : (lo_of plan edge == s) ≡ true → (fork : SeenFork) → slice_get (forks_among traffic.put) 0 ≡ Some fork → fork.value ≡ value_to plan s (meals_of s fork.log) [] (value_of plan edge)
   pub next : (lo_of plan edge == s) ≡ true → (k : ℕ) (fork : SeenFork) → slice_get (forks_among traffic.put) (k + 1) ≡ Some fork → CarriesValue plan s (forks_among traffic.taken) k fork

@@ -3,8 +3,8 @@ use Rattle.std.specs.Prelude.{ℕ, ◌-◌, nat_le, Bool, true, false, List, sli
 use Rattle.dine_rules.specs.declared.letters.Kind4.{Kind4}
 use Rattle.dine_rules.specs.declared.letters.Kind4.TheVariants as kind
 
--- It waits for a Request at a marked place, which is one whose fork it would give; for the last of so many Forks that it lacks; and
--- for each Done and each Close.
+-- It waits for a Request at a marked place, which is one whose fork it would give; for the last of so many Forks that
+-- it lacks; and for each Done and each Close.
 pub record SeenWants : Type 0 where
   pub requests : List Bool
   pub forks : ℕ

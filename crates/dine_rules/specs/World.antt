@@ -1,5 +1,5 @@
--- The world of all sites in one thread. Links have no limit here: that at most four letters lie in one is the law `links_hold_few_letters`.
--- No time passes, and nothing says which of the enabled events comes next.
+-- The world of all sites in one thread. Links have no limit here: that at most four letters lie in one is the law
+-- `links_hold_few_letters`. No time passes, and nothing says which of the enabled events comes next.
 use Rattle.std.specs.Prelude.{◌≡◌, ℕ, ◌<◌, ◌==◌, nat_lt, Bool, true, false, List, [], ◌∷◌, ◌++◌, map, filter, length, position, slice_get, slice_index_or, slice_set, Option, Some, None, is_some, unwrap_or, option_map, option_and_then, if◌then◌else◌}
 use Rattle.std.specs.List.{flat_map, range_with_len}
 use mathlib.Core.List.{IsPrefix}
@@ -67,7 +67,8 @@ is_enabled plan world e = is_some (world_after plan world e)
 abbrev pub placeless_kinds : List EventKind
 placeless_kinds = event.End ∷ event.Begin ∷ event.Quit ∷ event.Hungry ∷ []
 
--- all events of a site with these places, in the fixed order: Take, Give, those without a place, Ask, Done, Close, each by place
+-- all events of a site with these places, in the fixed order: Take, Give, those without a place, Ask, Done, Close, each
+-- by place
 abbrev pub kinds_at : List ℕ → List EventKind
 kinds_at places = map event.Take places ++ map event.Give places ++ placeless_kinds
     ++ map event.Ask places ++ map event.Done places ++ map event.Close places
@@ -99,8 +100,8 @@ pub record HasAllMeals (plan : SeenPlan) (world : WorldState) (s : ℕ) (log : L
   pub ate : meals_of s log ≡ (state_of world s).ate
   pub due : (state_of world s).has_quit ≡ false → meals_of s log ≡ job_count plan s
 
--- The closed whole: every site thinks and has no job left, what it put on each link is orderly and ends in Close, and what it took from
--- each link is all that was put there.
+-- The closed whole: every site thinks and has no job left, what it put on each link is orderly and ends in Close, and
+-- what it took from each link is all that was put there.
 pub record IsComplete (plan : SeenPlan) (world : WorldState) : Type 0 where
   pub all_think : (s : ℕ) → s < site_count plan → is_thinking (state_of world s).phase ≡ true
   pub all_ate : (s : ℕ) → s < site_count plan → has_no_job_left plan s (state_of world s) ≡ true

@@ -47,8 +47,8 @@ pub use journals::{
     order_between_sites_does_not_matter, orders_grow_by_each_event, orders_that_exist_are_found,
 };
 
-/// What a link has of a site's letters is in order where it has a front of them, or a front and Close; also where it brought more than
-/// the site took.
+/// What a link has of a site's letters is in order where it has a front of them, or a front and Close; also where it
+/// brought more than the site took.
 pub fn letters_cut_short_are_in_order()
     ensures front { (plan : SeenPlan) (s i : ℕ) (state : LocalState) (front rest more : List Letter) → KeepsStreams plan s state → i < length state.traffic → (traffic_at state i).put ≡ front ++ rest
         → IsPutInOrder plan s i state.ate (record { put = front; taken = (traffic_at state i).taken ++ more }) }
@@ -89,9 +89,9 @@ pub fn pair_goes_as_worked()
     ensures end { ends_complete (pair 1 1) ≡ 1 ∷ 1 ∷ [] }
 {}
 
-/// The fixed order of events. First that of all events of a site with two places. Then the middle of three sites with one job each
-/// may take the fork that it asked for, and give the one that it was asked for; and with no jobs it may say Done at one place
-/// and Close at the other.
+/// The fixed order of events. First that of all events of a site with two places. Then the middle of three sites with
+/// one job each may take the fork that it asked for, and give the one that it was asked for; and with no jobs it may
+/// say Done at one place and Close at the other.
 pub fn events_are_ordered_as_worked()
     ensures kinds { kinds_at (0 ∷ 1 ∷ []) ≡ Take 0 ∷ Take 1 ∷ Give 0 ∷ Give 1 ∷ End ∷ Begin ∷ Quit ∷ Hungry ∷ Ask 0 ∷ Ask 1 ∷ Done 0 ∷ Done 1 ∷ Close 0 ∷ Close 1 ∷ [] }
     ensures take_before_give { enabled_after path (2 ∷ 2 ∷ 1 ∷ 2 ∷ 2 ∷ 0 ∷ 0 ∷ [])
@@ -100,8 +100,9 @@ pub fn events_are_ordered_as_worked()
         ≡ record { site = 0; kind = Take 0 } ∷ record { site = 1; kind = Done 1 } ∷ record { site = 1; kind = Close 0 } ∷ record { site = 2; kind = Done 0 } ∷ [] }
 {}
 
-/// The lower of two sites resigns, and the second of its three jobs fails. After that meal it may quit, and not grow hungry; then it
-/// says Done. Its neighbour takes a Fork with one of its meals and then Done; where it does not resign, that Done is a breach.
+/// The lower of two sites resigns, and the second of its three jobs fails. After that meal it may quit, and not grow
+/// hungry; then it says Done. Its neighbour takes a Fork with one of its meals and then Done; where it does not resign,
+/// that Done is a breach.
 pub fn resigning_goes_as_worked()
     ensures after_one { enabled_after resigning (0 ∷ 0 ∷ 0 ∷ []) ≡ record { site = 0; kind = Hungry } ∷ record { site = 1; kind = Hungry } ∷ [] }
     ensures after_two { enabled_after resigning (0 ∷ 0 ∷ 0 ∷ 0 ∷ 0 ∷ 0 ∷ []) ≡ record { site = 0; kind = Quit } ∷ record { site = 1; kind = Hungry } ∷ [] }
@@ -113,9 +114,9 @@ pub fn resigning_goes_as_worked()
     ensures other_done { breach_of_done (pair 3 1) ≡ Some DoneOutOfTurn }
 {}
 
-/// The preferred end of a pair's edge: at the start the higher, which has no fork; so it is while the fork is clean on its way there,
-/// until the higher ate. At the end of a run it is the end that ate first, since the other has the fork dirty. And who stands
-/// before whom in a list.
+/// The preferred end of a pair's edge: at the start the higher, which has no fork; so it is while the fork is clean on
+/// its way there, until the higher ate. At the end of a run it is the end that ate first, since the other has the fork
+/// dirty. And who stands before whom in a list.
 pub fn precedence_goes_as_worked()
     ensures start { preferred_after (pair 1 1) [] ≡ 1 }
     ensures on_its_way { preferred_after (pair 1 1) (1 ∷ 1 ∷ 0 ∷ 0 ∷ 0 ∷ 0 ∷ []) ≡ 1 }
@@ -140,8 +141,8 @@ pub fn streams_are_kept()
         → KeepsStreams plan s state → IsProper step → LocalStep plan s state step new → KeepsStreams plan s new }
 {}
 
-/// A site that keeps its streams puts few letters at a place: at most as many Requests as it has jobs, one Fork more than
-/// that, one Done and one Close. A site of a plan has at most 1,000 jobs, so that is at most 2,003 letters.
+/// A site that keeps its streams puts few letters at a place: at most as many Requests as it has jobs, one Fork more
+/// than that, one Done and one Close. A site of a plan has at most 1,000 jobs, so that is at most 2,003 letters.
 pub fn few_letters_are_put()
     ensures requests { (plan : SeenPlan) (s : ℕ) (state : LocalState) (i : ℕ) → KeepsStreams plan s state → i < length state.traffic
         → requests_in (traffic_at state i).put ≤ job_count plan s }
@@ -155,8 +156,8 @@ pub fn few_letters_are_put()
         → i < length state.traffic → length (traffic_at state i).put ≤ 2003 }
 {}
 
-/// A site that keeps its streams takes few letters at a place: at most as many Forks as it put Requests, one Request more than
-/// that, one Done and one Close.
+/// A site that keeps its streams takes few letters at a place: at most as many Forks as it put Requests, one Request
+/// more than that, one Done and one Close.
 pub fn few_letters_are_taken()
     ensures forks { (plan : SeenPlan) (s : ℕ) (state : LocalState) (i : ℕ) → KeepsStreams plan s state → i < length state.traffic
         → forks_in (traffic_at state i).taken ≤ job_count plan s }
@@ -176,8 +177,8 @@ pub fn allowed_letters_meet_no_breach()
         → (is_allowed plan s state i letter ≡ true) ↔ (first_breach plan s state i letter ≡ None) }
 {}
 
-/// The breach that is told of a letter is the first that applies, in the order of their numbers: it applies, and none with a
-/// lower number does. Where none is told, none applies.
+/// The breach that is told of a letter is the first that applies, in the order of their numbers: it applies, and none
+/// with a lower number does. Where none is told, none applies.
 pub fn first_breach_is_first()
     ensures applies { (plan : SeenPlan) (s : ℕ) (state : LocalState) (i : ℕ) (letter : Letter) (breach : Breach)
         → first_breach plan s state i letter ≡ Some breach → Applies plan s state i breach letter }
@@ -187,8 +188,8 @@ pub fn first_breach_is_first()
         → first_breach plan s state i letter ≡ None → Applies plan s state i breach letter → ⊥ }
 {}
 
-/// An event moves letters by its shape: it takes one at its place, puts one there, or moves none. The place of an event that a
-/// site may do is one of the site's.
+/// An event moves letters by its shape: it takes one at its place, puts one there, or moves none. The place of an event
+/// that a site may do is one of the site's.
 pub fn events_move_letters_by_their_shape()
     ensures moves { (plan : SeenPlan) (s : ℕ) (state : LocalState) (failed : Bool) (next : ℕ → Option Letter) (kind : EventKind) (step : Step)
         → step_by failed next kind ≡ Some step → MovesBy (shape_of kind) state (after plan s state step) }
@@ -201,8 +202,8 @@ pub fn breaches_are_numbered()
     ensures { map number_of (AfterClose ∷ RequestOutOfTurn ∷ ForkOutOfTurn ∷ StrangeFork ∷ DoneOutOfTurn ∷ ClosedEarly ∷ []) ≡ 1 ∷ 2 ∷ 3 ∷ 4 ∷ 5 ∷ 6 ∷ [] }
 {}
 
-/// Precedence to the asker: in each state that steps lead to from the start, whatever letters came, a site that holds the
-/// fork and the token of a place begins at most one meal more before it gives the fork away.
+/// Precedence to the asker: in each state that steps lead to from the start, whatever letters came, a site that holds
+/// the fork and the token of a place begins at most one meal more before it gives the fork away.
 pub fn asker_has_precedence()
     ensures { (plan : SeenPlan) (s i : ℕ) (state new : LocalState) (before steps : List Step)
         → LeadTo plan s (start_of plan s) before state → i < length state.traffic
@@ -210,8 +211,8 @@ pub fn asker_has_precedence()
         → LeadTo plan s state steps new → list_any (is_give_at i) steps ≡ false → begins_in steps ≤ 1 }
 {}
 
-/// In every world that events reach from the start there is one state for each site, each site keeps its streams, and what an end
-/// took is a prefix of what the other end put.
+/// In every world that events reach from the start there is one state for each site, each site keeps its streams, and
+/// what an end took is a prefix of what the other end put.
 pub fn reached_worlds_keep_their_streams()
     ensures sites { (plan : SeenPlan) (events : List Event) (world : WorldState) → IsPlan plan → Reaches plan events world → length world ≡ site_count plan }
     ensures streams { (plan : SeenPlan) (events : List Event) (world : WorldState) → IsPlan plan → Reaches plan events world
@@ -219,8 +220,8 @@ pub fn reached_worlds_keep_their_streams()
     ensures links { (plan : SeenPlan) (events : List Event) (world : WorldState) → IsPlan plan → Reaches plan events world → LinksAreOrdered plan world }
 {}
 
-/// A link holds few letters, in every world that events reach from the start. What was put on it is what was taken from it and
-/// then the letters in it: at most one Fork, one Request, one Done and one Close, and so at most four.
+/// A link holds few letters, in every world that events reach from the start. What was put on it is what was taken from
+/// it and then the letters in it: at most one Fork, one Request, one Done and one Close, and so at most four.
 pub fn links_hold_few_letters()
     ensures in_order { ForEachLink (λ plan world s i. put_to plan world s i ≡ (traffic_at (state_of world s) i).taken ++ queue_to plan world s i) }
     ensures forks { ForEachLink (λ plan world s i. forks_in (queue_to plan world s i) ≤ 1) }
@@ -230,15 +231,15 @@ pub fn links_hold_few_letters()
     ensures letters { ForEachLink (λ plan world s i. length (queue_to plan world s i) ≤ 4) }
 {}
 
-/// Each edge has exactly one fork and one token, in every world that events reach from the start: those held at its two ends and
-/// those in the links between them come to one.
+/// Each edge has exactly one fork and one token, in every world that events reach from the start: those held at its two
+/// ends and those in the links between them come to one.
 pub fn edges_have_one_fork_and_one_token()
     ensures fork { ForEachEdge (λ plan world edge. forks_of_edge plan world edge ≡ 1) }
     ensures token { ForEachEdge (λ plan world edge. tokens_of_edge plan world edge ≡ 1) }
 {}
 
-/// Neighbours never eat at the same time, in every world that events reach from the start: a site that eats holds the fork of
-/// each of its edges.
+/// Neighbours never eat at the same time, in every world that events reach from the start: a site that eats holds the
+/// fork of each of its edges.
 pub fn neighbours_never_eat_together()
     ensures holds_all { ForEachLink (λ plan world s i. is_eating (state_of world s).phase ≡ true → fork_at plan s (state_of world s) i ≡ 1) }
     ensures alone { ForEachLink (λ plan world s i. is_eating (state_of world s).phase ≡ true → is_eating (state_of world (neighbour_at plan s i)).phase ≡ false) }
@@ -264,8 +265,8 @@ pub fn enabled_events_stay_enabled()
         → is_enabled plan world e ≡ true → world_after plan world other ≡ Some new → e.site ≢ other.site → is_enabled plan new e ≡ true }
 {}
 
-/// The list of enabled events has each enabled event, in every world that events reach from the start. In every world it has no
-/// event that is not enabled, and none at two places.
+/// The list of enabled events has each enabled event, in every world that events reach from the start. In every world
+/// it has no event that is not enabled, and none at two places.
 pub fn enabled_events_are_all_listed()
     ensures all { (plan : SeenPlan) (events : List Event) (world : WorldState) (e : Event) → IsPlan plan → Reaches plan events world
         → is_enabled plan world e ≡ true → (n : ℕ) × (slice_get (enabled_events plan world) n ≡ Some e) }
@@ -275,8 +276,8 @@ pub fn enabled_events_are_all_listed()
         → slice_get (enabled_events plan world) n ≡ Some e → slice_get (enabled_events plan world) m ≡ Some e → n ≡ m }
 {}
 
-/// No letter of the world meets a breach, in every world that events reach from the start: the letter that is next in a link is
-/// one that the site may take.
+/// No letter of the world meets a breach, in every world that events reach from the start: the letter that is next in a
+/// link is one that the site may take.
 pub fn next_letters_meet_no_breach()
     ensures { ForEachLink (λ plan world s i. (letter : Letter) → next_letter plan world s i ≡ Some letter → first_breach plan s (state_of world s) i letter ≡ None) }
 {}
@@ -288,8 +289,8 @@ pub fn precedence_is_acyclic()
         → IsAcyclic plan world }
 {}
 
-/// A world that is stuck is complete: where events reach a world from the start and no event is enabled in it, every site
-/// thinks, and ate all its meals or has quit, and every link is closed in order and wholly taken.
+/// A world that is stuck is complete: where events reach a world from the start and no event is enabled in it, every
+/// site thinks, and ate all its meals or has quit, and every link is closed in order and wholly taken.
 pub fn stuck_worlds_are_complete()
     ensures { (plan : SeenPlan) (events : List Event) (world : WorldState) → IsPlan plan → Reaches plan events world
         → enabled_events plan world ≡ [] → IsComplete plan world }
@@ -301,9 +302,9 @@ pub fn complete_worlds_are_stuck()
         → IsComplete plan world → enabled_events plan world ≡ [] }
 {}
 
-/// A run that does the first enabled event again and again, at most as many times as the bound of the plan, ends in a world
-/// where no event is enabled and which is complete: from each world that events reach from the start, and as the end of a
-/// whole run, after any choices.
+/// A run that does the first enabled event again and again, at most as many times as the bound of the plan, ends in a
+/// world where no event is enabled and which is complete: from each world that events reach from the start, and as the
+/// end of a whole run, after any choices.
 pub fn finished_runs_are_complete()
     ensures halts { (plan : SeenPlan) (events : List Event) (world : WorldState) → IsPlan plan → Reaches plan events world
         → enabled_events plan (finish_within (bound_of plan) plan (record { world = world; events = 0 })).world ≡ [] }
@@ -313,32 +314,33 @@ pub fn finished_runs_are_complete()
     ensures whole_run_complete { (plan : SeenPlan) (choices : List ℕ) → IsPlan plan → IsComplete plan (whole_run plan choices).world }
 {}
 
-/// A whole run, after any choices, has as many events as the world at its end has effects, and at most the bound of the plan.
-/// No plan has a greater bound than that of 64 sites with 512 edges and 1,000 jobs each.
+/// A whole run, after any choices, has as many events as the world at its end has effects, and at most the bound of the
+/// plan. No plan has a greater bound than that of 64 sites with 512 edges and 1,000 jobs each.
 pub fn whole_runs_are_bounded()
     ensures counted { (plan : SeenPlan) (choices : List ℕ) → IsPlan plan → (whole_run plan choices).events ≡ effects_of (whole_run plan choices).world }
     ensures bounded { (plan : SeenPlan) (choices : List ℕ) → IsPlan plan → (whole_run plan choices).events ≤ bound_of plan }
     ensures small { (plan : SeenPlan) → IsPlan plan → bound_of plan ≤ 3 * (64 * 1000) + 512 * 8008 }
 {}
 
-/// A whole run goes on where the choices end: it ends where the first enabled events lead from there, and its events are those
-/// of the choices and those after them.
+/// A whole run goes on where the choices end: it ends where the first enabled events lead from there, and its events
+/// are those of the choices and those after them.
 pub fn whole_runs_go_on_after_the_choices()
     ensures world { (plan : SeenPlan) (choices : List ℕ) → (whole_run plan choices).world ≡ (after_choices plan choices).world }
     ensures events { (plan : SeenPlan) (choices : List ℕ) → (whole_run plan choices).events ≡ (replay plan (from_here (start plan)) choices).events + (after_choices plan choices).events }
 {}
 
-/// The log that is told of an edge's fork is that of its one fork, in every world that events reach from the start: where a site
-/// holds the fork, the log in its hand, and where the fork is in a link, the log that the letter has.
+/// The log that is told of an edge's fork is that of its one fork, in every world that events reach from the start:
+/// where a site holds the fork, the log in its hand, and where the fork is in a link, the log that the letter has.
 pub fn fork_logs_are_of_the_one_fork()
     ensures held { ForEachLink (λ plan world s i. fork_at plan s (state_of world s) i ≡ 1 → fork_log plan world (edge_at plan s i) ≡ hand_at s (state_of world s) i) }
     ensures sent { ForEachLink (λ plan world s i. (fork : SeenFork) (k : ℕ) → slice_get (queue_to plan world s i) k ≡ Some (Fork fork)
         → fork_log plan world (edge_at plan s i) ≡ fork.log) }
 {}
 
-/// The log of each edge's fork is lawful, in every world that events reach from the start and wherever the fork lies: in hand, in
-/// a meal or in a link. Where the world is complete, the log has all meals that both ends ate: those that are due to an end, unless it
-/// has quit. So at the end of a whole run, after any choices, each log is lawful and has all meals that both ends ate.
+/// The log of each edge's fork is lawful, in every world that events reach from the start and wherever the fork lies:
+/// in hand, in a meal or in a link. Where the world is complete, the log has all meals that both ends ate: those that
+/// are due to an end, unless it has quit. So at the end of a whole run, after any choices, each log is lawful and has
+/// all meals that both ends ate.
 pub fn forks_are_lawful_and_whole()
     ensures lawful { ForEachEdge (λ plan world edge. IsLawful (lo_of plan edge, hi_of plan edge) (job_count plan (lo_of plan edge), job_count plan (hi_of plan edge)) (fork_log plan world edge)) }
     ensures whole { ForEachEdge (λ plan world edge. IsComplete plan world

@@ -1,4 +1,5 @@
--- All sites: ports laid, what each left gathered by edge, and from that the headline, the forks after a fault, and the rows.
+-- All sites: ports laid, what each left gathered by edge, and from that the headline, the forks after a fault, and the
+-- rows.
 pub mod Edges
 pub mod Laying
 pub mod Collected

@@ -45,8 +45,8 @@ pub record IsBreached (plan : SeenPlan) (s : ℕ) (state : LocalState) (stray : 
   pub within : link < length state.traffic
   pub first : first_breach plan s state link letter ≡ Some breach
 
--- What the links of a place have: all that was put in the one and all that was taken from the other, and whether a put or a close was
--- refused, and a take.
+-- What the links of a place have: all that was put in the one and all that was taken from the other, and whether a put
+-- or a close was refused, and a take.
 pub record OnLinks : Type 0 where
   pub put : List Letter
   pub taken : List Letter
@@ -61,8 +61,8 @@ traffic_on links = record { put = links.put; taken = links.taken }
 abbrev pub nothing_on_links : OnLinks
 nothing_on_links = record { put = []; taken = []; put_refused = false; take_refused = false }
 
--- A place of the site refused, or a bell, for which the number of the places stands. A letter that was handed back was to go to that
--- place, and is no Close.
+-- A place of the site refused, or a bell, for which the number of the places stands. A letter that was handed back was
+-- to go to that place, and is no Close.
 pub record IsLost (places : ℕ) (links : ℕ → OnLinks) (stray : Option Stray) (link : ℕ) : Type 0 where
   pub within : link ≤ places
   pub refused : link < places → ((links link).put_refused ≡ true) ⊎ ((links link).take_refused ≡ true)
@@ -77,7 +77,8 @@ on_links port = record { put = port.tx.letters; taken = port.rx.letters; put_ref
 abbrev pub links_at : {Identity : Type 0} → List (SeenPort Identity) → ℕ → OnLinks
 links_at ports i = slice_index_or (map on_links ports) i nothing_on_links
 
--- What a site tells of its end: its meals, the tokens in its hands, its journal, and why it ended early, with what was handed back.
+-- What a site tells of its end: its meals, the tokens in its hands, its journal, and why it ended early, with what was
+-- handed back.
 pub record Ending : Type 0 where
   pub ate : ℕ
   pub tokens : List ℕ
@@ -85,11 +86,12 @@ pub record Ending : Type 0 where
   pub stray : Option Stray
   pub fault : Option SiteFault
 
--- What a site tells fits a state of whole lists that keeps the streams, in which it does not eat. Its tokens are those of this state, and
--- so are its links, but for the letter of a breach, a letter that a link refused, and a Close that a link refused; what its links have is
--- in order all the same. It did the events of its journal and then it broke off, and where it was started it has put Close everywhere.
--- Where it tells no fault it did all, just those events, its links have exactly what it put, and none of them refused. A site that was not
--- started is at its start. A link that refused to give a letter is told. A breach that is told is so, and a link that is told lost.
+-- What a site tells fits a state of whole lists that keeps the streams, in which it does not eat. Its tokens are those
+-- of this state, and so are its links, but for the letter of a breach, a letter that a link refused, and a Close that a
+-- link refused; what its links have is in order all the same. It did the events of its journal and then it broke off,
+-- and where it was started it has put Close everywhere. Where it tells no fault it did all, just those events, its
+-- links have exactly what it put, and none of them refused. A site that was not started is at its start. A link that
+-- refused to give a letter is told. A breach that is told is so, and a link that is told lost.
 pub record HasEnded (plan : SeenPlan) (s : ℕ) (state : LocalState) (links : ℕ → OnLinks) (end : Ending) : Type 0 where
   pub keeps : KeepsStreams plan s state
   pub rests : is_eating state.phase ≡ false

@@ -1,5 +1,5 @@
--- A site on its way: what holds of its core and its link ends between two of its events, while a letter goes out, after its first fault,
--- and at its end; and what is left as it was. Contracts of private functions alone name these.
+-- A site on its way: what holds of its core and its link ends between two of its events, while a letter goes out, after
+-- its first fault, and at its end; and what is left as it was. Contracts of private functions alone name these.
 use Rattle.std.specs.Prelude.{◌≡◌, ◌≢◌, ℕ, ◌+◌, ◌<◌, ◌≤◌, ◌++◌, ◌&&◌, ◌||◌, not, nat_lt, Bool, true, false, List, [], ◌∷◌, length, slice_get, Option, Some, None, option_to_list, Result, MatchResult, vec_len}
 use Rattle.dine_plan.specs.Plan.{SeenPlan, IsPlan, site_count}
 use Rattle.dine_rules.specs.declared.breach.Breach.{Breach}
@@ -38,8 +38,8 @@ pub record SeenRun (Identity : Type 0) : Type 0 where
 abbrev pub AtEach : {Identity : Type 0} → (ℕ → Traffic → SeenPort Identity → Type 0) → LocalState → List (SeenPort Identity) → Type 0
 AtEach {Identity} P state ports = (i : ℕ) (port : SeenPort Identity) → slice_get ports i ≡ Some port → P i (traffic_at state i) port
 
--- the links have just what the state put and took, the end is live where the state has not put Close, and for each letter put the
--- bell was rung; nothing was refused
+-- the links have just what the state put and took, the end is live where the state has not put Close, and for each
+-- letter put the bell was rung; nothing was refused
 pub record RunsAt {Identity : Type 0} (traffic : Traffic) (port : SeenPort Identity) : Type 0 where
   pub puts : port.tx.letters ≡ traffic.put
   pub takes : port.rx.letters ≡ traffic.taken
@@ -47,8 +47,8 @@ pub record RunsAt {Identity : Type 0} (traffic : Traffic) (port : SeenPort Ident
   pub rang : port.ringer.rings ≡ length port.tx.letters
   pub unrefused : IsUnrefused port
 
--- The same, but for a letter that the link refused, for the letter of a breach, and for a Close that the link refused. Of the letters
--- before that Close at most one has no ring.
+-- The same, but for a letter that the link refused, for the letter of a breach, and for a Close that the link refused.
+-- Of the letters before that Close at most one has no ring.
 pub record StopsAt {Identity : Type 0} (refused breached : Option Letter) (traffic : Traffic) (port : SeenPort Identity) : Type 0 where
   pub puts : PutsFit port.tx.refused refused traffic.put port.tx.letters
   pub takes : port.rx.letters ≡ traffic.taken ++ option_to_list breached
@@ -56,8 +56,8 @@ pub record StopsAt {Identity : Type 0} (refused breached : Option Letter) (traff
   pub rang : HasRung port
   pub rang_open : has_close traffic.put ≡ false → length port.tx.letters ≤ port.ringer.rings + 1
 
--- The core stands for a state that keeps the streams and in which the site does not eat, and the link ends are those that were
--- handed in, one pair a place.
+-- The core stands for a state that keeps the streams and in which the site does not eat, and the link ends are those
+-- that were handed in, one pair a place.
 pub record HasState {Identity : Type 0} (plan : SeenPlan) (given : List (SeenPort Identity)) (run : SeenRun Identity) (state : LocalState) : Type 0 where
   pub is_plan : IsPlan plan
   pub is_site : run.core.site < site_count plan
@@ -154,8 +154,9 @@ only_last_failed [] = true
 only_last_failed (call ∷ []) = true
 only_last_failed (call ∷ next ∷ calls) = call.ok && only_last_failed (next ∷ calls)
 
--- What a site does by the calls of its diner since some start: where it resigns, none came after one that failed; and it
--- drops its meals, that is, has to quit or has quit, exactly where the last one failed, it resigns and has meals left.
+-- What a site does by the calls of its diner since some start: where it resigns, none came after one that failed; and
+-- it drops its meals, that is, has to quit or has quit, exactly where the last one failed, it resigns and has meals
+-- left.
 pub record IsHeeding (resigns drops has_left : Bool) (first now : List Call) : Type 0 where
   pub added : List Call
   pub called : now ≡ first ++ added
@@ -163,7 +164,8 @@ pub record IsHeeding (resigns drops has_left : Bool) (first now : List Call) : T
   pub drops_where : drops ≡ (last_failed added && resigns && has_left)
 
 module _ {Lane Tx Closed Rx Diner : Type 0} where
-  -- The bell is that of the places, there is room for the calls of all meals to come, and no more meals failed than were begun.
+  -- The bell is that of the places, there is room for the calls of all meals to come, and no more meals failed than
+  -- were begun.
   pub record IsReady (room_left : Diner → ℕ) (run : Running Lane Diner Tx Closed Rx) : Type 0 where
     pub bell : run.bell.degree ≡ vec_len run.ports
     pub room : run.core.due ≤ run.core.ate + room_left run.diner

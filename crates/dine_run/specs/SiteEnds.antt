@@ -1,4 +1,5 @@
--- What a site leaves when it ends. When anything happens, that a letter comes, and which number a bell tells, they leave out.
+-- What a site leaves when it ends. When anything happens, that a letter comes, and which number a bell tells, they
+-- leave out.
 use Rattle.std.specs.Prelude.{◌≡◌, ◌≢◌, ◌⊎◌, ℕ, true, false, List, length, slice_get, Option, Some, None}
 use Rattle.dine_token.specs.Fork.{SeenFork}
 use Rattle.dine_plan.specs.Plan.{SeenPlan}
@@ -13,8 +14,8 @@ use Rattle.dine_run.specs.declared.site_end.Stray.{Stray}
 use Rattle.dine_run.specs.Endings.{Ending, HasEnded, links_at}
 use Rattle.dine_run.specs.Ports.{HasRung, SeenPort, SameLinks}
 
--- How a site ended, without its diner: its number, the meals that it began, the forks and tokens in its hands, its journal, its link
--- ends in order, its bell, and why it ended early.
+-- How a site ended, without its diner: its number, the meals that it began, the forks and tokens in its hands, its
+-- journal, its link ends in order, its bell, and why it ended early.
 pub record SeenSiteEnd (Identity : Type 0) : Type 0 where
   pub site : ℕ
   pub ate : ℕ
@@ -34,8 +35,9 @@ told_by end = record { ate = end.ate; tokens = end.tokens; journal = end.journal
 abbrev pub HasBellRefused : {Identity : Type 0} → List (SeenPort Identity) → SeenBell → Type 0
 HasBellRefused {Identity} ports bell = (bell.refused ≡ true) ⊎ ((i : ℕ) × (port : SeenPort Identity) × (slice_get ports i ≡ Some port) × (port.ringer.refused ≡ true))
 
--- What a site leaves, started or not: it ended in a state of whole lists by which it has its forks and its links, and these are the
--- links that it was given. After each letter that it put it rang once. A bell that refused is told, and only one that did.
+-- What a site leaves, started or not: it ended in a state of whole lists by which it has its forks and its links, and
+-- these are the links that it was given. After each letter that it put it rang once. A bell that refused is told, and
+-- only one that did.
 pub record IsLeft {Identity : Type 0} (plan : SeenPlan) (s : ℕ) (given : List (SeenPort Identity)) (end : SeenSiteEnd Identity) : Type 0 where
   pub state : LocalState
   pub ended : HasEnded plan s state (links_at end.ports) (told_by end)

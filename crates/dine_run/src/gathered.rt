@@ -5,9 +5,9 @@ use dine_link::LinkEnd;
 use dine_rules::EventKind;
 use dine_token::{Fork, Token};
 
-/// What a site left: how many meals it began and how many of their jobs failed, its diner, the tokens in its hands in edge order, its
-/// journal, which has each event that it did in its order,
-/// and, where it ended before it did all, the first cause with the letter that was handed back.
+/// What a site left: how many meals it began and how many of their jobs failed, its diner, the tokens in its hands in
+/// edge order, its journal, which has each event that it did in its order, and, where it ended before it did all, the
+/// first cause with the letter that was handed back.
 #[derive(Drop)]
 pub struct SiteOut<D: Diner> {
     pub site: u32,
@@ -20,8 +20,8 @@ pub struct SiteOut<D: Diner> {
     pub fault: Option<SiteFault>,
 }
 
-/// All that is gathered where every site did all: the forks by edge, the sites by number, and the links by edge, that from the
-/// lower end first.
+/// All that is gathered where every site did all: the forks by edge, the sites by number, and the links by edge, that
+/// from the lower end first.
 #[derive(Drop)]
 pub struct Gathered<D: Diner> {
     pub forks: Vec<Fork>,
@@ -44,8 +44,8 @@ pub enum RunFault<D: Diner> {
     DinersDiffer { given: usize, diners: Vec<D> },
     /// Memory was refused before any thread started. The diners are dropped.
     Memory,
-    /// The thread of this site was refused, for want of memory or another cause. Those that were started before it have ended, no
-    /// letter moved, and the diners are dropped.
+    /// The thread of this site was refused, for want of memory or another cause. Those that were started before it have
+    /// ended, no letter moved, and the diners are dropped.
     Thread(u32),
     /// All sites have joined, and this is the lowest one with a fault.
     Broken { site: u32, joined: Joined<D> },

@@ -9,11 +9,13 @@ use dine_plan::Plan;
 use dine_token::Meal;
 use std::alloc::{AllocError, Global};
 
-/// Does the jobs of a site, where nothing is to be proved of what they do. It may be dropped, and moves into the thread of its site.
+/// Does the jobs of a site, where nothing is to be proved of what they do. It may be dropped, and moves into the thread
+/// of its site.
 pub trait Job: Drop + Send {
     /// Does job `k` of the site, from 1, while the site holds the forks of this meal.
     ///
-    /// Answers `JobFault` where the job failed. The meal counts all the same. At a site that resigns it is the last one.
+    /// Answers `JobFault` where the job failed. The meal counts all the same. At a site that resigns it is the last
+    /// one.
     fn run(&mut self, k: u32) -> Result<(), JobFault>;
 }
 
@@ -34,8 +36,8 @@ pub enum SeatFault<J: Job> {
 }
 
 impl<J: Job> Jobs<J> {
-    /// A diner for each site of the plan: the first does its jobs by the first of `jobs`, and so on. It has made no call, and has room for
-    /// one call for each job of its site.
+    /// A diner for each site of the plan: the first does its jobs by the first of `jobs`, and so on. It has made no
+    /// call, and has room for one call for each job of its site.
     ///
     /// Fails where there are not as many as sites, and where memory for the diners and their calls is refused.
     pub fn seat(alloc: Global, plan: &Plan, jobs: Vec<J>) -> Result<Vec<Jobs<J>>, SeatFault<J>>

@@ -15,8 +15,8 @@ ghost use Rattle.dine_run.specs.Orders.{plan_shown};
 
 use dine_rules::laws;
 
-/// Where a run gathered forks, links and journals, each order of the journals that a world of the plan accepts, where jobs fail
-/// as the journals show, leads to the very forks that were gathered, each with its log.
+/// Where a run gathered forks, links and journals, each order of the journals that a world of the plan accepts, where
+/// jobs fail as the journals show, leads to the very forks that were gathered, each with its log.
 pub fn orders_give_the_gathered_forks()
     ensures { (plan : SeenPlan) (ates : List ℕ) (links : List SeenLink) (forks : List SeenFork) (journals : List (List EventKind)) (events : List Event) (world : WorldState)
         → IsPlan plan → IsHeadline plan ates links forks → AreJournals plan ates links journals → IsOrderOf journals events → Reaches (plan_shown plan journals) events world

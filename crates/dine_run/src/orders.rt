@@ -20,7 +20,8 @@ pub enum OrderFault {
     /// There is not one journal for each site.
     #[error("1 CountDiffers")]
     CountDiffers,
-    /// No site's next event is enabled. This is the lowest site with events left, and so many of its events were placed.
+    /// No site's next event is enabled. This is the lowest site with events left, and so many of its events were
+    /// placed.
     #[error("2 Stuck at site {site}, {placed} placed")]
     Stuck { site: u32, placed: u32 },
     /// All events were placed, and the run is not at its end.
@@ -39,15 +40,15 @@ impl From<AllocError> for OrderFault {
     }
 }
 
-/// One order of the journals: a list of events that holds each site's journal as that site's events in their order, and nothing
-/// else. A world of the plan accepts it, each event in its turn, and is complete at its end. Each event is that of the lowest site
-/// whose next event was enabled.
+/// One order of the journals: a list of events that holds each site's journal as that site's events in their order, and
+/// nothing else. A world of the plan accepts it, each event in its turn, and is complete at its end. Each event is that
+/// of the lowest site whose next event was enabled.
 ///
-/// The world has the outcomes that the journals show: the last meal before each Quit failed, where the site has a job of that number,
-/// and no other did.
+/// The world has the outcomes that the journals show: the last meal before each Quit failed, where the site has a job
+/// of that number, and no other did.
 ///
-/// Where it answers `Stuck` or `NotClosed`, there is no such list. Each event costs one step of a world and at most one try
-/// more, whatever the number of sites.
+/// Where it answers `Stuck` or `NotClosed`, there is no such list. Each event costs one step of a world and at most one
+/// try more, whatever the number of sites.
 pub fn order(
     alloc: Global,
     plan: &Plan,

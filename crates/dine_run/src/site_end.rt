@@ -17,7 +17,8 @@ pub struct Stray {
 pub enum SiteFault {
     /// A letter that came at the place was not in turn.
     Breach(u32, Breach),
-    /// A put, a close or a take was refused at the place. Where it is the number of places, a ring or the wait for the bell was.
+    /// A put, a close or a take was refused at the place. Where it is the number of places, a ring or the wait for the
+    /// bell was.
     Lost(u32),
     /// The site was not started, and did nothing.
     NotStarted,
@@ -25,11 +26,12 @@ pub enum SiteFault {
     Memory,
 }
 
-/// What a site leaves when it ends: how many meals it began and how many of their jobs failed, its diner, the forks and tokens
-/// in its hands in edge order, its journal, its link ends in order, its bell, and, where it ended before it did all, the first cause
-/// with the letter that was handed back.
+/// What a site leaves when it ends: how many meals it began and how many of their jobs failed, its diner, the forks and
+/// tokens in its hands in edge order, its journal, its link ends in order, its bell, and, where it ended before it did
+/// all, the first cause with the letter that was handed back.
 ///
-/// The journal has each event that the site did, in its order. The bell is kept so that neighbours that are not done can still ring it.
+/// The journal has each event that the site did, in its order. The bell is kept so that neighbours that are not done
+/// can still ring it.
 #[derive(Drop)]
 pub struct SiteEnd<L: Lane, D: Diner> {
     pub site: u32,

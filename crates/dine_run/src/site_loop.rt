@@ -18,17 +18,18 @@ use running::Running;
 use std::alloc::Global;
 use std::sync::Wait;
 
-/// Runs a site: until it is finished it does the events other than Take that the rules allow, in the fixed order, until there is
-/// none; then it waits for its bell, and takes one letter at the place that rang. Where Close was taken at that place, it takes
-/// none. After each letter that it puts, it rings the neighbour's bell once. Between the begin and the end of a meal it calls
-/// [`Diner::eat`] once. Where that fails and the site resigns, it eats no more: it quits, if it has meals left. No other site quits.
+/// Runs a site: until it is finished it does the events other than Take that the rules allow, in the fixed order, until
+/// there is none; then it waits for its bell, and takes one letter at the place that rang. Where Close was taken at
+/// that place, it takes none. After each letter that it puts, it rings the neighbour's bell once. Between the begin and
+/// the end of a meal it calls [`Diner::eat`] once. Where that fails and the site resigns, it eats no more: it quits, if
+/// it has meals left. No other site quits.
 ///
-/// A letter that is not in turn, and a link or bell that refuses, is a fault. After the first fault the site puts Close at each place
-/// where it has put none, in order, and ends. Faults that it meets then are not told. It may wait.
+/// A letter that is not in turn, and a link or bell that refuses, is a fault. After the first fault the site puts Close
+/// at each place where it has put none, in order, and ends. Faults that it meets then are not told. It may wait.
 ///
-/// The journal has each event that the site did, in order, but for a letter that was not in turn and the Closes of the way out. Room
-/// for it is got before each event, and where that is refused the event is not done and the fault is `Memory`. The bell is handed back,
-/// so that neighbours that are not done can still ring it.
+/// The journal has each event that the site did, in order, but for a letter that was not in turn and the Closes of the
+/// way out. Room for it is got before each event, and where that is refused the event is not done and the fault is
+/// `Memory`. The bell is handed back, so that neighbours that are not done can still ring it.
 pub fn run_site<R: Wait, L: Lane, D: Diner>(
     rt: &R,
     alloc: Global,

@@ -79,8 +79,8 @@ fn outcomes_at(alloc: Global, jobs: u32, fails_each: u32) -> Result<Vec<bool>, A
     Ok(own)
 }
 
-// Waits in its first meal until `all` diners have entered theirs, for so many turns, and else its job fails. It does not wait
-// where `all` is 0.
+// Waits in its first meal until `all` diners have entered theirs, for so many turns, and else its job fails. It does
+// not wait where `all` is 0.
 #[derive(Drop)]
 pub struct Waiter {
     pub log: CallLog,

@@ -1,5 +1,5 @@
-// Graphs, the plans of them, and what is left of a run on one: it is held against the graph, and each fork's log against the rules,
-// entry by entry.
+// Graphs, the plans of them, and what is left of a run on one: it is held against the graph, and each fork's log
+// against the rules, entry by entry.
 use crate::diners::Taster;
 use dine_core::EventKind;
 use dine_link::LinkEnd;
@@ -8,8 +8,8 @@ use dine_token::{Entry, Fork};
 use std::alloc::{AllocError, Global};
 use std::process::Abort;
 
-// How many jobs each site has, the two ends of each edge, the lower one first, and which sites resign. A site past the end of that list
-// goes on.
+// How many jobs each site has, the two ends of each edge, the lower one first, and which sites resign. A site past the
+// end of that list goes on.
 #[derive(Drop)]
 pub struct Graph {
     pub jobs: Vec<u32>,
@@ -173,7 +173,8 @@ struct Ate {
     meals: u32,
 }
 
-// The two ends of a fork by its log: where it is and where it is not, and whether it was eaten with since it was last sent.
+// The two ends of a fork by its log: where it is and where it is not, and whether it was eaten with since it was last
+// sent.
 #[derive(Clone, Copy)]
 struct Told {
     here: Ate,
@@ -182,8 +183,8 @@ struct Told {
     moves: u32,
 }
 
-// What the log tells: the fork goes to and fro, from the lower end first. Only the end where it is eats with it, and its meals are numbered
-// from 1. From then on it is eaten with before it is sent again.
+// What the log tells: the fork goes to and fro, from the lower end first. Only the end where it is eats with it, and
+// its meals are numbered from 1. From then on it is eaten with before it is sent again.
 fn told_by(rt: &impl Abort, fork: &Fork, lower: u32, higher: u32) -> Told {
     let mut told = Told {
         here: Ate {
@@ -240,8 +241,9 @@ pub fn holds_forks(rt: &impl Abort, graph: &Graph, fails_each: u32, forks: &[For
     }
 }
 
-// The two links of each edge in order, that from the lower end first. All that was put was taken, and Close is the last of it. Each time
-// that the fork was sent it was asked for before: so both links had a letter each time, and then Done and Close.
+// The two links of each edge in order, that from the lower end first. All that was put was taken, and Close is the last
+// of it. Each time that the fork was sent it was asked for before: so both links had a letter each time, and then Done
+// and Close.
 pub fn holds_links(rt: &impl Abort, graph: &Graph, forks: &[Fork], links: &[LinkEnd]) {
     assert_eq!(rt; (links.len() / 2, links.len() % 2), (graph.edges.len(), 0));
     for (number, link) in (0..1024u32).zip(links) {

@@ -54,7 +54,8 @@ where
     )
 }
 
-// The journals have an order, and the world, where the same jobs fail, that is stepped through it has the logs that were gathered.
+// The journals have an order, and the world, where the same jobs fail, that is stepped through it has the logs that
+// were gathered.
 fn holds_order(
     rt: &impl Abort,
     alloc: Global,

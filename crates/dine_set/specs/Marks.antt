@@ -23,7 +23,8 @@ marks_without [] others = []
 marks_without (mark ∷ marks) [] = []
 marks_without (mark ∷ marks) (other ∷ others) = (mark && not other) ∷ marks_without marks others
 
--- which of the elements pass the test, as 64 truth values: `false` from the list's end on; a list of more than 64 has more
+-- which of the elements pass the test, as 64 truth values: `false` from the list's end on; a list of more than 64 has
+-- more
 unfoldable pub marks_of : {X : Type 0} → (X → Bool) → List X → List Bool
 marks_of test xs = map test xs ++ replicate (64 - length xs) false
 

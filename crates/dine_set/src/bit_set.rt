@@ -5,7 +5,8 @@ ghost use Rattle.dine_set.specs.Marks.{both_marks, marks_without, nth_position};
 
 use std::marker::Model;
 
-/// A set of numbers below 64. Contracts see it as the list of 64 truth values that says of each number whether it is in the set.
+/// A set of numbers below 64. Contracts see it as the list of 64 truth values that says of each number whether it is in
+/// the set.
 #[derive(Clone, Copy)]
 pub struct BitSet64 {
     word: u64,

@@ -149,7 +149,8 @@ fn journals_show_which_meal_failed(rt: HostRuntime) -> Result<(), Fail> {
     Ok(())
 }
 
-// After so many meals of the lower site and so many times Quit of it, with no event of the other, this many were placed.
+// After so many meals of the lower site and so many times Quit of it, with no event of the other, this many were
+// placed.
 fn stuck_after(rt: &impl Abort, alloc: Global, plan: &Plan, meals: u32, quits: u32, placed: u32) {
     let mut lower = Vec::new(alloc);
     for _ in 0..meals {

@@ -113,7 +113,8 @@ fn an_interrupted_read_is_tried_again(rt: HostRuntime) -> Result<(), Fail> {
     Ok(())
 }
 
-// So many line feeds, given at most `step` at a time, are refused with this status and line. So many of them are left unread.
+// So many line feeds, given at most `step` at a time, are refused with this status and line. So many of them are left
+// unread.
 fn feeds_leave<H: Threads + Wait + AllocGlobal + Abort + Copy + Send + 'static>(
     rt: &H,
     feeds: (usize, usize),

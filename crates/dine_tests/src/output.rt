@@ -79,7 +79,8 @@ fn the_whole_text_is_written_and_flushed(rt: HostRuntime) -> Result<(), Fail> {
 
 #[test]
 fn an_output_that_fails_is_told(rt: HostRuntime) -> Result<(), Fail> {
-    // How many bytes a write takes, which one fails, whether the flush fails, what goes out, and how many writes there are.
+    // How many bytes a write takes, which one fails, whether the flush fails, what goes out, and how many writes there
+    // are.
     let cases = [
         (0, 0, false, 0, 1),
         (5, 3, false, 10, 3),

@@ -1,5 +1,5 @@
--- The periods of a lawful log: the last is where the fork is, each stands behind so many entries as the numbers of the meals
--- say, and none but the first and the last is without a meal.
+-- The periods of a lawful log: the last is where the fork is, each stands behind so many entries as the numbers of the
+-- meals say, and none but the first and the last is without a meal.
 use Rattle.std.proofs.Common.{◌≡◌, ◌⊎◌, ℕ, ◌+◌, ◌<◌, ◌≤◌, suc, List, [], ◌∷◌, ◌++◌, length, refl, sym, ◌∙◌, ap, subst, inl, inr, arith, append_assoc, add-one, take, drop, get_or}
 use Rattle.std.specs.List.{All}
 use Rattle.std.proofs.Math.Seq.{split_at, drop-cons}
@@ -16,8 +16,8 @@ use Rattle.dine_token.proofs.Lawfulness.{at_an_end}
 use Rattle.dine_token.proofs.Bounds.{IsLawful-front, counted_lawful}
 use Rattle.dine_token.proofs.Periods.{period, one_more, last_one_more, last_one_more-append, periods_of-push_move, periods_of-push_meal, length-periods_of, entries_of-opened, entries_of-one_more}
 
--- before a period stand the Moves between the periods before it, and the meals of both ends so far: 1 less than the numbers
--- of the next meals
+-- before a period stand the Moves between the periods before it, and the meals of both ends so far: 1 less than the
+-- numbers of the next meals
 abbrev pub IsPlaced : List Period → Type 0
 IsPlaced periods = (before after : List Period) (one next : Period) → periods ≡ before ++ one ∷ next ∷ after
     → length (entries_of (before ++ one ∷ [])) + 2 ≡ length before + next.first + (one.first + one.count)

@@ -1,7 +1,7 @@
--- Which logs the rules of Chandy and Misra allow. The Moves cut the log into the stays of the fork at its two ends. A log is of one fork:
--- of the token and of other forks it says nothing, nor that each due meal was eaten. The empty log is lawful, and one may begin with a
--- Move, since the fork is dirty at the start. A lawful log has at most twice as many entries as meals are due: the law
--- `lawful_log_is_bounded`.
+-- Which logs the rules of Chandy and Misra allow. The Moves cut the log into the stays of the fork at its two ends. A
+-- log is of one fork: of the token and of other forks it says nothing, nor that each due meal was eaten. The empty log
+-- is lawful, and one may begin with a Move, since the fork is dirty at the start. A lawful log has at most twice as
+-- many entries as meals are due: the law `lawful_log_is_bounded`.
 use Rattle.std.specs.Prelude.{◌≡◌, ◌==◌, ℕ, ◌+◌, ◌<◌, ◌≤◌, List, [], ◌∷◌, ◌++◌, zero, suc, if◌then◌else◌}
 use Rattle.dine_token.specs.declared.entry.Entry.{Entry}
 use Rattle.dine_token.specs.declared.entry.Entry.TheVariants.{Meal, Move}
@@ -21,7 +21,8 @@ count_from first (suc n) = first ∷ count_from (first + 1) n
 abbrev pub due_at : ℕ × ℕ → ℕ × ℕ → ℕ → ℕ
 due_at ends due end = if end == ends.0 then due.0 else due.1
 
--- A lawful log of one fork, by its ends and the meals due to them; not that a Move was asked for. [paper: release rule, clean and dirty]
+-- A lawful log of one fork, by its ends and the meals due to them; not that a Move was asked for.
+-- [paper: release rule, clean and dirty]
 pub record IsLawful (ends due : ℕ × ℕ) (log : List Entry) : Type 0 where
   -- the fork starts at its lower end, and moves to the higher, the lower, the higher, .. in turn [paper: release rule]
   pub alternates : destinations_of log ≡ in_turn ends.1 ends.0 (moves_of log)

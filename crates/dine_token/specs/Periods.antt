@@ -1,5 +1,5 @@
--- The periods of a log: the stays of the fork at its two ends. That they tell a lawful log, and are at most one more than the meals due, is
--- the law `periods_tell_the_log`.
+-- The periods of a log: the stays of the fork at its two ends. That they tell a lawful log, and are at most one more
+-- than the meals due, is the law `periods_tell_the_log`.
 use Rattle.std.specs.Prelude.{ℕ, ◌+◌, List, [], ◌∷◌, ◌++◌, zero, suc}
 use Rattle.dine_token.specs.declared.entry.Entry.{Entry}
 use Rattle.dine_token.specs.declared.entry.Entry.TheVariants.{Meal, Move}
@@ -12,8 +12,8 @@ meals_until_move [] = 0
 meals_until_move (Meal site k ∷ log) = suc (meals_until_move log)
 meals_until_move (Move to ∷ log) = 0
 
--- a period for each Move of a log: it is at the site to which the Move goes, its first meal is one more than that site's
--- meals before, and its meals are those up to the next Move. `before` is what stands before these entries.
+-- a period for each Move of a log: it is at the site to which the Move goes, its first meal is one more than that
+-- site's meals before, and its meals are those up to the next Move. `before` is what stands before these entries.
 abbrev pub moved_periods : List Entry → List Entry → List Period
 moved_periods before [] = []
 moved_periods before (Meal site k ∷ log) = moved_periods (before ++ Meal site k ∷ []) log

@@ -49,8 +49,8 @@ impl Model for Fork {
 }
 
 impl Fork {
-    /// The fork of edge `edge` between the sites `lower` and `higher`, which have so many meals due, each at most 1,000.
-    /// It is at the lower end, dirty, its log is empty, and it carries the value `value`, at most 1,000,000.
+    /// The fork of edge `edge` between the sites `lower` and `higher`, which have so many meals due, each at most
+    /// 1,000. It is at the lower end, dirty, its log is empty, and it carries the value `value`, at most 1,000,000.
     ///
     /// It takes memory for itself and for each period that the log may come to, once. Fails where that is refused.
     pub fn open(
@@ -133,8 +133,8 @@ impl Fork {
         }
     }
 
-    /// The value that it carries: what it was opened with, after the acts of all its meals. At most 1,000,000 times one more
-    /// than its meals.
+    /// The value that it carries: what it was opened with, after the acts of all its meals. At most 1,000,000 times one
+    /// more than its meals.
     pub fn value(&self) -> u64
         ensures value { result ≡ self.now.value }
         ensures proper { IsFork self.now }

@@ -15,7 +15,8 @@ pub fn lawful_log_is_bounded()
     ensures { (ends due : ℕ × ℕ) (log : List Entry) → ends.0 < ends.1 → IsLawful ends due log → length log ≤ 2 * (due.0 + due.1) }
 {}
 
-/// The periods of a lawful log tell the whole log, and they are at most one more than the meals that are due to both ends.
+/// The periods of a lawful log tell the whole log, and they are at most one more than the meals that are due to both
+/// ends.
 pub fn periods_tell_the_log()
     ensures whole { (ends due : ℕ × ℕ) (log : List Entry) → ends.0 < ends.1 → IsLawful ends due log → entries_of (periods_of ends.0 log) ≡ log }
     ensures bounded { (ends due : ℕ × ℕ) (log : List Entry) → ends.0 < ends.1 → IsLawful ends due log → length (periods_of ends.0 log) ≤ due.0 + due.1 + 1 }

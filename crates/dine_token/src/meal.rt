@@ -27,9 +27,9 @@ impl Model for Meal {
 }
 
 impl Meal {
-    /// Begins meal `k` of the site, from 1, writes it into each fork, and does its act to the value of each. Each fork has to
-    /// be at the site and to have `k - 1` of its meals, and `k` is at most its due. The amount of the act is at most 1,000,000.
-    /// It takes no memory.
+    /// Begins meal `k` of the site, from 1, writes it into each fork, and does its act to the value of each. Each fork
+    /// has to be at the site and to have `k - 1` of its meals, and `k` is at most its due. The amount of the act is at
+    /// most 1,000,000. It takes no memory.
     pub fn begin(site: u32, k: u32, act: Act, hands: Vec<Held>) -> Meal
         requires may_eat { All (MayEat site k) hands.items }
         requires act { IsAct act }

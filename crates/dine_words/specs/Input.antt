@@ -1,5 +1,5 @@
--- What a reading of the input does to the bytes that a reader has left. What is left is known of readers in memory alone; of others these
--- say nothing. `IsAtEnd` and `Appends` beside them are the standard library's.
+-- What a reading of the input does to the bytes that a reader has left. What is left is known of readers in memory
+-- alone; of others these say nothing. `IsAtEnd` and `Appends` beside them are the standard library's.
 use Rattle.std.specs.Prelude.{◌≤◌, ℕ, List, Option, length}
 use Rattle.std.specs.Io.KnownBytes.{Consumes}
 

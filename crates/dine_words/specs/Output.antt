@@ -1,5 +1,5 @@
--- What a writing of a text does to the bytes that a writer holds. What is held is known of writers in memory alone; of others this says
--- nothing.
+-- What a writing of a text does to the bytes that a writer holds. What is held is known of writers in memory alone; of
+-- others this says nothing.
 use Rattle.std.specs.Prelude.{ℕ, List, Option, take}
 use Rattle.std.specs.Io.KnownBytes.{Appends}
 

@@ -70,8 +70,8 @@ table_of name =
     if bytes_eq name (codes "edges") then Some Edges
     else (if bytes_eq name (codes "sites") then Some Sites else None)
 
--- the table in what `clap` finds behind `run`: that of edges where the option is not there, and else the one of its text, if
--- a table has that name
+-- the table in what `clap` finds behind `run`: that of edges where the option is not there, and else the one of its
+-- text, if a table has that name
 abbrev pub table_in : List Row → Option Table
 table_in found = option_map_or table_of (first_of (codes "table") found) (Some Edges)
 
@@ -81,8 +81,8 @@ links_of name =
     if bytes_eq name (codes "channel") then Some Channel
     else (if bytes_eq name (codes "ring") then Some Ring else None)
 
--- the kind of links in what `clap` finds behind `run`: rings where the option is not there, and else that of its text, if a
--- kind has that name
+-- the kind of links in what `clap` finds behind `run`: rings where the option is not there, and else that of its text,
+-- if a kind has that name
 abbrev pub links_in : List Row → Option Links
 links_in found = option_map_or links_of (first_of (codes "links") found) (Some Ring)
 
@@ -95,8 +95,8 @@ runs_with _ _ = None
 abbrev pub run_in : List Row → Option Asked
 run_in found = runs_with (table_in found) (links_in found)
 
--- the choices in what `clap` finds behind `replay`: an empty list where the option is not there, and else those of its text,
--- if it has them
+-- the choices in what `clap` finds behind `replay`: an empty list where the option is not there, and else those of its
+-- text, if it has them
 abbrev pub choices_in : List Row → Option (List ℕ)
 choices_in found = option_map_or choices_of (first_of (codes "choices") found) (Some [])
 

@@ -1,4 +1,5 @@
-//! What stands on a plan alone: what the words ask for, the input and the plan that it is, what is written, and the statuses.
+//! What stands on a plan alone: what the words ask for, the input and the plan that it is, what is written, and the
+//! statuses.
 #![tactic(auto)]
 
 mod check;

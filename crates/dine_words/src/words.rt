@@ -59,8 +59,8 @@ pub enum Command {
 /// Why the words name no command.
 #[derive(Clone, Copy)]
 pub enum WordsFault {
-    /// `clap` refuses the words, LIST is no list of choices, or no table or no kind of links has the name. A question for
-    /// help or the version is refused too.
+    /// `clap` refuses the words, LIST is no list of choices, or no table or no kind of links has the name. A question
+    /// for help or the version is refused too.
     Usage,
     /// There was no memory to read them.
     Memory,
@@ -85,8 +85,8 @@ impl From<AllocError> for WordsFault {
     }
 }
 
-/// The command that the words name, of which the first is the program's own name. Where they name none it is `run` with the
-/// table of edges, over rings.
+/// The command that the words name, of which the first is the program's own name. Where they name none it is `run` with
+/// the table of edges, over rings.
 ///
 /// It answers `Usage` where the words are refused, and `Memory` where memory is.
 pub fn command_of(alloc: Global, words: &[String]) -> Result<Command, WordsFault>

@@ -111,7 +111,8 @@ get_before (x ∷ forks) fork (suc e) h = get_before forks fork e (omega arith)
 pub same_four : (a b c d w x y z : Option SeenFork) → a ≡ w → b ≡ x → c ≡ y → d ≡ z → option_or (option_or (option_or a b) c) d ≡ option_or (option_or (option_or w x) y) z
 same_four a b c d w x y z aw bx cy dz = ap₂ option_or (ap₂ option_or (ap₂ option_or aw bx) cy) dz
 
--- What is so when the forks of the first k edges are out: they are those of the edges, and the others lie where they lay.
+-- What is so when the forks of the first k edges are out: they are those of the edges, and the others lie where they
+-- lay.
 pub record AreOut (first : List WorldSite) (first_links : List (List Letter)) (edges : List EdgeEnds) (k : ℕ) (forks : List SeenFork) (sites : List WorldSite) (links : List (List Letter)) : Type 0 where
   pub count : length forks ≡ k
   pub taken : (e : ℕ) → e < k → slice_get forks e ≡ fork_of_edge first first_links (edge_ends edges e) e

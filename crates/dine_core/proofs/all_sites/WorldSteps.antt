@@ -1,5 +1,5 @@
--- A world that stands for a state, and an event that is enabled there: what the site may do, and that the world stands for the
--- state after it.
+-- A world that stands for a state, and an event that is enabled there: what the site may do, and that the world stands
+-- for the state after it.
 use Rattle.std.proofs.Common.{◌≡◌, ◌≢◌, ℕ, ◌-◌, ◌<◌, Bool, true, List, [], ◌∷◌, ◌++◌, length, get_or, slice_set, Option, Some, None, refl, sym, ◌∙◌, ap, ap₂, subst, inl, inr, arith}
 use Rattle.std.proofs.Math.ListN.{get_or-map}
 use Rattle.std.proofs.lemmas.Bool.{cases_eq, and_parts, false≢true, ltb-true}

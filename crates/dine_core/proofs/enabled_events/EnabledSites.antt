@@ -1,4 +1,5 @@
--- Which sites have no enabled event after an event: all that had none, but for the site that does it and the one that gets its letter.
+-- Which sites have no enabled event after an event: all that had none, but for the site that does it and the one that
+-- gets its letter.
 use Rattle.std.proofs.Common.{◌≡◌, ◌≢◌, ℕ, zero, suc, ◌<◌, ◌&&◌, nat_lt, Bool, true, false, List, [], ◌∷◌, length, get_or, slice_get, slice_set, Option, Some, None, is_some, option_and_then, refl, sym, ◌∙◌, ap, subst, inl, inr, arith}
 use Rattle.std.specs.List.{range_with_len}
 use Rattle.std.specs.Option.{option_map_or}

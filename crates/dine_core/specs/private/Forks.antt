@@ -56,7 +56,8 @@ behind_fork (Request edge ∷ letters) = behind_fork letters
 behind_fork (Done ∷ letters) = behind_fork letters
 behind_fork (Close ∷ letters) = behind_fork letters
 
--- the fork of an edge, wherever it lies: at its lower end, in the link to that, at its higher end, or in the link to that
+-- the fork of an edge, wherever it lies: at its lower end, in the link to that, at its higher end, or in the link to
+-- that
 abbrev pub fork_of_edge : List WorldSite → List (List Letter) → EdgeEnds → ℕ → Option SeenFork
 fork_of_edge sites links ends e = option_or (option_or (option_or (fork_at_site (site_at sites ends.lower) ends.lower_place) (first_fork (letters_in links (2 * e + 1))))
     (fork_at_site (site_at sites ends.higher) ends.higher_place)) (first_fork (letters_in links (2 * e)))

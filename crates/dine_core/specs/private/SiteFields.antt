@@ -28,7 +28,8 @@ pub record HasRoom (degree : ℕ) (parts : Parts) : Type 0 where
   pub no_tokens : parts.tokens.items ≡ []
   pub room_for_tokens : degree ≤ vec_capacity parts.tokens
 
--- What is kept at the places fits the site, and there is room for the hands of a meal and for all that the site may hold.
+-- What is kept at the places fits the site, and there is room for the hands of a meal and for all that the site may
+-- hold.
 pub record IsKept (core : Inside) : Type 0 where
   pub sound : IsSound (seen core)
   pub no_hands : core.hands.items ≡ []

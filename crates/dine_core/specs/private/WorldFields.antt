@@ -12,9 +12,9 @@ use Rattle.dine_core.specs.private.Inboxes.{HasInboxes}
 abbrev pub seen_world : Inside → SeenWorld
 seen_world world = record { sites = world.sites.items; links = world.links.items; edges = world.edges.items; bound = world.bound }
 
--- There is a plan, and a state that events reach from its start, for which the world stands. There is room for the forks of all edges; the
--- set `may_be_enabled` has each site with an enabled event; `nonempty_inboxes` has the places at which each site can take a letter; and the count of each site
--- that is not in `outdated_counts` is right.
+-- There is a plan, and a state that events reach from its start, for which the world stands. There is room for the
+-- forks of all edges; the set `may_be_enabled` has each site with an enabled event; `nonempty_inboxes` has the places
+-- at which each site can take a letter; and the count of each site that is not in `outdated_counts` is right.
 pub record IsKeptWorld (world : Inside) : Type 0 where
   pub plan : SeenPlan
   pub state : WorldState

@@ -14,9 +14,9 @@ use dine_token::{Fork, Held, Token};
 use std::alloc::{AllocError, Global};
 use std::marker::Model;
 
-/// The places of a site, at most 64, in edge order. Beside the list it keeps six sets, so that no question walks over the
-/// places: where the fork is away, where it is in hand and dirty, where the token is, where Close is not put, and where Done is
-/// put and taken. Contracts see the list.
+/// The places of a site, at most 64, in edge order. Beside the list it keeps six sets, so that no question walks over
+/// the places: where the fork is away, where it is in hand and dirty, where the token is, where Close is not put, and
+/// where Done is put and taken. Contracts see the list.
 #[derive(Drop)]
 pub(crate) struct MarkedPlaces {
     items: Vec<Place>,

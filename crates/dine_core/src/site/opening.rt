@@ -12,9 +12,9 @@ use dine_token::{Act, Fork, Token};
 use std::alloc::{AllocError, Global};
 use std::collections::VecDeque;
 
-/// The forks that the site `site`, one of the plan's, has at the start, newly opened: those of the edges where it is the lower
-/// end, in edge order. It takes memory for the list, the forks and their logs, and fails where that is refused; what was opened
-/// is dropped then.
+/// The forks that the site `site`, one of the plan's, has at the start, newly opened: those of the edges where it is
+/// the lower end, in edge order. It takes memory for the list, the forks and their logs, and fails where that is
+/// refused; what was opened is dropped then.
 pub fn fresh_forks(alloc: Global, plan: &Plan, site: u32) -> Result<Vec<Fork>, AllocError>
     requires { site < site_count plan.now }
     ensures { IfOk result (λ forks. forks.items ≡ fresh_forks plan.now site (edges_of plan.now site)) }
@@ -38,8 +38,9 @@ pub fn fresh_forks(alloc: Global, plan: &Plan, site: u32) -> Result<Vec<Fork>, A
     Ok(forks)
 }
 
-/// The tokens that the site `site`, one of the plan's, has at the start, newly opened: those of the edges where it is the higher
-/// end, in edge order. It takes memory for the list, and fails where that is refused; the tokens are dropped then.
+/// The tokens that the site `site`, one of the plan's, has at the start, newly opened: those of the edges where it is
+/// the higher end, in edge order. It takes memory for the list, and fails where that is refused; the tokens are dropped
+/// then.
 pub fn fresh_tokens(alloc: Global, plan: &Plan, site: u32) -> Result<Vec<Token>, AllocError>
     requires { site < site_count plan.now }
     ensures { IfOk result (λ tokens. tokens.items ≡ fresh_tokens plan.now site (edges_of plan.now site)) }

@@ -5,8 +5,8 @@ ghost use Rattle.dine_core.specs.Standing.{IsFresh};
 use super::SiteCore;
 use std::marker::Model;
 
-/// A core without events that may be dropped, unlike the core itself: so it can move into a thread that may be refused. Contracts
-/// see that core.
+/// A core without events that may be dropped, unlike the core itself: so it can move into a thread that may be refused.
+/// Contracts see that core.
 pub struct Packed {
     core: SiteCore,
 }

@@ -157,7 +157,8 @@ pub(crate) fn with_receiver(sites: BitSet64, core: &SiteCore, kind: EventKind) -
     }
 }
 
-/// The first event that the site may do now, in the fixed order. A letter lies in the link to it at just the places in `nonempty_inboxes`.
+/// The first event that the site may do now, in the fixed order. A letter lies in the link to it at just the places in
+/// `nonempty_inboxes`.
 pub(crate) fn first_kind(nonempty_inboxes: BitSet64, core: &SiteCore) -> Option<EventKind>
     ensures { result ≡ option_or (option_map EventKind.Take (position (λ is_in. is_in) nonempty_inboxes)) (next_of core.now) }
 {
@@ -167,8 +168,8 @@ pub(crate) fn first_kind(nonempty_inboxes: BitSet64, core: &SiteCore) -> Option<
     core.next_event()
 }
 
-/// The `n`-th event that the site may do now, in the fixed order, from 0. A letter lies in the link to it at just the places in
-/// `nonempty_inboxes`.
+/// The `n`-th event that the site may do now, in the fixed order, from 0. A letter lies in the link to it at just the
+/// places in `nonempty_inboxes`.
 pub(crate) fn nth_kind(nonempty_inboxes: BitSet64, core: &SiteCore, n: u32) -> Option<EventKind>
     ensures { result ≡ option_or (option_map EventKind.Take (nth_position (λ is_in. is_in) n nonempty_inboxes)) (slice_get (own_kinds_now core.now) (n - count_by (λ is_in. is_in) nonempty_inboxes)) }
 {

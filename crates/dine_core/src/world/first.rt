@@ -20,7 +20,8 @@ impl World {
         event
     }
 
-    // The sites that may have an enabled event, without those that were found to have none; and the first enabled event.
+    // The sites that may have an enabled event, without those that were found to have none; and the first enabled
+    // event.
     fn search(&self) -> (BitSet64, Option<Event>)
         ensures may_be_enabled { HasAllEnabled self.now result.0 }
         ensures first { ForEachWorld self.now (λ plan world. result.1 ≡ slice_get (enabled_events plan world) 0) }

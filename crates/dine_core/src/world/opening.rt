@@ -165,8 +165,8 @@ pub(super) fn spend(sites: Vec<WorldSite>)
     sites.destroy_empty();
 }
 
-/// How many events the world of the plan can have: three a meal and, for each edge, four for each meal that is due at its
-/// ends and eight more.
+/// How many events the world of the plan can have: three a meal and, for each edge, four for each meal that is due at
+/// its ends and eight more.
 pub(super) fn bound_of(plan: &Plan) -> u64
     ensures { result ≡ bound_of plan.now }
 {

@@ -8,8 +8,8 @@ impl World {
     ghost use Rattle.dine_rules.specs.World.{IsComplete};
     ghost use Rattle.dine_core.specs.Worlds.{ForEachWorld, RunsTo};
 
-    /// Does for each choice in turn the enabled event with that number, from 0. A choice with none does nothing and is passed
-    /// over. It answers how many events took effect.
+    /// Does for each choice in turn the enabled event with that number, from 0. A choice with none does nothing and is
+    /// passed over. It answers how many events took effect.
     pub fn replay(&mut self, choices: &[u32]) -> u64
         ensures { ForEachWorld self.old (λ plan world. RunsTo plan (replay plan (from_here world) choices.now) result self.new) }
     {

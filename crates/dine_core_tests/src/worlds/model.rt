@@ -217,7 +217,8 @@ impl<'a, R: Abort> Model<'a, R> {
         }
     }
 
-    /// The periods of a log: one from the start, at the lower end, and one from each Move. A meal is one more of the last.
+    /// The periods of a log: one from the start, at the lower end, and one from each Move. A meal is one more of the
+    /// last.
     pub(super) fn periods_of(&self, lower: u32, log: &[Entry]) -> Vec<Period> {
         let mut periods = Vec::new(self.alloc);
         let first = period_behind([].as_slice(), lower);
@@ -340,7 +341,8 @@ impl<'a, R: Abort> Model<'a, R> {
         self.graph.other(self.edge_at(site, place), site)
     }
 
-    // How many forks the site holds at the place: the lower end has one at the start, a taken one comes, a put one goes.
+    // How many forks the site holds at the place: the lower end has one at the start, a taken one comes, a put one
+    // goes.
     fn forks_held(&self, site: u32, place: u32) -> u32 {
         let (lower, _) = self.graph.ends(self.edge_at(site, place));
         self.held(site, place, Kind4::Fork, site == lower)

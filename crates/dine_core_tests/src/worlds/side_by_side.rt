@@ -261,8 +261,8 @@ fn replay_alike(rt: &impl Abort, trial: &Trial, choices: &[u32]) {
     end_both(rt, &model, world);
 }
 
-// Both finish from states all along the run. Nothing but `finish` asks a world for its first event alone, and so has it keep which
-// sites it found to have none.
+// Both finish from states all along the run. Nothing but `finish` asks a world for its first event alone, and so has it
+// keep which sites it found to have none.
 fn finish_alike(rt: &impl Abort, trial: &Trial, choices: &[u32]) {
     for length in 0..choices.len() {
         if length % 5 == 0 {
@@ -291,7 +291,8 @@ fn go_alike_by(rt: &impl Abort, trial: &Trial) {
     }
 }
 
-// A branch is what can still be chosen at its turn, the chosen event last. Before the last branch all was compared already.
+// A branch is what can still be chosen at its turn, the chosen event last. Before the last branch all was compared
+// already.
 fn run_branches(rt: &impl Abort, trial: &Trial, branches: &mut Vec<Vec<Event>>) {
     let (mut model, mut world) = (model_of(rt, trial), world_of(rt, trial));
     let known = branches.len() as u64;

@@ -5,7 +5,8 @@ use lib.ListN.{get_elem?}
 use Rattle.dine_rules.specs.declared.letters.Letter.{Letter}
 use Rattle.dine_link.specs.declared.rule.Known.{Known}
 
--- what a pass knows: whether it may put and may take, all that was put where it may put, and all that was taken where it may take
+-- what a pass knows: whether it may put and may take, all that was put where it may put, and all that was taken where
+-- it may take
 abbrev pub known : Bool → Bool → List Letter → List Letter → Known
 known puts takes put taken = record { puts = puts; takes = takes; put = put; taken = taken }
 
@@ -14,7 +15,8 @@ pub record Fits (putter taker : ℕ) (put taken : List Letter) (pass : ℕ) (vie
   pub puts : view.puts ≡ true → (pass ≡ putter) × (view.put ≡ put)
   pub takes : view.takes ≡ true → (pass ≡ taker) × (view.taken ≡ taken)
 
--- At each moment what was put is what was taken and then what the channel holds, oldest first, and each pass fits these lists.
+-- At each moment what was put is what was taken and then what the channel holds, oldest first, and each pass fits these
+-- lists.
 pub record IsInOrder (queue : List Letter) (views : List Known) : Type 0 where
   pub putter : ℕ
   pub taker : ℕ

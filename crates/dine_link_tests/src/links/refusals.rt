@@ -62,7 +62,8 @@ fn channel_refuses_steps_where_the_other_end_is_gone(rt: HostRuntime) -> Result<
     Ok(())
 }
 
-// Ends that refuse after one step hand back what they were given, and then refuse each step, though the other end is there.
+// Ends that refuse after one step hand back what they were given, and then refuse each step, though the other end is
+// there.
 fn refuses_after_one_step<R: Wait + Abort>(rt: &R, alloc: Global) -> Result<(), LinkFault> {
     let (tx, rx) = ChannelLane::pair(alloc, 4, 2)?;
     let (mut tx, mut rx) = (fault_tx(tx, Some(1)), fault_rx(rx, Some(1)));

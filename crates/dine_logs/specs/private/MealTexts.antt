@@ -8,7 +8,8 @@ use Rattle.dine_logs.specs.Logs.{entries_text}
 abbrev pub meals_text : List ℕ → ℕ → ℕ → List ℕ
 meals_text name first count = entries_text (λ (site : ℕ). name) (codes ", ") (meals_from 0 first count)
 
--- the text has the meals from 1 on, and `starts` says how long the text of the first k of them is, for each k from none to all
+-- the text has the meals from 1 on, and `starts` says how long the text of the first k of them is, for each k from none
+-- to all
 pub record IsMealTexts (name text starts : List ℕ) : Type 0 where
   pub some : 1 ≤ length starts
   pub starts_are : (k d : ℕ) → k < length starts → slice_index_or starts k d ≡ length (meals_text name 1 k)

@@ -197,7 +197,8 @@ module _ (plan : SeenPlan) (is_plan : IsPlan plan) (states : WorldState) (links 
       let w = and_then_parts (λ (x : WorldState). after_events plan x events) (world_after plan world e) end h in
       ends_there w.0 end events (event_keeps plan world w.0 e is_plan kept w.1) w.2 (agrees_on world w.0 e events kept w.1 agrees) (leads_on world w.0 e events kept w.1 agrees leads) s is_site
 
-  -- An accepted order of the sites' journals leads to the world in which each site has the state that its journal led it to.
+  -- An accepted order of the sites' journals leads to the world in which each site has the state that its journal led
+  -- it to.
   pub journals_fix : (journals : List (List EventKind)) (events : List Event) (world : WorldState) → length states ≡ site_count plan
       → ((s : ℕ) → s < site_count plan → IsJournal plan s (journal_of journals s) (state_of states s))
       → FailAsShown plan journals states → IsOrderOf journals events → Reaches plan events world → world ≡ states

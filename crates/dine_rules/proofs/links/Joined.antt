@@ -10,8 +10,8 @@ use Rattle.dine_rules.specs.Streams.{KeepsStreams, KeepsStreamsAt, is_lower_at}
 use Rattle.dine_rules.proofs.lists.Counting.{forks_in-append, requests_in-append}
 use Rattle.dine_rules.proofs.one_site.PutBounds.{length-letters, dones_within, closes_within}
 
--- Place i of a site and place j of its neighbour are the two ends of an edge, and each site keeps its streams. What comes to
--- the site is what the neighbour put and it did not take, and what goes is the same the other way.
+-- Place i of a site and place j of its neighbour are the two ends of an edge, and each site keeps its streams. What
+-- comes to the site is what the neighbour put and it did not take, and what goes is the same the other way.
 pub record Joined (plan : SeenPlan) (s i other j : ℕ) (near far : LocalState) (coming going : List Letter) : Type 0 where
   pub neighbour : neighbour_at plan s i ≡ other
   pub differ : s ≢ other

@@ -14,7 +14,8 @@ use Rattle.dine_rules.proofs.one_place.Hands.{hand-same, meals_of-hand, hand-mor
 
 -- ---- the place
 
--- which end the site is; the edge; the site and the other end; the ends of the edge and the meals due, in order and by side
+-- which end the site is; the edge; the site and the other end; the ends of the edge and the meals due, in order and by
+-- side
 pub record Spot : Type 0 where
   pub edge : ℕ
   pub lower : Bool

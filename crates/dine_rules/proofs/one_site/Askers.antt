@@ -224,8 +224,8 @@ module _ (plan : SeenPlan) (s i : ℕ) where
             omega (arith, other.1 steps)
       ]
 
--- The precedence of the asker: from a state that steps reach from the start, where the fork and the token are both held at a
--- place, steps without a Give there have at most one Begin.
+-- The precedence of the asker: from a state that steps reach from the start, where the fork and the token are both held
+-- at a place, steps without a Give there have at most one Begin.
 pub asker_first : (plan : SeenPlan) (s i : ℕ) (state new : LocalState) (before steps : List Step)
     → LeadTo plan s (start_of plan s) before state → i < length state.traffic → fork_at plan s state i ≡ 1 → token_at plan s state i ≡ 1
     → LeadTo plan s state steps new → list_any (is_give_at i) steps ≡ false → begins_in steps ≤ 1

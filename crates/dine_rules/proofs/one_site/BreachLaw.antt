@@ -12,7 +12,8 @@ use Rattle.dine_rules.specs.Local.{LocalState, traffic_at, edge_at, neighbour_at
 use Rattle.dine_rules.specs.Holdings.{fork_at, token_at, hand_at}
 use Rattle.dine_rules.specs.Breach.{was_sent_to, is_fork_of, has_all_of_neighbour, may_come, is_allowed, breach_before_close, first_breach}
 
--- ---- the tests of each letter, over plain values: the ones that allow it come true exactly where those of its breaches fail
+-- ---- the tests of each letter, over plain values: the ones that allow it come true exactly where those of its
+-- breaches fail
 
 request_none : (edge no_token one_fork done less all : Bool) → (less ≡ true → all ≡ false) → (edge && (no_token && one_fork) && (not done && less)) ≡ true
     → cond (not no_token || not one_fork || done || not edge || all) (Some RequestOutOfTurn) None ≡ None

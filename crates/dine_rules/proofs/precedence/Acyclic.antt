@@ -1,5 +1,5 @@
--- Precedence is acyclic in each world that events reach: a list of all sites keeps the preferred end of each edge first, and
--- a site that begins a meal goes to the end of it.
+-- Precedence is acyclic in each world that events reach: a list of all sites keeps the preferred end of each edge
+-- first, and a site that begins a meal goes to the end of it.
 use Rattle.std.proofs.Common.{◌≡◌, ◌≢◌, ℕ, ◌+◌, ◌<◌, Bool, true, false, cond, List, [], ◌∷◌, length, slice_set, Some, IsPermutation, sym, ◌∙◌, ap, subst, inl, inr, arith}
 use Rattle.std.specs.List.{range_with_len}
 use Rattle.std.proofs.lemmas.Bool.{cases_eq}

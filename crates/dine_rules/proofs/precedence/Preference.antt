@@ -23,7 +23,8 @@ use Rattle.dine_rules.proofs.links.WorldStreams.{WorldKeeps}
 
 -- ---- over plain logs
 
--- The lower end has precedence: it holds the fork clean, or the fork is on its way there, or the higher end holds it dirty.
+-- The lower end has precedence: it holds the fork clean, or the fork is on its way there, or the higher end holds it
+-- dirty.
 abbrev pub lower_first : Bool → Bool → Bool → Bool → Bool → Bool
 lower_first held_low sent_low held_high dirty_low dirty_high = cond held_low (not dirty_low) (cond sent_low true (cond held_high dirty_high false))
 

@@ -1,4 +1,5 @@
--- What a step of one site does to the precedence at its edges: Begin puts the other end first, and no other step changes it.
+-- What a step of one site does to the precedence at its edges: Begin puts the other end first, and no other step
+-- changes it.
 use Rattle.std.proofs.Common.{◌≡◌, ◌≢◌, ◌⊎◌, ℕ, ◌+◌, ◌<◌, ◌≤◌, Bool, true, false, cond, not, ◌||◌, ◌==◌, nat_lt, List, [], ◌∷◌, ◌++◌, length, get_or, slice_set, refl, sym, ◌∙◌, ap, inl, inr, arith, zero-add}
 use Rattle.std.proofs.lemmas.Bool.{and_parts, not-true, cond-true, cond-false, eq-eqb, ne_eqb, eqb-true, le-ltb, lt-ltb}
 use Rattle.dine_token.specs.declared.entry.Entry.{Entry}

@@ -19,8 +19,8 @@ ghost use Rattle.dine_rules.specs.declared.breach.Breach.TheVariants.{ClosedEarl
 ghost use Rattle.dine_rules.specs.declared.letters.Letter.{Letter};
 ghost use Rattle.dine_rules.specs.declared.letters.Letter.TheVariants.{Close};
 
-/// Each edge has a place at its lower end and one at its higher, and each place of a site is an end of its edge, at the other end of which
-/// is a site.
+/// Each edge has a place at its lower end and one at its higher, and each place of a site is an end of its edge, at the
+/// other end of which is a site.
 pub fn edges_have_a_place_at_each_end()
     ensures ends { (plan : SeenPlan) (edge : ℕ) → IsPlan plan → edge < edge_count plan
         → AreEndsOfEdge plan (lo_of plan edge) (place_of plan (lo_of plan edge) edge) (hi_of plan edge) (place_of plan (hi_of plan edge) edge) }
@@ -31,23 +31,23 @@ pub fn edges_have_a_place_at_each_end()
     ensures sites { (plan : SeenPlan) (s i : ℕ) → IsPlan plan → i < length (edges_of plan s) → neighbour_at plan s i < site_count plan }
 {}
 
-/// In every world that events reach from the start the two ends of each link took prefixes of what the other put. Where the world
-/// is complete, they took all. The next letter of a world is that of the two ends' lists.
+/// In every world that events reach from the start the two ends of each link took prefixes of what the other put. Where
+/// the world is complete, they took all. The next letter of a world is that of the two ends' lists.
 pub fn reached_worlds_have_linked_ends()
     ensures linked { ForEachLink (λ plan world s i. AreLinked (traffic_at (state_of world s) i) (traffic_across plan world s i)) }
     ensures next { (plan : SeenPlan) (world : WorldState) (s i : ℕ) → next_letter plan world s i ≡ next_between (traffic_at (state_of world s) i) (traffic_across plan world s i) }
     ensures joined { ForEachLink (λ plan world s i. IsComplete plan world → AreWhollyTaken (traffic_at (state_of world s) i) (traffic_across plan world s i)) }
 {}
 
-/// Where Close was taken from a link all was taken: what was put is a lawful stream, what was taken is a prefix of it, and
-/// nothing stands behind Close.
+/// Where Close was taken from a link all was taken: what was put is a lawful stream, what was taken is a prefix of it,
+/// and nothing stands behind Close.
 pub fn closed_links_are_wholly_taken()
     ensures { (from_lower : Bool) (taken put : List Letter) → IsLawfulStream from_lower put → IsPrefix taken put → has_close taken ≡ true → taken ≡ put }
 {}
 
-/// A letter that comes next and is not allowed is a Close, and its breach is that it came early. So it is for two sites that keep
-/// their streams, at the two ends of an edge where each took a prefix of what the other put, also where sites break off.
-/// Whole lists are counted, and no order of events is asked for.
+/// A letter that comes next and is not allowed is a Close, and its breach is that it came early. So it is for two sites
+/// that keep their streams, at the two ends of an edge where each took a prefix of what the other put, also where sites
+/// break off. Whole lists are counted, and no order of events is asked for.
 pub fn refused_letters_are_closes()
     ensures close { (plan : SeenPlan) (s i other j : ℕ) (here there : LocalState) (letter : Letter) → IsPlan plan → AreEndsOfEdge plan s i other j
         → KeepsStreams plan s here → KeepsStreams plan other there → AreLinked (traffic_at here i) (traffic_at there j)
@@ -57,7 +57,8 @@ pub fn refused_letters_are_closes()
         → next_between (traffic_at here i) (traffic_at there j) ≡ Some letter → first_breach plan s here i letter ≡ Some breach → breach ≡ ClosedEarly }
 {}
 
-/// A site that breaks off at the start puts a Close. It comes next at the other end, and there it is told that it came early.
+/// A site that breaks off at the start puts a Close. It comes next at the other end, and there it is told that it came
+/// early.
 pub fn early_close_comes_as_worked()
     ensures next { next_between (traffic_at (start_of (pair 1 1) 0) 0) (traffic_at broken_off 0) ≡ Some Close }
     ensures told { first_breach (pair 1 1) 0 (start_of (pair 1 1) 0) 0 Close ≡ Some ClosedEarly }
@@ -71,8 +72,8 @@ pub fn kept_streams_account_for_fork_and_token()
         → AccountsForToken plan s (edge_at plan s i) (traffic_at state i) }
 {}
 
-/// Two ends of an edge, of which each took a prefix of what the other put, hold at most one fork if both account for it, and at
-/// most one token if both account for that. So it is also where sites broke off.
+/// Two ends of an edge, of which each took a prefix of what the other put, hold at most one fork if both account for
+/// it, and at most one token if both account for that. So it is also where sites broke off.
 pub fn linked_ends_have_at_most_one_fork_and_token()
     ensures fork { (plan : SeenPlan) (edge low_ate high_ate : ℕ) (low high : Traffic) → IsPlan plan → edge < edge_count plan
         → AccountsForFork plan (lo_of plan edge) edge low_ate low → AccountsForFork plan (hi_of plan edge) edge high_ate high → AreLinked low high
@@ -82,9 +83,10 @@ pub fn linked_ends_have_at_most_one_fork_and_token()
         → tokens_held plan (lo_of plan edge) edge low + tokens_held plan (hi_of plan edge) edge high ≤ 1 }
 {}
 
-/// At two ends of an edge, of which each took in order the first of the Forks that the other put, and which both account for the fork, each
-/// Fork that was put and the fork in hand have the value that their log gives: the plan's, after the acts of the log's meals in order. So it
-/// is also where sites broke off. A whole log gives, where no job of the plan sets a value, what all jobs of both ends add up to.
+/// At two ends of an edge, of which each took in order the first of the Forks that the other put, and which both
+/// account for the fork, each Fork that was put and the fork in hand have the value that their log gives: the plan's,
+/// after the acts of the log's meals in order. So it is also where sites broke off. A whole log gives, where no job of
+/// the plan sets a value, what all jobs of both ends add up to.
 pub fn values_are_those_of_the_logs()
     ensures low { (plan : SeenPlan) (edge low_ate high_ate : ℕ) (low high : Traffic) → IsPlan plan → edge < edge_count plan
         → AccountsForFork plan (lo_of plan edge) edge low_ate low → AccountsForFork plan (hi_of plan edge) edge high_ate high → AreForksLinked low high
@@ -102,9 +104,9 @@ pub fn reached_worlds_have_the_values_of_their_logs()
     ensures { ForEachLink (λ plan world s i. TellsValues plan s (edge_at plan s i) (state_of world s).ate (traffic_at (state_of world s) i)) }
 {}
 
-/// Two ends of an edge, of which each took all that the other put, hold exactly one fork if both account for it. Its log is lawful
-/// and has each meal that either end ate exactly once. They hold exactly one token if both account for that. So it is for
-/// the lists that are left when threads have joined, whatever order their events had.
+/// Two ends of an edge, of which each took all that the other put, hold exactly one fork if both account for it. Its
+/// log is lawful and has each meal that either end ate exactly once. They hold exactly one token if both account for
+/// that. So it is for the lists that are left when threads have joined, whatever order their events had.
 pub fn joined_ends_have_one_whole_fork_and_one_token()
     ensures fork { (plan : SeenPlan) (edge low_ate high_ate : ℕ) (low high : Traffic) → IsPlan plan → edge < edge_count plan
         → AccountsForFork plan (lo_of plan edge) edge low_ate low → AccountsForFork plan (hi_of plan edge) edge high_ate high → AreWhollyTaken low high

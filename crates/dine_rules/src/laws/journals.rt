@@ -19,9 +19,9 @@ ghost use Rattle.dine_rules.specs.declared.letters.Kind4.TheVariants as kind;
 ghost use Rattle.dine_rules.specs.declared.letters.Letter.{Letter};
 ghost use Rattle.dine_rules.specs.declared.letters.Letter.TheVariants as letter;
 
-/// Two lists of events that the world accepts from its start on end in the same world where they have the same events of each
-/// site in the same order, however these lie between those of the other sites. So do two that have placed the same number of each
-/// journal's events.
+/// Two lists of events that the world accepts from its start on end in the same world where they have the same events
+/// of each site in the same order, however these lie between those of the other sites. So do two that have placed the
+/// same number of each journal's events.
 pub fn order_between_sites_does_not_matter()
     ensures same { (plan : SeenPlan) (events others : List Event) (world other : WorldState) → Reaches plan events world → Reaches plan others other
         → ((s : ℕ) → part_of s events ≡ part_of s others) → world ≡ other }
@@ -30,9 +30,9 @@ pub fn order_between_sites_does_not_matter()
         → ((s : ℕ) → length (part_of s events) ≡ length (part_of s others)) → world ≡ other }
 {}
 
-/// Where some order of the journals is accepted and makes the world complete, events that were placed until no site is ready are
-/// such an order, whichever ready site was taken each time. So where not all are placed, or the world is not complete, there is no
-/// such order.
+/// Where some order of the journals is accepted and makes the world complete, events that were placed until no site is
+/// ready are such an order, whichever ready site was taken each time. So where not all are placed, or the world is not
+/// complete, there is no such order.
 pub fn orders_that_exist_are_found()
     ensures all_placed { (plan : SeenPlan) (journals : List (List EventKind)) (order placed : List Event) (world : WorldState)
         → IsWholeOrder plan journals order → IsPlacedToEnd plan journals placed world → IsOrderOf journals placed }
@@ -40,8 +40,8 @@ pub fn orders_that_exist_are_found()
         → IsWholeOrder plan journals order → IsPlacedToEnd plan journals placed world → IsComplete plan world }
 {}
 
-/// An event of a site is enabled after an event of another site exactly where it was before, unless that event puts a letter on a
-/// link to the site.
+/// An event of a site is enabled after an event of another site exactly where it was before, unless that event puts a
+/// letter on a link to the site.
 pub fn disabled_events_wait_for_a_letter()
     ensures { (plan : SeenPlan) (events : List Event) (world new : WorldState) (e other : Event) → IsPlan plan → Reaches plan events world
         → world_after plan world other ≡ Some new → e.site ≢ other.site
@@ -61,15 +61,15 @@ pub fn journals_grow_by_each_event()
         → IsJournal plan s (journal ++ kind ∷ []) (after plan s state step) }
 {}
 
-/// An order of the sites' journals that the world accepts leads to the world in which each site is in the state that its journal
-/// led it to, where the plan's jobs fail as the journals show.
+/// An order of the sites' journals that the world accepts leads to the world in which each site is in the state that
+/// its journal led it to, where the plan's jobs fail as the journals show.
 pub fn journals_fix_the_world()
     ensures { (plan : SeenPlan) (journals : List (List EventKind)) (states world : WorldState) (events : List Event) → IsPlan plan
         → AreStatesAfter plan journals states → FailAsShown plan journals states → IsOrderOf journals events → Reaches plan events world → world ≡ states }
 {}
 
-/// A plan with other outcomes of its jobs is a plan, with these outcomes, and else the same sites, jobs and edges. What journals led
-/// to they lead to also there, since they show outcomes of their own: the plan's count in a world alone.
+/// A plan with other outcomes of its jobs is a plan, with these outcomes, and else the same sites, jobs and edges. What
+/// journals led to they lead to also there, since they show outcomes of their own: the plan's count in a world alone.
 pub fn journals_stand_for_other_outcomes()
     ensures plan { (plan : SeenPlan) (fails : List (List Bool)) → IsPlan plan → IsPlan (with_outcomes plan fails) }
     ensures outcomes { (plan : SeenPlan) (fails : List (List Bool)) (own : List Bool) (s k : ℕ) (failed : Bool) → slice_get fails s ≡ Some own → slice_get own k ≡ Some failed
@@ -98,11 +98,12 @@ pub fn journals_and_links_fix_the_logs()
         → fork_log plan world (edge_at plan s i) ≡ hand_at s (state_of states s) i }
 {}
 
-/// The journals of a pair with one job each. The lower site goes as far as it can alone, and then the higher, and so on: this
-/// order is accepted, and one that starts with the higher site too. Where the higher site takes twice after the lower's first four
-/// events, no event more can be placed. A site's journal gives what it ate and put.
+/// The journals of a pair with one job each. The lower site goes as far as it can alone, and then the higher, and so
+/// on: this order is accepted, and one that starts with the higher site too. Where the higher site takes twice after
+/// the lower's first four events, no event more can be placed. A site's journal gives what it ate and put.
 ///
-/// A journal shows which meals failed: the last one before each Quit. A site that resigns may quit after one that is not its last, once.
+/// A journal shows which meals failed: the last one before each Quit. A site that resigns may quit after one that is
+/// not its last, once.
 pub fn journals_go_as_worked()
     ensures lowest_first { accepted_as (merged (0 ∷ 0 ∷ 0 ∷ 0 ∷ 1 ∷ 1 ∷ 0 ∷ 0 ∷ 1 ∷ 1 ∷ 1 ∷ 1 ∷ 1 ∷ 0 ∷ 0 ∷ 1 ∷ 0 ∷ 1 ∷ []) lower_journal higher_journal)
         ≡ Some (18, Meal 0 1 ∷ Move 1 ∷ Meal 1 1 ∷ []) }

@@ -1,4 +1,5 @@
--- What the sites left where some of them ended with a fault: at most one fork an edge, and breaches that tell of an early Close.
+-- What the sites left where some of them ended with a fault: at most one fork an edge, and breaches that tell of an
+-- early Close.
 use Rattle.std.proofs.Common.{◌≡◌, ◌≢◌, ◌⊎◌, ℕ, zero, suc, ◌+◌, ◌*◌, ◌<◌, ◌≤◌, ◌==◌, ◌++◌, Bool, true, false, cond, List, [], ◌∷◌, All, length, map, replicate, set, slice_get, Option, Some, None, option_map, option_to_list, get_or, refl, sym, ◌∙◌, ap, subst, inl, inr, arith, append_assoc, length-append}
 use Rattle.std.specs.List.{cons_option, filter_map, range_with_len}
 use Rattle.std.proofs.lemmas.Bool.{cases_Bool, cases_eq, cond-true, cond-false, eq-eqb, ne_eqb, or_left, or_right}

@@ -1,4 +1,5 @@
--- The rows of what was gathered of a plan: it is gathered of that plan, and how many meals each site ate gives them, but for values and failed jobs.
+-- The rows of what was gathered of a plan: it is gathered of that plan, and how many meals each site ate gives them,
+-- but for values and failed jobs.
 use Rattle.std.proofs.Common.{◌≡◌, ℕ, ◌<◌, Bool, true, Some, List, length, map, get_or, slice_get, option_map, sym, ◌∙◌, ap, ap₂, subst, arith}
 use Rattle.std.specs.List.{range_with_len}
 use Rattle.std.proofs.lemmas.List.{length-map}

@@ -56,7 +56,8 @@ module _ {Lane Tx Closed Rx D : Type 0} where
     pub ports : (s : ℕ) (end : SiteEnd Lane D Tx Closed Rx) → slice_get ends s ≡ Some end → length end.ports.items ≡ length (edges_of plan s)
     pub forks : AreForksOf plan (forks_left ends)
 
-  -- Room for all that is gathered: empty lists with room for each site, place and edge, and an empty slot for each edge.
+  -- Room for all that is gathered: empty lists with room for each site, place and edge, and an empty slot for each
+  -- edge.
   pub record IsRoomFor (plan : SeenPlan) (room : Room Lane D Tx Closed Rx) : Type 0 where
     pub sites : site_count plan ≤ vec_capacity room.sites
     pub no_site : vec_len room.sites ≡ 0

@@ -29,8 +29,8 @@ module _ {Lane Tx Closed Rx : Type 0} where
 abbrev pub AreRingersOf : SeenPlan → List SeenBell → List (Vec (Option SeenRinger)) → Type 0
 AreRingersOf plan bells rows = (s i : ℕ) (bell : SeenBell) → slice_get bells s ≡ Some bell → i < length (edges_of plan s) → slot_at rows (record { site = s; at = i }) ≡ Some (new_ringer bell.identity i)
 
--- The ports of the edges below n stand at their sites, in edge order. Nothing was put, taken or rung at them, and the two of an edge are
--- wired, and each rings the other end's bell.
+-- The ports of the edges below n stand at their sites, in edge order. Nothing was put, taken or rung at them, and the
+-- two of an edge are wired, and each rings the other end's bell.
 pub record AreLaid {Identity : Type 0} (plan : SeenPlan) (bells : List SeenBell) (n : ℕ) (rows : List (List (SeenPort Identity))) : Type 0 where
   pub count : length rows ≡ site_count plan
   pub edges : (s : ℕ) → s < site_count plan → map (λ (port : SeenPort Identity). port.tx.link.edge) (slice_index_or rows s []) ≡ filter (is_end plan s) (range_with_len 0 n)

@@ -31,8 +31,8 @@ module _ {Lane Tx Closed Rx Identity D : Type 0} (live : Tx → SeenEnd Identity
     fault = end.fault;
   }
 
-  -- What moves into a thread is ready: a core without events with unused link ends and a bell for its places, and a diner with
-  -- room for all its meals.
+  -- What moves into a thread is ready: a core without events with unused link ends and a bell for its places, and a
+  -- diner with room for all its meals.
   pub record IsReady (room : D → ℕ) (seat : Seat Lane D Tx Closed Rx) : Type 0 where
     pub fresh : IsFresh seat.packed
     pub ports : length seat.ports.items ≡ length seat.packed.places

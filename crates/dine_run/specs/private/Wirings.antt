@@ -22,8 +22,8 @@ module _ {Identity : Type 0} where
   abbrev pub port_at : List (List (SeenPort Identity)) → Spot → Option (SeenPort Identity)
   port_at rows spot = slice_get (slice_index_or rows spot.site []) spot.at
 
-  -- A port stands at each end of the edge. Each takes from the link that the other puts in, and the links have the names of the
-  -- edge and of the site that puts.
+  -- A port stands at each end of the edge. Each takes from the link that the other puts in, and the links have the
+  -- names of the edge and of the site that puts.
   pub record IsWired (plan : SeenPlan) (rows : List (List (SeenPort Identity))) (edge : ℕ) : Type 0 where
     pub low : SeenPort Identity
     pub high : SeenPort Identity
@@ -36,8 +36,8 @@ module _ {Identity : Type 0} where
     pub high_edge : high.tx.link.edge ≡ edge
     pub high_from : high.tx.link.from ≡ hi_of plan edge
 
-  -- The port at each end of the edge has the ringer of the other end's bell, with the place of the edge there as its number, and it
-  -- never rang.
+  -- The port at each end of the edge has the ringer of the other end's bell, with the place of the edge there as its
+  -- number, and it never rang.
   pub record IsRung (plan : SeenPlan) (bells : List SeenBell) (rows : List (List (SeenPort Identity))) (edge : ℕ) : Type 0 where
     pub low : SeenPort Identity
     pub high : SeenPort Identity

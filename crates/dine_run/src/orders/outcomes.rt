@@ -42,8 +42,8 @@ fn shown_in(alloc: Global, jobs: u32, journal: &[EventKind]) -> Result<Vec<bool>
     Ok(fails)
 }
 
-// The site quits after so many meals: the last one failed. Where none ended, or the site has no job of that number, nothing
-// is noted.
+// The site quits after so many meals: the last one failed. Where none ended, or the site has no job of that number,
+// nothing is noted.
 fn note(fails: &mut Vec<bool>, ended: usize)
     ensures { fails.new.items ≡ noted ended fails.old.items }
 {

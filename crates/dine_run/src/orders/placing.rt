@@ -37,7 +37,8 @@ pub(super) fn place_all(
     Ok(placed)
 }
 
-// Does the next event of the lowest ready site. None where no site is ready. Each site that was tried in vain leaves the set.
+// Does the next event of the lowest ready site. None where no site is ready. Each site that was tried in vain leaves
+// the set.
 fn place_next(
     journals: &[Vec<EventKind>],
     counts: &[u32],
@@ -58,7 +59,8 @@ fn place_next(
     None
 }
 
-// The next event of the site's journal, where so many of each site's were placed. None where there is none, or no such site.
+// The next event of the site's journal, where so many of each site's were placed. None where there is none, or no such
+// site.
 fn next_kind(journals: &[Vec<EventKind>], counts: &[u32], site: u32) -> Option<EventKind>
     ensures { result ≡ kind_at (lists_in journals.now) counts.now site }
 {

@@ -43,8 +43,8 @@ fn failed_job_is_counted_and_the_site_goes_on(rt: HostRuntime) {
     );
 }
 
-// What is left of the lower site of the pair, where the higher one asked and closed at once: its end, the link to the higher
-// site with all that it put, and the bell that it rang.
+// What is left of the lower site of the pair, where the higher one asked and closed at once: its end, the link to the
+// higher site with all that it put, and the bell that it rang.
 fn early_closed<L: Lane, R: Wait + Abort>(
     rt: &R,
     alloc: Global,

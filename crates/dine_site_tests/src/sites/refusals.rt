@@ -23,8 +23,8 @@ const DONE_AND_CLOSE: [EventKind; 6] = [
     EventKind::Close(0),
 ];
 
-// The lower site, whose link from the neighbour gives nothing, with its bell rung, or whose ring is refused. It has eaten and said Done
-// by then.
+// The lower site, whose link from the neighbour gives nothing, with its bell rung, or whose ring is refused. It has
+// eaten and said Done by then.
 fn lower_is_refused<R: Wait + Abort>(
     rt: &R,
     alloc: Global,

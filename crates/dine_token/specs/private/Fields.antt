@@ -20,8 +20,8 @@ seen_kept fork = record {
 abbrev pub seen : Inside → SeenFork
 seen fork = seen_kept fork.kept.value
 
--- The fork is a proper one, its periods, its location, its dirtiness and the meals of each end are those of the log, and there is room for
--- every period to come: one more than the meals due to both ends.
+-- The fork is a proper one, its periods, its location, its dirtiness and the meals of each end are those of the log,
+-- and there is room for every period to come: one more than the meals due to both ends.
 pub record IsKept (fork : Kept) : Type 0 where
   pub proper : IsFork (seen_kept fork)
   pub periods : fork.periods.items ≡ periods_of fork.lower (entries_of fork.periods.items)

@@ -1,5 +1,5 @@
--- The choices lead from the start to a world, the first enabled events lead on from there, and the two counts come to that
--- of the whole run.
+-- The choices lead from the start to a world, the first enabled events lead on from there, and the two counts come to
+-- that of the whole run.
 use Rattle.std.proofs.Common.{◌≡◌, ◌+◌, ◌∙◌, Bool, List, [], ap, ap₂, arith, subst, sym}
 use Rattle.std.proofs.lemmas.Result.{IfOk-weaker}
 use Rattle.dine_core.specs.Schedules.{after_choices, from_here, replay, whole_run}
