@@ -405,7 +405,6 @@ impl SiteCore {
     }
 
     /// Begins a meal with all forks, and writes it into each: into the log, and by the job's act into the value.
-    #[inline(always)]
     pub fn begin(&mut self) -> Meal
         requires { can_begin self.old ≡ true }
         ensures core { self.new ≡ begun self.old }
@@ -495,8 +494,20 @@ impl SiteCore {
         if let Some(breach) = place.breach_of(site, ate, &letter) {
             return Err((letter, breach));
         }
-        self.places.note(i, letter);
+        self.take_in_turn(i, letter);
         Ok(())
+    }
+
+    /// Takes a letter at place `i` that is in turn there.
+    pub(crate) fn take_in_turn(&mut self, i: u32, letter: Letter)
+        requires place { i < length self.old.places }
+        requires in_turn { breach_at self.old.site self.old.ate (place_at self.old i) letter ≡ None }
+        ensures core { self.new ≡ took i letter self.old }
+        ensures proper { IsProper (step.Take i letter) }
+        ensures taken { ForEachState self.old (λ plan state. step.may plan self.old.site state (step.Take i letter) ≡ true) }
+        ensures step { CoreSteps (step.Take i letter) self.old self.new }
+    {
+        self.places.note(i, letter);
     }
 
     /// The forks and tokens that the site holds, in edge order.

@@ -1,6 +1,7 @@
 //! All sites of a plan in one thread.
 
-ghost use Rattle.std.specs.Prelude.{◌≡◌, IfOk, MatchOption, MatchResult, None, Some, is_ok, option_map, slice_get, true};
+ghost use Rattle.std.specs.Prelude.{◌≡◌, ◌<◌, IfOk, IfSome, MatchOption, MatchResult, None, Some, is_ok, option_map, slice_get, true};
+ghost use Rattle.dine_core.specs.private.EnabledSites.{with_site};
 
 mod acts;
 mod counts;
@@ -171,16 +172,9 @@ impl World {
         ensures { WorldSteps event self.old self.new }
     {
         let world_site = &mut self.sites[event.site as usize];
-        self.may_be_enabled = acts::with_receiver(
-            self.may_be_enabled,
-            &world_site.core,
-            event.kind,
-        );
-        self.outdated_counts = acts::with_receiver(
-            self.outdated_counts,
-            &world_site.core,
-            event.kind,
-        );
+        let receiver = acts::receiver(&world_site.core, event.kind);
+        self.may_be_enabled = with_site(self.may_be_enabled, receiver);
+        self.outdated_counts = with_site(self.outdated_counts, receiver);
         self.outdated_counts.insert(event.site);
         let link = inboxes::changed_link(&world_site.core, event.kind);
         acts::act(world_site, self.links.as_mut_slice(), event.kind);
@@ -201,4 +195,16 @@ impl World {
             None => false,
         }
     }
+}
+
+// The set with the site, where there is one.
+fn with_site(sites: BitSet64, site: Option<u32>) -> BitSet64
+    requires { IfSome site (λ s. s < 64) }
+    ensures { result ≡ with_site site sites }
+{
+    let mut more = sites;
+    if let Some(site) = site {
+        more.insert(site);
+    }
+    more
 }

@@ -1,5 +1,5 @@
 -- What the marks of a list say of the list.
-use Rattle.std.proofs.Common.{◌&&◌, not, ap₂, get_or, ◌≤◌, mul-zero, append_assoc, ◌≡◌, ℕ, zero, suc, ◌+◌, ◌-◌, ◌<◌, Bool, false, cond, None, List, [], ◌∷◌, ◌++◌, length, set, map, replicate, refl, sym, ap, ◌∙◌, position, count_by, arith, length-append, length-set}
+use Rattle.std.proofs.Common.{◌&&◌, not, ap₂, get_or, ◌≤◌, mul-zero, append_assoc, ◌≡◌, ℕ, zero, suc, ◌+◌, ◌-◌, ◌<◌, Bool, false, true, cond, None, List, [], ◌∷◌, ◌++◌, length, set, map, replicate, refl, sym, ap, ◌∙◌, position, count_by, arith, length-append, length-set}
 use Rattle.std.specs.Option.{option_map}
 use Rattle.std.proofs.Math.Seq.{set-append_seam}
 use Rattle.std.proofs.lemmas.Grind.{common_steps}
@@ -122,5 +122,14 @@ unfolding marks_of
 marks_of-none p xs few none =
     let all : length xs + (64 - length xs) ≡ 64 = omega arith in
     map_none p (64 - length xs) xs none ∙ ap (λ n. replicate n false) all
+
+-- each element passes
+map_each : {X : Type 0} (p : X → Bool) (xs : List X) → ((i : ℕ) (past : X) → i < length xs → p (get_or xs i past) ≡ true) → map p xs ≡ replicate (length xs) true
+map_each p [] each = refl
+map_each p (x ∷ xs) each = ap₂ (λ mark marks. mark ∷ marks) (each 0 x (omega arith)) (map_each p xs (λ i past h. each (suc i) past (omega arith)))
+
+pub marks_of-each : {X : Type 0} (p : X → Bool) (xs : List X) → ((i : ℕ) (past : X) → i < length xs → p (get_or xs i past) ≡ true) → marks_of p xs ≡ replicate (length xs) true ++ replicate (64 - length xs) false
+unfolding marks_of
+marks_of-each p xs each = ap (λ marks. marks ++ replicate (64 - length xs) false) (map_each p xs each)
 
 pub ruleset marks_laws = (common_steps, marks_of-nil, marks_of-set, marks_of-push, nth_position-marks_of, position-marks_of, count_by-marks_of, both-marks_of, without-marks_of, nth_position-Some, nth_position-None)

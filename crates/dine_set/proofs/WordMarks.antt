@@ -1,5 +1,5 @@
 -- A word and the 64 truth values that it holds, through each operation on the word.
-use Rattle.std.proofs.Common.{ltb, replicate, ◌≡◌, ◌≢◌, ℕ, zero, suc, ◌+◌, ◌*◌, ◌/◌, ◌%◌, ◌^◌, ◌<◌, ◌≤◌, ◌==◌, ◌⊎◌, inl, inr, Bool, true, false, cond, Some, None, List, [], ◌∷◌, length, get_or, set, refl, sym, ap, ap₂, ◌∙◌, subst, arith, w64, get_or-set_same, get_or-set_other, slice_get, position, count_by, count_ones, length-set, ◌-◌, ◌&&◌, not, min}
+use Rattle.std.proofs.Common.{ltb, replicate, ◌≡◌, ◌≢◌, ℕ, zero, suc, ◌+◌, ◌++◌, ◌*◌, ◌/◌, ◌%◌, ◌^◌, ◌<◌, ◌≤◌, ◌==◌, ◌⊎◌, inl, inr, Bool, true, false, cond, Some, None, List, [], ◌∷◌, length, get_or, set, refl, sym, ap, ap₂, ◌∙◌, subst, arith, w64, get_or-set_same, get_or-set_other, slice_get, position, count_by, count_ones, length-set, ◌-◌, ◌&&◌, not, min}
 use Rattle.std.specs.Int.{bit_at, bit_not, trailing_zeros}
 use Rattle.std.specs.Int.Bits.{bit_and, bit_or}
 use Rattle.std.specs.List.{position_or_len}
@@ -13,6 +13,7 @@ use Rattle.std.proofs.lemmas.Nat.Bits.{shr_and_one, bit_at_and, bit_at_lowest, b
 use Rattle.std.proofs.lemmas.Option.{slice_get-get_or}
 use Rattle.std.proofs.lemmas.Simd.{bit_mask_l, mask_l-lt, ones-mask_l, first_set_mask_l}
 use Rattle.std.proofs.Math.Nat.{two-pow-succ}
+use Rattle.std.proofs.Math.Pow.{pow-lt}
 use lib.Lanes.{mask_l}
 use Rattle.dine_set.specs.Marks.{low_digits, marks_of_word, both_marks, marks_without}
 use Rattle.dine_set.specs.private.BitsFromMarks.{word_from_marks}
@@ -45,6 +46,43 @@ marks-zero = refl
 pub marks-all : marks_of_word 18446744073709551615 ≡ replicate 64 true
 unfolding marks_of_word
 marks-all = refl
+
+-- the digits of `2 ^ n - 1`
+digits-zero : (k : ℕ) → low_digits k 0 ≡ replicate k false
+digits-zero zero = refl
+digits-zero (suc k) = ap (λ (l : List Bool). false ∷ l) (digits-zero k)
+
+ones_turn : (p : ℕ) → 1 ≤ p → (((2 * p - 1) % 2 == 1) ≡ true) × ((2 * p - 1) / 2 ≡ p - 1)
+ones_turn p some = (let e : (2 * p - 1) % 2 ≡ 1 = omega (arith, some) in rw e refl, omega (arith, some))
+
+two-pow-some : (n : ℕ) → 1 ≤ 2 ^ n
+two-pow-some zero = omega arith
+two-pow-some (suc n) = omega (arith, two-pow-succ n, two-pow-some n)
+
+digits-below : (n k : ℕ) → low_digits (n + k) (2 ^ n - 1) ≡ replicate n true ++ replicate k false
+digits-below zero k =
+    ap₂ (λ (size p : ℕ). low_digits size p) (let e : 0 + k ≡ k = omega arith in e) (let e : 2 ^ 0 - 1 ≡ 0 = omega arith in e)
+    ∙ digits-zero k
+digits-below (suc n) k =
+    let turn = ones_turn (2 ^ n) (two-pow-some n) in
+    let twice : 2 ^ suc n ≡ 2 * 2 ^ n = omega (arith, two-pow-succ n) in
+    ap₂ (λ (size p : ℕ). low_digits size (p - 1)) (let e : suc n + k ≡ suc (n + k) = omega arith in e) twice
+    ∙ ap₂ (λ (mark : Bool) (rest : ℕ). mark ∷ low_digits (n + k) rest) turn.0 turn.1
+    ∙ ap (λ (l : List Bool). true ∷ l) (digits-below n k)
+
+-- `1 << n` is `2 ^ n`
+pub shifted-one : (n : ℕ) → n < 64 → 1 * 2 ^ n % 2 ^ 64 ≡ 2 ^ n
+shifted-one n lt = let small : 2 ^ n < 2 ^ 64 = pow-lt lt in omega (arith, small)
+
+pub shifted-some : (n : ℕ) → n < 64 → 1 ≤ 1 * 2 ^ n % 2 ^ 64
+shifted-some n lt = omega (arith, shifted-one n lt, two-pow-some n)
+
+pub marks-below : (n : ℕ) → n < 64 → marks_of_word (1 * 2 ^ n % 2 ^ 64 - 1) ≡ replicate n true ++ replicate (64 - n) false
+unfolding marks_of_word
+marks-below n lt =
+    ap (λ (p : ℕ). low_digits 64 (p - 1)) (shifted-one n lt)
+    ∙ ap (λ (k : ℕ). low_digits k (2 ^ n - 1)) (let e : 64 ≡ n + (64 - n) = omega (arith, lt) in e)
+    ∙ digits-below n (64 - n)
 
 -- ---- one mark
 bit_at_word : (w i : ℕ) → w < 2 ^ 64 → bit_at w i ≡ cond (get_or (marks_of_word w) i false) 1 0
@@ -161,4 +199,4 @@ marks-without a b h = digits_without 64 a b h
 pub both_lt : (a b : ℕ) → a < 2 ^ 64 → bit_and a b < 2 ^ 64
 both_lt a b h = omega (arith, and_le_l a b)
 
-pub ruleset word_laws = (common_steps, marks-zero, marks-all, slice_get-marks, insert_lt, marks-insert, marks-remove, trailing_lt, position-marks, count_by-marks, ones_few, marks-both, marks-without, both_lt)
+pub ruleset word_laws = (common_steps, marks-zero, marks-all, slice_get-marks, insert_lt, marks-insert, marks-remove, trailing_lt, position-marks, count_by-marks, ones_few, marks-both, marks-without, both_lt, shifted-some, marks-below)

@@ -1,6 +1,6 @@
 //! A set in one word.
 
-ghost use Rattle.std.specs.Prelude.{◌≡◌, ◌<◌, ◌≤◌, true, false, Some, IfNone, IfSome, is_none, replicate, slice_get, slice_set, position, count_by};
+ghost use Rattle.std.specs.Prelude.{◌≡◌, ◌<◌, ◌≤◌, ◌-◌, ◌++◌, true, false, Some, IfNone, IfSome, is_none, replicate, slice_get, slice_set, position, count_by};
 ghost use Rattle.dine_set.specs.Marks.{both_marks, marks_without, nth_position};
 
 use std::marker::Model;
@@ -43,6 +43,19 @@ impl BitSet64 {
         ensures { result ≡ replicate 64 true }
     {
         BitSet64 { word: u64::MAX }
+    }
+
+    /// The set of the numbers below `n`, which is at most 64.
+    pub fn below(n: u32) -> BitSet64
+        requires { n ≤ 64 }
+        ensures { result ≡ replicate n true ++ replicate (64 - n) false }
+    {
+        if n == 64 {
+            return BitSet64::full();
+        }
+        BitSet64 {
+            word: (1u64 << n) - 1,
+        }
     }
 
     /// Whether `i` is in the set.

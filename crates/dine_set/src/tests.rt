@@ -29,6 +29,18 @@ fn the_full_set_has_each_number(rt: HostRuntime) {
 }
 
 #[test]
+fn below_has_the_lower_numbers(rt: HostRuntime) {
+    let few = BitSet64::below(3);
+    assert_eq!(rt; (few.len(), few.nth(2)), (3, Some(2)));
+    assert!(rt; BitSet64::below(0).is_empty());
+    assert_eq!(rt;
+        (BitSet64::below(63).len(), BitSet64::below(63).has(63)),
+        (63, false)
+    );
+    assert_eq!(rt; BitSet64::below(64).len(), 64);
+}
+
+#[test]
 fn numbers_are_counted_and_found_in_order(rt: HostRuntime) {
     let mut set = BitSet64::empty();
     assert_eq!(rt; (set.len(), set.nth(0)), (0, None));

@@ -40,6 +40,10 @@ moved to fork = record fork { log = fork.log ++ Move to ∷ [] }
 abbrev pub eaten : ℕ → ℕ → Act → SeenFork → SeenFork
 eaten site k act fork = record fork { log = fork.log ++ Meal site k ∷ []; value = applied act fork.value }
 
+-- the fork was eaten with since it came, or has not moved yet [paper: clean and dirty]
+abbrev pub IsDirty : SeenFork → Type 0
+IsDirty fork = is_dirty fork.log ≡ true
+
 -- What is true of every fork: the lower end is below the higher, at most 1,000 meals are due to each, the log is
 -- lawful, and the value is at most 1,000,000 for the start and as much for each meal of the log.
 pub record IsFork (fork : SeenFork) : Type 0 where

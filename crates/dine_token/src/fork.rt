@@ -144,7 +144,8 @@ impl Fork {
 
     /// Whether the fork was eaten with since it came, or has not moved yet.
     pub fn is_dirty(&self) -> bool
-        ensures { result ≡ is_dirty self.now.log }
+        ensures dirty { result ≡ is_dirty self.now.log }
+        ensures proper { IsFork self.now }
     {
         self.kept.dirty
     }

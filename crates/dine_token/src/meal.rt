@@ -1,5 +1,5 @@
 ghost use Rattle.std.specs.Prelude.{◌≡◌, ◌<◌, ◌^◌, All, Some, length, map, slice_get, vec_len};
-ghost use Rattle.dine_token.specs.Fork.{MayEat, eaten};
+ghost use Rattle.dine_token.specs.Fork.{IsDirty, MayEat, eaten};
 ghost use Rattle.dine_token.specs.Values.{IsAct};
 
 use crate::act::Act;
@@ -21,9 +21,9 @@ impl Model for Meal {
 
     ghost view = { λ meal. record { site = meal.site; k = meal.k; forks = meal.hands.items } };
 
-    ghost use Rattle.std.specs.Prelude.{◌<◌, ◌^◌, vec_len};
+    ghost use Rattle.dine_token.specs.private.MealFields.{IsWellServed};
 
-    ghost invariant = { λ meal. vec_len meal.hands < 2 ^ 32 };
+    ghost invariant = { IsWellServed };
 }
 
 impl Meal {
@@ -74,9 +74,10 @@ impl Meal {
         self.hands[i as usize].fork()
     }
 
-    /// Ends the meal. The forks come back in the same order, and their logs stay.
+    /// Ends the meal. The forks come back in the same order, dirty, and their logs stay.
     pub fn end(self) -> Vec<Held>
-        ensures { result.items ≡ self.forks }
+        ensures forks { result.items ≡ self.forks }
+        ensures dirty { All IsDirty result.items }
     {
         let Meal {
             site: _,

@@ -1,6 +1,6 @@
 -- Which sites have no enabled event after an event: all that had none, but for the site that does it and the one that
 -- gets its letter.
-use Rattle.std.proofs.Common.{◌≡◌, ◌≢◌, ℕ, zero, suc, ◌<◌, ◌&&◌, nat_lt, Bool, true, false, List, [], ◌∷◌, length, get_or, slice_get, slice_set, Option, Some, None, is_some, option_and_then, refl, sym, ◌∙◌, ap, subst, inl, inr, arith}
+use Rattle.std.proofs.Common.{◌≡◌, ◌≢◌, ℕ, zero, suc, ◌<◌, ◌&&◌, nat_lt, Bool, true, false, List, [], ◌∷◌, length, get_or, slice_get, slice_set, Option, Some, None, is_some, option_and_then, refl, sym, ◌∙◌, ap, subst, inl, inr, arith, IfSome}
 use Rattle.std.specs.List.{range_with_len}
 use Rattle.std.specs.Option.{option_map_or}
 use Rattle.std.proofs.lemmas.Bool.{and_parts, cases_eq, cases_lt, false≢true, le-ltb, ltb-true}
@@ -16,7 +16,7 @@ use Rattle.dine_rules.specs.Local.{edge_at, neighbour_at}
 use Rattle.dine_rules.specs.Steps.{Shape, Step, Takes, Puts, Alone, shape_of}
 use Rattle.dine_rules.specs.World.{WorldState, kinds_at, place_of, state_of}
 use Rattle.dine_core.specs.declared.world.sites.WorldSite.{WorldSite}
-use Rattle.dine_core.specs.private.EnabledSites.{HasAllEnabled, HasReceiver, IsStill, with_receiver}
+use Rattle.dine_core.specs.private.EnabledSites.{HasAllEnabled, HasReceiver, IsStill, receiver_of, with_receiver}
 use Rattle.dine_core.specs.Core.{SeenCore}
 use Rattle.dine_core.specs.private.Counts.{HasCounts, kinds_now}
 use Rattle.dine_core.specs.private.Inboxes.{has_letter}
@@ -53,6 +53,12 @@ as_long : (core : SeenCore) (shape : Shape) (may_be_enabled : List Bool) → len
 as_long core (Takes i) may_be_enabled = refl
 as_long core (Puts i) may_be_enabled = length-set may_be_enabled (neighbour_of core.site (place_at core i)) true
 as_long core Alone may_be_enabled = refl
+
+-- the site that gets a letter has a number below 64
+pub receiver_within : (core : SeenCore) (shape : Shape) → HasReceiver core shape → IfSome (receiver_of core shape) (λ s. s < 64)
+receiver_within core (Takes i) fits = tt
+receiver_within core (Puts i) fits = fits.1
+receiver_within core Alone fits = tt
 
 -- ---- the links
 

@@ -2,9 +2,9 @@
 use Rattle.std.proofs.Common.{◌≡◌, ℕ, zero, suc, ◌+◌, ◌-◌, ◌<◌, ◌≤◌, ◌&&◌, ◌||◌, not, Bool, true, false, cond, is_none, position, List, [], ◌∷◌, ◌++◌, length, map, replicate, set, get_or, Some, None, Option, refl, sym, ◌∙◌, ap, ap₂, arith}
 use Rattle.std.specs.List.{All, list_all}
 use Rattle.std.specs.Option.{option_map}
-use Rattle.dine_token.specs.Fork.{SeenFork}
+use Rattle.dine_token.specs.Fork.{SeenFork, IsDirty}
 use Rattle.dine_set.specs.Marks.{marks_of, marks_without, nth_position}
-use Rattle.dine_set.proofs.MarksOf.{without-marks_of, marks_of-agree, marks_of-set, marks_of-same, marks_of-none, marks_of-map}
+use Rattle.dine_set.proofs.MarksOf.{without-marks_of, marks_of-agree, marks_of-set, marks_of-same, marks_of-none, marks_of-each, marks_of-map}
 use Rattle.dine_set.proofs.NthPosition.{nth_position-zero}
 use Rattle.dine_core.specs.declared.site.places.Place.{Place}
 use Rattle.dine_core.specs.declared.site.places.ForkSlot.{ForkSlot}
@@ -57,6 +57,20 @@ laid_here (x ∷ xs) (fork ∷ forks) all (suc i) past within = laid_here xs for
 
 pub laid_away : (xs : List Place) (forks : List SeenFork) → length xs ≤ 64 → length forks ≡ length xs → replicate 64 false ≡ marks_of is_away_at (laid_down xs forks)
 laid_away xs forks few all = sym (marks_of-none is_away_at (laid_down xs forks) (omega (arith, length-laid_down xs forks)) (laid_here xs forks all))
+
+-- where a dirty fork is laid down at each place, all are dirty
+laid_soiled : (xs : List Place) (forks : List SeenFork) → length forks ≡ length xs → All IsDirty forks → (i : ℕ) (past : Place) → i < length (laid_down xs forks) → is_dirty_at (get_or (laid_down xs forks) i past) ≡ true
+laid_soiled [] forks all dirty i past within = absurd (omega arith)
+laid_soiled (x ∷ xs) [] all dirty i past within = absurd (omega (arith, all))
+laid_soiled (x ∷ xs) (fork ∷ forks) all dirty zero past within = dirty 0 fork (omega arith)
+laid_soiled (x ∷ xs) (fork ∷ forks) all dirty (suc i) past within = laid_soiled xs forks (omega arith) (λ j d h. dirty (suc j) d (omega arith)) i past (omega arith)
+
+-- the marks of the first n places
+abbrev pub marks_below : ℕ → List Bool
+marks_below n = replicate n true ++ replicate (64 - n) false
+
+pub laid_dirty : (xs : List Place) (forks : List SeenFork) → length forks ≡ length xs → All IsDirty forks → marks_below (length xs) ≡ marks_of is_dirty_at (laid_down xs forks)
+laid_dirty xs forks all dirty = ap marks_below (sym (length-laid_down xs forks)) ∙ sym (marks_of-each is_dirty_at (laid_down xs forks) (laid_soiled xs forks all dirty))
 
 map_laid : (test : Place → Bool) → ((slot : ForkSlot) (place : Place) → test (with_fork slot place) ≡ test place) → (xs : List Place) (forks : List SeenFork) → map test (laid_down xs forks) ≡ map test xs
 map_laid test same [] forks = refl

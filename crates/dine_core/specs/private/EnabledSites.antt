@@ -1,5 +1,5 @@
 -- Which sites of the world may have an enabled event, and the first event of a site.
-use Rattle.std.specs.Prelude.{◌≡◌, ℕ, ◌<◌, Bool, false, true, List, length, find, slice_get, slice_index_or, slice_set, Option, option_and_then}
+use Rattle.std.specs.Prelude.{◌≡◌, ℕ, ◌<◌, Bool, false, true, List, length, find, slice_get, slice_index_or, slice_set, Option, Some, None, option_and_then}
 use Rattle.std.specs.List.{range_with_len}
 use Rattle.dine_rules.specs.declared.letters.Letter.{Letter}
 use Rattle.dine_rules.specs.declared.events.EventKind.{EventKind}
@@ -26,11 +26,20 @@ HasReceiver core (Takes i) = Unit {0}
 HasReceiver core (Puts i) = (i < length core.places) × (neighbour_of core.site (place_at core i) < 64)
 HasReceiver core Alone = Unit {0}
 
+-- the site that gets the letter, where one is put
+abbrev pub receiver_of : SeenCore → Shape → Option ℕ
+receiver_of core (Takes i) = None
+receiver_of core (Puts i) = Some (neighbour_of core.site (place_at core i))
+receiver_of core Alone = None
+
+-- the set with the site, where there is one
+abbrev pub with_site : Option ℕ → List Bool → List Bool
+with_site None sites = sites
+with_site (Some s) sites = slice_set sites s true
+
 -- the set with the site that gets the letter, where one is put
 abbrev pub with_receiver : SeenCore → Shape → List Bool → List Bool
-with_receiver core (Takes i) sites = sites
-with_receiver core (Puts i) sites = slice_set sites (neighbour_of core.site (place_at core i)) true
-with_receiver core Alone sites = sites
+with_receiver core shape sites = with_site (receiver_of core shape) sites
 
 -- the first event that a site may do, in the fixed order, with these letters in the links
 abbrev pub first_kind : List (List Letter) → SeenCore → Option EventKind

@@ -2,8 +2,10 @@
 
 ghost use Rattle.std.specs.Prelude.{◌≡◌, ℕ, ◌<◌, ◌≤◌, [], ◌∷◌, ◌++◌, All, IfOk, OnErr, OnOk, is_some, true, length, map, slice_index_or, slice_set, vec_capacity, count_by};
 ghost use Rattle.std.specs.List.{list_all};
-ghost use Rattle.dine_token.specs.Fork.{MayMove, moved};
+ghost use Rattle.dine_token.specs.Fork.{IsDirty, MayMove, moved};
 ghost use Rattle.dine_set.specs.Marks.{marks_of};
+ghost use Rattle.dine_rules.specs.Steps.{Take};
+ghost use Rattle.dine_rules.specs.Streams.{IsProper};
 ghost use Rattle.dine_core.specs.Places.{no_place, neighbour_of, hand_of, noted, with_fork, lifted, laid_down, forks_of, tokens_of, is_away_at, is_dirty_at, is_ready_at, is_over_at, is_closed_at, can_give_at, can_ask_at, can_say_done_at, can_close_at, IsLiftable, OnHere};
 
 use super::places::{ForkSlot, Place};
@@ -221,7 +223,8 @@ impl MarkedPlaces {
     /// Notes at place `i` a letter that was taken.
     pub(crate) fn note(&mut self, i: u32, letter: Letter)
         requires { i < length self.old }
-        ensures { self.new ≡ slice_set self.old i (noted letter (slice_index_or self.old i no_place)) }
+        ensures noted { self.new ≡ slice_set self.old i (noted letter (slice_index_or self.old i no_place)) }
+        ensures proper { IsProper (Take i letter) }
     {
         let place = &mut self.items[i as usize];
         match letter {
@@ -254,16 +257,17 @@ impl MarkedPlaces {
         self.dirty = BitSet64::empty();
     }
 
-    /// Lays the forks down at their places, in order.
+    /// Lays the forks of a meal, which are dirty, down at their places, in order.
     pub(crate) fn lay_down(&mut self, hands: &mut Vec<Held>)
-        requires { length hands.old.items ≡ length self.old }
+        requires all { length hands.old.items ≡ length self.old }
+        requires dirty { All IsDirty hands.old.items }
         ensures places { self.new ≡ laid_down self.old hands.old.items }
         ensures none { hands.new.items ≡ [] }
         ensures room { vec_capacity hands.new ≡ vec_capacity hands.old }
     {
         meals::lay_down(self.items.as_mut_slice(), hands);
         self.away = BitSet64::empty();
-        self.dirty = dirty_places(self.items.as_slice());
+        self.dirty = BitSet64::below(self.items.len() as u32);
     }
 
     /// The forks and tokens of the places, in order.
@@ -286,17 +290,4 @@ impl MarkedPlaces {
         } = self;
         meals::collect(items.as_mut_slice(), parts);
     }
-}
-
-// The places whose fork is in hand and dirty.
-#[tactic(auto, using(dine_set::proofs::MarksOf::marks_laws))]
-fn dirty_places(places: &[Place]) -> BitSet64
-    requires { length places.now ≤ 64 }
-    ensures { result ≡ marks_of is_dirty_at places.now }
-{
-    let mut dirty = BitSet64::empty();
-    for (i, place) in places.iter().enumerate() {
-        dirty.set(i as u32, place.fork.is_dirty_in_hand());
-    }
-    dirty
 }

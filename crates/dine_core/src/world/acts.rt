@@ -4,7 +4,7 @@ ghost use Rattle.std.specs.Option.{option_or};
 ghost use Rattle.dine_rules.specs.declared.letters.Letter.{Letter};
 ghost use Rattle.dine_rules.specs.Local.{is_eating};
 ghost use Rattle.dine_core.specs.private.Forks.{meal_ended};
-ghost use Rattle.dine_core.specs.private.EnabledSites.{HasReceiver, with_receiver};
+ghost use Rattle.dine_core.specs.private.EnabledSites.{HasReceiver, receiver_of};
 ghost use Rattle.dine_core.specs.LinkNumbers.{link_to};
 ghost use Rattle.dine_core.specs.NextEvent.{next_of};
 ghost use Rattle.dine_core.specs.private.Counts.{own_kinds_now};
@@ -87,9 +87,7 @@ fn take(world_site: &mut WorldSite, links: &mut [Queue], i: u32)
 {
     let link = world_site.core.link_to(i);
     let letter = links[link].take().unwrap();
-    if world_site.core.take(i, letter).is_err() {
-        unreachable!();
-    }
+    world_site.core.take_in_turn(i, letter);
 }
 
 // Begins a meal, and keeps it.
@@ -138,22 +136,20 @@ fn end(world_site: &mut WorldSite)
     }
 }
 
-/// The set with the site that gets the letter of the event, where it puts one.
-pub(crate) fn with_receiver(sites: BitSet64, core: &SiteCore, kind: EventKind) -> BitSet64
+/// The site that gets the letter of the event, where it puts one.
+pub(crate) fn receiver(core: &SiteCore, kind: EventKind) -> Option<u32>
     requires { HasReceiver core.now (shape_of kind) }
-    ensures { result ≡ with_receiver core.now (shape_of kind) sites }
+    ensures { result ≡ receiver_of core.now (shape_of kind) }
 {
     match kind {
         EventKind::Give(i) | EventKind::Ask(i) | EventKind::Done(i) | EventKind::Close(i) => {
-            let mut more = sites;
-            more.insert(core.neighbour(i));
-            more
+            Some(core.neighbour(i))
         }
         EventKind::Take(_)
         | EventKind::End
         | EventKind::Begin
         | EventKind::Quit
-        | EventKind::Hungry => sites,
+        | EventKind::Hungry => None,
     }
 }
 

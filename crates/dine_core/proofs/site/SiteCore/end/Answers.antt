@@ -36,6 +36,6 @@ invariant_of-self c =
           (subst (λ (l : List Place). IsSound (record (ended c.args.failed c.args.meal.forks old) { places = l })) (sym laid) (sound_ended old c.args.meal kept.sound eating is c.args.failed));
       no_hands = grind (arith, common_steps);
       room_for_hands = λ awake.
-          omega (arith, same, c.lay_down.ensures.room, ap vec_capacity c.replace.ensures.after, ap length c.end-hands.ensures, is.count, c.end-hands.result.ok.0, c.end-hands.result.ok.1);
+          omega (arith, same, c.lay_down.ensures.room, ap vec_capacity c.replace.ensures.after, ap length c.end-hands.ensures.forks, is.count, c.end-hands.result.ok.0, c.end-hands.result.ok.1);
       room = subst (λ (n : ℕ). HasRoom n c.self.inside.parts) (sym same) kept.room;
     }

@@ -1,13 +1,7 @@
-use Rattle.std.proofs.Common.{◌≡◌, Some, None, refl, sym, ◌∙◌, subst, arith}
+use Rattle.std.proofs.Common.{◌≡◌, Some, sym, ◌∙◌, arith}
 use Rattle.std.proofs.lemmas.Grind.{common_steps}
-use Rattle.dine_core.specs.Core.{SeenCore}
-use Rattle.dine_rules.specs.Steps.{Take}
-use Rattle.dine_core.specs.private.SiteFields.{seen}
-use Rattle.dine_core.specs.Places.{place_at, no_place, breach_at, noted, IsSoundPlace}
-use Rattle.dine_core.proofs.one_site.Sound.{kept_with, sound_noted}
-use Rattle.dine_core.proofs.one_site.CoreSteps.{stepped}
-use Rattle.dine_core.proofs.one_site.Breaches.{breach_is, may_take, stands-took}
-use Rattle.dine_core.proofs.lists.Options.{none_from}
+use Rattle.dine_core.specs.Places.{place_at, breach_at}
+use Rattle.dine_core.proofs.one_site.Breaches.{breach_is}
 use Rattle.dine_core.proofs.site.SiteCore.take.Goals as goal
 
 pub returns-in-Some-clause-taken : goal.returns-in-Some-clause-taken
@@ -19,34 +13,8 @@ returns-in-Some-clause-taken c plan state keeps stands =
 pub returns-in-Some-clause-agrees : goal.returns-in-Some-clause-agrees
 returns-in-Some-clause-agrees c plan state keeps stands = breach_is plan state c.args.self.now stands keeps c.args.i c.requires c.args.letter
 
-pub invariant_of-self : goal.invariant_of-self
-invariant_of-self c =
-    let old = seen c.self.inside in
-    let i = c.args.i in
-    let here : IsSoundPlace old (place_at old i) = c.self.invariant.sound.places i no_place (grind (arith, common_steps)) in
-    let turn : breach_at old.site old.ate (place_at old i) c.args.letter ≡ None = grind (arith, common_steps) in
-    kept_with c.self.inside i (noted c.args.letter (place_at old i)) c.note.new.self c.self.invariant c.note.ensures (sound_noted old (place_at old i) c.args.letter turn here)
-
-pub returns-clause-core : goal.returns-clause-core
-returns-clause-core c = grind (arith, common_steps)
-
 pub returns-clause-breach : goal.returns-clause-breach
 returns-clause-breach c = grind (arith, common_steps)
 
-pub returns-clause-taken : goal.returns-clause-taken
-returns-clause-taken c plan state keeps stands =
-    let core = c.args.self.now in
-    may_take plan state core stands keeps c.args.i c.requires c.args.letter (sym (breach_is plan state core stands keeps c.args.i c.requires c.args.letter) ∙ returns-clause-breach c)
-
 pub returns-clause-agrees : goal.returns-clause-agrees
 returns-clause-agrees c plan state keeps stands = breach_is plan state c.args.self.now stands keeps c.args.i c.requires c.args.letter
-
-pub returns-clause-proper : goal.returns-clause-proper
-returns-clause-proper c = c.breach_of.ensures.proper (none_from c.breach_of.result c.in_default.not-Some) c.args.i
-
-pub returns-clause-step : goal.returns-clause-step
-returns-clause-step c plan state keeps stands =
-    let core = c.args.self.now in
-    let sound : IsSoundPlace core (place_at core c.args.i) = subst (λ (core : SeenCore). IsSoundPlace core (place_at core c.args.i)) c.self.view_is (c.self.invariant.sound.places c.args.i no_place (grind (arith, common_steps))) in
-    stepped plan state core stands keeps (Take c.args.i c.args.letter) _ _ (returns-clause-core c) refl (returns-clause-proper c) (returns-clause-taken c plan state keeps stands)
-    (stands-took plan state core stands keeps c.args.i c.requires sound c.args.letter (sym (breach_is plan state core stands keeps c.args.i c.requires c.args.letter) ∙ returns-clause-breach c))

@@ -1,17 +1,17 @@
-use Rattle.std.proofs.Common.{◌≡◌, ◌++◌, ℕ, true, Bool, Option, refl, List, drop, length, slice_set, take, sym, ◌∙◌, ap, subst, arith}
+use Rattle.std.proofs.Common.{◌≡◌, ◌++◌, ◌<◌, ℕ, true, Bool, IfSome, Option, refl, List, drop, length, slice_set, take, sym, ◌∙◌, ap, subst, arith}
 use Rattle.std.proofs.lemmas.Grind.{common_steps}
 use Rattle.dine_rules.specs.declared.letters.Letter.{Letter}
 use Rattle.dine_rules.specs.Steps.{shape_of}
 use Rattle.dine_core.specs.WorldSites.{SiteSteps, HasRoomFor, TakesAllowed, can_do, has_place}
 use Rattle.dine_core.specs.private.WorldFields.{seen_world}
 use Rattle.dine_core.specs.Worlds.{WorldStep, IsWorldOf, SeenWorld, can_happen}
-use Rattle.dine_core.specs.private.EnabledSites.{HasAllEnabled}
+use Rattle.dine_core.specs.private.EnabledSites.{HasAllEnabled, with_site}
 use Rattle.dine_core.specs.private.Counts.{HasCounts}
 use Rattle.dine_core.specs.private.Inboxes.{HasInboxes, LeadsToSet, changed_link, noted}
 use Rattle.dine_core.specs.declared.world.EdgeEnds.{EdgeEnds}
 use Rattle.dine_core.specs.declared.world.sites.WorldSite.{WorldSite}
 use Rattle.dine_core.proofs.enabled_events.Inboxes.{event_changes, heard_after, leads}
-use Rattle.dine_core.proofs.enabled_events.EnabledSites.{may_be_enabled_after, counts_after, has_its_place, receiver_fits}
+use Rattle.dine_core.proofs.enabled_events.EnabledSites.{may_be_enabled_after, counts_after, has_its_place, receiver_fits, receiver_within}
 use Rattle.dine_core.proofs.all_sites.WorldStepped.{site_can, site_done, site_fits, site_allowed, site_moved, site_room, site_within}
 use Rattle.dine_core.proofs.world.World.happen.Goals as goal
 
@@ -27,19 +27,30 @@ act-requires-clause-can c =
     let world_site = c.index_mut-world_site.result.now in
     subst (λ (links : List (List Letter)). can_do links world_site.core c.args.event.kind ≡ true) (sym c.as_mut_slice.ensures.value) (site_can seen c.args.event can world_site c.index_mut-world_site.ensures.value)
 
-pub with_receiver-self-inside-requires : goal.with_receiver-self-inside-requires
-with_receiver-self-inside-requires c =
+pub receiver-receiver-requires : goal.receiver-receiver-requires
+receiver-receiver-requires c =
     let seen = seen_world c.self.inside in
     let can : can_happen seen c.args.event ≡ true = ap (λ (w : SeenWorld). can_happen w c.args.event) c.self.view_is ∙ c.requires in
     let kept = c.self.invariant in
     receiver_fits seen c.args.event can kept.plan kept.state kept.stands c.index_mut-world_site.result.now c.index_mut-world_site.ensures.value
 
-pub with_receiver-self-inside-requires-2 : goal.with_receiver-self-inside-requires-2
-with_receiver-self-inside-requires-2 c =
+pub with_site-self-inside-requires : goal.with_site-self-inside-requires
+with_site-self-inside-requires c =
     let seen = seen_world c.self.inside in
     let can : can_happen seen c.args.event ≡ true = ap (λ (w : SeenWorld). can_happen w c.args.event) c.self.view_is ∙ c.requires in
     let kept = c.self.invariant in
-    receiver_fits seen c.args.event can kept.plan kept.state kept.stands c.index_mut-world_site.result.now c.index_mut-world_site.ensures.value
+    let here = c.index_mut-world_site.result.now in
+    subst (λ (s : Option ℕ). IfSome s (λ s. s < 64)) (sym c.receiver-receiver.ensures)
+    (receiver_within here.core (shape_of c.args.event.kind) (receiver_fits seen c.args.event can kept.plan kept.state kept.stands here c.index_mut-world_site.ensures.value))
+
+pub with_site-self-inside-requires-2 : goal.with_site-self-inside-requires-2
+with_site-self-inside-requires-2 c =
+    let seen = seen_world c.self.inside in
+    let can : can_happen seen c.args.event ≡ true = ap (λ (w : SeenWorld). can_happen w c.args.event) c.self.view_is ∙ c.requires in
+    let kept = c.self.invariant in
+    let here = c.index_mut-world_site.result.now in
+    subst (λ (s : Option ℕ). IfSome s (λ s. s < 64)) (sym c.receiver-receiver.ensures)
+    (receiver_within here.core (shape_of c.args.event.kind) (receiver_fits seen c.args.event can kept.plan kept.state kept.stands here c.index_mut-world_site.ensures.value))
 
 pub insert-requires : goal.insert-requires
 insert-requires c =
@@ -113,7 +124,7 @@ invariant_of-self c =
     let may_be_enabled = may_be_enabled_after seen c.args.event can kept.plan kept.state kept.stands world_site here moved.0 changed c.act.new.links c.self.inside.may_be_enabled moved.1 kept.may_be_enabled in
     let change = event_changes seen c.args.event can kept.plan kept.state kept.stands world_site here moved.0 c.act.new.links moved.1 in
     let counts = counts_after seen c.args.event can kept.plan kept.state kept.stands world_site here moved.0 changed c.act.new.links c.self.inside.outdated_counts moved.1 c.self.inside.counts.items kept.counts in
-    let outdated_counts = c.insert.ensures ∙ ap (λ (set : List Bool). slice_set set c.args.event.site true) c.with_receiver-self-inside-2.ensures in
+    let outdated_counts = c.insert.ensures ∙ ap (λ (set : List Bool). slice_set set c.args.event.site true) (c.with_site-self-inside-2.ensures ∙ ap (λ (s : Option ℕ). with_site s c.self.inside.outdated_counts) c.receiver-receiver.ensures) in
     let whole : take c.self.inside.links.len (c.act.new.links ++ drop (length c.act.new.links) c.self.inside.links.items) ≡ c.act.new.links = grind (arith, common_steps) in
     let new : List (List Letter) → SeenWorld = λ links. record { sites = slice_set c.self.inside.sites.items c.args.event.site changed; links = links; edges = c.self.inside.edges.items; bound = c.self.inside.bound } in
     let shape = shape_of c.args.event.kind in
@@ -131,7 +142,7 @@ invariant_of-self c =
       stands = subst (λ (links : List (List Letter)). IsWorldOf kept.plan next.after (new links)) (sym whole) next.stands;
       no_forks = kept.no_forks;
       room = kept.room;
-      may_be_enabled = subst (λ (links : List (List Letter)). HasAllEnabled (new links) c.with_receiver-self-inside.result) (sym whole) (subst (HasAllEnabled (new c.act.new.links)) (sym c.with_receiver-self-inside.ensures) may_be_enabled);
+      may_be_enabled = subst (λ (links : List (List Letter)). HasAllEnabled (new links) c.with_site-self-inside.result) (sym whole) (subst (HasAllEnabled (new c.act.new.links)) (sym (c.with_site-self-inside.ensures ∙ ap (λ (s : Option ℕ). with_site s c.self.inside.may_be_enabled) c.receiver-receiver.ensures)) may_be_enabled);
       nonempty_inboxes = subst (λ (links : List (List Letter)). HasInboxes (new links) (take c.self.inside.nonempty_inboxes.len (c.note.new.nonempty_inboxes ++ drop (length c.note.new.nonempty_inboxes) c.self.inside.nonempty_inboxes.items))) (sym whole)
           (subst (HasInboxes (new c.act.new.links)) (sym (all_rows ∙ rows)) nonempty_inboxes);
       counts = subst (λ (links : List (List Letter)). HasCounts (new links) c.self.inside.counts.items c.insert.new.self) (sym whole) (subst (HasCounts (new c.act.new.links) c.self.inside.counts.items) (sym outdated_counts) counts);

@@ -1,7 +1,10 @@
 use Rattle.std.proofs.Common.{◌≡◌, ◌<◌, ◌-◌, ◌++◌, ℕ, length, map, take, drop, set, get_or, ◌≤◌, sym, ◌∙◌, ap, subst, arith, List, append-nil}
 use Rattle.std.proofs.lemmas.List.{get_or-append_right, get_or-drop, length-take-le, length-map, take_all, drop_all}
 use Rattle.std.proofs.lemmas.List.Edits.{map_over_more}
-use Rattle.dine_token.specs.Fork.{SeenFork, MayEat, eaten}
+use Rattle.std.proofs.lemmas.List.Elements.{All-map}
+use Rattle.std.specs.List.{All}
+use Rattle.dine_token.specs.Fork.{SeenFork, IsDirty, MayEat, eaten}
+use Rattle.dine_token.proofs.Logs.{is_dirty-push_meal}
 use Rattle.dine_token.proofs.meal.Meal.begin.Goals as goal
 
 -- behind the forks that have the meal stand the others as they came
@@ -25,14 +28,27 @@ loop-hand-preserved c =
     let step = map_over_more (eaten c.args.site c.args.k c.args.act) c.args.hands.items c.loop-hand.hand-items c.loop-hand.hand-index c.hand-item.result within c.loop-hand.invariant c.hand-item.is in
     ap (λ (fork : SeenFork). set c.loop-hand.hand-items c.loop-hand.hand-index fork) (c.eat.ensures.eaten ∙ ap (eaten c.args.site c.args.k c.args.act) (sym c.hand-item.is)) ∙ step
 
+-- once all have the meal
+all_served : (f : SeenFork → SeenFork) (xs ys : List SeenFork) (i len : ℕ) → ys ≡ map f (take i xs) ++ drop i xs → length xs ≤ i → length ys ≡ length xs → length xs ≤ len → take len (ys ++ drop (length ys) xs) ≡ map f xs
+all_served f xs ys i len is over size room =
+    let done : ys ≡ map f xs = is ∙ ap (λ (l : List SeenFork). map f l ++ drop i xs) (take_all i xs over) ∙ ap (λ (l : List SeenFork). map f xs ++ l) (drop_all i xs over) ∙ append-nil (map f xs) in
+    ap (λ (l : List SeenFork). take len (ys ++ l)) (drop_all (length ys) xs (omega (arith, size))) ∙ ap (λ (l : List SeenFork). take len l) (append-nil ys)
+    ∙ take_all len ys (omega (arith, size, room)) ∙ done
+
 pub returns-clause-forks : goal.returns-clause-forks
 returns-clause-forks c =
-    let xs = c.args.hands.items in
-    let ys = c.loop-hand.hand-items in
+    let over : length c.args.hands.items ≤ c.loop-hand.hand-index = omega (arith, c.loop-hand-test.false, ap length c.deref_mut-hand-items.ensures.value) in
+    all_served (eaten c.args.site c.args.k c.args.act) c.args.hands.items c.loop-hand.hand-items c.loop-hand.hand-index c.args.hands.len c.loop-hand.invariant over
+    (omega (arith, c.loop-hand.auto.hand-items, ap length c.deref_mut-hand-items.ensures.value)) (omega (arith, c.args.hands.ok.0))
+
+pub invariant_of-result : goal.invariant_of-result
+invariant_of-result c =
     let f = eaten c.args.site c.args.k c.args.act in
+    let xs = c.args.hands.items in
     let over : length xs ≤ c.loop-hand.hand-index = omega (arith, c.loop-hand-test.false, ap length c.deref_mut-hand-items.ensures.value) in
-    let size : length ys ≡ length xs = omega (arith, c.loop-hand.auto.hand-items, ap length c.deref_mut-hand-items.ensures.value) in
-    let done : ys ≡ map f xs = c.loop-hand.invariant ∙ ap (λ (l : List SeenFork). map f l ++ drop c.loop-hand.hand-index xs) (take_all c.loop-hand.hand-index xs over)
-    ∙ ap (λ (l : List SeenFork). map f xs ++ l) (drop_all c.loop-hand.hand-index xs over) ∙ append-nil (map f xs) in
-    ap (λ (l : List SeenFork). take c.args.hands.len (ys ++ l)) (drop_all (length ys) xs (omega arith)) ∙ ap (λ (l : List SeenFork). take c.args.hands.len l) (append-nil ys)
-    ∙ take_all c.args.hands.len ys (omega (arith, c.args.hands.ok.0)) ∙ done
+    let whole = all_served f xs c.loop-hand.hand-items c.loop-hand.hand-index c.args.hands.len c.loop-hand.invariant over
+    (omega (arith, c.loop-hand.auto.hand-items, ap length c.deref_mut-hand-items.ensures.value)) (omega (arith, c.args.hands.ok.0)) in
+    record {
+      few = c.requires.countable;
+      dirty = subst (All IsDirty) (sym whole) (All-map IsDirty f xs (λ i past within. is_dirty-push_meal (get_or xs i past).log c.args.site c.args.k));
+    }

@@ -16,7 +16,7 @@ invariant_of-self c =
     record {
       few = omega (arith, inv.few, length-set xs i new);
       away = c.remove.ensures ∙ put is_away_at xs c.self.inside.away inv.away i new false within (refl);
-      dirty = c.set.ensures ∙ put is_dirty_at xs c.self.inside.dirty inv.dirty i new c.is_dirty.result within (c.is_dirty.ensures);
+      dirty = c.set.ensures ∙ put is_dirty_at xs c.self.inside.dirty inv.dirty i new c.is_dirty.result within c.is_dirty.ensures.dirty;
       tokens = kept has_token_at xs c.self.inside.tokens inv.tokens i new old (ap has_token_at c.index_mut-place.ensures.value);
       unclosed = kept is_open_at xs c.self.inside.unclosed inv.unclosed i new old (ap is_open_at c.index_mut-place.ensures.value);
       said = kept has_put_done_at xs c.self.inside.said inv.said i new old (ap has_put_done_at c.index_mut-place.ensures.value);
@@ -34,7 +34,7 @@ invariant_of-self-in-Fork-2 c =
     record {
       few = omega (arith, inv.few, length-set xs i new);
       away = c.remove.ensures ∙ put is_away_at xs c.self.inside.away inv.away i new false within (refl);
-      dirty = c.set.ensures ∙ put is_dirty_at xs c.self.inside.dirty inv.dirty i new c.is_dirty.result within (c.is_dirty.ensures);
+      dirty = c.set.ensures ∙ put is_dirty_at xs c.self.inside.dirty inv.dirty i new c.is_dirty.result within c.is_dirty.ensures.dirty;
       tokens = kept has_token_at xs c.self.inside.tokens inv.tokens i new old (ap has_token_at c.index_mut-place.ensures.value);
       unclosed = kept is_open_at xs c.self.inside.unclosed inv.unclosed i new old (ap is_open_at c.index_mut-place.ensures.value);
       said = kept has_put_done_at xs c.self.inside.said inv.said i new old (ap has_put_done_at c.index_mut-place.ensures.value);
