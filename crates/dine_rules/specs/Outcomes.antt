@@ -1,6 +1,6 @@
 -- A plan whose jobs have other outcomes. A world with given outcomes is a world of such a plan.
-use Rattle.std.specs.Prelude.{Bool, List, [], ◌∷◌}
-use Rattle.dine_plan.specs.Plan.{SeenPlan, SeenSite, SeenJob}
+use Rattle.std.specs.Prelude.{◌≡◌, ℕ, Bool, false, List, [], ◌∷◌}
+use Rattle.dine_plan.specs.Plan.{SeenPlan, SeenSite, SeenJob, resigns}
 
 -- the jobs, each with the outcome that stands at its place in the list; one past the end of the list keeps its own
 abbrev pub jobs_with : List SeenJob → List Bool → List SeenJob
@@ -18,3 +18,7 @@ sites_with (site ∷ sites) (own ∷ fails) = record site { jobs = jobs_with sit
 -- it fails
 abbrev pub with_outcomes : SeenPlan → List (List Bool) → SeenPlan
 with_outcomes plan fails = record plan { sites = sites_with plan.sites fails }
+
+-- no site of the plan resigns: each goes on after a job that failed
+abbrev pub NoSiteResigns : SeenPlan → Type 0
+NoSiteResigns plan = (s : ℕ) → resigns plan s ≡ false

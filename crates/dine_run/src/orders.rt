@@ -2,6 +2,7 @@
 ghost use Rattle.std.specs.Prelude.{◌≡◌, ◌≢◌, IfErr, IfOk, length, replicate};
 ghost use Rattle.dine_plan.specs.Plan.{site_count};
 ghost use Rattle.dine_rules.specs.Journals.{IsLowestFirst, IsWholeOrder};
+ghost use Rattle.dine_rules.specs.Outcomes.{NoSiteResigns};
 ghost use Rattle.dine_run.specs.Orders.{FirstLeft, OrderFaultIs, lists_in, plan_shown};
 ghost use Rattle.dine_run.specs.declared.orders.OrderFault.TheVariants.{CountDiffers, Memory};
 
@@ -45,7 +46,7 @@ impl From<AllocError> for OrderFault {
 /// of the lowest site whose next event was enabled.
 ///
 /// The world has the outcomes that the journals show: the last meal before each Quit failed, where the site has a job
-/// of that number, and no other did.
+/// of that number, and no other did. Where no site resigns, it is a world of the plan itself.
 ///
 /// Where it answers `Stuck` or `NotClosed`, there is no such list. Each event costs one step of a world and at most one
 /// try more, whatever the number of sites.
@@ -56,9 +57,11 @@ pub fn order(
 ) -> Result<Vec<Event>, OrderFault>
     ensures count { length journals.now ≢ site_count plan.now → result ≡ Err CountDiffers }
     ensures order { IfOk result (λ events. IsWholeOrder (plan_shown plan.now (lists_in journals.now)) (lists_in journals.now) events.items) }
+    ensures own { NoSiteResigns plan.now → IfOk result (λ events. IsWholeOrder plan.now (lists_in journals.now) events.items) }
     ensures lowest { IfOk result (λ events. IsLowestFirst (plan_shown plan.now (lists_in journals.now)) (lists_in journals.now) events.items) }
     ensures fault { IfErr result (OrderFaultIs (plan_shown plan.now (lists_in journals.now)) (lists_in journals.now)) }
 {
+    laws::outcomes_matter_only_to_sites_that_resign();
     if journals.len() != plan.sites() as usize {
         return Err(OrderFault::CountDiffers);
     }

@@ -1,6 +1,7 @@
 -- A plan with other outcomes of its jobs: all else is as it was, and each journal leads to the state that it led to.
-use Rattle.std.proofs.Common.{◌≡◌, ℕ, zero, suc, ◌+◌, ◌-◌, ◌<◌, Bool, not, ◌&&◌, ◌||◌, ◌==◌, if◌then◌else◌, nat_lt, IsTrue, List, [], ◌∷◌, length, slice_get, Option, Some, None, refl, sym, ◌∙◌, ap, ap₂, subst, arith}
-use Rattle.std.specs.List.{slice_index_or}
+use Rattle.std.proofs.Common.{◌≡◌, ℕ, zero, suc, ◌+◌, ◌-◌, ◌<◌, Bool, not, ◌&&◌, ◌||◌, ◌==◌, if◌then◌else◌, nat_lt, true, false, map, slice_set, option_map, IsTrue, List, [], ◌∷◌, length, slice_get, Option, Some, None, refl, sym, ◌∙◌, ap, ap₂, subst, arith}
+use Rattle.std.specs.List.{range_with_len, slice_index_or}
+use Rattle.std.proofs.lemmas.Bool.{false≢true}
 use Rattle.std.specs.Option.{option_and_then}
 use Rattle.dine_token.specs.Fork.{SeenFork, moved}
 use Rattle.dine_token.specs.Log.{meals_of}
@@ -10,14 +11,16 @@ use Rattle.dine_token.specs.declared.entry.Entry.{Entry}
 use Rattle.dine_plan.specs.Plan.{SeenPlan, SeenSite, SeenJob, IsPlan, act_of, is_name, job_count, job_of, lo_of, hi_of, name_of, no_job, no_site, resigns, site_count, value_of}
 use Rattle.dine_rules.specs.Breach.{has_all_of_neighbour, is_fork_of, may_come, was_sent_to}
 use Rattle.dine_rules.specs.Holdings.{fork_at, hand, hand_at, token_at}
-use Rattle.dine_rules.specs.Journals.{AreStatesAfter, IsJournal, fails_before, next_of_these, state_after, state_after_all}
+use Rattle.dine_rules.specs.Journals.{AreStatesAfter, IsJournal, IsWholeOrder, fails_before, next_of_these, state_after, state_after_all}
 use Rattle.dine_rules.specs.Letters.{has_close, has_done, last_log_or, last_value_or}
-use Rattle.dine_rules.specs.Local.{LocalState, Traffic, edge_at, is_thinking, neighbour_at, start_of, traffic_at}
-use Rattle.dine_rules.specs.Outcomes.{jobs_with, sites_with, with_outcomes}
+use Rattle.dine_rules.specs.Local.{LocalState, Traffic, edge_at, is_thinking, meal_fails, neighbour_at, start_of, traffic_at}
+use Rattle.dine_rules.specs.Outcomes.{NoSiteResigns, jobs_with, sites_with, with_outcomes}
 use Rattle.dine_rules.specs.Steps.{Step, Give, Hungry, End, Done, Take, after, fork_with, given_fork, is_open, may, step_by, with_put}
 use Rattle.dine_rules.specs.Values.{after_meals, hand_value}
-use Rattle.dine_rules.specs.World.{WorldState, local_after}
+use Rattle.dine_rules.specs.World.{IsComplete, WorldState, after_events, local_after, next_letter, site_after, start, state_of, step_of, world_after}
+use Rattle.dine_rules.specs.declared.events.Event.{Event}
 use Rattle.dine_rules.specs.declared.events.EventKind.{EventKind}
+use Rattle.dine_rules.specs.declared.events.EventKind.TheVariants as event
 use Rattle.dine_rules.specs.declared.letters.Letter.{Letter}
 use Rattle.dine_rules.specs.declared.letters.Letter.TheVariants as letter
 use Rattle.dine_rules.specs.declared.phase.Phase.TheVariants.{Thinking}
@@ -199,4 +202,63 @@ module _ (plan : SeenPlan) (fails : List (List Bool)) where
     sites = after.sites ∙ sym sites-same;
     each = λ s h. journal-stays s _ _ (after.each s (omega (arith, sites-same)));
     links = λ s i h within. after.links s i (omega (arith, sites-same)) within;
+  }
+
+-- ---- no site resigns: outcomes do not matter
+
+-- a failure that no site heeds
+unheeded : (failed : Bool) (b : Bool) (rest : Bool) → b ≡ false → (failed && b && rest) ≡ false
+unheeded true true rest none = absurd (false≢true (sym none))
+unheeded true false rest none = refl
+unheeded false b rest none = refl
+
+then-world : (f g : WorldState → Option WorldState) → ((x : WorldState) → f x ≡ g x) → (o : Option WorldState) → option_and_then f o ≡ option_and_then g o
+then-world f g same None = refl
+then-world f g same (Some x) = same x
+
+module _ (plan : SeenPlan) (none : NoSiteResigns plan) where
+  end-same : (s : ℕ) (state : LocalState) (f g : Bool) → local_after plan s state (End f) ≡ local_after plan s state (End g)
+  end-same s state f g = ap (λ (b : Bool). if may plan s state (End f) then Some (record state { phase = Thinking; must_quit = b }) else None)
+      (unheeded f (resigns plan s) (nat_lt state.ate (job_count plan s)) (none s) ∙ sym (unheeded g (resigns plan s) (nat_lt state.ate (job_count plan s)) (none s)))
+
+  heeds-none : (s : ℕ) (state : LocalState) (f g : Bool) (next : ℕ → Option Letter) (kind : EventKind)
+      → option_and_then (local_after plan s state) (step_by f next kind) ≡ option_and_then (local_after plan s state) (step_by g next kind)
+  heeds-none s state f g next event.End = end-same s state f g
+  heeds-none s state f g next kind = refl
+
+module _ (plan : SeenPlan) (fails : List (List Bool)) (none : NoSiteResigns plan) where
+  site_after-same : (world : WorldState) (s : ℕ) (kind : EventKind) → site_after (with_outcomes plan fails) world s kind ≡ site_after plan world s kind
+  site_after-same world s kind =
+      step-same plan fails s (state_of world s) (step_of (with_outcomes plan fails) world s kind)
+      ∙ heeds-none plan none s (state_of world s) (meal_fails (with_outcomes plan fails) s (state_of world s)) (meal_fails plan s (state_of world s)) (next_letter plan world s) kind
+
+  world_after-same : (world : WorldState) (e : Event) → world_after (with_outcomes plan fails) world e ≡ world_after plan world e
+  world_after-same world e = ap₂ (λ (n : ℕ) (o : Option LocalState). if nat_lt e.site n then option_map (slice_set world e.site) o else None) (sites-same plan fails) (site_after-same world e.site e.kind)
+
+  after_events-same : (events : List Event) (world : WorldState) → after_events (with_outcomes plan fails) world events ≡ after_events plan world events
+  after_events-same [] world = refl
+  after_events-same (e ∷ events) world =
+      ap (option_and_then (λ (x : WorldState). after_events (with_outcomes plan fails) x events)) (world_after-same world e)
+      ∙ then-world (λ (x : WorldState). after_events (with_outcomes plan fails) x events) (λ (x : WorldState). after_events plan x events) (λ x. after_events-same events x) (world_after plan world e)
+
+  start-same : start (with_outcomes plan fails) ≡ start plan
+  start-same = ap (λ (n : ℕ). map (start_of plan) (range_with_len 0 n)) (sites-same plan fails)
+
+  pub worlds-same : (events : List Event) → after_events (with_outcomes plan fails) (start (with_outcomes plan fails)) events ≡ after_events plan (start plan) events
+  worlds-same events = after_events-same events (start (with_outcomes plan fails)) ∙ ap (λ (world : WorldState). after_events plan world events) start-same
+
+  pub complete-same : (world : WorldState) → IsComplete (with_outcomes plan fails) world → IsComplete plan world
+  complete-same world is = record {
+    all_think = λ s h. is.all_think s (omega (arith, h, sites-same plan fails));
+    all_ate = λ s h. ap (λ (n : ℕ). (state_of world s).ate == n || (state_of world s).has_quit) (sym (jobs-same plan fails s)) ∙ is.all_ate s (omega (arith, h, sites-same plan fails));
+    all_closed = λ s i h within. is.all_closed s i (omega (arith, h, sites-same plan fails)) within;
+    all_taken = λ s i h within. is.all_taken s i (omega (arith, h, sites-same plan fails)) within;
+  }
+
+  pub order-same : (journals : List (List EventKind)) (events : List Event) → IsWholeOrder (with_outcomes plan fails) journals events → IsWholeOrder plan journals events
+  order-same journals events is = record {
+    world = is.world;
+    holds_journals = is.holds_journals;
+    accepted = sym (worlds-same events) ∙ is.accepted;
+    complete = complete-same is.world is.complete;
   }

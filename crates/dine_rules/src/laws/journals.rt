@@ -2,7 +2,7 @@
 
 ghost use Rattle.std.specs.Prelude.{◌≡◌, ◌≢◌, ◌<◌, ◌+◌, ◌++◌, Bool, List, None, Option, Some, [], ◌∷◌, false, length, slice_get, true, ℕ};
 ghost use Rattle.dine_plan.specs.Plan.{IsPlan, SeenPlan, act_of, edges_of, job_count, job_of, name_of, resigns, site_count};
-ghost use Rattle.dine_rules.specs.Outcomes.{with_outcomes};
+ghost use Rattle.dine_rules.specs.Outcomes.{NoSiteResigns, with_outcomes};
 ghost use Rattle.dine_token.specs.declared.entry.Entry.TheVariants.{Meal, Move};
 ghost use Rattle.dine_rules.specs.Examples.{pair, resigning};
 ghost use Rattle.dine_rules.specs.Holdings.{fork_at, hand_at};
@@ -88,6 +88,17 @@ pub fn journals_stand_for_other_outcomes()
         → IsJournal plan s journal state → IsJournal (with_outcomes plan fails) s journal state }
     ensures states { (plan : SeenPlan) (fails : List (List Bool)) (journals : List (List EventKind)) (states : WorldState)
         → AreStatesAfter plan journals states → AreStatesAfter (with_outcomes plan fails) journals states }
+{}
+
+/// Where no site resigns, a world with other outcomes of its jobs goes as that of the plan: the same events lead to the
+/// same world, and an order of journals that one accepts whole the other accepts whole.
+pub fn outcomes_matter_only_to_sites_that_resign()
+    ensures worlds { (plan : SeenPlan) (fails : List (List Bool)) (events : List Event) (world : WorldState) → NoSiteResigns plan
+        → Reaches (with_outcomes plan fails) events world → Reaches plan events world }
+    ensures back { (plan : SeenPlan) (fails : List (List Bool)) (events : List Event) (world : WorldState) → NoSiteResigns plan
+        → Reaches plan events world → Reaches (with_outcomes plan fails) events world }
+    ensures orders { (plan : SeenPlan) (fails : List (List Bool)) (journals : List (List EventKind)) (events : List Event) → NoSiteResigns plan
+        → IsWholeOrder (with_outcomes plan fails) journals events → IsWholeOrder plan journals events }
 {}
 
 /// So the log of each edge's fork in that world is the one that lies in the hand of the site that holds the fork.
