@@ -269,8 +269,8 @@ impl<'a, R: Abort> Model<'a, R> {
         if count == 1 { found } else { None }
     }
 
-    /// Whether the one fork of the edge is dirty: at a site its log tells, and on its way it is clean. None where there is
-    /// not one.
+    /// Whether the one fork of the edge is dirty: at a site its log tells, and on its way it is clean. None where there
+    /// is not one.
     pub(super) fn is_fork_dirty(&self, edge: u32) -> Option<bool> {
         match self.where_is(edge, Kind4::Fork)? {
             Whereabouts::At(site) => {
