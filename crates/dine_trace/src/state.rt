@@ -163,7 +163,7 @@ fn edges_of(alloc: Global, plan: &Plan, world: &World) -> Result<Vec<EdgeState>,
         edges.push(EdgeState {
             ends: (lower, higher),
             fork: spot_of(fork),
-            dirty: is_dirty(world, edge),
+            dirty: world.is_fork_dirty(edge).unwrap_or(false),
             token: spot_of(token),
             roles: (role(fork, token, lower), role(fork, token, higher)),
             said: (
@@ -173,13 +173,6 @@ fn edges_of(alloc: Global, plan: &Plan, world: &World) -> Result<Vec<EdgeState>,
         })?;
     }
     Ok(edges)
-}
-
-fn is_dirty(world: &World, edge: u32) -> bool {
-    match world.fork(edge) {
-        Some(fork) => fork.is_dirty(),
-        None => false,
-    }
 }
 
 fn spot_of(found: Option<Whereabouts>) -> Option<Spot> {
