@@ -12,13 +12,13 @@ function rowOf(count) {
   return count <= 12 ? 26 : count <= 24 ? 20 : 14;
 }
 
-// The spans and moves of the events, each by its places in the list. What is still to come is left out.
+// The spans and moves of the events, each by its places in the list, as far as the events are known.
 export function partsOf(events, total) {
   const parts = { waits: [], meals: [], moves: [] };
   const [hungry, begun, given] = [new Map(), new Map(), new Map()];
-  for (let place = 0; place < total; place += 1) {
+  let place = 0;
+  for (; place < total && events[place]; place += 1) {
     const event = events[place];
-    if (!event) continue;
     if (event.kind === "hungry") hungry.set(event.site, place);
     if (event.kind === "begin") {
       if (hungry.has(event.site)) parts.waits.push({ site: event.site, from: hungry.get(event.site) + 0.5, to: place });
@@ -36,8 +36,8 @@ export function partsOf(events, total) {
       given.delete(event.edge);
     }
   }
-  for (const [site, from] of hungry) parts.waits.push({ site, from: from + 0.5, to: total });
-  for (const [site, from] of begun) parts.meals.push({ site, from, to: total });
+  for (const [site, from] of hungry) parts.waits.push({ site, from: from + 0.5, to: place });
+  for (const [site, from] of begun) parts.meals.push({ site, from, to: place });
   return parts;
 }
 

@@ -153,6 +153,7 @@ async function open(path, plan, choices = []) {
 
 function openPicture() {
   picture.open(session.state, found("picture").parentElement.clientWidth);
+  drawLegend(found("legend"), picture.size);
 }
 
 function offerOwn() {
@@ -228,8 +229,17 @@ function show() {
   showSites(state);
   showEdges(state);
   showCourse();
-  session.learn(showCourse).catch((fault) => tell(fault.message));
+  learn(session);
   noteAddress();
+}
+
+// Learns what the events of the choices were, and draws them as they are known.
+function learn(learning) {
+  const more = () => { if (learning === session) showCourse(); };
+  learning.learn(more).catch((fault) => {
+    learning.learnt = null;
+    tell(fault.message);
+  });
 }
 
 function showTold(state) {
@@ -419,7 +429,6 @@ function listen() {
 }
 
 async function begin() {
-  drawLegend(found("legend"));
   showRate();
   listen();
   const { first, plans } = await (await fetch("/plans")).json();

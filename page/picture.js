@@ -5,8 +5,10 @@ const TURN = 2 * Math.PI;
 // The radius of a site, in points: the least, the largest, and from where on its name, its phase and its meals stand in it.
 const SITE = { least: 7, most: 46, name: 21, phase: 31, meals: 39 };
 // How large a mark on an edge is, and up to where a fork is a dot.
-const MARK = { least: 8, most: 24, dot: 12 };
+const MARK = { least: 8, most: 28, dot: 12 };
 const HEIGHT = 620;
+// Up to how many edges each has its number in the picture.
+const NUMBERED = 24;
 // How many letters of a name a picture shows.
 const SHOWN = 14;
 
@@ -46,8 +48,8 @@ export function forkMark(size, inside) {
     element("circle", { class: "dot", r: size * 0.42 }, group);
     return group;
   }
-  const path = "M-6,-11V-6Q-6,0 0,0Q6,0 6,-6V-11M0,-11V12";
-  const scaled = element("g", { transform: `scale(${size / 25})` }, group);
+  const path = "M-6.5,-11V-6Q-6.5,0 0,0Q6.5,0 6.5,-6V-11M0,-11V12";
+  const scaled = element("g", { transform: `scale(${size / 27})` }, group);
   element("path", { class: "outer", d: path }, scaled);
   element("path", { class: "inner", d: path }, scaled);
   return group;
@@ -93,7 +95,7 @@ function placesOf(sites, edges, room) {
     const edge = 1.26 * radius + 6 + label;
     far = count === 1 ? 0 : count === 2 ? Math.min(width / 2 - edge, 230) : Math.min(width, height) / 2 - edge;
     const apart = count < 3 ? 2 * far : 2 * far * Math.sin(Math.PI / Math.max(round, 3));
-    radius = between(SITE.least, 0.3 * Math.min(apart, hub === null ? apart : far), SITE.most);
+    radius = between(SITE.least, 0.235 * Math.min(apart, hub === null ? apart : far), SITE.most);
   }
   const begin = count === 2 ? Math.PI : -TURN / 4;
   let seat = 0;
@@ -103,7 +105,16 @@ function placesOf(sites, edges, room) {
     seat += 1;
     return { x: width / 2 + far * Math.cos(angle), y: height / 2 + far * Math.sin(angle), radius, angle };
   });
-  return { width, height, places };
+  return cropped(places, width, height, radius < SITE.name);
+}
+
+// The same without the empty room above and below, where the names stand in the sites.
+function cropped(places, width, height, isNamedBeside) {
+  if (isNamedBeside || places.length < 3) return { width, height, places };
+  const edge = 1.26 * places[0].radius + 8;
+  const top = Math.min(...places.map(({ y }) => y)) - edge;
+  const bottom = Math.max(...places.map(({ y }) => y)) + edge;
+  return { width, height: bottom - top, places: places.map((place) => ({ ...place, y: place.y - top })) };
 }
 
 // The least angle between two edges of each site, a whole turn where there are none.
@@ -130,7 +141,9 @@ function linesOf(places, edges) {
     return { from, to, low, high, length, along, angle: (Math.atan2(along.y, along.x) * 360) / TURN };
   });
   const free = lines.map((line) => line.length - 1.2 * (line.from.radius + line.to.radius));
-  const size = between(MARK.least, Math.min(...free) / 6, MARK.most);
+  // So wide are two edges of a site apart, where the marks lie as far out as they may.
+  const apart = lines.map((line) => 0.9 * line.length * Math.sin(Math.min(angles[line.low], angles[line.high], Math.PI) / 2));
+  const size = between(MARK.least, Math.min(Math.min(...free) / 4.4, Math.max(...apart)), MARK.most);
   for (const line of lines) {
     line.size = size;
     line.begin = [[line.low, line.from], [line.high, line.to]].map(([site, place]) => {
@@ -169,27 +182,19 @@ export class Picture {
     this.tokens = this.lines.map((line) => tokenMark(line.size, marks));
     this.forks = this.lines.map((line) => forkMark(line.size, marks));
     this.words = element("g", {}, marks);
+    // How large a mark is. Without edges there is none, and the legend shows the largest.
+    this.size = this.lines[0]?.size ?? MARK.most;
   }
 
   openEdge(line, edge, inside) {
     const group = element("g", { class: "edge" }, inside);
     element("line", { x1: line.from.x, y1: line.from.y, x2: line.to.x, y2: line.to.y }, group);
     const title = element("title", {}, group);
-    if (this.lines.length <= 24) {
-      const at = pointOf(line, line.length / 2, this.numberSide(line));
+    if (this.lines.length <= NUMBERED) {
+      const at = pointOf(line, line.length / 2);
       element("text", { x: at.x, y: at.y }, group).textContent = edge;
     }
     return { group, title };
-  }
-
-  // On which side of the line, and how far from it, the number of an edge stands: outside of the circle.
-  numberSide(line) {
-    const far = line.size * 0.5 + 12;
-    const middle = pointOf(line, line.length / 2);
-    const beside = pointOf(line, line.length / 2, 1);
-    const box = this.svg.viewBox.baseVal;
-    const away = ({ x, y }) => Math.hypot(x - box.width / 2, y - box.height / 2);
-    return away(beside) >= away(middle) ? far : -far;
   }
 
   openSite(place, site, inside) {
@@ -254,9 +259,9 @@ export class Picture {
     if ("at" in edge.fork) {
       // Whoever has a fork has it by its handle.
       const turned = line.angle + (edge.fork.at === line.low ? 90 : -90);
-      this.put(this.forks[number], pointOf(line, farOf(edge.fork.at, 0.5)), turned);
+      this.put(this.forks[number], pointOf(line, farOf(edge.fork.at, 0.45)), turned);
     }
-    if ("at" in edge.token) this.put(this.tokens[number], pointOf(line, farOf(edge.token.at, 1.5)));
+    if ("at" in edge.token) this.put(this.tokens[number], pointOf(line, farOf(edge.token.at, 1.36)));
   }
 
   // Draws the letters of a link beside its edge, the one that will be taken first in front.
@@ -264,7 +269,7 @@ export class Picture {
     const line = this.lines[link.edge];
     const way = link.to === line.high ? 1 : -1;
     const apart = line.size * 0.95;
-    const beside = way * (line.size * 0.5 + 2);
+    const beside = way * (line.size * 0.5 + (this.lines.length <= NUMBERED ? 7 : 3));
     const middle = (line.begin[0] + line.length - line.begin[1]) / 2;
     const half = (link.letters.length * apart) / 2;
     const ends = [-half - 4, half + Math.min(8, apart)].map((far) => pointOf(line, middle + way * far, beside));
@@ -290,16 +295,18 @@ export class Picture {
   }
 }
 
-// Draws the marks with what they mean.
-export function drawLegend(list) {
+// Draws the marks with what they mean, forks and tokens as a picture has them whose marks are of this size.
+export function drawLegend(list, size) {
+  list.replaceChildren();
+  const mark = Math.min(size, 18);
   const shape = (phase) => (inside) => {
     const group = element("g", { class: `site ${phase}` }, inside);
     element("path", { class: "shape", d: outline(phase, 7.5) }, group);
   };
-  const fork = (kind) => (inside) => forkMark(18, inside).classList.add(kind);
+  const fork = (kind) => (inside) => forkMark(mark, inside).classList.add(kind);
   const entries = [
     ["thinking", shape("thinking")], ["hungry", shape("hungry")], ["eating", shape("eating")],
-    ["dirty fork", fork("dirty")], ["clean fork", fork("clean")], ["token, the right to ask", (inside) => tokenMark(18, inside)],
+    ["dirty fork", fork("dirty")], ["clean fork", fork("clean")], ["token", (inside) => tokenMark(mark, inside)],
     ["says done", (inside) => wordMark("done", 18, inside)], ["closes", (inside) => wordMark("close", 18, inside)],
   ];
   for (const [words, draw] of entries) {

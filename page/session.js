@@ -51,6 +51,8 @@ export class Session {
     // The event of each choice, as far as it is known.
     this.events = [];
     this.isOfThreads = false;
+    // The list whose events were last asked for.
+    this.learnt = null;
   }
 
   async stateAfter(count, list = this.list) {
@@ -118,7 +120,11 @@ export class Session {
   // Learns what the events of the list are, and calls `more` now and then. It ends early where the list is another by then.
   async learn(more) {
     const list = this.list;
+    if (this.learnt === list) return;
+    this.learnt = list;
     const missing = [...list.keys()].filter((place) => this.events[place] === undefined);
+    // The event that was done last is told in words, so it comes first.
+    missing.sort((one, other) => (other === this.at - 1) - (one === this.at - 1));
     while (missing.length && this.list === list) {
       const places = missing.splice(0, ASKED);
       const states = await Promise.all(places.map((place) => this.stateAfter(place, list)));
