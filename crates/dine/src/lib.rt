@@ -15,4 +15,5 @@ pub use dine_logs::world_text;
 pub use dine_words::{Status, exit_of};
 pub use faults::Fault;
 pub use plan_diner::PlanDiner;
+pub use run_text::open_diners;
 pub use tables::{write_edges, write_sites};

@@ -59,8 +59,8 @@ where
     Ok(table_text(alloc, plan, &gathered, table)?)
 }
 
-// A diner for each site, in order.
-fn open_diners(alloc: Global, plan: &Plan) -> Result<Vec<PlanDiner>, AllocError>
+/// A diner for each site of the plan, in order, with room for its jobs.
+pub fn open_diners(alloc: Global, plan: &Plan) -> Result<Vec<PlanDiner>, AllocError>
     ensures plan { IsPlan plan.now }
     ensures diners { IfOk result (λ diners. diners.items ≡ diners_of plan.now) }
 {

@@ -4,5 +4,5 @@
 mod logs;
 mod replay;
 
-pub use logs::world_text;
+pub use logs::{edges_text, world_text};
 pub use replay::replay_text;

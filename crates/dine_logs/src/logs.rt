@@ -7,7 +7,7 @@ ghost use Rattle.std.specs.Fmt.{decimal};
 ghost use Rattle.dine_plan.specs.Plan.{name_of};
 ghost use Rattle.dine_core.specs.Outcomes.{with_outcomes};
 ghost use Rattle.dine_core.specs.World.{WorldState};
-ghost use Rattle.dine_core.specs.Worlds.{IsWorldOf, IsOpenedFor};
+ghost use Rattle.dine_core.specs.Worlds.{IsWorldOf};
 ghost use Rattle.dine_logs.specs.Logs.{edge_line, edge_lines, entries_text, events_line, separator, value_text, world_text};
 ghost use Rattle.dine_logs.specs.private.MealTexts.{texts_of};
 
@@ -27,14 +27,22 @@ pub fn world_text(
     world: &World,
     events: u64,
 ) -> Result<Vec<u8>, AllocError>
-    requires { IsOpenedFor plan.now world.now }
     ensures { IfOk result (λ text. (fails : List (List Bool)) (state : WorldState) → IsWorldOf (with_outcomes plan.now fails) state world.now
         → text.items ≡ world_text plan.now (with_outcomes plan.now fails) state events) }
 {
-    let mut text = String::new(alloc);
-    push_lines(&mut text, plan, &texts_of(alloc, plan)?, world)?;
+    let mut text = edges_text(alloc, plan, world)?;
     push_events_line(&mut text, events, world.bound())?;
     Ok(text.into_bytes())
+}
+
+/// The lines of the edges of the world alone: the log of each edge, in version 2 with its value.
+pub fn edges_text(alloc: Global, plan: &Plan, world: &World) -> Result<String, AllocError>
+    ensures { IfOk result (λ text. (fails : List (List Bool)) (state : WorldState) → IsWorldOf (with_outcomes plan.now fails) state world.now
+        → string_bytes text ≡ edge_lines plan.now (with_outcomes plan.now fails) state) }
+{
+    let mut text = String::new(alloc);
+    push_lines(&mut text, plan, &texts_of(alloc, plan)?, world)?;
+    Ok(text)
 }
 
 // Adds the lines of all edges to the text.
@@ -44,15 +52,14 @@ fn push_lines(
     texts: &[MealTexts<'_>],
     world: &World,
 ) -> Result<(), AllocError>
-    requires opened { IsOpenedFor plan.now world.now }
-    requires texts { texts.now ≡ texts_of plan.now }
+    requires { texts.now ≡ texts_of plan.now }
     ensures { OnOk result ((fails : List (List Bool)) (state : WorldState) → IsWorldOf (with_outcomes plan.now fails) state world.now
         → string_bytes text.new ≡ string_bytes text.old ++ edge_lines plan.now (with_outcomes plan.now fails) state) }
 {
     for edge in 0..plan.edges() {
-        match world.fork(edge) {
-            Some(fork) => push_edge_line(text, plan, texts, fork)?,
-            None => unreachable!(),
+        // A world that was opened for the plan has the fork of each edge.
+        if let Some(fork) = world.fork(edge) {
+            push_edge_line(text, plan, texts, fork)?;
         }
     }
     Ok(())

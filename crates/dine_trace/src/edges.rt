@@ -21,8 +21,8 @@ pub fn push_edges(text: &mut String, plan: &Plan, world: &World) -> Result<(), A
     Ok(())
 }
 
-// What the site is at an edge whose fork and token are there.
-fn role(fork: Option<Whereabouts>, token: Option<Whereabouts>, site: u32) -> &'static str {
+/// What the site is at an edge whose fork and token are there.
+pub fn role(fork: Option<Whereabouts>, token: Option<Whereabouts>, site: u32) -> &'static str {
     match (is_at(fork, site), is_at(token, site)) {
         (true, false) => "owner",
         (true, true) => "asked",

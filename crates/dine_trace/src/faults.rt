@@ -1,93 +1,112 @@
 //! What ends the program before its end.
 
+use dine::PlanDiner;
 use dine_plan::PlanFault;
+use dine_run::{OrderFault, RunFault};
 use dine_words::{InputFault, Status, WordsFault, WriteFault, write_line};
 use std::alloc::{AllocError, AllocFailed};
 use std::io::Write;
-use thiserror::Error;
 
-/// What ended the program before its end, and the line that tells of it.
-#[derive(Clone, Copy, Debug, PartialEq, Eq, Error)]
+const USAGE: &str =
+    "dine_trace: usage: dine_trace [[--json] [LIST] | --run [--links channel|ring]] < PLAN";
+
+const NO_ORDER: &str = "dine_trace: no order of the run";
+
+/// What ended the program before its end.
+#[derive(Clone, Copy, Debug, PartialEq, Eq)]
 pub enum Fault {
-    #[error("dine_trace: usage: dine_trace [LIST] < PLAN")]
+    /// The words are refused.
     Usage,
-    #[error("dine: plan refused: {0}")]
-    NoPlan(PlanFault),
-    #[error("dine: out of memory")]
-    OutOfMemory,
-    #[error("dine: reading failed")]
-    ReadingFailed,
-    #[error("dine: input too long")]
-    InputTooLong,
-    #[error("dine: writing failed")]
-    WritingFailed,
+    /// What the threads of a run did is in no order that a world of the plan accepts and that leads to the logs that
+    /// were gathered.
+    NoOrder,
+    /// What ends `dine` too, with the line that it has.
+    Told(dine::Fault),
 }
 
 impl Fault {
     /// Prints the line that tells of it to `faults`, and answers the status that it ends the program with. That the
     /// line can't be printed is told to nobody.
     pub fn end<F: Write>(self, faults: &mut F) -> Status {
-        if let Ok(()) = write!(faults, "{self}") {
-            let _ = write_line(faults, "");
-        }
-        self.status()
-    }
-
-    // The status that it ends the program with.
-    fn status(self) -> Status {
         match self {
-            Fault::Usage => Status::Usage,
-            Fault::NoPlan(_) => Status::PlanRefused,
-            Fault::OutOfMemory => Status::OutOfMemory,
-            Fault::ReadingFailed | Fault::InputTooLong | Fault::WritingFailed => {
-                Status::InputOutput
+            Fault::Usage => {
+                let _ = write_line(faults, USAGE);
+                Status::Usage
             }
+            Fault::NoOrder => {
+                let _ = write_line(faults, NO_ORDER);
+                Status::RunFailed
+            }
+            Fault::Told(fault) => fault.end(faults),
+        }
+    }
+}
+
+impl From<dine::Fault> for Fault {
+    fn from(fault: dine::Fault) -> Fault {
+        match fault {
+            dine::Fault::Usage => Fault::Usage,
+            _ => Fault::Told(fault),
         }
     }
 }
 
 impl From<PlanFault> for Fault {
     fn from(fault: PlanFault) -> Fault {
-        match fault {
-            PlanFault::Memory => Fault::OutOfMemory,
-            _ => Fault::NoPlan(fault),
-        }
+        Fault::from(dine::Fault::from(fault))
     }
 }
 
 impl From<WordsFault> for Fault {
     fn from(fault: WordsFault) -> Fault {
-        match fault {
-            WordsFault::Usage => Fault::Usage,
-            WordsFault::Memory => Fault::OutOfMemory,
-        }
+        Fault::from(dine::Fault::from(fault))
     }
 }
 
 impl From<InputFault> for Fault {
     fn from(fault: InputFault) -> Fault {
-        match fault {
-            InputFault::Failed => Fault::ReadingFailed,
-            InputFault::TooLong => Fault::InputTooLong,
-            InputFault::Memory => Fault::OutOfMemory,
-        }
+        Fault::from(dine::Fault::from(fault))
     }
 }
 
 impl From<WriteFault> for Fault {
-    fn from(_fault: WriteFault) -> Fault {
-        Fault::WritingFailed
+    fn from(fault: WriteFault) -> Fault {
+        Fault::from(dine::Fault::from(fault))
+    }
+}
+
+impl From<RunFault<PlanDiner>> for Fault {
+    fn from(fault: RunFault<PlanDiner>) -> Fault {
+        Fault::from(dine::Fault::from(fault))
+    }
+}
+
+impl From<OrderFault> for Fault {
+    fn from(fault: OrderFault) -> Fault {
+        match fault {
+            OrderFault::Memory => Fault::Told(dine::Fault::OutOfMemory),
+            OrderFault::CountDiffers | OrderFault::Stuck { .. } | OrderFault::NotClosed => {
+                Fault::NoOrder
+            }
+        }
     }
 }
 
 impl From<AllocError> for Fault {
-    fn from(_error: AllocError) -> Fault {
-        Fault::OutOfMemory
+    fn from(error: AllocError) -> Fault {
+        Fault::from(dine::Fault::from(error))
     }
 }
 
 impl<T: Drop> From<AllocFailed<T>> for Fault {
     fn from(_error: AllocFailed<T>) -> Fault {
-        Fault::OutOfMemory
+        Fault::Told(dine::Fault::OutOfMemory)
+    }
+}
+
+// A state is written to memory, so nothing but want of memory keeps it from being written.
+impl From<serde_json::Error> for Fault {
+    fn from(_error: serde_json::Error) -> Fault {
+        Fault::Told(dine::Fault::OutOfMemory)
     }
 }

@@ -1,73 +1,92 @@
-//! Shows a schedule of a plan step by step: before each step the enabled events with their numbers, which one was
-//! chosen, and after it what each end of each edge is. The plan is the standard input. LIST has the numbers of the
-//! events to do, in turn, as for `dine replay --choices`; after the last one the first enabled event is done until
-//! there is none. The last lines are those that `dine replay` prints.
+//! Shows a schedule of a plan. The plan is the standard input, and LIST has the numbers of the events to do, in turn, as
+//! for `dine replay --choices`.
 //!
-//! usage: dine_trace [LIST] < PLAN
+//! Step by step: before each step the enabled events with their numbers, which one was chosen, and after it what each
+//! end of each edge is. After the last choice the first enabled event is done until there is none, and the last lines
+//! are those that `dine replay` prints.
+//!
+//! With `--json` the state after the choices, in one line. With `--run` it runs the plan on threads, and prints the
+//! LIST that goes as the run went.
+//!
+//! usage: dine_trace [[--json] [LIST] | --run [--links channel|ring]] < PLAN
 #![tactic(auto)]
 
 mod edges;
 mod events;
 mod faults;
+mod schedule;
+mod state;
 mod trace;
+mod words;
 
-use dine_words::{Command, command_of, exit_of, plan_of_bytes, read_input, write_line};
+use dine::words_of;
+use dine_plan::Plan;
+use dine_words::{Status, exit_of, plan_of_bytes, read_input, write_line};
 use faults::Fault;
+use schedule::choices_of_run;
+use state::state_text;
 use std::alloc::Global;
 use std::io::{Read, Write};
 use std::process::ExitCode;
+use std::sync::Wait;
+use std::thread::Threads;
 use std::{env, io};
+use trace::show_plan;
+use words::{Asked, asked_of};
 
-// The choices that the words ask for: the list that is the one word after the program's name, or none.
-fn choices_of(alloc: Global, given: io::Result<env::Args>) -> Result<Vec<u32>, Fault> {
-    let Ok(mut words) = given else {
-        return Err(Fault::Usage);
-    };
-    let _program = words.next();
-    let Some(list) = words.next() else {
-        return Ok(Vec::new(alloc));
-    };
-    if let Some(_) = words.next() {
-        return Err(Fault::Usage);
-    }
-    choices_in(alloc, list)
-}
-
-// The choices of the list, as the words of `dine replay` ask for them.
-fn choices_in(alloc: Global, list: String) -> Result<Vec<u32>, Fault> {
-    let mut words = Vec::new(alloc);
-    words.push(String::from_str(alloc, "dine")?)?;
-    words.push(String::from_str(alloc, "replay")?)?;
-    words.push(String::from_str(alloc, "--choices")?)?;
-    words.push(list)?;
-    match command_of(alloc, words.as_slice())? {
-        Command::Replay(choices) => Ok(choices),
-        Command::Run(..) | Command::Check => Err(Fault::Usage),
-    }
-}
-
-// Reads the plan, and shows the schedule of the choices.
-fn show<R: Read, W: Write>(
+// Reads the plan, and shows what the words ask for.
+fn show<H: Threads + Wait + Copy + Send + 'static, R: Read, W: Write>(
+    rt: &H,
     alloc: Global,
     given: io::Result<env::Args>,
     input: &mut R,
     output: &mut W,
 ) -> Result<(), Fault> {
-    let choices = choices_of(alloc, given)?;
+    let asked = asked_of(alloc, words_of(alloc, given)?.as_slice())?;
     let bytes = read_input(alloc, input)?;
     let plan = match plan_of_bytes(alloc, bytes.as_slice()) {
         Ok(plan) => plan,
         Err(fault) => return Err(Fault::from(fault)),
     };
-    trace::show_plan(alloc, &plan, choices.as_slice(), output)
+    show_asked(rt, alloc, &plan, asked, output)
+}
+
+// Shows what is asked of the plan.
+fn show_asked<H: Threads + Wait + Copy + Send + 'static, W: Write>(
+    rt: &H,
+    alloc: Global,
+    plan: &Plan,
+    asked: Asked,
+    output: &mut W,
+) -> Result<(), Fault> {
+    let line = match asked {
+        Asked::Steps(choices) => return show_plan(alloc, plan, choices.as_slice(), output),
+        Asked::State(choices) => state_text(alloc, plan, choices.as_slice())?,
+        Asked::Run(links) => list_of(alloc, choices_of_run(rt, alloc, plan, links)?.as_slice())?,
+    };
+    write_line(output, line.as_str())?;
+    Ok(())
+}
+
+// The choices as a LIST.
+fn list_of(alloc: Global, choices: &[u32]) -> Result<String, Fault> {
+    let mut list = String::new(alloc);
+    for choice in choices {
+        if !list.is_empty() {
+            list.push(',')?;
+        }
+        write!(list, "{choice}")?;
+    }
+    Ok(list)
 }
 
 fn main(rt: HostRuntime) -> ExitCode {
     let mut input = rt.stdin();
     let mut output = rt.stdout();
     let mut faults = rt.stderr();
-    let status = match show(rt.alloc(), env::args(&rt), &mut input, &mut output) {
-        Ok(()) => dine_words::Status::Success,
+    let given = env::args(&rt);
+    let status = match show(&rt, rt.alloc(), given, &mut input, &mut output) {
+        Ok(()) => Status::Success,
         Err(fault) => fault.end(&mut faults),
     };
     exit_of(status)
