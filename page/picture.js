@@ -3,7 +3,7 @@
 const SVG = "http://www.w3.org/2000/svg";
 const TURN = 2 * Math.PI;
 // The radius of a site, in points: the least, the largest, and from where on its name, its phase and its meals stand in it.
-const SITE = { least: 7, most: 46, name: 21, phase: 31, meals: 39 };
+const SITE = { least: 5, most: 46, name: 21, phase: 28, meals: 39 };
 // How large a mark on an edge is, and up to where a fork is a dot.
 const MARK = { least: 8, most: 28, dot: 12 };
 const HEIGHT = 620;
@@ -86,7 +86,7 @@ function placesOf(sites, edges, room) {
   const hub = hubOf(count, edges);
   const round = hub === null ? count : count - 1;
   const longest = Math.min(SHOWN, Math.max(...sites.map((site) => site.name.length)));
-  const width = Math.max(room, round > 24 ? (round * 18) / Math.PI + 2 * (24 + 6.5 * longest) : 0);
+  const width = Math.max(room, round > 24 ? (round * 13) / Math.PI + 2 * (24 + 6.5 * longest) : 0);
   const height = count === 1 ? 180 : count === 2 ? 220 : Math.min(width, HEIGHT);
   let radius = SITE.most;
   let far = 0;
@@ -95,7 +95,7 @@ function placesOf(sites, edges, room) {
     const edge = 1.26 * radius + 6 + label;
     far = count === 1 ? 0 : count === 2 ? Math.min(width / 2 - edge, 230) : Math.min(width, height) / 2 - edge;
     const apart = count < 3 ? 2 * far : 2 * far * Math.sin(Math.PI / Math.max(round, 3));
-    radius = between(SITE.least, 0.235 * Math.min(apart, hub === null ? apart : far), SITE.most);
+    radius = between(SITE.least, 0.21 * Math.min(apart, hub === null ? apart : far), SITE.most);
   }
   const begin = count === 2 ? Math.PI : -TURN / 4;
   let seat = 0;
@@ -217,7 +217,7 @@ export class Picture {
 
   // The name of a small site, outside of the circle and along its radius.
   nameBeside(place, site, group) {
-    const name = element("text", { class: "beside", "font-size": 11 }, group);
+    const name = element("text", { class: "beside", "font-size": place.radius < 7 ? 10 : 11 }, group);
     name.textContent = shortened(site.name, SHOWN);
     const angle = place.angle ?? -TURN / 4;
     const isLeft = Math.cos(angle) < -0.001;
