@@ -147,8 +147,14 @@ async function open(path, plan, choices = []) {
   session = opened;
   if (path === null) offerOwn();
   found("plans").value = path ?? "";
+  found("about").textContent = aboutOf(plan);
   openPicture();
   show();
+}
+
+// What a plan says of itself: its first line, where that is a comment.
+function aboutOf(plan) {
+  return /^# (.*)$/.exec(plan.split("\n")[0])?.[1] ?? "";
 }
 
 function openPicture() {

@@ -5,8 +5,9 @@ const TURN = 2 * Math.PI;
 // The radius of a site, in points: the least, the largest, and from where on its name, its phase and its meals stand in it.
 const SITE = { least: 5, most: 46, name: 21, phase: 28, meals: 39 };
 // How large a mark on an edge is, and up to where a fork is a dot.
-const MARK = { least: 8, most: 28, dot: 12 };
-const HEIGHT = 620;
+const MARK = { least: 6, most: 28, dot: 12 };
+// How high a picture is at most, with up to so many sites, and with more.
+const HEIGHT = { few: 620, up: 24, many: 800 };
 // Up to how many edges each has its number in the picture.
 const NUMBERED = 24;
 // How many letters of a name a picture shows.
@@ -86,16 +87,21 @@ function placesOf(sites, edges, room) {
   const hub = hubOf(count, edges);
   const round = hub === null ? count : count - 1;
   const longest = Math.min(SHOWN, Math.max(...sites.map((site) => site.name.length)));
-  const width = Math.max(room, round > 24 ? (round * 13) / Math.PI + 2 * (24 + 6.5 * longest) : 0);
-  const height = count === 1 ? 180 : count === 2 ? 220 : Math.min(width, HEIGHT);
+  const isMany = round > HEIGHT.up;
+  // Many sites get a picture that is wider than a small window.
+  const width = Math.max(room, isMany ? (round * (hub === null ? 20 : 13)) / Math.PI + 2 * (24 + 6 * longest) : 0);
+  const height = count === 1 ? 180 : count === 2 ? 220 : Math.min(width, isMany ? HEIGHT.many : HEIGHT.few);
+  // An edge that passes by one site is to leave room for it.
+  const passes = edges.some(({ ends: [low, high] }) => [2, round - 2].includes(high - low)) && hub === null && round > 4;
   let radius = SITE.most;
   let far = 0;
   for (let turn = 0; turn < 6; turn += 1) {
-    const label = radius < SITE.name ? 12 + 6.5 * longest : 0;
+    const label = radius < SITE.name ? 8 + 6 * longest : 0;
     const edge = 1.26 * radius + 6 + label;
     far = count === 1 ? 0 : count === 2 ? Math.min(width / 2 - edge, 230) : Math.min(width, height) / 2 - edge;
     const apart = count < 3 ? 2 * far : 2 * far * Math.sin(Math.PI / Math.max(round, 3));
-    radius = between(SITE.least, 0.21 * Math.min(apart, hub === null ? apart : far), SITE.most);
+    const most = passes ? 0.6 * far * (1 - Math.cos(TURN / round)) : SITE.most;
+    radius = between(SITE.least, Math.min(0.21 * (hub === null ? apart : Math.min(apart, far)), most), SITE.most);
   }
   const begin = count === 2 ? Math.PI : -TURN / 4;
   let seat = 0;
@@ -148,7 +154,7 @@ function linesOf(places, edges) {
     line.size = size;
     line.begin = [[line.low, line.from], [line.high, line.to]].map(([site, place]) => {
       const crowded = angles[site] < 2 ? (0.8 * size) / (2 * Math.sin(angles[site] / 2)) : 0;
-      return Math.min(Math.max(1.22 * place.radius + 3, crowded), 0.36 * line.length);
+      return Math.max(1.22 * place.radius + 2, Math.min(crowded, line.length / 2 - 1.8 * size));
     });
   }
   return lines;
