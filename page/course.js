@@ -1,4 +1,4 @@
-// What happened, drawn: a row for each site, a bar for each meal, a line for each wait, an arrow for each move of a fork.
+// What happened, drawn: a row for each site, a bar for each meal, a line for each wait, an arrow for each fork's move.
 
 import { between, element, shortened } from "./picture.js";
 

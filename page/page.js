@@ -1,22 +1,30 @@
-// The page: its buttons and keys, what it says of a state, and its address. Each state comes from the program, by session.js.
+// The page: its buttons and keys, what it says of a state, and its address. Each state comes from the program, by
+// session.js.
 
 import { Course } from "./course.js";
 import { Picture, between, drawLegend, element, outline } from "./picture.js";
-import { Session, ask, choicesOf, drawn } from "./session.js";
+import { LEARNT, Session, ask, choicesOf, drawn } from "./session.js";
 
 // How many acts may wait for their turn, so that a key that is held down does not run ahead.
 const WAITING = 12;
 // How long an address gets, in characters, with a plan of one's own in it.
 const ADDRESS = 12000;
+const START = "all forks are dirty, at the lower ends of their edges; the tokens are at the higher ends";
 const DIGITS = /^[0-9]+(,[0-9]+)*$/;
 
 const found = (name) => document.getElementById(name);
 const main = document.querySelector("main");
 const picture = new Picture(found("picture"));
-const course = new Course({ names: found("course-names"), svg: found("course"), scroll: found("course-scroll"), jump: (count) => jump(() => count) });
+const course = new Course({
+  names: found("course-names"), svg: found("course"), scroll: found("course-scroll"), jump: (count) => jump(() => count),
+});
 
 let offered = new Map();
+// The path of the plan that the server was begun with.
+let first = null;
 let session = null;
+// The text of the plan that was asked for last, which may be refused.
+let wanted = "";
 let timer = null;
 let isPlaying = false;
 
@@ -141,6 +149,7 @@ function quicker(by) {
 
 // Shows a plan from its start, or after the choices.
 async function open(path, plan, choices = []) {
+  wanted = plan;
   const opened = new Session(path, plan);
   await opened.open(choices, true);
   pause();
@@ -175,7 +184,7 @@ function openOffered() {
 
 function writeOwn() {
   pause();
-  found("text").value = session?.plan ?? "";
+  found("text").value = wanted;
   found("own-fault").textContent = "";
   found("own-plan").showModal();
 }
@@ -207,7 +216,7 @@ function noteAddress() {
 }
 
 // Shows what the address says, or else the plan that the server was begun with.
-function openAddress(first) {
+function openAddress() {
   return act(async () => {
     const said = new URLSearchParams(location.hash.slice(1));
     const choices = said.get("choices") ?? "";
@@ -253,7 +262,7 @@ function showTold(state) {
   const last = session.events[session.at - 1];
   const isOver = state.enabled.length === 0;
   words.textContent = session.at === 0 ? "The start" : last?.words ?? `After event ${session.at}`;
-  rule.textContent = session.at === 0 ? "all forks are dirty, at the lower ends of their edges; the tokens are at the higher ends" : last?.rule ?? "";
+  rule.textContent = session.at === 0 ? START : last?.rule ?? "";
   if (isOver) rule.textContent += `${rule.textContent ? "; " : ""}no event is enabled any more`;
 }
 
@@ -354,10 +363,14 @@ function showCourse() {
 
 function courseNote() {
   const { list, at, isOfThreads, state } = session;
-  if (isOfThreads) return `${state.sites.length} threads, one for each site, did these ${list.length} events; the page plays them in one order that fits. Run again for another.`;
-  if (list.length === 0) return "Nothing yet. A bar will be a meal, a thin line a hungry site that waits, an arrow a fork on its way.";
-  const rest = list.length - at;
-  return rest ? `${at} events, and ${rest} that were taken back` : `${at} events`;
+  const count = `${list.length} ${list.length === 1 ? "event" : "events"}`;
+  if (list.length > LEARNT) return `${count}; the first ${LEARNT} are drawn`;
+  if (isOfThreads) {
+    const threads = state.sites.length === 1 ? "One thread" : `${state.sites.length} threads, one for each site,`;
+    return `${threads} did these ${count}. They are played in one order that fits. Run again for another.`;
+  }
+  if (list.length === 0) return "A bar will be a meal, a thin line a hungry site that waits, an arrow a fork on its way.";
+  return at < list.length ? `${count}, of which ${list.length - at} were taken back` : count;
 }
 
 // ---- Keys and buttons
@@ -395,6 +408,9 @@ const BUTTONS = {
   threads: runOnThreads, own: writeOwn, use: useOwn, copy: copyLine, theme: turnTheme, help: () => found("keys").showModal(),
 };
 
+// What can be done before there is a plan.
+const WITHOUT_PLAN = new Set(["own", "use", "theme", "help"]);
+
 const KEYS = {
   ArrowRight: BUTTONS.step, ArrowLeft: back, Home: reset, End: () => jump((it) => it.list.length), " ": play,
   f: BUTTONS.first, r: BUTTONS.random, "+": () => quicker(0.5), "=": () => quicker(0.5), "-": () => quicker(-0.5), g: turnPick,
@@ -411,20 +427,22 @@ function hear(event) {
   }
   if (target.closest("button") && (key === " " || key === "Enter")) return;
   const does = /^[0-9]$/.test(key) ? paused(() => choose(Number(key))) : KEYS[key.length === 1 ? key.toLowerCase() : key];
-  if (!does || !session) return;
+  if (!does || !(session || /^[od?]$/i.test(key))) return;
   event.preventDefault();
   does();
 }
 
 function listen() {
-  for (const [name, does] of Object.entries(BUTTONS)) found(name).addEventListener("click", () => does());
+  for (const [name, does] of Object.entries(BUTTONS)) {
+    found(name).addEventListener("click", () => { if (session || WITHOUT_PLAN.has(name)) does(); });
+  }
   found("plans").addEventListener("change", openOffered);
   found("speed").addEventListener("input", showRate);
   found("text").addEventListener("keydown", (event) => {
     if (event.key === "Enter" && (event.ctrlKey || event.metaKey)) useOwn();
   });
   document.addEventListener("keydown", hear);
-  addEventListener("hashchange", () => openAddress(found("plans").value));
+  addEventListener("hashchange", openAddress);
   let width = 0;
   new ResizeObserver(() => {
     if (!session || main.clientWidth === width) return;
@@ -437,10 +455,14 @@ function listen() {
 async function begin() {
   showRate();
   listen();
-  const { first, plans } = await (await fetch("/plans")).json();
-  offered = new Map(plans.map((it) => [it.path, it.text]));
-  for (const { path } of plans) found("plans").add(new Option(path.replace(/^plans\/(.*)\.toml$/, "$1").replaceAll("_", " "), path));
-  await openAddress(first);
+  const told = await (await fetch("/plans")).json();
+  first = told.first;
+  offered = new Map(told.plans.map((it) => [it.path, it.text]));
+  const nameOf = (path) => path.replace(/^plans\/(.*)\.toml$/, "$1").replaceAll("_", " ");
+  for (const path of offered.keys()) found("plans").add(new Option(nameOf(path), path));
+  await openAddress();
+  // An address that shows nothing leaves the plan to be seen that the server was begun with, and its fault.
+  if (!session && wanted !== offered.get(first)) await open(first, offered.get(first));
 }
 
 begin().catch((fault) => tell(fault.message));

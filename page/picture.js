@@ -2,7 +2,8 @@
 
 const SVG = "http://www.w3.org/2000/svg";
 const TURN = 2 * Math.PI;
-// The radius of a site, in points: the least, the largest, and from where on its name, its phase and its meals stand in it.
+// The radius of a site, in points: the least, the largest, and from where on its name, its phase and its meals stand
+// in it.
 const SITE = { least: 5, most: 46, name: 21, phase: 28, meals: 39 };
 // How large a mark on an edge is, and up to where a fork is a dot.
 const MARK = { least: 6, most: 28, dot: 12 };

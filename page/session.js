@@ -1,9 +1,12 @@
-// A plan and the choices on it: which events were done, which may follow, and the state after each of them, as the program tells it.
+// A plan and the choices on it: which events were done, which may follow, and the state after each of them, as the
+// program tells it.
 
 // How many states are kept.
 const KEPT = 300;
-// How many states are asked for at a time, to learn what the events of a list were.
+// How many states are asked for at a time, to learn what the events of a list were, and of how many events that is
+// learnt.
 const ASKED = 3;
+export const LEARNT = 2500;
 
 // Asks the program, and returns its answer. A refusal is an error with the line of the refusal.
 export async function ask(question, word, plan) {
@@ -109,7 +112,8 @@ export class Session {
     this.keep(this.at, this.state);
   }
 
-  // The number of the event that follows: that of the list, or else the first or a random one. Null where none is enabled.
+  // The number of the event that follows: that of the list, or else the first or a random one. Null where none is
+  // enabled.
   next(pick, seed) {
     if (this.at < this.list.length) return this.list[this.at];
     const count = this.state.enabled.length;
@@ -117,19 +121,21 @@ export class Session {
     return pick === "random" ? drawn(seed, this.at, count) : 0;
   }
 
-  // Learns what the events of the list are, and calls `more` now and then. It ends early where the list is another by then.
+  // Learns what the events of the list are, and calls `more` now and then. It ends early where the list is another by
+  // then.
   async learn(more) {
     const list = this.list;
     if (this.learnt === list) return;
     this.learnt = list;
-    const missing = [...list.keys()].filter((place) => this.events[place] === undefined);
+    const last = this.at - 1;
+    const isMissing = (place) => this.events[place] === undefined && (place < LEARNT || place === last);
     // The event that was done last is told in words, so it comes first.
-    missing.sort((one, other) => (other === this.at - 1) - (one === this.at - 1));
+    const missing = [...list.keys()].filter(isMissing).sort((one, other) => (other === last) - (one === last));
     while (missing.length && this.list === list) {
       const places = missing.splice(0, ASKED);
       const states = await Promise.all(places.map((place) => this.stateAfter(place, list)));
       if (this.list !== list) return;
-      places.forEach((place, turn) => { this.events[place] ??= eventOf(states[turn], list[place]); });
+      places.forEach((place, turn) => this.keep(place, states[turn]));
       more();
     }
   }
