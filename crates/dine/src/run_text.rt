@@ -1,6 +1,6 @@
 //! The command `run`.
-ghost use Rattle.std.specs.Prelude.{◌≡◌, ◌≢◌, IfErr, IfOk};
-ghost use Rattle.dine_plan.specs.Plan.{IsPlan};
+ghost use Rattle.std.specs.Prelude.{◌≡◌, ◌≢◌, ◌≤◌, IfErr, IfOk, Some, slice_get};
+ghost use Rattle.dine_plan.specs.Plan.{IsPlan, job_count};
 ghost use Rattle.dine.specs.Run.{HasDueRows, IsRunText, NamesSite, TellsRun, diners_of};
 
 use crate::faults::Fault;
@@ -63,6 +63,7 @@ where
 pub fn open_diners(alloc: Global, plan: &Plan) -> Result<Vec<PlanDiner>, AllocError>
     ensures plan { IsPlan plan.now }
     ensures diners { IfOk result (λ diners. diners.items ≡ diners_of plan.now) }
+    ensures room { IfOk result (λ diners. (s : _) (diner : _) → slice_get diners.items s ≡ Some diner → job_count plan.now s ≤ diner.room) }
 {
     let mut diners = Vec::with_capacity(alloc, plan.sites() as usize)?;
     for site in 0..plan.sites() {

@@ -1,11 +1,12 @@
--- What the readers of a World tell of a state: where the fork and the token of an edge are, which letters lie in a
--- link, and what was said at a place.
-use Rattle.std.specs.Prelude.{◌≡◌, ◌⊎◌, ℕ, ◌<◌, ◌≤◌, ◌&&◌, nat_lt, Bool, Option, Some, None, MatchOption, length, if◌then◌else◌}
+-- What the readers of a World tell of a state: where the fork and the token of an edge are, whether the fork is dirty,
+-- which letters lie in a link, and what was said at a place.
+use Rattle.std.specs.Prelude.{◌≡◌, ◌⊎◌, ℕ, ◌<◌, ◌≤◌, ◌==◌, ◌&&◌, ◌||◌, nat_lt, Bool, Option, Some, None, MatchOption, length, if◌then◌else◌}
+use Rattle.dine_token.specs.Log.{is_dirty}
 use Rattle.dine_plan.specs.Plan.{SeenPlan, edge_count, edges_of, hi_of, lo_of, site_count}
 use Rattle.dine_core.specs.declared.site.said.Said.{Said}
 use Rattle.dine_core.specs.declared.world.whereabouts.Whereabouts.{Whereabouts}
 use Rattle.dine_core.specs.declared.world.whereabouts.Whereabouts.TheVariants.{At, To}
-use Rattle.dine_rules.specs.Holdings.{fork_at, token_at}
+use Rattle.dine_rules.specs.Holdings.{fork_at, hand_at, token_at}
 use Rattle.dine_rules.specs.Letters.{forks_in, has_close, has_done, requests_in}
 use Rattle.dine_rules.specs.Links.{queue_to}
 use Rattle.dine_rules.specs.Local.{Traffic}
@@ -50,6 +51,19 @@ IsTokenAt plan world edge = IsThere plan edge (tokens_at plan world edge) (token
 pub record TellsWhere (plan : SeenPlan) (edge : ℕ) (IsHere : Whereabouts → Type 0) (answer : Option Whereabouts) : Type 0 where
   pub there : MatchOption answer (edge_count plan ≤ edge) IsHere
   pub only : (other : Whereabouts) → IsHere other → answer ≡ Some other
+
+-- a site holds the fork of the edge, and the log in its hand is dirty
+abbrev pub holds_dirty : SeenPlan → WorldState → ℕ → ℕ → Bool
+holds_dirty plan world edge s = forks_at plan world edge s == 1 && is_dirty (hand_at s (state_of world s) (place_of plan s edge))
+
+-- the fork of the edge is dirty: one of the ends holds it, and it is dirty there. So it is not on its way.
+-- [paper: clean and dirty]
+abbrev pub is_fork_dirty : SeenPlan → WorldState → ℕ → Bool
+is_fork_dirty plan world edge = holds_dirty plan world edge (lo_of plan edge) || holds_dirty plan world edge (hi_of plan edge)
+
+-- what is said of an edge, where it is one of the plan's
+abbrev pub at_edge : {A : Type 0} → SeenPlan → ℕ → A → Option A
+at_edge plan edge answer = if nat_lt edge (edge_count plan) then Some answer else None
 
 -- the site is one of the plan's, and has the place
 abbrev pub is_place : SeenPlan → ℕ → ℕ → Bool

@@ -15,7 +15,6 @@ use Rattle.dine_rules.specs.Local.{edge_at}
 use Rattle.dine_rules.specs.Steps.{fork_by}
 use Rattle.dine_rules.specs.World.{WorldState, Reaches, state_of, place_of, world_after}
 use Rattle.dine_rules.specs.Links.{queue_to}
-use Rattle.dine_rules.specs.Outcomes.{with_outcomes}
 use Rattle.dine_core.specs.LinkNumbers.{link_number_to}
 use Rattle.dine_core.specs.WorldSites.{IsSiteOf, can_do, letters_in}
 use Rattle.dine_rules.specs.Precedence.{fork_log}
@@ -70,11 +69,6 @@ lists_of fails = map (λ (own : Vec Bool Global). own.items) fails
 pub record AreOutcomesFor (plan : SeenPlan) (fails : List (List Bool)) : Type 0 where
   pub sites : length fails ≡ site_count plan
   pub jobs : (s : ℕ) (past : List Bool) → s < site_count plan → length (slice_index_or fails s past) ≡ job_count plan s
-
--- the world was opened for the plan, with some outcomes of its meals: it stands for a state of the world of the plan
--- with these
-abbrev pub IsOpenedFor : SeenPlan → SeenWorld → Type 0
-IsOpenedFor plan seen = (fails : List (List Bool)) × (state : WorldState) × IsWorldOf (with_outcomes plan fails) state seen
 
 -- the world stands for a state that events reach, of some plan
 abbrev pub IsOpened : SeenWorld → Type 0

@@ -6,7 +6,7 @@ ghost use Rattle.dine_run.specs.Tables.{IsGatheredOf};
 use crate::calls::Told;
 use crate::pair::pair;
 use dine::{PlanDiner, world_text, write_edges, write_sites};
-use dine_core::{World, laws};
+use dine_core::World;
 use dine_plan::Plan;
 use dine_run::{EdgeRow, Gathered, SiteOut, SiteRow, edge_table, site_table};
 use dine_token::Fork;
@@ -113,8 +113,6 @@ pub fn sites_text(alloc: Global) -> Result<Told, AllocError> {
 
 /// The text of the pair's world after its last event.
 pub fn world(alloc: Global) -> Result<Told, AllocError> {
-    // A world of the plan's own outcomes is one that was opened for it.
-    laws::journals_stand_for_other_outcomes();
     let plan = pair(alloc)?;
     let mut world = World::open(alloc, &plan)?;
     let events = world.finish();

@@ -67,7 +67,7 @@ pub fn rule_of(world: &World, event: Event) -> &'static str {
             "request rule: a hungry site that holds the token and not the fork sends the token"
         }
         EventKind::Done(_) => "a site without jobs left says over each edge that it asks no more",
-        EventKind::Close(_) => "a site that said done, and was told so, sends nothing more",
+        EventKind::Close(_) => "a site that said done over an edge, and took done there, closes it",
     }
 }
 

@@ -127,6 +127,7 @@ fn lines_of<'s>(alloc: Global, text: &'s str) -> Result<Vec<&'s str>, AllocError
     Ok(lines)
 }
 
+// The sites of the plan.
 fn sites_of<'s>(
     alloc: Global,
     plan: &'s Plan,
@@ -154,6 +155,7 @@ fn name_of_phase(phase: Option<Phase>) -> &'static str {
     }
 }
 
+// The edges of the plan.
 fn edges_of(alloc: Global, plan: &Plan, world: &World) -> Result<Vec<EdgeState>, AllocError> {
     let mut edges = Vec::new(alloc);
     for edge in 0..plan.edges() {
@@ -163,7 +165,7 @@ fn edges_of(alloc: Global, plan: &Plan, world: &World) -> Result<Vec<EdgeState>,
         edges.push(EdgeState {
             ends: (lower, higher),
             fork: spot_of(fork),
-            dirty: is_dirty(world, edge),
+            dirty: world.is_fork_dirty(edge).unwrap_or(false),
             token: spot_of(token),
             roles: (role(fork, token, lower), role(fork, token, higher)),
             said: (
@@ -175,13 +177,7 @@ fn edges_of(alloc: Global, plan: &Plan, world: &World) -> Result<Vec<EdgeState>,
     Ok(edges)
 }
 
-fn is_dirty(world: &World, edge: u32) -> bool {
-    match world.fork(edge) {
-        Some(fork) => fork.is_dirty(),
-        None => false,
-    }
-}
-
+// Where it is. None where it was not found.
 fn spot_of(found: Option<Whereabouts>) -> Option<Spot> {
     match found? {
         Whereabouts::At(site) => Some(Spot::At(site)),
@@ -227,6 +223,7 @@ fn place_at(plan: &Plan, site: u32, edge: u32) -> u32 {
     place
 }
 
+// The links of all edges, of each that to the higher end first.
 fn links_of(alloc: Global, plan: &Plan, world: &World) -> Result<Vec<LinkState>, AllocError> {
     let mut links = Vec::new(alloc);
     for edge in 0..plan.edges() {
@@ -261,6 +258,7 @@ fn link_of(
     })
 }
 
+// The name of a kind of letters.
 fn name_of_letter(kind: Kind4) -> &'static str {
     match kind {
         Kind4::Fork => "fork",
@@ -270,6 +268,7 @@ fn name_of_letter(kind: Kind4) -> &'static str {
     }
 }
 
+// The enabled events.
 fn enabled_of(alloc: Global, plan: &Plan, world: &World) -> Result<Vec<EventState>, AllocError> {
     let mut enabled = Vec::new(alloc);
     for number in 0..world.count() {
@@ -280,6 +279,7 @@ fn enabled_of(alloc: Global, plan: &Plan, world: &World) -> Result<Vec<EventStat
     Ok(enabled)
 }
 
+// The enabled event with this number.
 fn event_of(
     alloc: Global,
     plan: &Plan,

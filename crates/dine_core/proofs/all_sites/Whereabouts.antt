@@ -1,26 +1,33 @@
--- Where the fork and the token of an edge are: of each there is one, at an end or in a link.
-use Rattle.std.proofs.Common.{◌≡◌, ℕ, ◌+◌, ◌*◌, ◌<◌, ◌≤◌, ◌==◌, nat_lt, Bool, true, false, List, get_or, length, Option, Some, None, refl, sym, ◌∙◌, ap, subst, inl, inr, arith}
-use Rattle.std.proofs.lemmas.Bool.{eqb-true, eqb-false, ltb-true, ltb-false}
+-- Where the fork and the token of an edge are: of each there is one, at an end or in a link. Whether the fork is dirty.
+use Rattle.std.proofs.Common.{◌≡◌, ℕ, ◌+◌, ◌*◌, ◌<◌, ◌≤◌, ◌==◌, ◌&&◌, ◌||◌, nat_lt, Bool, true, false, List, get_or, slice_get, length, zero-add, Option, Some, None, refl, sym, ◌∙◌, ap, subst, inl, inr, arith}
+use Rattle.std.proofs.lemmas.Bool.{cond-true, cond-false, eqb-true, eqb-false, le-ltb, lt-ltb, ltb-true, ltb-false}
+use Rattle.std.proofs.lemmas.List.FromFn.{get_or-map-range_with_len, length-map-range_with_len}
+use Rattle.std.proofs.lemmas.Option.{same_Some, slice_get-get_or}
+use Rattle.dine_token.specs.Fork.{SeenFork}
+use Rattle.dine_token.specs.Log.{is_dirty}
 use Rattle.dine_plan.specs.Plan.{SeenPlan, edge_count, hi_of, lo_of, site_count}
 use Rattle.dine_rules.specs.declared.letters.Letter.{Letter}
 use Rattle.dine_core.specs.declared.world.EdgeEnds.{EdgeEnds}
 use Rattle.dine_core.specs.declared.world.sites.WorldSite.{WorldSite}
 use Rattle.dine_core.specs.declared.world.whereabouts.Whereabouts.{Whereabouts}
 use Rattle.dine_core.specs.declared.world.whereabouts.Whereabouts.TheVariants.{At, To}
-use Rattle.dine_rules.specs.Holdings.{fork_at, token_at}
+use Rattle.dine_rules.specs.Holdings.{fork_at, hand_at, token_at}
 use Rattle.dine_rules.specs.Letters.{forks_in, requests_in}
 use Rattle.dine_rules.specs.Links.{queue_to}
+use Rattle.dine_rules.specs.Precedence.{fork_log}
 use Rattle.dine_rules.specs.Local.{LocalState}
 use Rattle.dine_rules.specs.Streams.{KeepsStreams}
 use Rattle.dine_rules.specs.World.{WorldState, place_of, state_of}
+use Rattle.dine_rules.proofs.ends_of_runs.ForkLogs.{log_in_hand}
+use Rattle.dine_rules.proofs.lists.Counting.{or_false}
 use Rattle.dine_rules.proofs.links.EdgeSums.{one_fork_of_edge, one_token_of_edge}
 use Rattle.dine_rules.proofs.links.WorldStreams.{WorldKeeps, reached_kept}
 use Rattle.dine_rules.proofs.precedence.Preference.{is_edge}
 use Rattle.dine_core.specs.Core.{SeenCore, Refines}
 use Rattle.dine_core.specs.Standing.{ForEachState}
-use Rattle.dine_core.specs.Whereabouts.{IsForkAt, IsThere, IsTokenAt, TellsWhere}
+use Rattle.dine_core.specs.Whereabouts.{IsForkAt, IsThere, IsTokenAt, TellsWhere, at_edge, forks_at, forks_to, is_fork_dirty}
 use Rattle.dine_core.specs.WorldSites.{IsSiteOf}
-use Rattle.dine_core.specs.Worlds.{IsWorldOf, SeenWorld, ends_seen}
+use Rattle.dine_core.specs.Worlds.{IsWorldOf, SeenWorld, ends_seen, fork_seen, forks_seen}
 use Rattle.dine_core.specs.private.Told.{told}
 use Rattle.dine_core.proofs.all_sites.ForkPlaces.{edges_count, ends_is, keeps, letters_low, letters_read}
 
@@ -67,6 +74,18 @@ module _ (plan : SeenPlan) (e : ℕ) (held coming : ℕ → ℕ) (within : e < e
   told_where a b c a_is b_is c_is =
       let there = told_there a b c a_is b_is c_is in
       record { there = there; only = λ other h. ap (λ (x : Whereabouts). Some x) (there_once (told low high a b c) other there h) }
+
+-- ---- the fork in two hands
+
+-- The one hand that holds it tells whether it is dirty, and where none does it is not.
+of_lower : (a b : ℕ) (x y : Bool) → a ≡ 1 → b ≡ 0 → ((a == 1 && x) || (b == 1 && y)) ≡ x
+of_lower a b x y here gone = ap (λ (n : ℕ). (n == 1 && x) || (b == 1 && y)) here ∙ ap (λ (n : ℕ). x || (n == 1 && y)) gone ∙ or_false x
+
+of_higher : (a b : ℕ) (x y : Bool) → a ≡ 0 → b ≡ 1 → ((a == 1 && x) || (b == 1 && y)) ≡ y
+of_higher a b x y gone here = ap (λ (n : ℕ). (n == 1 && x) || (b == 1 && y)) gone ∙ ap (λ (n : ℕ). n == 1 && y) here
+
+of_neither : (a b : ℕ) (x y : Bool) → a ≡ 0 → b ≡ 0 → ((a == 1 && x) || (b == 1 && y)) ≡ false
+of_neither a b x y gone away = ap (λ (n : ℕ). (n == 1 && x) || (b == 1 && y)) gone ∙ ap (λ (n : ℕ). n == 1 && y) away
 
 -- ---- what is read at the ends of an edge
 
@@ -143,3 +162,68 @@ module _ (plan : SeenPlan) (world : WorldState) (seen : SeenWorld) (is : IsWorld
         past_all : (other : Whereabouts) → IsThere plan e held coming other → ◌≡◌ {A = Option Whereabouts} None (Some other)
         past_all (At s) h = absurd (omega (arith, past, edges_count plan world seen is, h.0.0))
         past_all (To s) h = absurd (omega (arith, past, edges_count plan world seen is, h.0.0))
+
+  -- ---- whether the fork is dirty
+
+  abbrev held : ℕ → ℕ → ℕ
+  held e s = forks_at plan world e s
+
+  -- the log of a fork at a site is the one in its hand
+  log_at : (e s : ℕ) → IsForkAt plan world e (At s) → fork_log plan world e ≡ hand_at s (state_of world s) (place_of plan s e)
+  log_at e s here =
+      let w = is_edge plan e is.reached.is_plan here.0.0 in
+      let at = log_in_hand plan is.reached.is_plan world kept in
+      elim here.0.1 [
+        | inl p ↦ subst (λ (x : ℕ). held e x ≡ 1 → fork_log plan world e ≡ hand_at x (state_of world x) (place_of plan x e)) (sym p)
+            (λ one. ap (fork_log plan world) (sym w.low_edge) ∙ at (lo_of plan e) (place_of plan (lo_of plan e) e) w.low_site w.low_within one) here.1
+        | inr p ↦ subst (λ (x : ℕ). held e x ≡ 1 → fork_log plan world e ≡ hand_at x (state_of world x) (place_of plan x e)) (sym p)
+            (λ one. ap (fork_log plan world) (sym w.high_edge) ∙ at (hi_of plan e) (place_of plan (hi_of plan e) e) w.high_site w.high_within one) here.1
+      ]
+
+  -- a fork at a site is dirty where its log is
+  pub dirty_at : (e s : ℕ) → IsForkAt plan world e (At s) → is_fork_dirty plan world e ≡ is_dirty (fork_log plan world e)
+  dirty_at e s here =
+      let one = one_fork_of_edge plan is.reached.is_plan world kept e here.0.0 in
+      let log = log_at e s here in
+      let dirty : ℕ → Bool = λ x. is_dirty (hand_at x (state_of world x) (place_of plan x e)) in
+      elim here.0.1 [
+        | inl p ↦
+            let low_has : held e (lo_of plan e) ≡ 1 = ap (held e) (sym p) ∙ here.1 in
+            let high_lacks : held e (hi_of plan e) ≡ 0 = omega (arith, one, low_has) in
+            of_lower _ _ (dirty (lo_of plan e)) (dirty (hi_of plan e)) low_has high_lacks ∙ sym (ap is_dirty log ∙ ap dirty p)
+        | inr p ↦
+            let high_has : held e (hi_of plan e) ≡ 1 = ap (held e) (sym p) ∙ here.1 in
+            let low_lacks : held e (lo_of plan e) ≡ 0 = omega (arith, one, high_has) in
+            of_higher _ _ (dirty (lo_of plan e)) (dirty (hi_of plan e)) low_lacks high_has ∙ sym (ap is_dirty log ∙ ap dirty p)
+      ]
+
+  -- and one on its way is not
+  pub dirty_on_way : (e s : ℕ) → IsForkAt plan world e (To s) → is_fork_dirty plan world e ≡ false
+  dirty_on_way e s coming =
+      let one = one_fork_of_edge plan is.reached.is_plan world kept e coming.0.0 in
+      let some : 1 ≤ forks_to plan world e (lo_of plan e) + forks_to plan world e (hi_of plan e) = elim coming.0.1 [
+        | inl p ↦ omega (arith, coming.1, ap (forks_to plan world e) p)
+        | inr p ↦ omega (arith, coming.1, ap (forks_to plan world e) p)
+      ] in
+      let low_lacks : held e (lo_of plan e) ≡ 0 = omega (arith, one, some) in
+      let high_lacks : held e (hi_of plan e) ≡ 0 = omega (arith, one, some) in
+      of_neither _ _ _ _ low_lacks high_lacks
+
+  -- an edge has its fork, with the log that the whole lists give
+  fork_there : (e : ℕ) → e < edge_count plan → slice_get (forks_seen plan world) e ≡ Some (fork_seen plan world e)
+  fork_there e within =
+      slice_get-get_or (forks_seen plan world) e (fork_seen plan world e) (omega (arith, within, length-map-range_with_len (fork_seen plan world) 0 (edge_count plan)))
+      ∙ ap (λ (f : SeenFork). Some f) (get_or-map-range_with_len (fork_seen plan world) 0 (edge_count plan) e e (fork_seen plan world e) within (zero-add e))
+
+  pub log_seen : (e : ℕ) (fork : SeenFork) → e < edge_count plan → Some fork ≡ slice_get (forks_seen plan world) e → fork.log ≡ fork_log plan world e
+  log_seen e fork within found = ap (λ (f : SeenFork). f.log) (same_Some fork (fork_seen plan world e) (found ∙ fork_there e within))
+
+  pub fork_not_none : (e : ℕ) → e < edge_count plan → None ≡ slice_get (forks_seen plan world) e → ⊥
+  fork_not_none e within none = let same : ◌≡◌ {A = Option SeenFork} None (Some (fork_seen plan world e)) = none ∙ fork_there e within in absurd cc
+
+  -- what is said of an edge is said where there is one
+  pub said_of_edge : {A : Type 0} (e : ℕ) (answer other : A) → e < edge_count plan → answer ≡ other → Some answer ≡ at_edge plan e other
+  said_of_edge {A} e answer other within same = ap (λ (x : A). Some x) same ∙ sym (cond-true (nat_lt e (edge_count plan)) (Some other) None (lt-ltb e (edge_count plan) within))
+
+  pub not_said : {A : Type 0} (e : ℕ) (answer : A) → edge_count plan ≤ e → None ≡ at_edge plan e answer
+  not_said e answer past = sym (cond-false (nat_lt e (edge_count plan)) (Some answer) None (le-ltb e (edge_count plan) past))

@@ -14,7 +14,7 @@ pub enum Whereabouts {
 }
 
 impl World {
-    ghost use Rattle.dine_core.specs.Whereabouts.{IsForkAt, IsTokenAt, TellsWhere};
+    ghost use Rattle.dine_core.specs.Whereabouts.{IsForkAt, IsTokenAt, TellsWhere, at_edge, is_fork_dirty};
     ghost use Rattle.dine_core.specs.Worlds.{ForEachWorld};
 
     /// Where the fork of the edge is. None where there is no such edge.
@@ -28,6 +28,19 @@ impl World {
         let to_lower = self.links[2 * (edge as usize) + 1].has_fork();
         let at_higher = higher.core.has_fork(ends.higher_place);
         Some(told(ends, at_lower, to_lower, at_higher))
+    }
+
+    /// Whether the fork of the edge is dirty, at a site. One on its way is clean. None where there is no such edge.
+    pub fn is_fork_dirty(&self, edge: u32) -> Option<bool>
+        ensures { ForEachWorld self.now (λ plan world. result ≡ at_edge plan edge (is_fork_dirty plan world edge)) }
+    {
+        match self.where_is_fork(edge)? {
+            Whereabouts::At(_) => {
+                let fork = self.fork(edge)?;
+                Some(fork.is_dirty())
+            }
+            Whereabouts::To(_) => Some(false),
+        }
     }
 
     /// Where the request token of the edge is. In a link it is a Request. None where there is no such edge.

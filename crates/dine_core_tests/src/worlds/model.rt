@@ -269,6 +269,18 @@ impl<'a, R: Abort> Model<'a, R> {
         if count == 1 { found } else { None }
     }
 
+    /// Whether the one fork of the edge is dirty: at a site its log tells, and on its way it is clean. None where there
+    /// is not one.
+    pub(super) fn is_fork_dirty(&self, edge: u32) -> Option<bool> {
+        match self.where_is(edge, Kind4::Fork)? {
+            Whereabouts::At(site) => {
+                let log = self.hand(site, self.graph.place_of(site, edge));
+                Some(is_dirty(log.as_slice()))
+            }
+            Whereabouts::To(_) => Some(false),
+        }
+    }
+
     /// Which of Done and Close the site has put and taken at the place.
     pub(super) fn said(&self, site: u32, place: u32) -> Said {
         let traffic = self.traffic(site, place);

@@ -35,11 +35,13 @@ pub(super) fn same_readers<R: Abort>(rt: &R, model: &Model<R>, world: &World) {
             world.where_is_token(edge),
             model.where_is(edge, Kind4::Request)
         );
+        assert_eq!(rt; world.is_fork_dirty(edge), model.is_fork_dirty(edge));
     }
     assert_eq!(rt;
         (world.where_is_fork(edges), world.where_is_token(edges)),
         (None, None)
     );
+    assert_eq!(rt; world.is_fork_dirty(edges), None);
     let sites = model.graph.sites();
     for site in 0..sites {
         let places = model.graph.degree(site);
@@ -80,6 +82,7 @@ fn readers_follow_a_pair(rt: HostRuntime) {
         (world.where_is_fork(0), world.where_is_token(0)),
         (at_lower, at_higher)
     );
+    assert_eq!(rt; world.is_fork_dirty(0), Some(true));
     have_said(&rt, &world, all_or_none(false));
     // The higher end grew hungry and asked.
     let _ = world.replay([1, 1].as_slice());
@@ -97,16 +100,25 @@ fn readers_follow_a_pair(rt: HostRuntime) {
     );
     has_letters(&rt, &world, 0, 0, [].as_slice());
     has_letters(&rt, &world, 1, 0, [Kind4::Fork, Kind4::Request].as_slice());
+    assert_eq!(rt; world.is_fork_dirty(0), Some(false));
+    // The higher end took the fork.
+    let _ = world.replay([0].as_slice());
+    assert_eq!(rt;
+        (world.where_is_fork(0), world.is_fork_dirty(0)),
+        (at_higher, Some(false))
+    );
     let _ = world.finish();
     assert_eq!(rt;
         (world.where_is_fork(0), world.where_is_token(0)),
         (at_lower, at_higher)
     );
+    assert_eq!(rt; world.is_fork_dirty(0), Some(true));
     have_said(&rt, &world, all_or_none(true));
     assert_eq!(rt;
         (world.where_is_fork(1), world.where_is_token(1)),
         (None, None)
     );
+    assert_eq!(rt; world.is_fork_dirty(1), None);
     tells_nothing(&rt, &world, 0, 1);
     tells_nothing(&rt, &world, 2, 0);
     let _forks = spend(&rt, &plan, world);

@@ -1,8 +1,10 @@
--- One diner more.
-use Rattle.std.proofs.Common.{◌≡◌, arith}
+-- One diner more. Each has the room that its site needs.
+use Rattle.std.proofs.Common.{◌≡◌, ◌∙◌, ℕ, ap, arith, map}
+use Rattle.std.specs.List.{range_with_len}
 use Rattle.std.proofs.lemmas.List.FromFn.{map-range_with_len_more}
-use Rattle.dine.specs.Run.{diner_of}
-use Rattle.dine.proofs.RunLemmas.{diner_is}
+use Rattle.dine_plan.specs.Plan.{site_count}
+use Rattle.dine.specs.Run.{diner_of, diners_of}
+use Rattle.dine.proofs.RunLemmas.{diner_has_room, diner_is}
 use Rattle.dine.proofs.run_text.open_diners.Goals as goal
 
 pub loop-site-preserved : goal.loop-site-preserved
@@ -18,3 +20,10 @@ loop-site-preserved c =
       room = omega (arith, c.loop-site.invariant.room, c.push_reserved.ensures.capacity);
       diners = cc;
     }
+
+pub returns-clause-room : goal.returns-clause-room
+returns-clause-room c s diner at =
+    let plan = c.args.plan.now in
+    let end : c.loop-site.site ≡ site_count plan = omega (arith, c.loop-site.auto.site-end, c.loop-site-test.false, c.sites-site-end.ensures.count) in
+    let are : c.loop-site.diners.items ≡ diners_of plan = c.loop-site.invariant.diners ∙ ap (λ (n : ℕ). map (diner_of plan) (range_with_len 0 n)) end in
+    diner_has_room plan c.loop-site.diners.items are s diner at

@@ -5,10 +5,9 @@ use Rattle.dine_logs.proofs.logs.world_text.Goals as goal
 
 pub returns : goal.returns
 returns c fails state stands =
-    let plan = c.args.plan.now in
-    let shown = with_outcomes plan fails in
-    let lines = edge_lines plan shown state in
+    let shown = with_outcomes c.args.plan.now fails in
+    let lines = edge_lines c.args.plan.now shown state in
     let value = ap (λ v. v.items) c.into_bytes.ensures.value in
     value ∙ c.in_ok-push_events_line.ensures
-    ∙ ap (λ (l : List ℕ). l ++ events_line c.args.events c.bound.result) (c.in_ok-push_lines.ensures fails state stands ∙ ap (λ (l : List ℕ). l ++ lines) c.new-text.ensures.bytes)
+    ∙ ap (λ (l : List ℕ). l ++ events_line c.args.events c.bound.result) (c.in_ok-text.ensures fails state stands)
     ∙ ap (λ (n : ℕ). lines ++ events_line c.args.events n) (c.bound.ensures.bound shown state stands)

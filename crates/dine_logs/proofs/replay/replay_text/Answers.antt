@@ -18,13 +18,6 @@ overflow_add-chosen c =
     let finished = c.finish-finished.ensures.run plan (replay plan (from_here (start plan)) c.args.choices.now).world chosen.stands in
     omega (arith, chosen.counted, finished.counted, c.whole_runs_go_on_after_the_choices.ensures.events plan c.args.choices.now, c.whole_runs_are_bounded.ensures.bounded plan c.args.choices.now is_plan, c.whole_runs_are_bounded.ensures.small plan is_plan)
 
-pub world_text-text-requires : goal.world_text-text-requires
-world_text-text-requires c =
-    let plan = c.args.plan.now in
-    let chosen = c.replay-chosen.ensures plan (start plan) c.in_ok-world.ensures in
-    let finished = c.finish-finished.ensures.run plan (replay plan (from_here (start plan)) c.args.choices.now).world chosen.stands in
-    ([], (after_choices plan c.args.choices.now).world, subst (λ (shown : SeenPlan). IsWorldOf shown (after_choices plan c.args.choices.now).world c.finish-finished.new.self) (sym (c.journals_stand_for_other_outcomes.ensures.own plan)) finished.stands)
-
 pub returns : goal.returns
 returns c =
     let plan = c.args.plan.now in
