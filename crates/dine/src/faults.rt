@@ -129,7 +129,7 @@ impl From<RunFault<PlanDiner>> for Fault {
     ghost from_gives = { λ fault made. made ≡ fault_of_run fault };
 
     fn from(fault: RunFault<PlanDiner>) -> Fault {
-        let cause = fault.cause();
+        let cause = RunCause::from(&fault);
         match cause {
             RunCause::Memory => Fault::OutOfMemory,
             _ => Fault::RunFailed(cause),
