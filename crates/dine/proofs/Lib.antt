@@ -1,3 +1,4 @@
+pub mod LineLemmas
 pub mod PlainFields
 pub mod OneTable
 pub mod RunLemmas

@@ -4,6 +4,7 @@ use Rattle.std.specs.Global.{Vec}
 use Rattle.std.specs.List.{range_with_len}
 use Rattle.dine_plan.specs.Plan.{SeenPlan, SeenJob, IsPlan, site_count, job_count, jobs_of, resigns}
 use Rattle.dine_token.specs.Fork.{SeenFork}
+use Rattle.dine_run.specs.declared.causes.RunCause.TheVariants as run_cause
 use Rattle.dine_run.specs.declared.gathered.RunFault.{RunFault}
 use Rattle.dine_run.specs.declared.gathered.SiteOut.{SiteOut}
 use Rattle.dine_run.specs.Headline.{FaultIs}
@@ -59,8 +60,8 @@ pub record HasDueRows (plan : SeenPlan) (forks : List SeenFork) (outs : List (Si
 
 -- the fault tells of a run that failed at a site of the plan
 abbrev pub NamesSite : SeenPlan → Fault → Type 0
-NamesSite plan (fault.ThreadRefused site) = site < site_count plan
-NamesSite plan (fault.RunBroken site cause) = site < site_count plan
+NamesSite plan (fault.RunFailed (run_cause.Thread site)) = site < site_count plan
+NamesSite plan (fault.RunFailed (run_cause.Broken site cause)) = site < site_count plan
 NamesSite plan _ = ⊥
 
 -- The fault tells an answer that `run` may give where it is handed the diners of the plan: there is such an answer.

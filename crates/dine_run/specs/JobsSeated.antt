@@ -1,5 +1,5 @@
 -- Diners by jobs of which nothing is to be proved, one for each site.
-use Rattle.std.specs.Prelude.{◌≡◌, ◌≢◌, ℕ, List, map, vec_len}
+use Rattle.std.specs.Prelude.{◌≡◌, ◌≢◌, ℕ, List, codes, map, vec_len}
 use Rattle.std.specs.Global.{Vec}
 use Rattle.std.specs.List.{range_with_len}
 use Rattle.dine_plan.specs.Plan.{SeenPlan, job_count, site_count}
@@ -20,3 +20,8 @@ given_back (fault.Memory jobs) = jobs
 abbrev pub TellsCount : {J : Type 0} → SeenPlan → Vec J → SeatFault J → Type 0
 TellsCount plan jobs (fault.JobsDiffer back) = vec_len jobs ≢ site_count plan
 TellsCount plan jobs (fault.Memory back) = vec_len jobs ≡ site_count plan
+
+-- how it is told that there are none
+abbrev pub seat_fault_words : {J : Type 0} → SeatFault J → List ℕ
+seat_fault_words (fault.JobsDiffer jobs) = codes "run refused: jobs differ"
+seat_fault_words (fault.Memory jobs) = codes "out of memory"

@@ -1,13 +1,15 @@
 //! Jobs of which nothing is to be proved, and the diner that does them.
 ghost use Rattle.std.specs.Prelude.{◌≡◌, ◌≤◌, IfErr, IfOk, Some, [], map, slice_get, true, vec_len};
 ghost use Rattle.dine_plan.specs.Plan.{job_count, site_count};
-ghost use Rattle.dine_run.specs.JobsSeated.{TellsCount, fresh_logs, given_back};
+ghost use Rattle.dine_run.specs.JobsSeated.{TellsCount, fresh_logs, given_back, seat_fault_words};
 
 use crate::call_log::CallLog;
 use crate::diner::{Call, Diner, JobFault};
 use dine_plan::Plan;
 use dine_token::Meal;
 use std::alloc::{AllocError, Global};
+use std::error::Error;
+use std::fmt;
 
 /// Does the jobs of a site, where nothing is to be proved of what they do. It may be dropped, and moves into the thread
 /// of its site.
@@ -34,6 +36,30 @@ pub enum SeatFault<J: Job> {
     /// Memory was refused.
     Memory(Vec<J>),
 }
+
+/// `run refused: jobs differ` or `out of memory`.
+impl<J: Job> fmt::Display for SeatFault<J> {
+    ghost output = { λ fault. Some (seat_fault_words fault) };
+
+    fn fmt<W: fmt::Write>(&self, f: &mut fmt::Formatter<W>) -> fmt::Result {
+        match self {
+            SeatFault::JobsDiffer(_) => f.write_str("run refused: jobs differ"),
+            SeatFault::Memory(_) => f.write_str("out of memory"),
+        }
+    }
+}
+
+/// The cause alone, since a job need not be printed.
+impl<J: Job> fmt::Debug for SeatFault<J> {
+    fn fmt<W: fmt::Write>(&self, f: &mut fmt::Formatter<W>) -> fmt::Result {
+        match self {
+            SeatFault::JobsDiffer(_) => f.write_str("JobsDiffer"),
+            SeatFault::Memory(_) => f.write_str("Memory"),
+        }
+    }
+}
+
+impl<J: Job> Error for SeatFault<J> {}
 
 impl<J: Job> Jobs<J> {
     /// A diner for each site of the plan: the first does its jobs by the first of `jobs`, and so on. It has made no

@@ -64,9 +64,15 @@ fn jobs_that_are_not_as_many_as_sites_are_handed_back(rt: HostRuntime) -> Result
     let text = plan_text(alloc, &graph)?;
     let plan = read_plan(alloc, text.as_str()).expect(&rt, "a plan");
     for count in [0, 1, 3] {
-        let Err(SeatFault::JobsDiffer(back)) = Jobs::seat(alloc, &plan, counters(alloc, count, 0)?)
-        else {
+        let Err(fault) = Jobs::seat(alloc, &plan, counters(alloc, count, 0)?) else {
             return Err(Fail::new("jobs were taken"));
+        };
+        assert_eq!(rt;
+            fault.to_string(alloc)?.as_str(),
+            "run refused: jobs differ"
+        );
+        let SeatFault::JobsDiffer(back) = fault else {
+            return Err(Fail::new("memory was refused"));
         };
         assert_eq!(rt; back.len(), count as usize);
     }

@@ -2,7 +2,7 @@
 use dine::{Fault, Status, exit_of};
 use dine_plan::PlanFault;
 use dine_rules::Breach;
-use dine_run::SiteFault;
+use dine_run::{RunCause, SiteFault};
 use std::alloc::Global;
 use std::io;
 use std::io::Write;
@@ -107,49 +107,49 @@ fn each_fault_of_a_run_names_its_site(rt: HostRuntime) -> Result<(), Fail> {
     ends(
         &rt,
         alloc,
-        Fault::ThreadRefused(0),
+        Fault::RunFailed(RunCause::Thread(0)),
         Status::RunFailed,
         "dine: run refused: thread of site 0\n",
     )?;
     ends(
         &rt,
         alloc,
-        Fault::ThreadRefused(63),
+        Fault::RunFailed(RunCause::Thread(63)),
         Status::RunFailed,
         "dine: run refused: thread of site 63\n",
     )?;
     ends(
         &rt,
         alloc,
-        Fault::DinersDiffer,
+        Fault::RunFailed(RunCause::DinersDiffer),
         Status::RunFailed,
         "dine: run refused: diners differ\n",
     )?;
     ends(
         &rt,
         alloc,
-        Fault::RunBroken(10, SiteFault::Breach(0, Breach::ClosedEarly)),
+        Fault::RunFailed(RunCause::Broken(10, SiteFault::Breach(0, Breach::ClosedEarly))),
         Status::RunFailed,
         "dine: run broken at site 10: Breach 6 on link 0\n",
     )?;
     ends(
         &rt,
         alloc,
-        Fault::RunBroken(7, SiteFault::Lost(4_294_967_295)),
+        Fault::RunFailed(RunCause::Broken(7, SiteFault::Lost(4_294_967_295))),
         Status::RunFailed,
         "dine: run broken at site 7: Lost on link 4294967295\n",
     )?;
     ends(
         &rt,
         alloc,
-        Fault::RunBroken(1, SiteFault::NotStarted),
+        Fault::RunFailed(RunCause::Broken(1, SiteFault::NotStarted)),
         Status::RunFailed,
         "dine: run broken at site 1: NotStarted\n",
     )?;
     ends(
         &rt,
         alloc,
-        Fault::RunBroken(63, SiteFault::Memory),
+        Fault::RunFailed(RunCause::Broken(63, SiteFault::Memory)),
         Status::RunFailed,
         "dine: run broken at site 63: Memory\n",
     )

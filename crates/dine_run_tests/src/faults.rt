@@ -1,0 +1,73 @@
+// What an answer of `run` that gathers nothing, or not all, says.
+use crate::diners::Taster;
+use dine_run::{Breach, CallLog, Joined, RunFault, SiteFault, SiteOut};
+use std::alloc::{AllocError, Global};
+use std::process::Abort;
+use std::test::Fail;
+
+// A site that did nothing, and ended with this fault where there is one.
+fn left(alloc: Global, site: u32, fault: Option<SiteFault>) -> Result<SiteOut<Taster>, AllocError> {
+    let diner = Taster {
+        log: CallLog::open(alloc, 0)?,
+        fails_each: 0,
+    };
+    Ok(SiteOut {
+        site,
+        ate: 0,
+        failed: 0,
+        diner,
+        tokens: Vec::new(alloc),
+        journal: Vec::new(alloc),
+        stray: None,
+        fault,
+    })
+}
+
+// Of two sites the second one ended with this fault.
+fn broken(alloc: Global, fault: SiteFault) -> Result<RunFault<Taster>, AllocError> {
+    let mut sites = Vec::new(alloc);
+    sites.push(left(alloc, 0, None)?)?;
+    sites.push(left(alloc, 1, Some(fault))?)?;
+    Ok(RunFault::Broken {
+        site: 1,
+        joined: Joined {
+            forks: Vec::new(alloc),
+            sites,
+            links: Vec::new(alloc),
+        },
+    })
+}
+
+fn says<R: Abort>(rt: &R, alloc: Global, fault: RunFault<Taster>, words: &str) -> Result<(), Fail> {
+    assert_eq!(rt; fault.to_string(alloc)?.as_str(), words);
+    Ok(())
+}
+
+#[test]
+fn a_run_that_did_not_begin_says_why(rt: HostRuntime) -> Result<(), Fail> {
+    let alloc = rt.alloc();
+    let diners = Vec::new(alloc);
+    let differ = RunFault::DinersDiffer { given: 0, diners };
+    says(&rt, alloc, differ, "run refused: diners differ")?;
+    says(&rt, alloc, RunFault::Memory, "out of memory")?;
+    let thread = RunFault::Thread(2);
+    says(&rt, alloc, thread, "run refused: thread of site 2")
+}
+
+#[test]
+fn a_run_that_broke_names_its_site_and_the_fault_of_it(rt: HostRuntime) -> Result<(), Fail> {
+    let alloc = rt.alloc();
+    let cases = [
+        (
+            SiteFault::Breach(0, Breach::ClosedEarly),
+            "run broken at site 1: Breach 6 on link 0",
+        ),
+        (SiteFault::Lost(2), "run broken at site 1: Lost on link 2"),
+        (SiteFault::NotStarted, "run broken at site 1: NotStarted"),
+        (SiteFault::Memory, "run broken at site 1: Memory"),
+    ];
+    for (fault, words) in cases {
+        says(&rt, alloc, broken(alloc, fault)?, words)?;
+    }
+    Ok(())
+}
