@@ -1,4 +1,4 @@
-"""The graphs that the measures take, and their plans."""
+"""The graphs that the measures and tools/many-runs take, and their plans."""
 
 
 def ring(sites):
@@ -41,10 +41,10 @@ def graph_of(name):
     return int(size), {"ring": ring, "path": path, "star": star, "complete": complete, "band": band}[kind](int(size))
 
 
-def plan_of(sites, edges, jobs, turns=0):
-    """Returns the text of a plan, each of whose sites has so many jobs of so many turns. Its edges stand in increasing order."""
-    job = ", ".join(['{ name = "j", turns = %d }' % turns if turns else '{ name = "j" }'] * jobs)
+def plan_of(jobs, edges, turns=0):
+    """Returns the text of a plan, whose sites have so many jobs each, of so many turns. Its edges stand in increasing order."""
+    job = '{ name = "j", turns = %d }' % turns if turns else '{ name = "j" }'
     text = ["version = 1"]
-    text += [f'[[site]]\nname = "s{it}"\njobs = [{job}]' for it in range(sites)]
+    text += [f'[[site]]\nname = "s{it}"\njobs = [{", ".join([job] * count)}]' for it, count in enumerate(jobs)]
     text += [f'[[edge]]\nends = ["s{one}", "s{other}"]' for one, other in sorted((min(it), max(it)) for it in edges)]
     return "\n".join(text + [""]).encode()

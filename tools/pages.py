@@ -6,11 +6,10 @@ of lemmas begins with a comment that says what it proves. Lib.antt and the answe
 public item of src/lib.rt in backticks, but for what that hands on from another crate. What stands in backticks on any page, where it is
 one word or a path, is a word of the sources or a file that is there, but for paths with a word that stands for others, as NAME.
 docs/BELIEVE.md is held against the sources by tools/believe."""
-import glob
-import os
 import re
+from pathlib import Path
 
-from trying import HOME, text_of
+from trying import HOME, paths, text_of
 
 LINES = 60
 LIMITS = {"docs/ARCHITECTURE.md": 12 * 1024, "docs/DECISIONS.md": 8 * 1024}
@@ -25,15 +24,15 @@ HANDED_ON = re.compile(r"^pub use (?!dine_)\w+(?:::\w+)*(?:::\{(.*?)\}|::(\w+));
 SOURCES = ["crates/*/src/**/*.rt", "crates/*/specs/**/*.antt", "crates/*/proofs/**/*.antt", "crates.txt", "tools/*", "verify"]
 
 
-def paths(pattern):
-    return sorted(glob.glob(pattern, root_dir=HOME, recursive=True))
+def pages():
+    """The paths of the pages."""
+    return ["README.md", "CONTRIBUTING.md", "bench/README.md", *paths("docs/*.md"), *paths("crates/*/README.md")]
 
 
 def lemma_files(crate):
     """The files of lemmas of a crate, by their paths below proofs/ without the ending."""
-    folder = f"crates/{crate}/proofs/"
-    names = [path.removeprefix(folder).removesuffix(".antt") for path in paths(folder + "**/*.antt")]
-    return [name for name in names if os.path.basename(name) not in NO_LEMMAS]
+    names = [path.partition("/proofs/")[2].removesuffix(".antt") for path in paths(f"crates/{crate}/proofs/**/*.antt")]
+    return [name for name in names if name.rpartition("/")[2] not in NO_LEMMAS]
 
 
 def faults_of_lemmas(crate, names):
@@ -50,15 +49,14 @@ def faults_of_lemmas(crate, names):
 
 def public_items(crate):
     """The names that src/lib.rt hands on from the crate's own modules."""
-    source = f"crates/{crate}/src/lib.rt"
-    found = HANDED_ON.findall(text_of(source)) if os.path.exists(os.path.join(HOME, source)) else []
-    return [name.strip() for many, one in found for name in (many or one).split(",") if name.strip()]
+    found = [it for source in paths(f"crates/{crate}/src/lib.rt") for it in HANDED_ON.findall(text_of(source))]
+    return [name for many, one in found for name in re.findall(r"\w+", many or one)]
 
 
 def faults_of_crate(crate):
     """What is wrong in a crate's README, a line each."""
     page = f"crates/{crate}/README.md"
-    if not os.path.exists(os.path.join(HOME, page)):
+    if not paths(page):
         return [f"{page}: there is none"]
     above, _, below = text_of(page).partition(LISTED)
     lines, lemmas, named = above.count("\n"), lemma_files(crate), LINE.findall(below)
@@ -74,8 +72,7 @@ def faults_of_crate(crate):
 
 def is_there(path):
     """A file or folder of this name is at the top, or in some crate, or is one of its modules."""
-    places = [path, f"crates/*/{path}", f"crates/*/src/{path}", f"crates/*/src/{path}.rt"]
-    return any(glob.glob(os.path.join(HOME, place)) for place in places)
+    return any(map(paths, [path, f"crates/*/{path}", f"crates/*/src/{path}", f"crates/*/src/{path}.rt"]))
 
 
 def faults_of_page(page, words):
@@ -95,9 +92,7 @@ def faults_of_page(page, words):
 def all_faults():
     """What is wrong, by crate and by page."""
     # Python keeps a folder of its own in tools/.
-    sources = [path for pattern in SOURCES for path in paths(pattern) if os.path.isfile(os.path.join(HOME, path))]
+    sources = [path for pattern in SOURCES for path in paths(pattern) if Path(HOME, path).is_file()]
     words = set(re.findall(r"\w+", " ".join(map(text_of, sources))))
-    crates = [os.path.basename(path) for path in paths("crates/*")]
-    pages = [page for page in ["README.md", "CONTRIBUTING.md", *paths("docs/*.md"), *paths("crates/*/README.md")] if page != "docs/BELIEVE.md"]
-    found = {crate: faults_of_crate(crate) for crate in crates}
-    return found | {page: faults_of_page(page, words) for page in pages}
+    found = {crate: faults_of_crate(crate.removeprefix("crates/")) for crate in paths("crates/*")}
+    return found | {page: faults_of_page(page, words) for page in pages() if page not in ("docs/BELIEVE.md", "bench/README.md")}

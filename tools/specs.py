@@ -2,12 +2,11 @@
 
 A definition begins on a line of its own, at the margin or in a `module _` block, with its name behind `abbrev`, `unfoldable`,
 `record`, `data` or `pub`, or with a name and a colon. It goes on to the next one, or to a comment that does not belong to its fields."""
-import glob
 import re
 import sys
 from dataclasses import dataclass
 
-from trying import HOME, text_of
+from trying import paths, text_of
 
 STARTS = re.compile(r"((?:(?:abbrev|unfoldable|pub|record|data) )*)(\S+)( :)?")
 WORD = re.compile(r"(?<![\w.])[A-Za-z_]\w*")
@@ -18,17 +17,12 @@ PASSES = re.compile(r"^(.*)\((?:[^()∷]+) ∷ (\w+)\)(.*?) = (.*)$")
 @dataclass
 class Definition:
     """A definition: where it stands, the comment directly above it, the block that it stands in, and its lines, without comments."""
-    path: str
-    line: int
+    place: str
     module: str
     name: str
     comment: list
     block: str
     lines: list
-
-    @property
-    def place(self):
-        return f"{self.path}:{self.line}"
 
     @property
     def is_record(self):
@@ -45,54 +39,47 @@ class Module:
         self.read(text_of(path).split("\n"))
 
     def read(self, lines):
+        """Reads the file. `level` is the margin of definitions, `now` the one that the line may belong to."""
         level, block, now, comment = 0, "", None, []
         for number, line in enumerate(lines, 1):
-            text = line.strip()
-            margin = len(line) - len(line.lstrip())
+            text, margin = line.strip(), len(line) - len(line.lstrip())
             if text.startswith("--"):
-                if margin <= level:
-                    now = None
+                now = now if margin > level else None
                 comment.append(text[2:].strip())
                 continue
             above, comment = comment, []
-            if not text:
-                continue
-            if margin == 0:
-                level = 0
+            level = level if margin or not text else 0
             if text.startswith(("use ", "pub use ", "pub mod ")):
                 self.use(text.removeprefix("pub "))
                 now = None
             elif text.startswith("module "):
                 level, block, now = 2, text, None
-                continue
-            elif margin == level and self.starts(text):
-                now = Definition(self.path, number, self.name, self.starts(text), above, block if level else "", [line[level:]])
-                self.definitions[now.name] = now
-            elif now and (margin > level or text.startswith((now.name + " ", "unfolding ", "}", ")"))):
+            elif margin == level and (name := name_begun(text)):
+                now = Definition(f"{self.path}:{number}", self.name, name, above, block if level else "", [line[level:]])
+                self.definitions[name] = now
+            elif now and text and (margin > level or text.startswith((now.name + " ", "unfolding ", "}", ")"))):
                 now.lines.append(line[level:])
-            else:
+            elif text:
                 self.strange.append(f"{self.path}:{number}: no definition and no part of one: {text}")
 
-    def starts(self, text):
-        """The name of the definition that begins here, if one does."""
-        words, name, colon = STARTS.match(text).groups()
-        return name if words or colon else None
-
     def use(self, text):
-        names = re.fullmatch(r"use (\S+?)\.\{(.*)\}", text)
-        alias = re.fullmatch(r"use (\S+) as (\S+)", text)
-        if names:
-            for one in names.group(2).split(", "):
-                parts = one.split(" as ")
-                self.uses[parts[-1]] = (names.group(1), parts[0])
-        elif alias:
-            self.uses[alias.group(2)] = (alias.group(1), None)
+        """Takes note of what a line uses."""
+        if names := re.fullmatch(r"use (\S+?)\.\{(.*)\}", text):
+            for name, _, alias in (one.partition(" as ") for one in names[2].split(", ")):
+                self.uses[alias or name] = (names[1], name)
+        elif alias := re.fullmatch(r"use (\S+) as (\S+)", text):
+            self.uses[alias[2]] = (alias[1], None)
+
+
+def name_begun(text):
+    """Returns the name of the definition that begins with this text, if one does."""
+    found = STARTS.match(text)
+    return found[2] if found and (found[1] or found[3]) else None
 
 
 def all_modules():
     """Every file of specs, by the name of its module."""
-    paths = sorted(glob.glob("crates/*/specs/**/*.antt", root_dir=HOME, recursive=True))
-    return {module.name: module for module in map(Module, paths)}
+    return {module.name: module for module in map(Module, paths("crates/*/specs/**/*.antt"))}
 
 
 def words_of(definition, left_out=()):
@@ -114,42 +101,35 @@ def used_by(modules, definition, left_out=()):
     """What a definition uses, in order: definitions of the repository, and the module of each type that a crate's code declares."""
     module, found = modules[definition.module], []
     for word in words_of(definition, left_out):
+        source, name = module.uses.get(word, ("", None))
         ones = []
         if word == definition.name:
             continue
         if word in module.definitions:
             ones = [module.definitions[word]]
-        elif word in module.uses and module.uses[word][0].startswith("Rattle.dine"):
-            source, name = module.uses[word]
+        elif source.startswith("Rattle.dine") and ".declared." in source:
+            ones = [source.removesuffix(".TheVariants")]
+        elif source.startswith("Rattle.dine"):
             names = [name] if name else re.findall(rf"(?<![\w.]){word}\.(\w+)", "\n".join(definition.lines))
-            if ".declared." in source:
-                ones = [source.removesuffix(".TheVariants")]
-            else:
-                ones = [defined(modules, source, it) for it in names]
-            if None in ones:
-                sys.exit(f"{definition.place}: {definition.name} uses {word}, which {source} does not define")
+            ones = [defined(modules, source, it) for it in names]
+        if None in ones:
+            sys.exit(f"{definition.place}: {definition.name} uses {word}, which {source} does not define")
         found += [one for one in ones if one not in found]
     return found
 
 
 def needed_by(modules, roots, left_out=()):
     """The roots and all that they need, in order of use, but what is only needed by lines that name one of those left out."""
-    found = []
-
-    def follow(one):
-        if one in found:
-            return
-        found.append(one)
-        if isinstance(one, Definition):
-            for other in used_by(modules, one, left_out):
-                follow(other)
-
-    for root in roots:
-        follow(root)
+    found, left = [], list(roots)
+    while left:
+        one = left.pop(0)
+        if one not in found:
+            found.append(one)
+            left[:0] = used_by(modules, one, left_out) if isinstance(one, Definition) else []
     return found
 
 
 def passes_over(line):
     """The clause only goes on behind the head of a list."""
     found = PASSES.match(line)
-    return bool(found) and found.group(1) + found.group(2) + found.group(3) == found.group(4)
+    return bool(found) and found[1] + found[2] + found[3] == found[4]

@@ -1,9 +1,11 @@
 """What the tools that try things share: where all stands, a program's answer and how it differs from the one that is wanted, copies of
 crates, and the lines and the count at the end."""
+import glob
 import os
 import shutil
 import subprocess
 import sys
+from pathlib import Path
 from typing import NamedTuple
 
 HOME = os.path.dirname(os.path.dirname(os.path.realpath(__file__)))
@@ -17,8 +19,17 @@ SHOWN = 100
 
 def text_of(path):
     """Returns the text of a file, whose path goes from the top."""
-    with open(os.path.join(HOME, path), encoding="utf-8") as file:
-        return file.read()
+    return Path(HOME, path).read_text("utf-8")
+
+
+def paths(pattern):
+    """Returns the paths that fit, from the top, in order."""
+    return sorted(glob.glob(pattern, root_dir=HOME, recursive=True))
+
+
+def write(path, text):
+    """Writes the text of a file, whose path goes from the top."""
+    Path(HOME, path).write_text(text, "utf-8")
 
 
 class Answer(NamedTuple):
@@ -57,20 +68,11 @@ def difference(wanted, got):
     if got.status is None:
         return got.error
     told = [f"status {got.status}, wanted {wanted.status}"] if got.status != wanted.status else []
-    for name, there, here in (("output", wanted.output, got.output), ("error", wanted.error, got.error)):
+    for name in ("output", "error"):
+        there, here = getattr(wanted, name), getattr(got, name)
         if there != here:
             told.append(f"standard {name}, {first_difference(there, here)}")
     return "; ".join(told)
-
-
-def need_program(tool):
-    """Has ./dine build the program where it must, and ends the tool where that fails."""
-    answer = answer_of(["check"], seconds=None, stdin=subprocess.DEVNULL)
-    # The program itself never ends with 1.
-    if answer.status == 1:
-        sys.stderr.write(answer.error)
-        print(f"{tool}: the program can't be built")
-        sys.exit(ended(0, 1))
 
 
 def crates():
@@ -91,14 +93,27 @@ def copy_crates(name, folder):
     copied = with_those_below(name, known)
     for it in copied:
         shutil.copytree(f"{HOME}/crates/{it}", f"{folder}/crates/{it}", ignore=shutil.ignore_patterns("out"))
-    with open(f"{folder}/crates.txt", "w", encoding="utf-8") as file:
-        file.writelines(f"{line}\n" for it, line in known.items() if it in copied)
+    write(f"{folder}/crates.txt", "".join(f"{line}\n" for it, line in known.items() if it in copied))
     shutil.copy(f"{HOME}/HANDLES", folder)
+
+
+def add_program(name, line, source, folder):
+    """Adds a crate with a program to a repository that copy_crates made, whose crates.txt has this behind its name. Returns its folder."""
+    crate = os.path.join(folder, "crates", name)
+    os.makedirs(os.path.join(crate, "src"))
+    write(f"{crate}/src/main.rt", source)
+    write(f"{folder}/crates.txt", text_of(f"{folder}/crates.txt") + f"{name} {line}\n")
+    return crate
 
 
 def in_a_line(name, fault):
     """Returns a try as `counted` takes it, told in one line: of what has this fault, or, where that is empty, none."""
     return (f"{name}: FAILED: {fault}", False) if fault else (f"{name}: ok", True)
+
+
+def tried(name, wanted, words, **how):
+    """Returns a try of the program, whose answer to the words is to be the one that is wanted."""
+    return in_a_line(name, difference(wanted, answer_of(words, **how)))
 
 
 def a_line_each(tool, faults):
@@ -115,6 +130,17 @@ def counted(tries):
             print(text, flush=True)
         passed, failed = passed + is_right, failed + (not is_right)
     return ended(passed, failed)
+
+
+def try_program(tool, tries):
+    """Has ./dine build the program where it must, and then ends the tool with the tries, of which none is begun before."""
+    answer = answer_of(["check"], seconds=None, stdin=subprocess.DEVNULL)
+    # The program itself never ends with 1.
+    if answer.status == 1:
+        sys.stderr.write(answer.error)
+        print(f"{tool}: the program can't be built")
+        sys.exit(ended(0, 1))
+    sys.exit(counted(tries))
 
 
 def ended(passed, failed):
