@@ -10,7 +10,7 @@ use std::fmt;
 use std::fmt::InlineText;
 use std::io::Write;
 
-// How many bytes a line may have. The longest is that of words which are refused.
+// How many bytes a line may have. The longest, that of refused words, has 102.
 const LINE: usize = 128;
 
 /// What ended a command before its end.
