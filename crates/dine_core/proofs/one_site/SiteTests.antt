@@ -43,6 +43,10 @@ drop_false false b = refl
 pub guarded : (i n m : ℕ) (a b : Bool) → n ≡ m → (i < n → a ≡ b) → (nat_lt i n && a) ≡ (nat_lt i m && b)
 guarded i n m a b same h = and_along (nat_lt i n) a b (λ lt. h (ltb-true i n lt)) ∙ ap (λ (k : ℕ). nat_lt i k && b) same
 
+-- a test of a place whose number is small enough
+in_reach : (i n : ℕ) (b : Bool) → i < n → b ≡ (nat_lt i n && b)
+in_reach i n b lt = ap (λ (small : Bool). small && b) (sym (lt-ltb i n lt))
+
 -- a place's test for a Give
 give_test : (phase : Phase) (fork token : Bool) (meals edge : ℕ) (f : SeenFork) (closed : Bool)
     → (not (is_eating phase) && (is_dirty_in_hand (if fork then (if is_eating phase then InMeal meals else Here f) else Away) && is_some {T = ℕ} (if token then Some edge else None) && not closed))
@@ -133,6 +137,14 @@ module _ (plan : SeenPlan) (state : LocalState) (core : SeenCore) (stands : Refi
   -- the site has to quit
   pub quit_is : can_quit core ≡ may plan core.site state Quit
   quit_is = ap₂ (λ (phase : Phase) (must : Bool). is_thinking phase && must) stands.phase stands.must_quit
+
+  -- the tests with which the state allows them
+  module _ (i : ℕ) (within : i < length core.places) where
+    reach : (b : Bool) → b ≡ (nat_lt i (length state.traffic) && b)
+    reach b = in_reach i (length state.traffic) b (omega (arith, stands.degree))
+
+    pub give_may : can_give core i ≡ may plan core.site state (Give i)
+    give_may = give_is i within ∙ reach _
 
   -- a letter that is there is allowed, or there is none
   pub next_is : (i : ℕ) (o : Option Letter) → ((l : Letter) → i < length core.places → o ≡ Some l → is_allowed plan core.site state i l ≡ true)

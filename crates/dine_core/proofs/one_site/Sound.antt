@@ -4,6 +4,7 @@ use Rattle.std.proofs.lemmas.Bool.{eqb-true, and_parts, false≢true}
 use Rattle.std.proofs.lemmas.Bool.Decides.{nat_tests}
 use Rattle.std.proofs.lemmas.List.{length-set}
 use Rattle.std.proofs.lemmas.List.Elements.{All-set}
+use Rattle.std.proofs.lemmas.Option.{none-some, same_Some}
 use Rattle.dine_core.specs.declared.site.SiteCore.TheInside.{Inside}
 use Rattle.dine_core.specs.private.SiteFields.{seen, HasRoom, IsKept}
 use Rattle.dine_token.specs.Fork.{SeenFork}
@@ -59,6 +60,37 @@ pub fits_along : (s ate : ℕ) (eating : Bool) (old new : Place) (slot : ForkSlo
 fits_along s ate eating old new Away e1 e2 e3 h = h
 fits_along s ate eating old new (Here fork) e1 e2 e3 h = (h.0, record { edge = h.1.edge ∙ e1; ends = h.1.ends ∙ e2; due = h.1.due ∙ e3; here = h.1.here; eaten = h.1.eaten })
 fits_along s ate eating old new (InMeal meals) e1 e2 e3 h = h
+
+-- a place stays sound where its token goes, and where Done or Close is put there
+pub sound_asked : (core : SeenCore) (place : Place) → IsSoundPlace core place → IsSoundPlace core (record place { token = None })
+sound_asked core place w = record {
+  ordered = w.ordered;
+  end = w.end;
+  own_due = w.own_due;
+  slot = fits_along core.site core.ate (is_eating core.phase) place (record place { token = None }) place.fork refl refl refl w.slot;
+  asked = λ _ token. absurd (false≢true token);
+  token = λ edge same. absurd (none-some edge same);
+}
+
+pub sound_done : (core : SeenCore) (place : Place) → IsSoundPlace core place → IsSoundPlace core (record place { done_put = true })
+sound_done core place w = record {
+  ordered = w.ordered;
+  end = w.end;
+  own_due = w.own_due;
+  slot = fits_along core.site core.ate (is_eating core.phase) place (record place { done_put = true }) place.fork refl refl refl w.slot;
+  asked = w.asked;
+  token = w.token;
+}
+
+pub sound_closed : (core : SeenCore) (place : Place) → IsSoundPlace core place → IsSoundPlace core (record place { close_put = true })
+sound_closed core place w = record {
+  ordered = w.ordered;
+  end = w.end;
+  own_due = w.own_due;
+  slot = fits_along core.site core.ate (is_eating core.phase) place (record place { close_put = true }) place.fork refl refl refl w.slot;
+  asked = w.asked;
+  token = w.token;
+}
 
 -- who has no fork at a place does not eat
 pub awake_without : (s ate : ℕ) (eating : Bool) (place : Place) (slot : ForkSlot) → is_held slot ≡ false → FitsSlot s ate eating place slot → eating ≡ false
@@ -126,7 +158,7 @@ sound_noted core place (Request edge) h w =
       own_due = w.own_due;
       slot = fits_along core.site core.ate (is_eating core.phase) place (record place { token = Some edge }) place.fork refl refl refl w.slot;
       asked = λ _ _. not_le _ _ turn.1;
-      token = λ other same. (let e : edge ≡ other = cc in sym e) ∙ edge_is;
+      token = λ other same. sym (same_Some edge other same) ∙ edge_is;
     }
 sound_noted core place Done h w = record {
   ordered = w.ordered;

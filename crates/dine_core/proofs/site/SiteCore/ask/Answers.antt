@@ -1,13 +1,24 @@
-use Rattle.std.proofs.Common.{◌≡◌, ℕ, Some, refl, ap, subst, arith}
+use Rattle.std.proofs.Common.{◌≡◌, ℕ, ◌<◌, length, Some, None, refl, sym, ap, subst, arith}
 use Rattle.std.proofs.lemmas.Grind.{common_steps}
 use Rattle.dine_rules.specs.declared.letters.Letter.TheVariants.{Request}
 use Rattle.dine_core.specs.Places.{place_at, no_place, IsSound}
 use Rattle.dine_rules.specs.Local.{edge_at}
 use Rattle.dine_rules.specs.Steps.{Ask}
+use Rattle.dine_core.specs.Core.{SeenCore}
+use Rattle.dine_core.specs.declared.site.places.Place.{Place}
+use Rattle.dine_core.specs.private.SiteFields.{seen}
+use Rattle.dine_core.proofs.one_site.Sound.{kept_with, sound_asked}
 use Rattle.dine_core.proofs.one_site.CoreSteps.{puts, stepped}
 use Rattle.dine_core.proofs.one_site.SiteTests.{may_ask}
 use Rattle.dine_core.proofs.one_site.Stands.{stands-asked, token_held}
 use Rattle.dine_core.proofs.site.SiteCore.ask.Goals as goal
+
+pub invariant_of-self : goal.invariant_of-self
+invariant_of-self c =
+    let old = seen c.self.inside in
+    let here : Place = place_at old c.args.i in
+    let within : c.args.i < length old.places = subst (λ (core : SeenCore). c.args.i < length core.places) (sym c.self.view_is) c.requires.place in
+    kept_with c.self.inside c.args.i (record here { token = None }) c.take_token.new.self c.self.invariant c.take_token.ensures.away (sound_asked old here (c.self.invariant.sound.places c.args.i no_place within))
 
 pub returns-clause-core : goal.returns-clause-core
 returns-clause-core c = grind (arith, common_steps)
