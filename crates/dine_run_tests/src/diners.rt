@@ -1,10 +1,10 @@
-// Diners for tests.
+// Diners and jobs for tests.
 ghost use Rattle.std.specs.Prelude.{◌≡◌, ◌≤◌, ◌∷◌, [], Some, true, length, slice_get, IfOk};
 ghost use Rattle.dine_plan.specs.Plan.{job_count};
 ghost use Rattle.dine_core.specs.Worlds.{AreOutcomesFor, lists_of};
 
 use dine_plan::Plan;
-use dine_run::{CallLog, Diner, JobFault};
+use dine_run::{CallLog, Diner, Job, JobFault};
 use dine_token::Meal;
 use std::alloc::{AllocError, Global};
 use std::sync::Arc;
@@ -83,7 +83,6 @@ fn outcomes_at(alloc: Global, jobs: u32, fails_each: u32) -> Result<Vec<bool>, A
 // not wait where `all` is 0.
 #[derive(Drop)]
 pub struct Waiter {
-    pub log: CallLog,
     pub entered: Arc<AtomicU32, Global>,
     pub all: u32,
 }
@@ -105,54 +104,30 @@ impl Waiter {
     }
 }
 
-impl Diner for Waiter {
-    ghost calls = { λ diner. diner.log.calls };
-
-    ghost marks = { λ diner. [] };
-
-    ghost fits = { λ marks k ok. true };
-
-    ghost room_left = { λ diner. diner.log.room };
-
-    fn room(&self) -> u32 {
-        self.log.room()
-    }
-
-    fn eat(&mut self, k: u32, _meal: &Meal) -> Result<(), JobFault> {
+impl Job for Waiter {
+    fn run(&mut self, k: u32) -> Result<(), JobFault> {
         if k == 1 && !self.meets() {
-            self.log.note(k, false);
             return Err(JobFault);
         }
-        self.log.note(k, true);
         Ok(())
     }
 }
 
-// One for each site: those of the even sites wait until `all` have entered, or all do where there are no edges.
-pub fn waiters(alloc: Global, plan: &Plan, all: u32) -> Result<Vec<Waiter>, AllocError>
-    ensures { IfOk result (λ diners. (s : _) (diner : _) → slice_get diners.items s ≡ Some diner → job_count plan.now s ≤ diner.log.room) }
-{
-    let entered = Arc::new(alloc, AtomicU32::new(0))?;
-    waiters_of(alloc, plan, all, plan.edges() == 0, &entered)
-}
-
-// The same, of every site or of each second one, which count at `entered` how many have entered their first meal.
-pub fn waiters_of(
+// One for each site, of which each one or each second one waits until `all` have entered. Those that wait count at
+// `entered`.
+pub fn waiters(
     alloc: Global,
     plan: &Plan,
     all: u32,
     everyone: bool,
     entered: &Arc<AtomicU32, Global>,
-) -> Result<Vec<Waiter>, AllocError>
-    ensures { IfOk result (λ diners. (s : _) (diner : _) → slice_get diners.items s ≡ Some diner → job_count plan.now s ≤ diner.log.room) }
-{
-    let mut diners = Vec::new(alloc);
+) -> Result<Vec<Waiter>, AllocError> {
+    let mut waiters = Vec::new(alloc);
     for site in 0..plan.sites() {
-        let log = CallLog::open(alloc, plan.jobs(site))?;
-        let entered = Arc::try_clone(entered)?;
         let is_one = everyone || site % 2 == 0;
         let all = if is_one { all } else { 0 };
-        diners.push(Waiter { log, entered, all })?;
+        let entered = Arc::try_clone(entered)?;
+        waiters.push(Waiter { entered, all })?;
     }
-    Ok(diners)
+    Ok(waiters)
 }

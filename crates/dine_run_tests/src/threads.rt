@@ -1,9 +1,9 @@
 // Runs with real threads.
-use crate::diners::{Taster, Waiter, waiters, waiters_of};
+use crate::diners::{Taster, Waiter, waiters};
 use crate::graphs::{apart, plan_text};
 use dine_link::{ChannelLane, Lane, RingLane};
 use dine_plan::read_plan;
-use dine_run::{CallLog, RunFault, run, run_within};
+use dine_run::{CallLog, Jobs, RunFault, run, run_within};
 use std::alloc::Global;
 use std::process::Abort;
 use std::sync::atomic::{AtomicU32, Ordering};
@@ -39,7 +39,12 @@ where
     L::Rx: 'static,
 {
     let plan = read_plan(alloc, text).expect(rt, "a plan");
-    let Ok(gathered) = run::<L, Waiter, R>(rt, alloc, &plan, waiters(alloc, &plan, all)?) else {
+    let entered = Arc::new(alloc, AtomicU32::new(0))?;
+    let jobs = waiters(alloc, &plan, all, plan.edges() == 0, &entered)?;
+    let Ok(diners) = Jobs::seat(alloc, &plan, jobs) else {
+        return Err(Fail::new("no diners"));
+    };
+    let Ok(gathered) = run::<L, Jobs<Waiter>, R>(rt, alloc, &plan, diners) else {
         return Err(Fail::new("no run"));
     };
     assert_eq!(rt; gathered.sites.len(), plan.sites() as usize);
@@ -121,8 +126,11 @@ where
 {
     let plan = read_plan(alloc, PATH).expect(rt, "a plan");
     let entered = Arc::new(alloc, AtomicU32::new(0))?;
-    let waiters = waiters_of(alloc, &plan, 1, true, &entered)?;
-    let ended = run_within::<L, Waiter, R>(rt, alloc, &plan, waiters, threads);
+    let jobs = waiters(alloc, &plan, 1, true, &entered)?;
+    let Ok(diners) = Jobs::seat(alloc, &plan, jobs) else {
+        return Err(Fail::new("no diners"));
+    };
+    let ended = run_within::<L, Jobs<Waiter>, R>(rt, alloc, &plan, diners, threads);
     assert!(rt; matches!(ended, Err(RunFault::Thread(site)) if site == threads));
     assert_eq!(rt; entered.load(Ordering::SeqCst), 0);
     // Each diner held it, so the threads that were started have ended.
