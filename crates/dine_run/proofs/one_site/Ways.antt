@@ -112,6 +112,25 @@ module _ {Identity : Type 0} (plan : SeenPlan) (given : List (SeenPort Identity)
 
   -- ---- no letter goes
 
+  -- only the bell was heard
+  pub heard_runs : (bell : SeenBell) → bell.refused ≡ run.bell.refused → IsRunning plan given run → IsRunning plan given (record { core = run.core; ports = run.ports; bell = bell; journal = run.journal })
+  heard_runs bell same running = record {
+    state = running.state;
+    has = record {
+      is_plan = running.has.is_plan;
+      is_site = running.has.is_site;
+      keeps = running.has.keeps;
+      stands = running.has.stands;
+      rests = running.has.rests;
+      count = running.has.count;
+      places = running.has.places;
+      same_links = running.has.same_links;
+    };
+    lists = running.lists;
+    heard = same ∙ running.heard;
+    did = running.did;
+  }
+
   pub hungry_runs : JournalsGrow → (core : SeenCore) (journal : List EventKind) → journal ≡ run.journal ++ event.Hungry ∷ [] → CoreSteps Hungry run.core core → IsRunning plan given run → IsRunning plan given (record { core = core; ports = run.ports; bell = run.bell; journal = journal })
   hungry_runs grows core journal noted steps running = record {
     state = after plan run.core.site running.state Hungry;
