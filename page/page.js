@@ -1,14 +1,16 @@
 // The page: its buttons and keys, what it says of a state, and its address. Each state comes from the program, by
-// session.js.
+// schedule.js.
 
 import { Course } from "./course.js";
 import { Picture, between, drawLegend, element, outline } from "./picture.js";
-import { LEARNT, Session, ask, choicesOf, drawn } from "./session.js";
+import { LEARNT, Schedule, ask, choicesOf, drawn } from "./schedule.js";
 
 // How many acts may wait for their turn, so that a key that is held down does not run ahead.
 const WAITING = 12;
 // How long an address gets, in characters, with a plan of one's own in it.
 const ADDRESS = 12000;
+// After how many milliseconds the run is drawn again, while it is learnt what its events were.
+const REDRAWN = 250;
 const START = "all forks are dirty, at the lower ends of their edges; the tokens are at the higher ends";
 const DIGITS = /^[0-9]+(,[0-9]+)*$/;
 
@@ -22,7 +24,7 @@ const course = new Course({
 let offered = new Map();
 // The path of the plan that the server was begun with.
 let first = null;
-let session = null;
+let schedule = null;
 // The text of the plan that was asked for last, which may be refused.
 let wanted = "";
 let timer = null;
@@ -57,17 +59,17 @@ function tell(line) {
 
 function choose(number) {
   return act(async () => {
-    if (number >= session.state.enabled.length) return;
-    await session.choose(number);
+    if (number >= schedule.state.enabled.length) return;
+    await schedule.choose(number);
     show();
   });
 }
 
 function chooseRandom() {
   return act(async () => {
-    const count = session.state.enabled.length;
+    const count = schedule.state.enabled.length;
     if (count === 0) return;
-    await session.choose(drawn(seed(), session.at, count));
+    await schedule.choose(drawn(seed(), schedule.at, count));
     show();
   });
 }
@@ -75,21 +77,21 @@ function chooseRandom() {
 function jump(count) {
   pause();
   return act(async () => {
-    await session.go(between(0, count(session), session.list.length));
+    await schedule.go(between(0, count(schedule), schedule.list.length));
     show();
   });
 }
 
 // Does the event that follows, and stops playing where there is none.
 async function step() {
-  const number = session.next(found("pick").value, seed());
+  const number = schedule.next(found("pick").value, seed());
   if (number === null) {
     pause();
     return;
   }
-  await session.choose(number);
+  await schedule.choose(number);
   show();
-  if (session.next("first", 0) === null) pause();
+  if (schedule.next("first", 0) === null) pause();
 }
 
 async function playOn() {
@@ -119,9 +121,9 @@ function pause() {
 function runOnThreads() {
   pause();
   return act(async () => {
-    const choices = choicesOf(await ask("/run", "", session.plan));
-    await session.open(choices, false);
-    session.isOfThreads = true;
+    const choices = choicesOf(await ask("/run", "", schedule.plan));
+    await schedule.open(choices, false);
+    schedule.isOfThreads = true;
     show();
     play();
   });
@@ -150,10 +152,10 @@ function quicker(by) {
 // Shows a plan from its start, or after the choices.
 async function open(path, plan, choices = []) {
   wanted = plan;
-  const opened = new Session(path, plan);
+  const opened = new Schedule(path, plan);
   await opened.open(choices, true);
   pause();
-  session = opened;
+  schedule = opened;
   if (path === null) offerOwn();
   found("plans").value = path ?? "";
   found("about").textContent = aboutOf(plan);
@@ -167,7 +169,7 @@ function aboutOf(plan) {
 }
 
 function openPicture() {
-  picture.open(session.state, found("picture").parentElement.clientWidth);
+  picture.open(schedule.state, found("picture").parentElement.clientWidth);
   drawLegend(found("legend"), picture.size);
 }
 
@@ -208,10 +210,10 @@ let address = null;
 function noteAddress() {
   clearTimeout(address);
   address = setTimeout(() => {
-    const choices = session.list.slice(0, session.at).join(",");
-    const own = `#text=${encodeURIComponent(session.plan)}&choices=${choices}`;
-    const named = `#plan=${encodeURIComponent(session.path).replaceAll("%2F", "/")}&choices=${choices}`;
-    if (session.path !== null || own.length <= ADDRESS) history.replaceState(null, "", session.path === null ? own : named);
+    const choices = schedule.list.slice(0, schedule.at).join(",");
+    const own = `#text=${encodeURIComponent(schedule.plan)}&choices=${choices}`;
+    const named = `#plan=${encodeURIComponent(schedule.path).replaceAll("%2F", "/")}&choices=${choices}`;
+    if (schedule.path !== null || own.length <= ADDRESS) history.replaceState(null, "", schedule.path === null ? own : named);
   }, 150);
 }
 
@@ -235,7 +237,7 @@ function openAddress() {
 // ---- What the page says of a state
 
 function show() {
-  const { state } = session;
+  const { state } = schedule;
   picture.show(state);
   showTold(state);
   showEnabled(state);
@@ -244,13 +246,18 @@ function show() {
   showSites(state);
   showEdges(state);
   showCourse();
-  learn(session);
+  learn(schedule);
   noteAddress();
 }
 
 // Learns what the events of the choices were, and draws them as they are known.
 function learn(learning) {
-  const more = () => { if (learning === session) showCourse(); };
+  let last = performance.now();
+  const more = (isAll) => {
+    if (learning !== schedule || (!isAll && performance.now() - last < REDRAWN)) return;
+    showCourse();
+    last = performance.now();
+  };
   learning.learn(more).catch((fault) => {
     learning.learnt = null;
     tell(fault.message);
@@ -259,17 +266,17 @@ function learn(learning) {
 
 function showTold(state) {
   const [words, rule] = found("told").children;
-  const last = session.events[session.at - 1];
+  const last = schedule.events[schedule.at - 1];
   const isOver = state.enabled.length === 0;
-  words.textContent = session.at === 0 ? "The start" : last?.words ?? `After event ${session.at}`;
-  rule.textContent = session.at === 0 ? START : last?.rule ?? "";
+  words.textContent = schedule.at === 0 ? "The start" : last?.words ?? `After event ${schedule.at}`;
+  rule.textContent = schedule.at === 0 ? START : last?.rule ?? "";
   if (isOver) rule.textContent += `${rule.textContent ? "; " : ""}no event is enabled any more`;
 }
 
 function showEnabled(state) {
   const list = found("enabled");
   const focused = [...list.querySelectorAll("button")].indexOf(document.activeElement);
-  const next = session.at < session.list.length ? session.list[session.at] : null;
+  const next = schedule.at < schedule.list.length ? schedule.list[schedule.at] : null;
   list.replaceChildren(...state.enabled.map((event) => enabledItem(event, event.number === next)));
   if (state.enabled.length === 0) list.append(textElement("li", "none: nothing is left to do", "none"));
   found("many").textContent = state.enabled.length ? state.enabled.length : "";
@@ -303,18 +310,18 @@ function showCount(state) {
   found("count").textContent = `event ${state.events} of at most ${state.bound}`;
   found("progress").max = Math.max(state.bound, 1);
   found("progress").value = state.events;
-  found("back").disabled = found("reset").disabled = session.at === 0;
+  found("back").disabled = found("reset").disabled = schedule.at === 0;
   for (const name of ["step", "play", "first", "random"]) found(name).disabled = state.enabled.length === 0;
 }
 
 function showLogs(state) {
   found("logs").textContent = [...state.logs, `events ${state.events} of ${state.bound}`].join("\n");
-  const done = session.list.slice(0, session.at).join(",");
+  const done = schedule.list.slice(0, schedule.at).join(",");
   const words = done ? `replay --choices ${done}` : "replay";
-  found("line").textContent = `./dine ${words} < ${quoted(session.path ?? "plan.toml")}`;
-  const own = session.path === null ? "Save the text of your plan as plan.toml. " : "";
+  found("line").textContent = `./dine ${words} < ${quoted(schedule.path ?? "plan.toml")}`;
+  const own = schedule.path === null ? "Save the text of your plan as plan.toml. " : "";
   found("line-note").textContent = `${own}It does these events, and then the first enabled one until there is none.`;
-  const rest = session.list.slice(session.at).join(",");
+  const rest = schedule.list.slice(schedule.at).join(",");
   const parts = [textElement("b", done || "none"), textElement("span", rest && `${done ? "," : " then "}${rest}`)];
   found("choices").replaceChildren(...parts);
 }
@@ -353,16 +360,16 @@ function showEdges(state) {
 }
 
 function showCourse() {
-  const { list, at, events, state } = session;
+  const { list, at, events, state } = schedule;
   course.draw(state.sites, events, list.length);
   course.show(at);
-  found("course-name").textContent = session.isOfThreads ? "What the threads did" : "The run so far";
+  found("course-name").textContent = schedule.isOfThreads ? "What the threads did" : "The run so far";
   found("course-note").textContent = courseNote();
   showTold(state);
 }
 
 function courseNote() {
-  const { list, at, isOfThreads, state } = session;
+  const { list, at, isOfThreads, state } = schedule;
   const count = `${list.length} ${list.length === 1 ? "event" : "events"}`;
   if (list.length > LEARNT) return `${count}; the first ${LEARNT} are drawn`;
   if (isOfThreads) {
@@ -427,14 +434,14 @@ function hear(event) {
   }
   if (target.closest("button") && (key === " " || key === "Enter")) return;
   const does = /^[0-9]$/.test(key) ? paused(() => choose(Number(key))) : KEYS[key.length === 1 ? key.toLowerCase() : key];
-  if (!does || !(session || /^[od?]$/i.test(key))) return;
+  if (!does || !(schedule || /^[od?]$/i.test(key))) return;
   event.preventDefault();
   does();
 }
 
 function listen() {
   for (const [name, does] of Object.entries(BUTTONS)) {
-    found(name).addEventListener("click", () => { if (session || WITHOUT_PLAN.has(name)) does(); });
+    found(name).addEventListener("click", () => { if (schedule || WITHOUT_PLAN.has(name)) does(); });
   }
   found("plans").addEventListener("change", openOffered);
   found("speed").addEventListener("input", showRate);
@@ -445,7 +452,7 @@ function listen() {
   addEventListener("hashchange", openAddress);
   let width = 0;
   new ResizeObserver(() => {
-    if (!session || main.clientWidth === width) return;
+    if (!schedule || main.clientWidth === width) return;
     width = main.clientWidth;
     openPicture();
     show();
@@ -462,7 +469,7 @@ async function begin() {
   for (const path of offered.keys()) found("plans").add(new Option(nameOf(path), path));
   await openAddress();
   // An address that shows nothing leaves the plan to be seen that the server was begun with, and its fault.
-  if (!session && wanted !== offered.get(first)) await open(first, offered.get(first));
+  if (!schedule && wanted !== offered.get(first)) await open(first, offered.get(first));
 }
 
 begin().catch((fault) => tell(fault.message));

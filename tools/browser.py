@@ -38,7 +38,7 @@ class Browser:
         self.child = subprocess.Popen(shell, pass_fds=(theirs, mine), **how)
         os.close(theirs)
         os.close(mine)
-        self.rest, self.number, self.session = b"", 0, None
+        self.rest, self.number, self.attached = b"", 0, None
         # What the page wrote on its console as a warning or an error, and what it threw.
         self.errors = []
         try:
@@ -62,7 +62,7 @@ class Browser:
     def attach(self):
         targets = self.call("Target.getTargets")["targetInfos"]
         page = next(it["targetId"] for it in targets if it["type"] == "page")
-        self.session = self.call("Target.attachToTarget", targetId=page, flatten=True)["sessionId"]
+        self.attached = self.call("Target.attachToTarget", targetId=page, flatten=True)["sessionId"]
         for domain in ("Page", "Runtime", "Log"):
             self.call(f"{domain}.enable")
 
@@ -91,8 +91,8 @@ class Browser:
     def call(self, method, **words):
         self.number += 1
         told = {"id": self.number, "method": method, "params": words}
-        if self.session:
-            told["sessionId"] = self.session
+        if self.attached:
+            told["sessionId"] = self.attached
         os.write(self.tell, json.dumps(told).encode() + b"\0")
         end = time.monotonic() + SECONDS
         while True:

@@ -42,7 +42,7 @@ function eventOf(state, number) {
   return { ...event, letter: link?.letters[0] ?? null };
 }
 
-export class Session {
+export class Schedule {
   constructor(path, plan) {
     this.path = path;
     this.plan = plan;
@@ -121,8 +121,8 @@ export class Session {
     return pick === "random" ? drawn(seed, this.at, count) : 0;
   }
 
-  // Learns what the events of the list are, and calls `more` now and then. It ends early where the list is another by
-  // then.
+  // Learns what the events of the list are, and calls `more` after each few, with whether that is all. It ends early
+  // where the list is another by then.
   async learn(more) {
     const list = this.list;
     if (this.learnt === list) return;
@@ -136,7 +136,7 @@ export class Session {
       const states = await Promise.all(places.map((place) => this.stateAfter(place, list)));
       if (this.list !== list) return;
       places.forEach((place, turn) => this.keep(place, states[turn]));
-      more();
+      more(missing.length === 0);
     }
   }
 }
