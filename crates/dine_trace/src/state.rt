@@ -18,8 +18,8 @@ struct State<'s> {
     enabled: Vec<EventState>,
     events: usize,
     bound: u64,
-    done: &'s [u32],
-    logs: Vec<&'s str>,
+    done: Vec<u32>,
+    logs: Vec<String>,
 }
 
 // A site: how many meals it began, and how many jobs it has in all.
@@ -102,7 +102,7 @@ fn text_after(
             done.push(*choice)?;
         }
     }
-    let logs = edges_text(alloc, plan, world)?;
+    let text = edges_text(alloc, plan, world)?;
     let state = State {
         sites: sites_of(alloc, plan, world)?,
         edges: edges_of(alloc, plan, world)?,
@@ -110,18 +110,18 @@ fn text_after(
         enabled: enabled_of(alloc, plan, world)?,
         events: done.len(),
         bound: world.bound(),
-        done: done.as_slice(),
-        logs: lines_of(alloc, logs.as_str())?,
+        done,
+        logs: lines_of(alloc, text.as_str())?,
     };
     Ok(serde_json::to_string(alloc, &state)?)
 }
 
 // The lines of the text, each of which ends with a line feed.
-fn lines_of<'s>(alloc: Global, text: &'s str) -> Result<Vec<&'s str>, AllocError> {
+fn lines_of(alloc: Global, text: &str) -> Result<Vec<String>, AllocError> {
     let mut lines = Vec::new(alloc);
     for line in text.split('\n') {
         if !line.is_empty() {
-            lines.push(line)?;
+            lines.push(String::from_str(alloc, line)?)?;
         }
     }
     Ok(lines)
