@@ -100,7 +100,7 @@ function placesOf(sites, edges, room) {
     const label = radius < SITE.name ? 8 + 6 * longest : 0;
     const edge = 1.26 * radius + 6 + label;
     far = count === 1 ? 0 : count === 2 ? Math.min(width / 2 - edge, 230) : Math.min(width, height) / 2 - edge;
-    const apart = count < 3 ? 2 * far : 2 * far * Math.sin(Math.PI / Math.max(round, 3));
+    const apart = count === 1 ? Infinity : count === 2 ? 2 * far : 2 * far * Math.sin(Math.PI / Math.max(round, 3));
     const most = passes ? 0.6 * far * (1 - Math.cos(TURN / round)) : SITE.most;
     radius = between(SITE.least, Math.min(0.21 * (hub === null ? apart : Math.min(apart, far)), most), SITE.most);
   }
@@ -212,8 +212,8 @@ export class Picture {
     if (place.radius < SITE.name) {
       this.nameBeside(place, site, group);
     } else {
-      const size = between(10, (1.75 * place.radius) / (0.6 * Math.min(site.name.length, SHOWN)), 17);
-      const most = Math.floor((1.8 * place.radius) / (0.58 * size));
+      const size = between(10, (1.75 * place.radius) / (0.64 * Math.min(site.name.length, SHOWN)), 17);
+      const most = Math.floor((1.75 * place.radius) / (0.64 * size));
       const rows = place.radius >= SITE.meals ? [-11, 6, 21] : place.radius >= SITE.phase ? [-4, 11] : [4];
       const name = element("text", { class: "name", y: rows[0], "font-size": size }, group);
       name.textContent = shortened(site.name, most);
