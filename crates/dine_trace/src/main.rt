@@ -1,5 +1,5 @@
-//! Shows a schedule of a plan. The plan is the standard input, and LIST has the numbers of the events to do, in turn, as
-//! for `dine replay --choices`.
+//! Shows a schedule of a plan. The plan is the standard input, and LIST has the numbers of the events to do, in turn,
+//! as for `dine replay --choices`.
 //!
 //! Step by step: before each step the enabled events with their numbers, which one was chosen, and after it what each
 //! end of each edge is. After the last choice the first enabled event is done until there is none, and the last lines

@@ -12,7 +12,7 @@ mod words;
 
 pub use check::check_text;
 pub use input::{INPUT_LIMIT, InputFault, read_input};
-pub use output::{WriteFault, write_line, write_numbered, write_out};
+pub use output::{WriteFault, write_line, write_out};
 pub use plan_bytes::plan_of_bytes;
 pub use status::{Status, exit_of};
 pub use words::{Command, Links, Table, WordsFault, command_of};

@@ -1,14 +1,11 @@
 //! A text or a line, written whole.
 ghost use Rattle.std.specs.Prelude.{◌∷◌, ◌++◌, [], OnOk};
-ghost use Rattle.std.specs.Fmt.{decimal};
 ghost use Rattle.std.specs.Io.KnownBytes.{Appends};
 ghost use Rattle.dine_words.specs.Output.{WritesPrefix};
 
 use std::io::{ErrorKind, Write};
 
 const LINE_FEED: u8 = b'\n';
-
-const ZERO: u8 = b'0';
 
 /// A text could not be written whole: a write or the flush failed, or a write took no byte.
 #[derive(Clone, Copy)]
@@ -34,29 +31,6 @@ pub fn write_line<W: Write>(output: &mut W, line: &str) -> Result<(), WriteFault
 {
     write_whole(output, line.as_bytes())?;
     write_out(output, &[LINE_FEED])
-}
-
-/// Writes the whole of `words`, and the number behind them in decimal digits. It does not flush.
-///
-/// Whatever happens, what goes out is a prefix of these.
-pub fn write_numbered<W: Write>(output: &mut W, words: &str, number: u32) -> Result<(), WriteFault>
-    ensures whole { OnOk result (Appends (W.contents output.old) (W.contents output.new) (words.now ++ decimal number)) }
-    ensures prefix { WritesPrefix (W.contents output.old) (W.contents output.new) (words.now ++ decimal number) }
-{
-    write_whole(output, words.as_bytes())?;
-    write_number(output, number)
-}
-
-// Writes the number in decimal digits, the last digit last.
-fn write_number<W: Write>(output: &mut W, number: u32) -> Result<(), WriteFault>
-    ensures whole { OnOk result (Appends (W.contents output.old) (W.contents output.new) (decimal number)) }
-    ensures prefix { WritesPrefix (W.contents output.old) (W.contents output.new) (decimal number) }
-{
-    if number < 10 {
-        return write_whole(output, &[ZERO + number as u8]);
-    }
-    write_number(output, number / 10)?;
-    write_whole(output, &[ZERO + (number % 10) as u8])
 }
 
 // Writes the whole `text`, piece by piece.
