@@ -17,6 +17,11 @@ SECONDS = 120
 SHOWN = 100
 
 
+def program_of(crate):
+    """Returns where the program of a crate is, once it is built."""
+    return os.path.join(HOME, "crates", crate, "out", crate)
+
+
 def text_of(path):
     """Returns the text of a file, whose path goes from the top."""
     return Path(HOME, path).read_text("utf-8")
@@ -132,12 +137,30 @@ def counted(tries):
     return ended(passed, failed)
 
 
-def try_program(tool, tries):
-    """Has ./dine build the program where it must, and then ends the tool with the tries, of which none is begun before."""
+def is_current(program):
+    """Returns whether a program is there and no source is newer, as ./dine looks."""
+    if not os.access(program, os.X_OK):
+        return False
+    made = os.stat(program).st_mtime_ns
+    sources = [f"{HOME}/crates.txt"]
+    for folder, folders, names in os.walk(f"{HOME}/crates"):
+        folders[:] = [it for it in folders if it != "out"]
+        sources += [f"{folder}/{it}" for it in names if it.endswith((".rt", ".antt"))]
+    return all(os.stat(it).st_mtime_ns <= made for it in sources)
+
+
+def try_program(tool, tries, *others):
+    """Has ./dine build the program where it must, and tools/build the programs of other crates, and then ends the tool with the tries, of
+    which none is begun before."""
     answer = answer_of(["check"], seconds=None, stdin=subprocess.DEVNULL)
     # The program itself never ends with 1.
-    if answer.status == 1:
-        sys.stderr.write(answer.error)
+    failed = answer.error if answer.status == 1 else ""
+    for crate in others:
+        if not failed and not is_current(program_of(crate)):
+            built = answer_of([crate], os.path.join(HOME, "tools", "build"), None, stdin=subprocess.DEVNULL)
+            failed = built.error if built.status else ""
+    if failed:
+        sys.stderr.write(failed)
         print(f"{tool}: the program can't be built")
         sys.exit(ended(0, 1))
     sys.exit(counted(tries))
