@@ -30,7 +30,7 @@ returns-in_ok-fork-in-At c plan world is =
     let e = c.args.edge in
     let here = told_so plan world e c.where_is_fork.result (At c.in-At.field-0) (c.where_is_fork.ensures plan world is) (c.in_ok-where_is_fork.was ∙ ap (λ (x : Whereabouts). Some x) c.in-At.is) in
     let log = log_seen plan world _ is e c.in_ok-fork-in-At.fork.now here.0.0 (sym (ap (option_map (λ x. x.now)) (c.in_ok-fork-in-At.was)) ∙ c.fork.ensures plan world is) in
-    said_of_edge plan world _ is e _ _ here.0.0 (c.is_dirty.ensures ∙ ap is_dirty log ∙ sym (dirty_at plan world _ is e c.in-At.field-0 here))
+    said_of_edge plan world _ is e _ _ here.0.0 (c.is_dirty.ensures.dirty ∙ ap is_dirty log ∙ sym (dirty_at plan world _ is e c.in-At.field-0 here))
 
 pub returns-in-To : goal.returns-in-To
 returns-in-To c plan world is =
