@@ -2,6 +2,7 @@
 use crate::graphs::{plan_text, resigning_pair};
 use dine_run::{Job, JobFault, Jobs, RingLane, SeatFault, read_plan, run};
 use std::alloc::{AllocError, Global};
+use std::process::Abort;
 use std::test::Fail;
 
 // Counts its jobs, and one of them fails.
@@ -57,6 +58,23 @@ fn each_job_is_done_once_and_noted(rt: HostRuntime) -> Result<(), Fail> {
     Ok(())
 }
 
+// The fault is told in its words.
+fn is_told<R: Abort>(rt: &R, alloc: Global, fault: &SeatFault<Counter>) -> Result<(), Fail> {
+    assert_eq!(rt;
+        fault.to_string(alloc)?.as_str(),
+        "run refused: jobs differ"
+    );
+    Ok(())
+}
+
+// How many jobs the fault hands back, where it does.
+fn handed_back(fault: SeatFault<Counter>) -> Option<usize> {
+    match fault {
+        SeatFault::JobsDiffer(back) => Some(back.len()),
+        SeatFault::Memory(_jobs) => None,
+    }
+}
+
 #[test]
 fn jobs_that_are_not_as_many_as_sites_are_handed_back(rt: HostRuntime) -> Result<(), Fail> {
     let alloc = rt.alloc();
@@ -67,14 +85,9 @@ fn jobs_that_are_not_as_many_as_sites_are_handed_back(rt: HostRuntime) -> Result
         let Err(fault) = Jobs::seat(alloc, &plan, counters(alloc, count, 0)?) else {
             return Err(Fail::new("jobs were taken"));
         };
-        assert_eq!(rt;
-            fault.to_string(alloc)?.as_str(),
-            "run refused: jobs differ"
-        );
-        let SeatFault::JobsDiffer(back) = fault else {
-            return Err(Fail::new("memory was refused"));
-        };
-        assert_eq!(rt; back.len(), count as usize);
+        is_told(&rt, alloc, &fault)?;
+        let back = handed_back(fault);
+        assert_eq!(rt; back, Some(count as usize));
     }
     Ok(())
 }
