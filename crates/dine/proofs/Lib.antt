@@ -1,4 +1,5 @@
 pub mod LineLemmas
+pub mod ReadingFaults
 pub mod PlainFields
 pub mod OneTable
 pub mod RunLemmas

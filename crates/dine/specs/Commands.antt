@@ -2,16 +2,16 @@
 use Rattle.std.specs.Prelude.{◌≡◌, ◌≢◌, ◌<◌, List, ℕ, Option, Some, None, IfSome, length, take}
 use Rattle.std.specs.Io.KnownBytes.{Appends, Keeps}
 use Rattle.dine_plan.specs.Plan.{SeenPlan}
-use Rattle.dine_plan.specs.declared.faults.PlanFault.{PlanFault}
-use Rattle.dine.specs.declared.faults.Fault.{Fault}
-use Rattle.dine.specs.declared.faults.Fault.TheVariants as fault
+use Rattle.dine_plan.specs.declared.plan_fault.PlanFault.{PlanFault}
+use Rattle.dine.specs.declared.fault_lines.Fault.{Fault}
+use Rattle.dine.specs.declared.fault_lines.Fault.TheVariants as fault
 use Rattle.dine_words.specs.declared.status.Status.{Status}
 use Rattle.dine_words.specs.declared.status.Status.TheVariants as status
 use Rattle.dine_words.specs.Input.{input_limit}
-use Rattle.dine.specs.Faults.{TellsLine, line_of, status_of}
+use Rattle.dine.specs.FaultLines.{TellsLine, line_of, status_of}
 use Rattle.dine_words.specs.Check.{check_text}
 use Rattle.dine_words.specs.PlanBytes.{IsPlanBytes, fault_of_bytes}
-use Rattle.dine_logs.specs.Replay.{replay_text}
+use Rattle.dine_log_text.specs.Replay.{replay_text}
 use Rattle.dine.specs.Run.{IsRunText, NamesSite, TellsRun}
 use Rattle.dine_words.specs.Words.{Asked, Runs, Replays, Checks}
 use Rattle.dine_words.specs.declared.words.Links.{Links}

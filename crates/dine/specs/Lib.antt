@@ -1,5 +1,5 @@
 pub mod Commands
-pub mod Faults
+pub mod FaultLines
 pub mod PlanDiners
 pub mod Run
 pub mod Tables

@@ -13,9 +13,9 @@ use Rattle.dine.specs.PlanDiners.{SeenPlanDiner, fails_of, first_word, fits_mark
 use Rattle.dine.specs.Tables.{edges_table, sites_table}
 use Rattle.dine_words.specs.declared.words.Table.{Table}
 use Rattle.dine_words.specs.declared.words.Table.TheVariants.{Edges, Sites}
-use Rattle.dine.specs.declared.faults.Fault.{Fault}
-use Rattle.dine.specs.declared.faults.Fault.TheVariants as fault
-use Rattle.dine.specs.Faults.{fault_of_run}
+use Rattle.dine.specs.declared.fault_lines.Fault.{Fault}
+use Rattle.dine.specs.declared.fault_lines.Fault.TheVariants as fault
+use Rattle.dine.specs.FaultLines.{fault_of_run}
 
 -- how many of these jobs a site does that drops those behind one that failed
 abbrev pub done_to_failed : List SeenJob → ℕ

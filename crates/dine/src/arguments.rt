@@ -2,9 +2,9 @@
 ghost use Rattle.std.specs.Prelude.{◌≡◌, IfErr, IfOk, IsErrOf, IsOkAnd};
 ghost use Rattle.std.specs.IoError.{error_kind};
 ghost use Rattle.std.specs.Vec.Iter.{into_iter_items};
-ghost use Rattle.dine.specs.Faults.{fault_of_arguments};
+ghost use Rattle.dine.specs.FaultLines.{fault_of_arguments};
 
-use crate::faults::Fault;
+use crate::fault_lines::Fault;
 use std::alloc::Global;
 use std::io::ErrorKind;
 use std::{env, io};

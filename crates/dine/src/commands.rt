@@ -2,13 +2,15 @@
 ghost use Rattle.std.specs.Prelude.{◌≡◌, ◌≢◌, ◌<◌, ◌≤◌, IfErr, IfOk, IfSome, IsErrOf, None, OnErr, OnOk, Some, false, length, map, true, string_bytes};
 ghost use Rattle.std.specs.Io.KnownBytes.{IsAtEnd};
 ghost use Rattle.dine.specs.Commands.{EndsByFault, FailsRun, IsDone, IsFailedRun, IsPartDone, IsPlanLeft, IsRefused, TellsCause, IsTextOf};
-ghost use Rattle.dine.specs.Faults.{status_of};
+ghost use Rattle.dine.specs.FaultLines.{status_of};
 ghost use Rattle.dine_words.specs.Input.{input_limit};
+ghost use Rattle.dine_words.specs.PlanBytes.{IsPlanBytes};
+ghost use Rattle.dine.specs.private.InputFaults.{IsInputFault};
 ghost use Rattle.dine_words.specs.Words.{AreRight, HasNoFault, are_taken, asked_of, command_in, dine_app};
 
-use crate::faults::Fault;
+use crate::fault_lines::Fault;
 use crate::run_text::run_text;
-use dine_logs::replay_text;
+use dine_log_text::replay_text;
 use dine_plan::Plan;
 use dine_words::{Command, Status, check_text, command_of, plan_of_bytes, read_input, write_out};
 use std::alloc::Global;
@@ -85,13 +87,23 @@ fn command<H: Threads + Wait + Copy + Send + 'static, R: Read, W: Write>(
     ensures part { IsErrOf result Fault.WritingFailed → IsPartDone (command_in dine_app (map string_bytes words.now)) (R.remaining input.old) (W.contents output.old) (W.contents output.new) }
 {
     let command = command_of(alloc, words)?;
-    let bytes = read_input(alloc, input)?;
-    let plan = match plan_of_bytes(alloc, bytes.as_slice()) {
-        Ok(plan) => plan,
-        Err(fault) => return Err(Fault::from(fault)),
-    };
+    let plan = plan_in(alloc, input)?;
     let text = text_of(rt, alloc, command, &plan)?;
     Ok(write_out(output, text.as_slice())?)
+}
+
+// The plan that the input holds.
+fn plan_in<R: Read>(alloc: Global, input: &mut R) -> Result<Plan, Fault>
+    ensures plan { IfOk result (λ plan. IfSome (R.remaining input.old) (λ bytes. IsPlanBytes bytes plan)) }
+    ensures end { OnOk result (IsAtEnd (R.remaining input.new)) }
+    ensures within { OnOk result (IfSome (R.remaining input.old) (λ bytes. length bytes ≤ input_limit)) }
+    ensures fault { IfErr result (λ fault. IsInputFault (R.remaining input.old) (R.remaining input.new) fault) }
+{
+    let bytes = read_input(alloc, input)?;
+    match plan_of_bytes(alloc, bytes.as_slice()) {
+        Ok(plan) => Ok(plan),
+        Err(fault) => Err(Fault::from(fault)),
+    }
 }
 
 // The text that the command makes of the plan.

@@ -3,7 +3,7 @@
 
 mod arguments;
 mod commands;
-mod faults;
+mod fault_lines;
 pub mod laws;
 mod plan_diner;
 mod run_text;
@@ -11,9 +11,9 @@ mod tables;
 
 pub use arguments::words_of;
 pub use commands::run_cmd;
-pub use dine_logs::world_text;
+pub use dine_log_text::world_text;
 pub use dine_words::{Status, exit_of};
-pub use faults::Fault;
+pub use fault_lines::Fault;
 pub use plan_diner::PlanDiner;
 pub use run_text::open_diners;
 pub use tables::{write_edges, write_sites};

@@ -3,7 +3,7 @@ ghost use Rattle.std.specs.Prelude.{◌≡◌, ◌≢◌, ◌≤◌, IfErr, IfOk
 ghost use Rattle.dine_plan.specs.Plan.{IsPlan, job_count};
 ghost use Rattle.dine.specs.Run.{HasDueRows, IsRunText, NamesSite, TellsRun, diners_of};
 
-use crate::faults::Fault;
+use crate::fault_lines::Fault;
 use crate::plan_diner::PlanDiner;
 use crate::tables::{write_edges, write_sites};
 use dine_link::{ChannelLane, Lane, RingLane};

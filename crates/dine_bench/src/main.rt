@@ -6,16 +6,13 @@
 //! usage: dine_bench channel|ring|world RUNS < PLAN
 #![tactic(auto)]
 
-ghost use Rattle.std.specs.Prelude.{◌≡◌, ◌≤◌, Some, slice_get, IfOk};
-ghost use Rattle.dine_plan.specs.Plan.{job_count};
-
 use anyhow::{Context, Result, bail};
-use dine::PlanDiner;
+use dine::{PlanDiner, open_diners};
 use dine_core::World;
 use dine_link::{ChannelLane, Lane, RingLane};
 use dine_plan::{Plan, read_plan};
 use dine_run::run;
-use std::alloc::{AllocError, Global};
+use std::alloc::Global;
 use std::env;
 use std::io::Read;
 use std::rt::Clock;
@@ -26,17 +23,6 @@ use std::time::Instant;
 // How many bytes are taken and given back before the clock runs, so that what an earlier run freed is brought together
 // then.
 const SETTLING: usize = 1 << 22;
-
-// A diner for each site, with room for its jobs.
-fn diners(alloc: Global, plan: &Plan) -> Result<Vec<PlanDiner>, AllocError>
-    ensures { IfOk result (λ diners. (s : _) (diner : _) → slice_get diners.items s ≡ Some diner → job_count plan.now s ≤ diner.room) }
-{
-    let mut diners = Vec::new(alloc);
-    for site in 0..plan.sites() {
-        diners.push(PlanDiner::open(alloc, plan, site)?)?;
-    }
-    Ok(diners)
-}
 
 // The microseconds of one run over links of a lane.
 fn time<L: Lane + 'static, R: Threads + Wait + Clock + Copy + Send + 'static>(
@@ -49,7 +35,7 @@ where
     L::ClosedTx: 'static,
     L::Rx: 'static,
 {
-    let diners = diners(alloc, plan)?;
+    let diners = open_diners(alloc, plan)?;
     let large: Vec<u8> = Vec::with_capacity(alloc, SETTLING)?;
     drop(large);
     let start = Instant::now(rt)?;

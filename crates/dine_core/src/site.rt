@@ -307,11 +307,7 @@ impl SiteCore {
         ensures needs { result ≡ can_ask self.now i }
         ensures may { TellsMay self.now (step.Ask i) result }
     {
-        let place = self.places.at(i);
-        self.phase == Phase::Hungry
-            && place.token.is_some()
-            && !place.fork.is_held()
-            && !place.close_put
+        self.phase == Phase::Hungry && self.places.at(i).may_ask()
     }
 
     /// Whether the release rule has the site send the fork of place `i`.

@@ -9,7 +9,7 @@ use Rattle.toml.specs.Data.{Data, as_array}
 use Rattle.toml.specs.View.{view, items_of, items_view, members_view}
 use Rattle.toml.specs.declared.value.Value.{Value}
 use Rattle.dine_plan.specs.Document.{list_of, keys_of, items_in, name_in}
-use Rattle.dine_plan.specs.Refusals.{stands_before}
+use Rattle.dine_plan.specs.RefusalTests.{stands_before}
 use Rattle.dine_plan.proofs.ListLemmas.{list_any-map, position-map}
 
 pub list_of-items_of : (ds : List Data) → list_of (items_of ds) ≡ ds

@@ -11,10 +11,10 @@ use Rattle.std.proofs.lemmas.List.{length-map}
 use Rattle.toml.specs.Data.{Data}
 use Rattle.dine_plan.specs.Document.{sites_in, edges_in}
 use Rattle.dine_plan.specs.Fault.{number_of_fault, position_of_fault}
-use Rattle.dine_plan.specs.Refuses.{no_table, PassesAt, Refuses, IsFirst, site_names, joined_pairs}
-use Rattle.dine_plan.specs.Refusals.{first_some, first_refusal, first_twice, stands_before, form_refusals, graph_refusals, site_refusals, end_refusals, pair_refusals, on, refuses_version, refuses_unknown_key, refuses_missing_key, refuses_wrong_kind, has_bad_name, has_many_jobs, has_many_turns, has_unknown_end, joined_by, is_loop, same_ends, act_refusals, has_two_acts, has_large_act, has_large_value, has_other_policy}
-use Rattle.dine_plan.specs.declared.faults.PlanFault.{PlanFault}
-use Rattle.dine_plan.specs.declared.faults.PlanFault.TheVariants.{NotToml, Version, UnknownKey, MissingKey, WrongKind, BadName, SiteTwice, NoSite, TooManySites, TooManyJobs, TurnsTooLarge, UnknownEnd, Loop, EdgeTwice, TooManyEdges, TwoActs, ActTooLarge, ValueTooLarge, UnknownPolicy, Memory}
+use Rattle.dine_plan.specs.RefusalFacts.{no_table, PassesAt, Refuses, IsFirst, site_names, joined_pairs}
+use Rattle.dine_plan.specs.RefusalTests.{first_some, first_refusal, first_twice, stands_before, form_refusals, graph_refusals, site_refusals, end_refusals, pair_refusals, on, refuses_version, refuses_unknown_key, refuses_missing_key, refuses_wrong_kind, has_bad_name, has_many_jobs, has_many_turns, has_unknown_end, joined_by, is_loop, same_ends, act_refusals, has_two_acts, has_large_act, has_large_value, has_other_policy}
+use Rattle.dine_plan.specs.declared.plan_fault.PlanFault.{PlanFault}
+use Rattle.dine_plan.specs.declared.plan_fault.PlanFault.TheVariants.{NotToml, Version, UnknownKey, MissingKey, WrongKind, BadName, SiteTwice, NoSite, TooManySites, TooManyJobs, TurnsTooLarge, UnknownEnd, Loop, EdgeTwice, TooManyEdges, TwoActs, ActTooLarge, ValueTooLarge, UnknownPolicy, Memory}
 
 none_before : {A : Type 0} (os : List (Option A)) (k : ℕ) → ((j : ℕ) → j < k → slice_get os j ≡ Some None) → (j : ℕ) → j < suc k → slice_get (None ∷ os) j ≡ Some None
 none_before os k h zero before = refl

@@ -12,8 +12,8 @@ use Rattle.dine_token.specs.declared.act.Act.TheVariants.{Add, Set}
 use Rattle.dine_token.specs.Values.{amount_of}
 use Rattle.dine_plan.specs.Document.{is_second, version_in, sites_in, edges_in, jobs_in, name_in, has_key, turns_in, act_in, value_in, end_in}
 use Rattle.dine_plan.specs.PlanOf.{job_in, site_in, ends_in, number_of, plan_in, plan_of_document}
-use Rattle.dine_plan.specs.Refusals.{first_some, first_refusal, graph_refusals, form_refusals, on, site_refusals, end_refusals, pair_refusals, first_twice, same_ends, has_bad_name, has_many_jobs, has_many_turns, is_unnamed, is_unknown, has_unknown_end, joined_by, is_loop, act_refusals, has_large_act, has_large_value, is_large}
-use Rattle.dine_plan.specs.declared.faults.PlanFault.{PlanFault}
+use Rattle.dine_plan.specs.RefusalTests.{first_some, first_refusal, graph_refusals, form_refusals, on, site_refusals, end_refusals, pair_refusals, first_twice, same_ends, has_bad_name, has_many_jobs, has_many_turns, is_unnamed, is_unknown, has_unknown_end, joined_by, is_loop, act_refusals, has_large_act, has_large_value, is_large}
+use Rattle.dine_plan.specs.declared.plan_fault.PlanFault.{PlanFault}
 use Rattle.dine_plan.proofs.ListLemmas.{position_none_at, list_any_false_at, position_within, first_twice_none_apart, first_some-append}
 
 option_or_none : {A : Type 0} (a b : Option A) → option_or a b ≡ None → (a ≡ None) × (b ≡ None)

@@ -1,14 +1,14 @@
--- Tests of the elements of a list, and their places.
+-- Tests of the elements of a list, and their places; and what a loop that pushes one value for each element has.
 use Rattle.std.proofs.Common.{◌≡◌, ℕ, zero, suc, ◌+◌, ◌<◌, ◌≤◌, ◌==◌, Bool, true, false, not, ◌||◌, cond, ltb, List, [], ◌∷◌, ◌++◌, map, filter, length, get_or, take, Option, Some, None, inl, inr, zero-add, refl, sym, ap, ◌∙◌, arith}
 use Rattle.std.specs.List.{list_any, position, position_or_len, range_with_len}
 use Rattle.std.specs.Option.{option_or}
 use Rattle.std.proofs.lemmas.Bool.{cases_Bool, cases_lt, false≢true, lt-ltb, le-ltb, ltb-false, ne_eqb}
-use Rattle.std.proofs.lemmas.List.{length-take-le, get_or-take, take_more, map_push, length-map}
+use Rattle.std.proofs.lemmas.List.{length-take-le, get_or-take, take_more, map_push, map_more, length-map, get_or_append_left, get_or_push}
 use Rattle.std.proofs.lemmas.List.Filters.{length-filter_both}
 use Rattle.std.proofs.lemmas.List.Folds.{list_any_at, list_any_none}
 use Rattle.std.proofs.lemmas.List.Sums.{position_or_len_is, fails_before_first}
 use Rattle.std.proofs.lemmas.List.FromFn.{length-range_with_len, get_or-range_with_len, filter_of_map_range_with_len_more}
-use Rattle.dine_plan.specs.Refusals.{stands_before, first_twice, first_some}
+use Rattle.dine_plan.specs.RefusalTests.{stands_before, first_twice, first_some}
 
 pub list_any-map : {X Y : Type 0} (p : X → Bool) (h : Y → X) (ys : List Y) → list_any p (map h ys) ≡ list_any (λ y. p (h y)) ys
 list_any-map p h [] = refl
@@ -120,3 +120,30 @@ list_any_missing (x ∷ xs) e h = rw (ne_eqb x e (h 0 (omega arith)), list_any_m
 -- one more element of a mapped front
 pub map-take_more : {X Y : Type 0} (f : X → Y) (xs : List X) (i : ℕ) (x : X) → i < length xs → x ≡ get_or xs i x → map f (take (i + 1) xs) ≡ map f (take i xs) ++ f x ∷ []
 map-take_more f xs i x within is = ap (map f) (take_more xs i x within) ∙ map_push f (take i xs) (get_or xs i x) ∙ ap (λ y. map f (take i xs) ++ f y ∷ []) (sym is)
+
+-- what a loop that pushes one value for each element has: one value more, after one element more
+pub each_more : {W X Z : Type 0} (seen : W → Z) (f : X → Z) (done : List W) (w : W) (xs : List X) (i : ℕ) (d : X) → i < length xs → map seen done ≡ map f (take i xs) → seen w ≡ f (get_or xs i d) → map seen (done ++ w ∷ []) ≡ map f (take (i + 1) xs)
+each_more seen f done w xs i d within before here =
+    map_push seen done w ∙ ap (λ zs. zs ++ seen w ∷ []) before ∙ ap (λ z. map f (take i xs) ++ z ∷ []) here ∙ sym (map_more f xs i d within)
+
+-- the same of values that stand for the elements by way of what is seen of them
+pub each_seen_more : {W X Y Z : Type 0} (seen : W → Z) (f : Y → Z) (g : X → Y) (done : List W) (w : W) (xs : List X) (i : ℕ) (x : X) → i < length xs → x ≡ get_or xs i x → map seen done ≡ map f (map g (take i xs)) → seen w ≡ f (g x) → map seen (done ++ w ∷ []) ≡ map f (map g (take (i + 1) xs))
+each_seen_more seen f g done w xs i x within is before here =
+    map_push seen done w ∙ ap (λ zs. zs ++ seen w ∷ []) before ∙ ap (λ z. map f (map g (take i xs)) ++ z ∷ []) here
+    ∙ sym (ap (map f) (map-take_more g xs i x within is) ∙ map_push f (map g (take i xs)) (g x))
+
+-- and of values that are kept as they are
+pub each_kept_more : {X Y Z : Type 0} (f : Y → Z) (g : X → Y) (done : List Z) (z : Z) (xs : List X) (i : ℕ) (x : X) → i < length xs → x ≡ get_or xs i x → done ≡ map f (map g (take i xs)) → z ≡ f (g x) → done ++ z ∷ [] ≡ map f (map g (take (i + 1) xs))
+each_kept_more f g done z xs i x within is before here =
+    ap (λ zs. zs ++ z ∷ []) before ∙ ap (λ y. map f (map g (take i xs)) ++ y ∷ []) here
+    ∙ sym (ap (map f) (map-take_more g xs i x within is) ∙ map_push f (map g (take i xs)) (g x))
+
+-- what holds of each element, by its number, once one more is pushed
+pub each_pushed : {X : Type 0} (P : ℕ → X → Type 0) (xs : List X) (x : X) (n : ℕ) (d : X) → length xs ≡ n → ((e : ℕ) → e < n → P e (get_or xs e d)) → P n x → (e : ℕ) → e < n + 1 → P e (get_or (xs ++ x ∷ []) e d)
+each_pushed P xs x n d long before here e within =
+    elim (cases_lt e n) [
+      | inl earlier ↦ rw (get_or_append_left xs (x ∷ []) d e (omega arith)) (before e earlier)
+      | inr last ↦
+          let is : e ≡ n = omega arith in
+          rw (is, get_or_push xs x d n long) here
+    ]

@@ -10,11 +10,11 @@ use Rattle.dine_token.specs.declared.act.Act.{Act}
 use Rattle.dine_token.specs.declared.act.Act.TheVariants.{Add, Set}
 use Rattle.dine_plan.specs.declared.drafts.DraftJob.{DraftJob}
 use Rattle.dine_plan.specs.declared.drafts.DraftEdge.{DraftEdge}
-use Rattle.dine_plan.specs.declared.faults.PlanFault.{PlanFault}
-use Rattle.dine_plan.specs.declared.faults.PlanFault.TheVariants.{NotToml, Version, UnknownKey, MissingKey, WrongKind, BadName, SiteTwice, NoSite, TooManySites, TooManyJobs, TurnsTooLarge, UnknownEnd, Loop, EdgeTwice, TooManyEdges, TwoActs, ActTooLarge, ValueTooLarge, UnknownPolicy, Memory}
+use Rattle.dine_plan.specs.declared.plan_fault.PlanFault.{PlanFault}
+use Rattle.dine_plan.specs.declared.plan_fault.PlanFault.TheVariants.{NotToml, Version, UnknownKey, MissingKey, WrongKind, BadName, SiteTwice, NoSite, TooManySites, TooManyJobs, TurnsTooLarge, UnknownEnd, Loop, EdgeTwice, TooManyEdges, TwoActs, ActTooLarge, ValueTooLarge, UnknownPolicy, Memory}
 use Rattle.dine_plan.specs.Document.{is_second, sites_in, jobs_in, text_at, items_at, number_at, has_key}
-use Rattle.dine_plan.specs.Refusals.{is_table, is_text, is_tables, is_two_texts, document_keys, site_keys, job_keys, edge_keys, has_other_key, lacks_key, is_wrong, refuses_version, site_has_other_key, refuses_unknown_key, site_lacks_key, refuses_missing_key, job_is_wrong, site_is_wrong, edge_is_wrong, refuses_wrong_kind, has_both, has_two_acts, has_other_policy}
-use Rattle.dine_plan.specs.Refuses.{Refuses, PassesAt, no_table}
+use Rattle.dine_plan.specs.RefusalTests.{is_table, is_text, is_tables, is_two_texts, document_keys, site_keys, job_keys, edge_keys, has_other_key, lacks_key, is_wrong, refuses_version, site_has_other_key, refuses_unknown_key, site_lacks_key, refuses_missing_key, job_is_wrong, site_is_wrong, edge_is_wrong, refuses_wrong_kind, has_both, has_two_acts, has_other_policy}
+use Rattle.dine_plan.specs.RefusalFacts.{Refuses, PassesAt, no_table}
 use Rattle.dine_plan.specs.Draft.{SeenDraftSite, Draft, no_draft_site}
 use Rattle.dine_plan.specs.DraftDocument.{IsOfDraft, first_fault_of, job_members_with, job_table, site_table, edge_table, names_told, policy_word, document_of}
 use Rattle.dine_plan.proofs.DocumentLemmas.{list_of-items_of}

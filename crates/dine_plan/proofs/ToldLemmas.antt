@@ -15,7 +15,7 @@ use Rattle.dine_plan.specs.declared.drafts.DraftEdge.{DraftEdge}
 use Rattle.dine_plan.specs.Plan.{SeenJob, SeenSite, SeenPlan, IsPlan, no_site, no_job, is_name}
 use Rattle.dine_plan.specs.Document.{sites_in, edges_in, name_in, text_at, items_at, number_at, has_key, fails_in, act_in, resigns_in, value_in, version_in, end_in}
 use Rattle.dine_plan.specs.PlanOf.{job_in, site_in, ends_in, number_of, plan_of_document, IsPlanOf}
-use Rattle.dine_plan.specs.Refusals.{first_refusal}
+use Rattle.dine_plan.specs.RefusalTests.{first_refusal}
 use Rattle.dine_plan.specs.Draft.{SeenDraftSite, Draft, plain_job, no_draft_site, no_draft_edge}
 use Rattle.dine_plan.specs.DraftPlan.{job_told, site_told, ends_told, plan_told}
 use Rattle.dine_plan.specs.DraftDocument.{Says, first_fault_of, job_table, site_table, edge_table, end_name, names_told, policy_word, document_of}

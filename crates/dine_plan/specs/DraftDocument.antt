@@ -8,10 +8,10 @@ use Rattle.dine_token.specs.declared.act.Act.{Act}
 use Rattle.dine_token.specs.declared.act.Act.TheVariants.{Add, Set}
 use Rattle.dine_plan.specs.declared.drafts.DraftJob.{DraftJob}
 use Rattle.dine_plan.specs.declared.drafts.DraftEdge.{DraftEdge}
-use Rattle.dine_plan.specs.declared.faults.PlanFault.{PlanFault}
-use Rattle.dine_plan.specs.declared.faults.PlanFault.TheVariants.{NotToml, Version, UnknownKey, MissingKey, WrongKind, TwoActs, UnknownPolicy}
+use Rattle.dine_plan.specs.declared.plan_fault.PlanFault.{PlanFault}
+use Rattle.dine_plan.specs.declared.plan_fault.PlanFault.TheVariants.{NotToml, Version, UnknownKey, MissingKey, WrongKind, TwoActs, UnknownPolicy}
 use Rattle.dine_plan.specs.Draft.{SeenDraftSite, Draft}
-use Rattle.dine_plan.specs.Refusals.{first_refusal}
+use Rattle.dine_plan.specs.RefusalTests.{first_refusal}
 
 -- a whole number as a text writes it; one above the greatest that TOML has is written as that one, which each limit
 -- refuses too

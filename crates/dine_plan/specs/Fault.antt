@@ -1,7 +1,7 @@
 -- The number of each cause, and the position that it carries.
 use Rattle.std.specs.Prelude.{ℕ}
-use Rattle.dine_plan.specs.declared.faults.PlanFault.{PlanFault}
-use Rattle.dine_plan.specs.declared.faults.PlanFault.TheVariants.{NotToml, Version, UnknownKey, MissingKey, WrongKind, BadName, SiteTwice, NoSite, TooManySites, TooManyJobs, TurnsTooLarge, UnknownEnd, Loop, EdgeTwice, TooManyEdges, TwoActs, ActTooLarge, ValueTooLarge, UnknownPolicy, Memory}
+use Rattle.dine_plan.specs.declared.plan_fault.PlanFault.{PlanFault}
+use Rattle.dine_plan.specs.declared.plan_fault.PlanFault.TheVariants.{NotToml, Version, UnknownKey, MissingKey, WrongKind, BadName, SiteTwice, NoSite, TooManySites, TooManyJobs, TurnsTooLarge, UnknownEnd, Loop, EdgeTwice, TooManyEdges, TwoActs, ActTooLarge, ValueTooLarge, UnknownPolicy, Memory}
 
 -- the number of each cause to refuse a plan, 1 to 20, in the order in which they are looked for; want of memory, 16,
 -- comes at any point

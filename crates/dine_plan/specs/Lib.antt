@@ -2,8 +2,8 @@ pub mod Plan
 pub mod Job
 pub mod Document
 pub mod Fault
-pub mod Refusals
-pub mod Refuses
+pub mod RefusalTests
+pub mod RefusalFacts
 pub mod PlanOf
 pub mod Draft
 pub mod DraftPlan

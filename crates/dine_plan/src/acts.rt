@@ -1,17 +1,17 @@
 //! The checks on what meals do to values, and on what failed jobs do to sites.
 ghost use Rattle.std.specs.Prelude.{◌≡◌, map, position};
 ghost use Rattle.toml.specs.View.{view};
-ghost use Rattle.dine_plan.specs.Refusals.{act_refusals, first_some, has_both, has_large_act, has_large_value, has_other_policy, has_two_acts, is_large};
+ghost use Rattle.dine_plan.specs.RefusalTests.{act_refusals, first_some, has_both, has_large_act, has_large_value, has_other_policy, has_two_acts, is_large};
 
 use crate::documents::{has_key, items_at, number_at, text_at};
-use crate::faults::PlanFault;
+use crate::plan_fault::PlanFault;
 use toml::Value;
 
 // The most that a job adds or sets, and the largest value of an edge before the first meal.
 const MAX_AMOUNT: u64 = 1_000_000;
 
 /// The first fault in the acts of jobs, the values of edges and the policies of sites.
-#[tactic(auto, unfolding(crate::specs::Refusals::act_refusals))]
+#[tactic(auto, unfolding(crate::specs::RefusalTests::act_refusals))]
 pub(crate) fn first_act_fault(sites: &[Value], edges: &[Value]) -> Option<PlanFault>
     ensures { result ≡ first_some (act_refusals (map view sites.now) (map view edges.now)) }
 {
@@ -77,7 +77,7 @@ fn first_large_value(edges: &[Value]) -> Option<usize>
 }
 
 // Whether the value of the edge is above 1,000,000.
-#[tactic(auto, unfolding(crate::specs::Refusals::has_large_value))]
+#[tactic(auto, unfolding(crate::specs::RefusalTests::has_large_value))]
 fn has_large_value(edge: &Value) -> bool
     ensures { result ≡ has_large_value (view edge.now) }
 {
@@ -91,7 +91,7 @@ fn first_other_policy(sites: &[Value]) -> Option<usize>
 }
 
 // Whether what the site says of a failed job is neither `go` nor `resign`.
-#[tactic(auto, unfolding(crate::specs::Refusals::has_other_policy))]
+#[tactic(auto, unfolding(crate::specs::RefusalTests::has_other_policy))]
 fn has_other_policy(site: &Value) -> bool
     ensures { result ≡ has_other_policy (view site.now) }
 {

@@ -7,7 +7,7 @@ ghost use Rattle.dine_plan.specs.Job.{seen_job};
 ghost use Rattle.dine_plan.specs.private.Site.{seen_site};
 ghost use Rattle.dine_plan.specs.Document.{turns_in, value_in};
 ghost use Rattle.dine_plan.specs.PlanOf.{job_in, site_in};
-ghost use Rattle.dine_plan.specs.Refusals.{has_many_turns};
+ghost use Rattle.dine_plan.specs.RefusalTests.{has_many_turns};
 
 use crate::documents::{act_in, fails_in, items_at, number_at, resigns_in, text_at};
 use crate::plans::{Job, Plan, Site};

@@ -5,7 +5,7 @@ ghost use Rattle.dine_plan.specs.Draft.{empty_draft, plain_job, with_site, with_
 ghost use Rattle.dine_plan.specs.DraftDocument.{IsOfDraft, Says, first_fault_of};
 ghost use Rattle.dine_plan.specs.DraftPlan.{plan_told};
 
-use crate::faults::PlanFault;
+use crate::plan_fault::PlanFault;
 use crate::plans::Plan;
 use crate::reading::read_tables;
 use crate::tables::document;

@@ -4,10 +4,10 @@ ghost use Rattle.std.specs.List.{list_any};
 ghost use Rattle.toml.specs.View.{view};
 ghost use Rattle.dine_plan.specs.Document.{name_in};
 ghost use Rattle.dine_plan.specs.PlanOf.{number_of, ends_in};
-ghost use Rattle.dine_plan.specs.Refusals.{end_refusals, pair_refusals, first_some, first_twice, has_unknown_end, is_loop, same_ends};
+ghost use Rattle.dine_plan.specs.RefusalTests.{end_refusals, pair_refusals, first_some, first_twice, has_unknown_end, is_loop, same_ends};
 
 use crate::documents::{end_in, text_at};
-use crate::faults::PlanFault;
+use crate::plan_fault::PlanFault;
 use crate::sites::has_site;
 use std::alloc::{AllocError, Global};
 use toml::Value;
@@ -16,7 +16,7 @@ use toml::Value;
 const MAX_EDGES: usize = 512;
 
 /// The first fault in the ends of a document's edges.
-#[tactic(auto, unfolding(crate::specs::Refusals::end_refusals))]
+#[tactic(auto, unfolding(crate::specs::RefusalTests::end_refusals))]
 pub(crate) fn first_end_fault(sites: &[Value], edges: &[Value]) -> Option<PlanFault>
     ensures { result ≡ first_some (end_refusals (map name_in (map view sites.now)) (map view edges.now)) }
 {
@@ -36,7 +36,7 @@ fn first_unknown_end(sites: &[Value], edges: &[Value]) -> Option<usize>
 }
 
 // Whether an end of the edge is the name of no site.
-#[tactic(auto, unfolding(crate::specs::Refusals::has_unknown_end))]
+#[tactic(auto, unfolding(crate::specs::RefusalTests::has_unknown_end))]
 fn has_unknown_end(sites: &[Value], edge: &Value) -> bool
     ensures { result ≡ has_unknown_end (map name_in (map view sites.now)) (view edge.now) }
 {
@@ -50,7 +50,7 @@ fn first_loop(sites: &[Value], edges: &[Value]) -> Option<usize>
 }
 
 // Whether both ends of the edge are one site.
-#[tactic(auto, unfolding(crate::specs::Refusals::is_loop, crate::specs::Refusals::joined_by))]
+#[tactic(auto, unfolding(crate::specs::RefusalTests::is_loop, crate::specs::RefusalTests::joined_by))]
 fn is_loop(sites: &[Value], edge: &Value) -> bool
     ensures { result ≡ is_loop (map name_in (map view sites.now)) (view edge.now) }
 {
@@ -101,7 +101,7 @@ pub(crate) fn pairs_in(
 }
 
 /// The first fault in the pairs of sites that the edges join.
-#[tactic(auto, unfolding(crate::specs::Refusals::pair_refusals))]
+#[tactic(auto, unfolding(crate::specs::RefusalTests::pair_refusals))]
 pub(crate) fn first_pair_fault(pairs: &[(u32, u32)]) -> Option<PlanFault>
     ensures { result ≡ first_some (pair_refusals (map Some pairs.now)) }
 {

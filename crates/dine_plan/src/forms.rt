@@ -3,14 +3,14 @@ ghost use Rattle.std.specs.Prelude.{◌≡◌, codes, map};
 ghost use Rattle.std.specs.List.{list_any};
 ghost use Rattle.std.specs.Str.{bytes_eq};
 ghost use Rattle.toml.specs.View.{view};
-ghost use Rattle.dine_plan.specs.Refusals.{document_keys, site_keys, job_keys, edge_keys, has_other_key, lacks_key, is_wrong, is_version, is_text, is_truth, is_whole, is_tables, is_two_texts, refuses_version, site_has_other_key, refuses_unknown_key, site_lacks_key, refuses_missing_key, job_is_wrong, site_is_wrong, edge_is_wrong, refuses_wrong_kind, first_some, form_refusals};
+ghost use Rattle.dine_plan.specs.RefusalTests.{document_keys, site_keys, job_keys, edge_keys, has_other_key, lacks_key, is_wrong, is_version, is_text, is_truth, is_whole, is_tables, is_two_texts, refuses_version, site_has_other_key, refuses_unknown_key, site_lacks_key, refuses_missing_key, job_is_wrong, site_is_wrong, edge_is_wrong, refuses_wrong_kind, first_some, form_refusals};
 
 use crate::documents::{is_second, items_at, items_in};
-use crate::faults::PlanFault;
+use crate::plan_fault::PlanFault;
 use toml::Value;
 
 /// The first fault in the form of a document.
-#[tactic(auto, unfolding(crate::specs::Refusals::form_refusals))]
+#[tactic(auto, unfolding(crate::specs::RefusalTests::form_refusals))]
 pub(crate) fn first_form_fault(document: &Value) -> Option<PlanFault>
     ensures { result ≡ first_some (form_refusals (view document.now)) }
 {
@@ -30,7 +30,7 @@ pub(crate) fn first_form_fault(document: &Value) -> Option<PlanFault>
 }
 
 // Whether `version` is absent or is not the whole number 1 or 2.
-#[tactic(auto, unfolding(crate::specs::Refusals::refuses_version))]
+#[tactic(auto, unfolding(crate::specs::RefusalTests::refuses_version))]
 fn has_other_version(document: &Value) -> bool
     ensures { result ≡ refuses_version (view document.now) }
 {
@@ -147,7 +147,7 @@ fn site_lacks_key(site: &Value) -> bool
 }
 
 // Whether a table has no such key.
-#[tactic(auto, unfolding(crate::specs::Refusals::lacks_key))]
+#[tactic(auto, unfolding(crate::specs::RefusalTests::lacks_key))]
 fn lacks_key(table: &Value, key: &str) -> bool
     ensures { result ≡ lacks_key key.now (view table.now) }
 {
@@ -188,7 +188,7 @@ fn site_is_wrong(site: &Value) -> bool
     jobs.iter().any(|job| job_is_wrong(job))
 }
 
-#[tactic(auto, unfolding(crate::specs::Refusals::job_is_wrong))]
+#[tactic(auto, unfolding(crate::specs::RefusalTests::job_is_wrong))]
 fn job_is_wrong(job: &Value) -> bool
     ensures { result ≡ job_is_wrong (view job.now) }
 {
@@ -199,7 +199,7 @@ fn job_is_wrong(job: &Value) -> bool
         || has_no_whole_number(job, "set")
 }
 
-#[tactic(auto, unfolding(crate::specs::Refusals::edge_is_wrong))]
+#[tactic(auto, unfolding(crate::specs::RefusalTests::edge_is_wrong))]
 fn edge_is_wrong(edge: &Value) -> bool
     ensures { result ≡ edge_is_wrong (view edge.now) }
 {
@@ -207,7 +207,7 @@ fn edge_is_wrong(edge: &Value) -> bool
 }
 
 // Whether there are ends that are not two texts.
-#[tactic(auto, unfolding(crate::specs::Refusals::is_wrong))]
+#[tactic(auto, unfolding(crate::specs::RefusalTests::is_wrong))]
 fn has_no_two_texts(edge: &Value) -> bool
     ensures { result ≡ is_wrong is_two_texts (codes "ends") (view edge.now) }
 {
@@ -218,7 +218,7 @@ fn has_no_two_texts(edge: &Value) -> bool
 }
 
 // Whether something else than a text stands at the key.
-#[tactic(auto, unfolding(crate::specs::Refusals::is_wrong))]
+#[tactic(auto, unfolding(crate::specs::RefusalTests::is_wrong))]
 fn has_no_text(table: &Value, key: &str) -> bool
     ensures { result ≡ is_wrong is_text key.now (view table.now) }
 {
@@ -229,7 +229,7 @@ fn has_no_text(table: &Value, key: &str) -> bool
 }
 
 // Whether something else than an array of tables stands at the key.
-#[tactic(auto, unfolding(crate::specs::Refusals::is_wrong))]
+#[tactic(auto, unfolding(crate::specs::RefusalTests::is_wrong))]
 fn has_no_tables(table: &Value, key: &str) -> bool
     ensures { result ≡ is_wrong is_tables key.now (view table.now) }
 {
@@ -240,7 +240,7 @@ fn has_no_tables(table: &Value, key: &str) -> bool
 }
 
 // Whether something else than a whole number stands at the key, or one below 0.
-#[tactic(auto, unfolding(crate::specs::Refusals::is_wrong))]
+#[tactic(auto, unfolding(crate::specs::RefusalTests::is_wrong))]
 fn has_no_whole_number(table: &Value, key: &str) -> bool
     ensures { result ≡ is_wrong is_whole key.now (view table.now) }
 {
@@ -251,7 +251,7 @@ fn has_no_whole_number(table: &Value, key: &str) -> bool
 }
 
 // Whether what says that the job fails is no truth value.
-#[tactic(auto, unfolding(crate::specs::Refusals::is_wrong))]
+#[tactic(auto, unfolding(crate::specs::RefusalTests::is_wrong))]
 fn has_no_truth(job: &Value) -> bool
     ensures { result ≡ is_wrong is_truth (codes "fails") (view job.now) }
 {

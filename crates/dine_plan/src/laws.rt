@@ -7,10 +7,10 @@ ghost use Rattle.dine_plan.specs.DraftDocument.{Says, first_fault_of};
 ghost use Rattle.dine_plan.specs.DraftPlan.{plan_told};
 ghost use Rattle.dine_plan.specs.Plan.{SeenPlan};
 ghost use Rattle.dine_plan.specs.PlanOf.{IsPlanOf};
-ghost use Rattle.dine_plan.specs.Refusals.{first_fault, first_refusal};
-ghost use Rattle.dine_plan.specs.Refuses.{Refuses, IsFirst};
-ghost use Rattle.dine_plan.specs.declared.faults.PlanFault.{PlanFault};
-ghost use Rattle.dine_plan.specs.declared.faults.PlanFault.TheVariants.{UnknownEnd, Loop, EdgeTwice};
+ghost use Rattle.dine_plan.specs.RefusalTests.{first_fault, first_refusal};
+ghost use Rattle.dine_plan.specs.RefusalFacts.{Refuses, IsFirst};
+ghost use Rattle.dine_plan.specs.declared.plan_fault.PlanFault.{PlanFault};
+ghost use Rattle.dine_plan.specs.declared.plan_fault.PlanFault.TheVariants.{UnknownEnd, Loop, EdgeTwice};
 
 /// The first refusal of a document is the first cause of the list that holds of it, at the least position at which it
 /// holds; and where there is no first refusal, no cause holds.

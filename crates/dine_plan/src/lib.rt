@@ -7,16 +7,16 @@ mod building;
 mod documents;
 mod drafts;
 mod edges;
-mod faults;
 mod forms;
 pub mod laws;
 mod places;
+mod plan_fault;
 mod plans;
 mod reading;
 mod sites;
 mod tables;
 
 pub use drafts::PlanBuilder;
-pub use faults::PlanFault;
+pub use plan_fault::PlanFault;
 pub use plans::{Job, Plan};
 pub use reading::read_plan;

@@ -4,14 +4,14 @@ ghost use Rattle.toml.specs.Data.{Members, table};
 ghost use Rattle.toml.specs.Parse.{parse_document};
 ghost use Rattle.toml.specs.View.{view};
 ghost use Rattle.dine_plan.specs.PlanOf.{IsPlanOf, plan_in, plan_of_document};
-ghost use Rattle.dine_plan.specs.Refusals.{first_some, graph_refusals, first_refusal, first_fault};
+ghost use Rattle.dine_plan.specs.RefusalTests.{first_some, graph_refusals, first_refusal, first_fault};
 
 use crate::acts::first_act_fault;
 use crate::building::build;
 use crate::documents::{items_at, version_in};
 use crate::edges::{first_end_fault, first_pair_fault, pairs_in};
-use crate::faults::PlanFault;
 use crate::forms::first_form_fault;
+use crate::plan_fault::PlanFault;
 use crate::plans::Plan;
 use crate::sites::first_site_fault;
 use std::alloc::Global;

@@ -5,10 +5,10 @@ ghost use Rattle.std.specs.Str.{bytes_eq};
 ghost use Rattle.toml.specs.View.{view};
 ghost use Rattle.dine_plan.specs.Plan.{is_name, is_name_byte};
 ghost use Rattle.dine_plan.specs.Document.{name_in};
-ghost use Rattle.dine_plan.specs.Refusals.{first_some, first_twice, has_bad_name, has_many_jobs, has_many_turns, is_unnamed, site_refusals};
+ghost use Rattle.dine_plan.specs.RefusalTests.{first_some, first_twice, has_bad_name, has_many_jobs, has_many_turns, is_unnamed, site_refusals};
 
 use crate::documents::{items_at, number_at, text_at};
-use crate::faults::PlanFault;
+use crate::plan_fault::PlanFault;
 use std::alloc::{AllocError, Global};
 use std::collections::BTreeSet;
 use toml::Value;
@@ -24,7 +24,7 @@ const MAX_TURNS: u64 = 1_000_000;
 const MAX_NAME: usize = 32;
 
 /// The first fault in the sites of a document.
-#[tactic(auto, unfolding(crate::specs::Refusals::site_refusals))]
+#[tactic(auto, unfolding(crate::specs::RefusalTests::site_refusals))]
 pub(crate) fn first_site_fault(
     alloc: Global,
     sites: &[Value],
@@ -118,7 +118,7 @@ fn first_with_many_jobs(sites: &[Value]) -> Option<usize>
 }
 
 // Whether the site has more than 1,000 jobs.
-#[tactic(auto, unfolding(crate::specs::Refusals::has_many_jobs))]
+#[tactic(auto, unfolding(crate::specs::RefusalTests::has_many_jobs))]
 fn has_many_jobs(site: &Value) -> bool
     ensures { result ≡ has_many_jobs (view site.now) }
 {

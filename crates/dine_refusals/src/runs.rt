@@ -1,27 +1,12 @@
 // Runs of the pair, each site on a thread of its own.
-ghost use Rattle.std.specs.Prelude.{◌≡◌, ◌≤◌, Some, slice_get, IfOk};
-ghost use Rattle.dine_plan.specs.Plan.{job_count};
-
 use crate::calls::Told;
 use crate::pair::pair;
-use dine::PlanDiner;
+use dine::{PlanDiner, open_diners};
 use dine_link::Lane;
-use dine_plan::Plan;
 use dine_run::{Joined, RunFault, run};
 use std::alloc::{AllocError, Global};
 use std::sync::Wait;
 use std::thread::Threads;
-
-// A diner for each site, with room for its jobs.
-fn diners(alloc: Global, plan: &Plan) -> Result<Vec<PlanDiner>, AllocError>
-    ensures { IfOk result (λ diners. (s : _) (diner : _) → slice_get diners.items s ≡ Some diner → job_count plan.now s ≤ diner.room) }
-{
-    let mut diners = Vec::new(alloc);
-    for site in 0..plan.sites() {
-        diners.push(PlanDiner::open(alloc, plan, site)?)?;
-    }
-    Ok(diners)
-}
 
 /// The diner of the pair's lower site.
 pub fn diner(alloc: Global) -> Result<Told, AllocError> {
@@ -67,7 +52,7 @@ where
     L::Rx: 'static,
 {
     let plan = pair(alloc)?;
-    let diners = diners(alloc, &plan)?;
+    let diners = open_diners(alloc, &plan)?;
     match run::<L, PlanDiner, R>(rt, alloc, &plan, diners) {
         Ok(_gathered) => Ok(Told::Whole),
         Err(fault) => Ok(told_of(&fault)),

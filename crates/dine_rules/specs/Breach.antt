@@ -1,7 +1,7 @@
 -- Which letters a site may take, and why not. That a letter is allowed exactly where no breach is told is the law
 -- `allowed_letters_meet_no_breach`.
 use Rattle.std.specs.Prelude.{ℕ, ◌==◌, ◌&&◌, ◌||◌, not, Bool, List, nat_lt, nat_le, Option, Some, None, if◌then◌else◌}
-use Rattle.dine_token.specs.declared.entry.Entry.{Entry}
+use Rattle.dine_token.specs.declared.log_entry.Entry.{Entry}
 use Rattle.dine_token.specs.Fork.{SeenFork}
 use Rattle.dine_token.specs.Log.{is_dirty, location_of, meals_of}
 use Rattle.dine_plan.specs.Plan.{SeenPlan, job_count, lo_of, hi_of, resigns}

@@ -1,8 +1,8 @@
 -- Small plans, and what their runs come to: each computed from the definitions.
 use Rattle.std.specs.Prelude.{ℕ, true, false, ◌==◌, List, [], ◌∷◌, map, replicate, codes, drop, length, Option, if◌then◌else◌}
 use Rattle.std.specs.List.{range_with_len}
-use Rattle.dine_token.specs.declared.entry.Entry.{Entry}
-use Rattle.dine_token.specs.declared.entry.Entry.TheVariants.{Meal, Move}
+use Rattle.dine_token.specs.declared.log_entry.Entry.{Entry}
+use Rattle.dine_token.specs.declared.log_entry.Entry.TheVariants.{Meal, Move}
 use Rattle.dine_token.specs.Fork.{SeenFork}
 use Rattle.dine_plan.specs.Plan.{SeenPlan, SeenSite, no_job, edge_count}
 use Rattle.dine_rules.specs.declared.events.Event.{Event}

@@ -2,8 +2,8 @@
 -- nothing is: `forks_counted` and `tokens_counted` of `KeepsStreamsAt` say so. The log in hand means something only
 -- where the fork is held.
 use Rattle.std.specs.Prelude.{◌≡◌, ℕ, zero, suc, true, ◌<◌, length, ◌+◌, ◌-◌, ◌==◌, List, [], ◌∷◌, ◌++◌, if◌then◌else◌}
-use Rattle.dine_token.specs.declared.entry.Entry.{Entry}
-use Rattle.dine_token.specs.declared.entry.Entry.TheVariants.{Meal}
+use Rattle.dine_token.specs.declared.log_entry.Entry.{Entry}
+use Rattle.dine_token.specs.declared.log_entry.Entry.TheVariants.{Meal}
 use Rattle.dine_token.specs.Log.{meals_of}
 use Rattle.dine_plan.specs.Plan.{SeenPlan, lo_of, hi_of}
 use Rattle.dine_rules.specs.Letters.{forks_in, requests_in, last_log_or}

@@ -3,7 +3,7 @@
 -- Whether a letter that was put will be taken they leave out.
 use Rattle.std.specs.Prelude.{◌≡◌, ℕ, ◌+◌, ◌<◌, ◌≤◌, List, [], length, slice_get, Option, Some, if◌then◌else◌, ◌==◌}
 use mathlib.Core.List.{IsPrefix}
-use Rattle.dine_token.specs.declared.entry.Entry.{Entry}
+use Rattle.dine_token.specs.declared.log_entry.Entry.{Entry}
 use Rattle.dine_token.specs.Fork.{SeenFork}
 use Rattle.dine_token.specs.Log.{meals_of, numbers_of}
 use Rattle.dine_token.specs.Lawful.{IsLawful, count_from}

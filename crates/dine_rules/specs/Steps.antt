@@ -1,7 +1,7 @@
 -- The steps of one site: what each needs, and what it changes.
 use Rattle.std.specs.Prelude.{◌≡◌, ℕ, ◌+◌, ◌<◌, ◌==◌, ◌&&◌, ◌||◌, not, Bool, true, false, List, [], ◌∷◌, ◌++◌, length, nat_lt, slice_set, Option, Some, option_map}
 use Rattle.std.specs.List.{list_all, range_with_len}
-use Rattle.dine_token.specs.declared.entry.Entry.{Entry}
+use Rattle.dine_token.specs.declared.log_entry.Entry.{Entry}
 use Rattle.dine_token.specs.Fork.{SeenFork, moved}
 use Rattle.dine_token.specs.Log.{is_dirty}
 use Rattle.dine_plan.specs.Plan.{SeenPlan, job_count, lo_of, hi_of, resigns, value_of}

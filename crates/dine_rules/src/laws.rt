@@ -5,7 +5,7 @@ ghost use Rattle.std.specs.List.{list_any};
 ghost use Rattle.dine_plan.specs.Plan.{IsPlan, SeenPlan, edge_count, hi_of, job_count, lo_of, site_count};
 ghost use Rattle.dine_token.specs.Fork.{SeenFork};
 ghost use Rattle.dine_token.specs.Lawful.{IsLawful};
-ghost use Rattle.dine_token.specs.declared.entry.Entry.TheVariants.{Meal, Move};
+ghost use Rattle.dine_token.specs.declared.log_entry.Entry.TheVariants.{Meal, Move};
 ghost use Rattle.dine_rules.specs.Bound.{bound_of, effects_of};
 ghost use Rattle.dine_rules.specs.Examples.{alone, breach_of_done, breach_of_fork, enabled_after, ends_complete, next_after, outcome_of, pair, path, preferred_after, preferred_at_end, resigning, row};
 ghost use Rattle.dine_rules.specs.Breach.{first_breach, is_allowed, number_of};

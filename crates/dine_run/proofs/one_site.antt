@@ -3,6 +3,7 @@ pub mod Letters
 pub mod AtPlaces
 pub mod Meals
 pub mod Heeding
+pub mod Same
 pub mod Quits
 pub mod Ways
 pub mod Stops

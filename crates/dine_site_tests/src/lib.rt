@@ -3,6 +3,6 @@
 #![tactic(auto)]
 
 #[cfg(test)]
-mod orders;
+mod journals;
 #[cfg(test)]
 mod sites;

@@ -9,7 +9,7 @@ mod refusals;
 mod star;
 mod unlawful;
 
-use crate::orders::{HIGHER, LOWER};
+use crate::journals::{HIGHER, LOWER};
 use dine_core::SiteCore;
 use dine_core::site::{fresh_forks, fresh_tokens};
 use dine_link::{Bell, ChannelLane, Lane, RingLane, Ringer, TxEnd};

@@ -8,7 +8,7 @@ mod arguments;
 #[cfg(test)]
 mod commands;
 #[cfg(test)]
-mod faults;
+mod fault_lines;
 #[cfg(test)]
 mod input;
 #[cfg(test)]

@@ -2,8 +2,8 @@
 use Rattle.std.proofs.Common.{◌≡◌, ℕ, ◌+◌, ◌*◌, ◌<◌, ◌≤◌, true, false, List, [], ◌∷◌, ◌++◌, length, refl, sym, ◌∙◌, ap, subst, inl, inr, arith, append_assoc, length-append}
 use Rattle.std.proofs.lemmas.Bool.{cases_Bool, false≢true, true_from_ne_false}
 use Rattle.std.proofs.lemmas.List.{length_push}
-use Rattle.dine_token.specs.declared.entry.Entry.{Entry}
-use Rattle.dine_token.specs.declared.entry.Entry.TheVariants.{Meal, Move}
+use Rattle.dine_token.specs.declared.log_entry.Entry.{Entry}
+use Rattle.dine_token.specs.declared.log_entry.Entry.TheVariants.{Meal, Move}
 use Rattle.dine_token.specs.Log.{is_dirty, location_of, numbers_of, meals_of, destinations_of, moves_of}
 use Rattle.dine_token.specs.Lawful.{due_at, IsLawful}
 use Rattle.dine_token.proofs.Logs.{push_induction, is_dirty-push_move, clean_ends_in_move, location_of-push_move, numbers_of-append, meals_of-push_own, meals_of-push_other, meals_of-push_move, count_from-front, destinations_of-append, destinations_of-push_meal, in_turn-front}

@@ -5,8 +5,8 @@ use Rattle.std.proofs.lemmas.Bool.{eq-eqb, ne_eqb, cond-true, cond-false}
 use Rattle.std.proofs.lemmas.List.{length_push}
 use Rattle.dine_token.specs.declared.act.Act.{Act}
 use Rattle.dine_token.specs.declared.act.Act.TheVariants.{Add, Set}
-use Rattle.dine_token.specs.declared.entry.Entry.TheVariants.{Meal}
-use Rattle.dine_token.specs.declared.period.Period.{Period}
+use Rattle.dine_token.specs.declared.log_entry.Entry.TheVariants.{Meal}
+use Rattle.dine_token.specs.declared.log_period.Period.{Period}
 use Rattle.dine_token.specs.Values.{IsAct, applied}
 use Rattle.dine_token.specs.Log.{meals_of, moves_of}
 use Rattle.dine_token.specs.Lawful.{due_at}

@@ -1,11 +1,11 @@
 -- The periods and the counts that a Fork keeps stay those of its log.
 use Rattle.std.proofs.Common.{◌≡◌, ◌⊎◌, ℕ, ◌+◌, ◌-◌, ◌<◌, ◌≤◌, true, false, List, [], ◌∷◌, ◌++◌, length, get_or, set, sym, ◌∙◌, ap, subst, inl, inr, arith, vec_capacity}
-use Rattle.dine_token.specs.declared.entry.Entry.{Entry}
-use Rattle.dine_token.specs.declared.entry.Entry.TheVariants.{Meal, Move}
+use Rattle.dine_token.specs.declared.log_entry.Entry.{Entry}
+use Rattle.dine_token.specs.declared.log_entry.Entry.TheVariants.{Meal, Move}
 use Rattle.dine_token.specs.declared.act.Act.{Act}
 use Rattle.dine_token.specs.declared.fork.Kept.{Kept}
 use Rattle.dine_token.specs.Values.{IsAct}
-use Rattle.dine_token.specs.declared.period.Period.{Period}
+use Rattle.dine_token.specs.declared.log_period.Period.{Period}
 use Rattle.dine_token.specs.Log.{is_dirty, location_of, meals_of}
 use Rattle.dine_token.specs.Lawful.{IsLawful}
 use Rattle.dine_token.specs.Periods.{periods_of, entries_of}

@@ -2,8 +2,8 @@
 use Rattle.std.proofs.Common.{◌≡◌, ◌⊎◌, ℕ, suc, ◌+◌, ◌<◌, ◌≤◌, true, false, eqb, List, [], ◌∷◌, ◌++◌, length, refl, sym, ◌∙◌, ap, subst, inl, inr, arith}
 use Rattle.std.proofs.lemmas.Bool.{cases_eq, eq-eqb, ne_eqb, false≢true, cond-true, cond-false}
 use Rattle.std.proofs.lemmas.List.{length_push}
-use Rattle.dine_token.specs.declared.entry.Entry.{Entry}
-use Rattle.dine_token.specs.declared.entry.Entry.TheVariants.{Meal, Move}
+use Rattle.dine_token.specs.declared.log_entry.Entry.{Entry}
+use Rattle.dine_token.specs.declared.log_entry.Entry.TheVariants.{Meal, Move}
 use Rattle.dine_token.specs.Log.{is_dirty, location_of, numbers_of, meals_of, destinations_of, moves_of}
 use Rattle.dine_token.specs.Lawful.{in_turn, count_from, due_at, IsLawful}
 use Rattle.dine_token.proofs.Logs.{split_push, is_dirty-push_move, numbers_of-push_own, numbers_of-push_other, numbers_of-push_move, meals_of-push_other, meals_of-push_move, count_from-push, destinations_of-append, destinations_of-push_meal, turn, in_turn-push, turn_cases, location_of-turn}

@@ -3,8 +3,8 @@
 -- is lawful, and one may begin with a Move, since the fork is dirty at the start. A lawful log has at most twice as
 -- many entries as meals are due: the law `lawful_log_is_bounded`.
 use Rattle.std.specs.Prelude.{◌≡◌, ◌==◌, ℕ, ◌+◌, ◌<◌, ◌≤◌, List, [], ◌∷◌, ◌++◌, zero, suc, if◌then◌else◌}
-use Rattle.dine_token.specs.declared.entry.Entry.{Entry}
-use Rattle.dine_token.specs.declared.entry.Entry.TheVariants.{Meal, Move}
+use Rattle.dine_token.specs.declared.log_entry.Entry.{Entry}
+use Rattle.dine_token.specs.declared.log_entry.Entry.TheVariants.{Meal, Move}
 use Rattle.dine_token.specs.Log.{location_of, numbers_of, meals_of, destinations_of, moves_of}
 
 -- one, other, one, other, ..: n of them

@@ -1,7 +1,7 @@
 -- The log of a fork: what was done with it, oldest entry first.
 use Rattle.std.specs.Prelude.{◌==◌, ℕ, Bool, true, false, List, [], ◌∷◌, length, if◌then◌else◌}
-use Rattle.dine_token.specs.declared.entry.Entry.{Entry}
-use Rattle.dine_token.specs.declared.entry.Entry.TheVariants.{Meal, Move}
+use Rattle.dine_token.specs.declared.log_entry.Entry.{Entry}
+use Rattle.dine_token.specs.declared.log_entry.Entry.TheVariants.{Meal, Move}
 
 -- the fork is dirty: its log does not end in a Move; the empty log is dirty [paper: clean and dirty, start]
 abbrev pub is_dirty : List Entry → Bool

@@ -6,8 +6,8 @@ ghost use Rattle.dine_token.specs.Fork.{SeenFork, IsFork, IsEnd, MayMove, MayEat
 ghost use Rattle.dine_token.specs.Values.{IsAct};
 
 use crate::act::Act;
-use crate::entry::Entry;
-use crate::period::Period;
+use crate::log_entry::Entry;
+use crate::log_period::Period;
 use std::alloc::{AllocError, Global};
 use std::marker::Model;
 

@@ -1,8 +1,8 @@
 //! Laws over the definitions alone. Each function does nothing: its contract is the law.
 
 ghost use Rattle.std.specs.Prelude.{◌≡◌, ℕ, ◌+◌, ◌*◌, ◌<◌, ◌≤◌, true, false, List, [], ◌∷◌, ◌++◌, length};
-ghost use Rattle.dine_token.specs.declared.entry.Entry.{Entry};
-ghost use Rattle.dine_token.specs.declared.entry.Entry.TheVariants.{Meal, Move};
+ghost use Rattle.dine_token.specs.declared.log_entry.Entry.{Entry};
+ghost use Rattle.dine_token.specs.declared.log_entry.Entry.TheVariants.{Meal, Move};
 ghost use Rattle.dine_token.specs.declared.act.Act.{Act};
 ghost use Rattle.dine_token.specs.Values.{IsAct};
 ghost use Rattle.dine_token.specs.Log.{is_dirty, location_of, meals_of};

@@ -3,20 +3,20 @@
 #![tactic(auto)]
 
 mod act;
-mod entry;
 mod fork;
 mod held;
 pub mod laws;
+mod log_entry;
+mod log_period;
 mod meal;
-mod period;
 #[cfg(test)]
 mod tests;
 mod token;
 
 pub use act::Act;
-pub use entry::Entry;
 pub use fork::Fork;
 pub use held::Held;
+pub use log_entry::Entry;
+pub use log_period::Period;
 pub use meal::Meal;
-pub use period::Period;
 pub use token::Token;

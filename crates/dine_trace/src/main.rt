@@ -13,7 +13,7 @@
 
 mod edges;
 mod events;
-mod faults;
+mod fault_lines;
 mod schedule;
 mod state;
 mod trace;
@@ -22,7 +22,7 @@ mod words;
 use dine::words_of;
 use dine_plan::Plan;
 use dine_words::{Status, exit_of, plan_of_bytes, read_input, write_line};
-use faults::Fault;
+use fault_lines::Fault;
 use schedule::choices_of_run;
 use state::state_text;
 use std::alloc::Global;

@@ -1,6 +1,6 @@
 //! The schedule of a run on threads.
 
-use crate::faults::Fault;
+use crate::fault_lines::Fault;
 use dine::{PlanDiner, open_diners};
 use dine_core::{Event, World};
 use dine_link::{ChannelLane, Lane, RingLane};

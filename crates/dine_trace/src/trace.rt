@@ -2,9 +2,9 @@
 
 use crate::edges::push_edges;
 use crate::events::push_event;
-use crate::faults::Fault;
+use crate::fault_lines::Fault;
 use dine_core::{Event, World};
-use dine_logs::replay_text;
+use dine_log_text::replay_text;
 use dine_plan::Plan;
 use dine_words::write_out;
 use std::alloc::{AllocError, Global};

@@ -1,6 +1,6 @@
 //! The words of the command line.
 
-use crate::faults::Fault;
+use crate::fault_lines::Fault;
 use dine_words::{Command, Links, Table, command_of};
 use std::alloc::Global;
 

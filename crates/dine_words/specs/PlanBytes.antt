@@ -3,9 +3,9 @@ use Rattle.std.specs.Prelude.{◌≡◌, ℕ, List, Option, Some, None, if◌the
 use Rattle.std.specs.Str.{is_utf8}
 use Rattle.dine_plan.specs.Plan.{SeenPlan}
 use Rattle.dine_plan.specs.PlanOf.{IsPlanOf}
-use Rattle.dine_plan.specs.Refusals.{first_fault}
-use Rattle.dine_plan.specs.declared.faults.PlanFault.{PlanFault}
-use Rattle.dine_plan.specs.declared.faults.PlanFault.TheVariants as fault
+use Rattle.dine_plan.specs.RefusalTests.{first_fault}
+use Rattle.dine_plan.specs.declared.plan_fault.PlanFault.{PlanFault}
+use Rattle.dine_plan.specs.declared.plan_fault.PlanFault.TheVariants as fault
 
 -- why the bytes are refused, where they are: bytes that are no text are no TOML
 abbrev pub fault_of_bytes : List ℕ → Option PlanFault

@@ -146,6 +146,12 @@ module _ (plan : SeenPlan) (state : LocalState) (core : SeenCore) (stands : Refi
     pub give_may : can_give core i ≡ may plan core.site state (Give i)
     give_may = give_is i within ∙ reach _
 
+    pub ask_may : can_ask core i ≡ may plan core.site state (Ask i)
+    ask_may = ask_is i within ∙ reach _
+
+    pub done_may : can_say_done core i ≡ may plan core.site state (Done i)
+    done_may = done_is i within ∙ reach _
+
   -- a letter that is there is allowed, or there is none
   pub next_is : (i : ℕ) (o : Option Letter) → ((l : Letter) → i < length core.places → o ≡ Some l → is_allowed plan core.site state i l ≡ true)
       → (nat_lt i (length core.places) && is_some o) ≡ may_be plan core.site state (option_map (Take i) o)

@@ -73,7 +73,7 @@ impl ForkSlot {
 }
 
 impl Place {
-    ghost use Rattle.dine_core.specs.Places.{neighbour_of, due_of_neighbour, is_held, is_dirty_in_hand, meals_in, has_all, can_give_at, is_own_fork, breach_of_request, breach_of_fork, breach_of_done, breach_of_close, breach_at, lifted, opened, is_over_at, hand_of, fork_in_hand, EndsOf, OnHere, with_fork};
+    ghost use Rattle.dine_core.specs.Places.{neighbour_of, due_of_neighbour, is_held, is_dirty_in_hand, meals_in, has_all, can_ask_at, can_give_at, is_own_fork, breach_of_request, breach_of_fork, breach_of_done, breach_of_close, breach_at, lifted, opened, is_over_at, hand_of, fork_in_hand, EndsOf, OnHere, with_fork};
 
     /// The site at the other end.
     pub(crate) fn neighbour(&self, site: u32) -> u32
@@ -109,6 +109,13 @@ impl Place {
         ensures { result ≡ can_give_at self.now }
     {
         self.fork.is_dirty_in_hand() && self.token.is_some() && !self.close_put
+    }
+
+    /// Whether the fork may be asked for, by the request rule.
+    pub(crate) fn may_ask(&self) -> bool
+        ensures { result ≡ can_ask_at self.now }
+    {
+        self.token.is_some() && !self.fork.is_held() && !self.close_put
     }
 
     /// Why the letter is not in turn here, for a site that ate so many meals. The first cause.

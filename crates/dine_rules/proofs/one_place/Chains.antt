@@ -2,8 +2,8 @@
 use Rattle.std.proofs.Common.{◌≡◌, ℕ, ◌+◌, ◌-◌, ◌≤◌, Bool, true, false, List, [], ◌∷◌, ◌++◌, length, get_or, slice_get, Some, sym, ◌∙◌, ap, inl, inr, arith}
 use Rattle.std.proofs.lemmas.List.{length_push}
 use Rattle.std.proofs.lemmas.Option.{slice_get_within, slice_get-get_or}
-use Rattle.dine_token.specs.declared.entry.Entry.{Entry}
-use Rattle.dine_token.specs.declared.entry.Entry.TheVariants.{Move}
+use Rattle.dine_token.specs.declared.log_entry.Entry.{Entry}
+use Rattle.dine_token.specs.declared.log_entry.Entry.TheVariants.{Move}
 use Rattle.dine_token.specs.Log.{is_dirty, meals_of}
 use Rattle.dine_rules.specs.Holdings.{meals_from, with_meals_to}
 use Rattle.dine_rules.specs.Streams.{CarriesOn, CarriesOnTaken}

@@ -1,8 +1,8 @@
 -- What a site keeps of the fork and the token at one place, over plain numbers and logs.
 use Rattle.std.proofs.Common.{◌≡◌, ◌⊎◌, ℕ, ◌+◌, ◌-◌, ◌<◌, ◌≤◌, Bool, true, false, List, [], ◌∷◌, ◌++◌, refl, sym, ◌∙◌, ap, subst, inl, inr, arith}
 use Rattle.std.proofs.lemmas.Bool.{false≢true}
-use Rattle.dine_token.specs.declared.entry.Entry.{Entry}
-use Rattle.dine_token.specs.declared.entry.Entry.TheVariants.{Meal, Move}
+use Rattle.dine_token.specs.declared.log_entry.Entry.{Entry}
+use Rattle.dine_token.specs.declared.log_entry.Entry.TheVariants.{Meal, Move}
 use Rattle.dine_token.specs.Log.{is_dirty, location_of, meals_of, moves_of}
 use Rattle.dine_token.specs.Lawful.{IsLawful, due_at}
 use Rattle.dine_token.proofs.Logs.{is_dirty-push_meal, location_of-push_meal, meals_of-push_other, meals_of-push_move, turn}

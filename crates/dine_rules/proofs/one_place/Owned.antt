@@ -1,7 +1,7 @@
 -- A fork that is that of an edge is the edge's fork with its own log and value.
 use Rattle.std.proofs.Common.{◌≡◌, ℕ, true, List, ap, ap₂, ◌∙◌}
 use Rattle.std.proofs.lemmas.Bool.{eqb-true, and_parts}
-use Rattle.dine_token.specs.declared.entry.Entry.{Entry}
+use Rattle.dine_token.specs.declared.log_entry.Entry.{Entry}
 use Rattle.dine_token.specs.Fork.{SeenFork}
 use Rattle.dine_plan.specs.Plan.{SeenPlan, job_count, lo_of, hi_of}
 use Rattle.dine_rules.specs.Breach.{is_fork_of}

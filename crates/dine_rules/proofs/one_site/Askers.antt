@@ -3,7 +3,7 @@ use Rattle.std.proofs.Common.{◌≡◌, ◌⊎◌, ℕ, suc, ◌+◌, ◌-◌, 
 use Rattle.std.specs.List.{list_any}
 use Rattle.std.proofs.lemmas.Bool.{true≢false, and_parts, or_parts, or_cases, not-true, cases_eq, eqb-true, eqb-false, ltb-true}
 use Rattle.std.proofs.lemmas.List.{get_or-set_same, get_or-set_other, length-set}
-use Rattle.dine_token.specs.declared.entry.Entry.{Entry}
+use Rattle.dine_token.specs.declared.log_entry.Entry.{Entry}
 use Rattle.dine_token.specs.Log.{is_dirty, meals_of}
 use Rattle.dine_token.proofs.Logs.{is_dirty-push_meal}
 use Rattle.dine_plan.specs.Plan.{SeenPlan, edges_of, lo_of, hi_of}

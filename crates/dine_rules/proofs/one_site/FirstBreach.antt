@@ -2,8 +2,8 @@
 use Rattle.std.proofs.Common.{◌≡◌, ◌≢◌, ◌⊎◌, ℕ, ◌<◌, ◌≤◌, Bool, true, false, cond, not, ◌&&◌, ◌||◌, ◌==◌, nat_le, List, [], ◌∷◌, ◌++◌, Option, Some, None, refl, sym, ◌∙◌, ap, ap₂, inl, inr, arith}
 use Rattle.std.proofs.lemmas.Bool.{false≢true, and_parts, and_from, cases_Bool, cond-true, cond-false, eqb-true, eqb-false, eq-eqb, false_from_ne_true, le-leb, leb-true, ne_eqb, not-true, not_from_false, or_cases, or_left, or_right}
 use Rattle.std.proofs.lemmas.Option.{same_Some}
-use Rattle.dine_token.specs.declared.entry.Entry.{Entry}
-use Rattle.dine_token.specs.declared.entry.Entry.TheVariants.{Move}
+use Rattle.dine_token.specs.declared.log_entry.Entry.{Entry}
+use Rattle.dine_token.specs.declared.log_entry.Entry.TheVariants.{Move}
 use Rattle.dine_token.specs.Fork.{SeenFork}
 use Rattle.dine_token.specs.Log.{is_dirty, location_of, meals_of}
 use Rattle.dine_token.proofs.Logs.{is_dirty-push_move, location_of-push_move}

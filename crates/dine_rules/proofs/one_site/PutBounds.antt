@@ -1,8 +1,8 @@
 -- How many letters a site puts at a place.
 use Rattle.std.proofs.Common.{◌≡◌, ℕ, ◌+◌, ◌*◌, ◌<◌, ◌≤◌, Bool, true, false, cond, not, ◌&&◌, ◌==◌, List, [], ◌∷◌, ◌++◌, length, refl, sym, ◌∙◌, ap, inl, inr, arith}
 use Rattle.std.proofs.lemmas.Bool.{false≢true, and_parts, not-true, or_cases, cases_Bool, cond-true, cond-false, eqb-true}
-use Rattle.dine_token.specs.declared.entry.Entry.{Entry}
-use Rattle.dine_token.specs.declared.entry.Entry.TheVariants.{Move}
+use Rattle.dine_token.specs.declared.log_entry.Entry.{Entry}
+use Rattle.dine_token.specs.declared.log_entry.Entry.TheVariants.{Move}
 use Rattle.dine_token.specs.Log.{is_dirty, location_of}
 use Rattle.dine_token.proofs.Logs.{clean_ends_in_move, location_of-push_move}
 use Rattle.dine_plan.specs.Plan.{SeenPlan, IsPlan, site_count, job_count}

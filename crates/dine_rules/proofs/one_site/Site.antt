@@ -2,7 +2,7 @@
 use Rattle.std.proofs.Common.{◌≡◌, ℕ, zero, suc, ◌+◌, ◌-◌, ◌<◌, ◌≤◌, Bool, true, false, cond, not, ◌&&◌, ◌||◌, ◌==◌, List, [], ◌∷◌, map, get_or, refl, sym, ◌∙◌, ap, subst, inl, inr, arith}
 use Rattle.std.proofs.lemmas.Bool.{false≢true, true≢false, and_parts, or_from, not-true, cases_Bool, cond-true, cond-false, eqb-true, eq-eqb, ne_eqb, false_from_ne_true, and_from, or_left, or_right}
 use Rattle.std.proofs.lemmas.List.{length-map}
-use Rattle.dine_token.specs.declared.entry.Entry.{Entry}
+use Rattle.dine_token.specs.declared.log_entry.Entry.{Entry}
 use Rattle.dine_token.specs.Log.{is_dirty, location_of}
 use Rattle.dine_token.proofs.Lawfulness.{IsLawful-none}
 use Rattle.dine_plan.specs.Plan.{SeenPlan, IsPlan, site_count, edges_of, job_count, lo_of, hi_of}

@@ -3,7 +3,7 @@
 ghost use Rattle.std.specs.Prelude.{◌≡◌, ◌≢◌, ◌<◌, ◌+◌, ◌++◌, Bool, List, None, Option, Some, [], ◌∷◌, false, length, slice_get, true, ℕ};
 ghost use Rattle.dine_plan.specs.Plan.{IsPlan, SeenPlan, act_of, edges_of, job_count, job_of, name_of, resigns, site_count};
 ghost use Rattle.dine_rules.specs.Outcomes.{NoSiteResigns, with_outcomes};
-ghost use Rattle.dine_token.specs.declared.entry.Entry.TheVariants.{Meal, Move};
+ghost use Rattle.dine_token.specs.declared.log_entry.Entry.TheVariants.{Meal, Move};
 ghost use Rattle.dine_rules.specs.Examples.{pair, resigning};
 ghost use Rattle.dine_rules.specs.Holdings.{fork_at, hand_at};
 ghost use Rattle.dine_rules.specs.JournalExamples.{accepted_as, higher_journal, left_by, lower_journal, merged, quit_by, ready_after};

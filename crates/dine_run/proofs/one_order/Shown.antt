@@ -6,8 +6,8 @@ use Rattle.std.proofs.lemmas.Bool.{cases_eq}
 use Rattle.std.proofs.lemmas.List.{ext_get_or, get_or-replicate, get_or-set_other, get_or-set_same, length-map, length-replicate}
 use Rattle.std.proofs.lemmas.List.FromFn.{get_or-map-range_with_len, length-map-range_with_len}
 use Rattle.std.proofs.lemmas.Option.{get_or_from_slice_get, slice_get-get_or}
-use Rattle.dine_token.specs.declared.entry.Entry.{Entry}
-use Rattle.dine_token.specs.declared.entry.Entry.TheVariants.{Meal, Move}
+use Rattle.dine_token.specs.declared.log_entry.Entry.{Entry}
+use Rattle.dine_token.specs.declared.log_entry.Entry.TheVariants.{Meal, Move}
 use Rattle.dine_token.specs.declared.act.Act.{Act}
 use Rattle.dine_token.specs.Values.{applied}
 use Rattle.dine_plan.specs.Plan.{SeenPlan, act_of, hi_of, job_count, lo_of, site_count, value_of}

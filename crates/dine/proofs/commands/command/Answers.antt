@@ -1,14 +1,13 @@
 -- A fault of a run tells of the plan that was read.
 use Rattle.std.proofs.Common.{◌≡◌, ◌≢◌, ◌∙◌, List, ℕ, Option, Some, Result, Ok, Err, IfErr, IfSome, IsErrAnd, ap, sym, subst}
-use Rattle.std.proofs.lemmas.Option.{IfSome_then}
 use Rattle.dine_plan.specs.Plan.{SeenPlan}
 use Rattle.dine.specs.Commands.{FailsRun, IsFailedRun}
-use Rattle.dine.specs.Faults.{status_of}
+use Rattle.dine.specs.FaultLines.{status_of}
 use Rattle.dine_words.specs.PlanBytes.{IsPlanBytes}
 use Rattle.dine.specs.Run.{NamesSite, TellsRun}
 use Rattle.dine_words.specs.Words.{Asked, asked_of}
-use Rattle.dine.specs.declared.faults.Fault.{Fault}
-use Rattle.dine.specs.declared.faults.Fault.TheVariants as fault
+use Rattle.dine.specs.declared.fault_lines.Fault.{Fault}
+use Rattle.dine.specs.declared.fault_lines.Fault.TheVariants as fault
 use Rattle.dine_words.specs.declared.status.Status.TheVariants as status
 use Rattle.dine.proofs.commands.command.Goals as goal
 
@@ -23,8 +22,7 @@ failed_run (Err made) told asked plan left same fails reads = λ is.
 
 pub returns-in_err-text-clause-failed_run : goal.returns-in_err-text-clause-failed_run
 returns-in_err-text-clause-failed_run g c =
-    let plan = c.in-Ok.plan in
+    let plan = c.in_ok-plan.plan in
     let left = g.R.Read.remaining c.args.input.now in
-    let reads = IfSome_then left c.in_ok-bytes.ensures.bytes (λ bytes same. subst (λ (b : List ℕ). IsPlanBytes b plan) (c.as_slice.ensures.value ∙ same) c.in-Ok.ensures.plan) in
-    let told = failed_run c.from_residual-in_err-text.result c.in_err-text.field-0.0 (asked_of c.in_ok-command.command) plan left c.from_residual-in_err-text.ensures.1 c.in_err-text.ensures.fault reads in
+    let told = failed_run c.from_residual-in_err-text.result c.in_err-text.field-0.0 (asked_of c.in_ok-command.command) plan left c.from_residual-in_err-text.ensures.1 c.in_err-text.ensures.fault c.in_ok-plan.ensures.plan in
     subst (λ (asked : Option Asked). IfErr c.from_residual-in_err-text.result (λ made. status_of made ≡ status.RunFailed → IsFailedRun asked made left)) (sym c.in_ok-command.ensures.ok) told

@@ -5,11 +5,11 @@ use Rattle.dine_plan.specs.Plan.{SeenPlan, site_count}
 use Rattle.dine_run.specs.Headline.{FaultIs}
 use Rattle.dine_run.specs.declared.gathered.RunFault.{RunFault}
 use Rattle.dine_run.specs.declared.gathered.RunFault.TheVariants as run
-use Rattle.dine.specs.Faults.{fault_of_run}
+use Rattle.dine.specs.FaultLines.{fault_of_run}
 use Rattle.dine.specs.PlanDiners.{SeenPlanDiner, fits_marks}
 use Rattle.dine.specs.Run.{NamesSite, TellsRun, diners_of}
-use Rattle.dine.specs.declared.faults.Fault.{Fault}
-use Rattle.dine.specs.declared.faults.Fault.TheVariants as fault
+use Rattle.dine.specs.declared.fault_lines.Fault.{Fault}
+use Rattle.dine.specs.declared.fault_lines.Fault.TheVariants as fault
 use Rattle.dine.proofs.RunLemmas.{diner_count, diner_has_room, due_rows}
 use Rattle.dine.proofs.run_text.run_over.Goals as goal
 

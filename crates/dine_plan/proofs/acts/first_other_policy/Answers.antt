@@ -1,5 +1,5 @@
 use Rattle.std.proofs.Common.{rules, tests, refl}
-use Rattle.dine_plan.specs.Refusals.{has_other_policy}
+use Rattle.dine_plan.specs.RefusalTests.{has_other_policy}
 use Rattle.dine_plan.proofs.Searches.{position_seen}
 use Rattle.dine_plan.proofs.acts.first_other_policy.Goals as goal
 

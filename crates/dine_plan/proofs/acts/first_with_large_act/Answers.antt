@@ -1,5 +1,5 @@
 use Rattle.std.proofs.Common.{rules, tests, refl}
-use Rattle.dine_plan.specs.Refusals.{has_large_act}
+use Rattle.dine_plan.specs.RefusalTests.{has_large_act}
 use Rattle.dine_plan.proofs.Searches.{position_seen}
 use Rattle.dine_plan.proofs.acts.first_with_large_act.Goals as goal
 

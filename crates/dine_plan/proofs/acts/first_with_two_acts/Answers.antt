@@ -1,5 +1,5 @@
 use Rattle.std.proofs.Common.{rules, tests, refl}
-use Rattle.dine_plan.specs.Refusals.{has_two_acts}
+use Rattle.dine_plan.specs.RefusalTests.{has_two_acts}
 use Rattle.dine_plan.proofs.Searches.{position_seen}
 use Rattle.dine_plan.proofs.acts.first_with_two_acts.Goals as goal
 

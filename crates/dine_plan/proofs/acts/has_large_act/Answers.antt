@@ -1,5 +1,5 @@
 use Rattle.std.proofs.Common.{rules, tests}
-use Rattle.dine_plan.specs.Refusals.{has_large_act, is_large}
+use Rattle.dine_plan.specs.RefusalTests.{has_large_act, is_large}
 use Rattle.dine_plan.proofs.Searches.{any_seen}
 use Rattle.dine_plan.proofs.acts.has_large_act.Goals as goal
 

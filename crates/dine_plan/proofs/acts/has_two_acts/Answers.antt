@@ -1,5 +1,5 @@
 use Rattle.std.proofs.Common.{rules, tests}
-use Rattle.dine_plan.specs.Refusals.{has_two_acts, has_both}
+use Rattle.dine_plan.specs.RefusalTests.{has_two_acts, has_both}
 use Rattle.dine_plan.proofs.Searches.{any_seen}
 use Rattle.dine_plan.proofs.acts.has_two_acts.Goals as goal
 

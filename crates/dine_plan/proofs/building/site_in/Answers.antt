@@ -1,6 +1,6 @@
 use Rattle.std.proofs.Common.{◌∙◌}
 use Rattle.dine_plan.specs.PlanOf.{site_in}
-use Rattle.dine_plan.specs.Refusals.{has_many_turns}
+use Rattle.dine_plan.specs.RefusalTests.{has_many_turns}
 use Rattle.dine_plan.proofs.building.site_in.Goals as goal
 
 pub jobs_in-requires : goal.jobs_in-requires

@@ -1,7 +1,7 @@
 use Rattle.std.proofs.Common.{◌≡◌, ℕ, ◌<◌, List, length, map, take, get_or, Some, None, below_more, arith, sym, ◌∙◌}
 use Rattle.std.specs.List.{list_any}
 use Rattle.std.proofs.lemmas.List.{get_or-map, take-map, length-map}
-use Rattle.dine_plan.specs.Refusals.{stands_before, same_ends}
+use Rattle.dine_plan.specs.RefusalTests.{stands_before, same_ends}
 use Rattle.dine_plan.proofs.ListLemmas.{list_any-map, first_twice_here, first_twice_none}
 use Rattle.dine_plan.proofs.edges.first_edge_twice.Goals as goal
 

@@ -1,7 +1,7 @@
 use Rattle.std.proofs.Common.{map, rules, tests, refl}
 use Rattle.toml.specs.View.{view}
 use Rattle.dine_plan.specs.Document.{name_in}
-use Rattle.dine_plan.specs.Refusals.{has_unknown_end}
+use Rattle.dine_plan.specs.RefusalTests.{has_unknown_end}
 use Rattle.dine_plan.proofs.Searches.{position_seen}
 use Rattle.dine_plan.proofs.edges.first_unknown_end.Goals as goal
 

@@ -1,5 +1,5 @@
 use Rattle.std.proofs.Common.{codes, rules, tests, sym, ◌∙◌}
-use Rattle.dine_plan.specs.Refusals.{lacks_key, site_lacks_key, refuses_missing_key}
+use Rattle.dine_plan.specs.RefusalTests.{lacks_key, site_lacks_key, refuses_missing_key}
 use Rattle.dine_plan.proofs.Searches.{any_seen}
 use Rattle.dine_plan.proofs.forms.has_missing_key.Goals as goal
 

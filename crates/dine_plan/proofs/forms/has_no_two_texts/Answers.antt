@@ -1,5 +1,5 @@
 use Rattle.std.proofs.Common.{not, ap}
-use Rattle.dine_plan.specs.Refusals.{is_wrong}
+use Rattle.dine_plan.specs.RefusalTests.{is_wrong}
 use Rattle.dine_plan.proofs.forms.has_no_two_texts.Goals as goal
 
 pub returns-in-Some : goal.returns-in-Some

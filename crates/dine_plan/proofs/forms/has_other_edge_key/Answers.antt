@@ -1,6 +1,6 @@
 use Rattle.std.proofs.Common.{Bool, sym, ap, ◌∙◌}
 use Rattle.toml.specs.View.{view}
-use Rattle.dine_plan.specs.Refusals.{has_other_key, edge_keys}
+use Rattle.dine_plan.specs.RefusalTests.{has_other_key, edge_keys}
 use Rattle.dine_plan.proofs.forms.has_other_edge_key.Goals as goal
 
 pub returns-then-second : goal.returns-then-second

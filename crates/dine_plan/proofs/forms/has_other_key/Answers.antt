@@ -4,7 +4,7 @@ use Rattle.std.specs.Map.{keys_of as map_keys}
 use Rattle.std.specs.Str.{bytes_eq}
 use Rattle.std.proofs.lemmas.Iterator.Consumers.{YieldsList-from_rest}
 use Rattle.std.proofs.lemmas.Iterator.Search.{any_from_yields_List}
-use Rattle.dine_plan.specs.Refusals.{has_other_key}
+use Rattle.dine_plan.specs.RefusalTests.{has_other_key}
 use Rattle.dine_plan.proofs.ListLemmas.{list_any-map}
 use Rattle.dine_plan.proofs.DocumentLemmas.{keys_of-view}
 use Rattle.dine_plan.proofs.forms.has_other_key.Goals as goal

@@ -1,5 +1,5 @@
 use Rattle.std.proofs.Common.{rules, tests, sym, ◌∙◌}
-use Rattle.dine_plan.specs.Refusals.{site_is_wrong, edge_is_wrong, refuses_wrong_kind}
+use Rattle.dine_plan.specs.RefusalTests.{site_is_wrong, edge_is_wrong, refuses_wrong_kind}
 use Rattle.dine_plan.proofs.Searches.{any_seen}
 use Rattle.dine_plan.proofs.forms.has_wrong_kind.Goals as goal
 

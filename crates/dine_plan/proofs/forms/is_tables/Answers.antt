@@ -1,7 +1,7 @@
 use Rattle.std.proofs.Common.{◌&&◌, rules, tests, sym, ap, ◌∙◌}
 use Rattle.std.specs.List.{list_all}
 use Rattle.toml.specs.View.{view}
-use Rattle.dine_plan.specs.Refusals.{is_table, is_tables}
+use Rattle.dine_plan.specs.RefusalTests.{is_table, is_tables}
 use Rattle.dine_plan.specs.Document.{items_in}
 use Rattle.dine_plan.proofs.Searches.{all_seen}
 use Rattle.dine_plan.proofs.forms.is_tables.Goals as goal

@@ -4,7 +4,7 @@ use Rattle.std.proofs.lemmas.Bool.{ne_eqb}
 use Rattle.std.proofs.lemmas.List.{length-map}
 use Rattle.toml.specs.View.{view}
 use Rattle.dine_plan.specs.Document.{items_in}
-use Rattle.dine_plan.specs.Refusals.{is_text, is_two_texts}
+use Rattle.dine_plan.specs.RefusalTests.{is_text, is_two_texts}
 use Rattle.dine_plan.proofs.Searches.{all_seen}
 use Rattle.dine_plan.proofs.forms.is_two_texts.Goals as goal
 

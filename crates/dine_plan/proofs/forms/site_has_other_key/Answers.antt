@@ -1,5 +1,5 @@
 use Rattle.std.proofs.Common.{rules, tests, sym, ◌∙◌}
-use Rattle.dine_plan.specs.Refusals.{has_other_key, site_has_other_key, job_keys}
+use Rattle.dine_plan.specs.RefusalTests.{has_other_key, site_has_other_key, job_keys}
 use Rattle.dine_plan.proofs.Searches.{any_seen}
 use Rattle.dine_plan.proofs.forms.site_has_other_key.Goals as goal
 

@@ -1,5 +1,5 @@
 use Rattle.std.proofs.Common.{rules, tests, sym, ◌∙◌}
-use Rattle.dine_plan.specs.Refusals.{job_is_wrong, site_is_wrong}
+use Rattle.dine_plan.specs.RefusalTests.{job_is_wrong, site_is_wrong}
 use Rattle.dine_plan.proofs.Searches.{any_seen}
 use Rattle.dine_plan.proofs.forms.site_is_wrong.Goals as goal
 

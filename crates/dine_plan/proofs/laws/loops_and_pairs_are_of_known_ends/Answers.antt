@@ -4,8 +4,8 @@ use Rattle.std.proofs.lemmas.Bool.{false≢true}
 use Rattle.std.proofs.lemmas.List.{get_or-map}
 use Rattle.toml.specs.Data.{Data}
 use Rattle.dine_plan.specs.Document.{edges_in}
-use Rattle.dine_plan.specs.Refusals.{has_unknown_end, joined_by, is_loop, same_ends, stands_before}
-use Rattle.dine_plan.specs.Refuses.{no_table, site_names, joined_pairs}
+use Rattle.dine_plan.specs.RefusalTests.{has_unknown_end, joined_by, is_loop, same_ends, stands_before}
+use Rattle.dine_plan.specs.RefusalFacts.{no_table, site_names, joined_pairs}
 use Rattle.dine_plan.proofs.laws.loops_and_pairs_are_of_known_ends.Goals as goal
 
 -- an edge with an unknown end joins no sites

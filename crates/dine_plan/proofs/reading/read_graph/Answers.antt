@@ -4,7 +4,7 @@ use Rattle.std.proofs.lemmas.List.{length-map}
 use Rattle.toml.specs.Data.{Data}
 use Rattle.toml.specs.View.{view}
 use Rattle.dine_plan.specs.PlanOf.{ends_in}
-use Rattle.dine_plan.specs.Refusals.{first_some, end_refusals, joined_by}
+use Rattle.dine_plan.specs.RefusalTests.{first_some, end_refusals, joined_by}
 use Rattle.dine_plan.proofs.GraphLemmas.{are_sites, are_ends, are_pairs, are_acts, join_known, is_plan, first_of_graph}
 use Rattle.dine_plan.proofs.reading.read_graph.Goals as goal
 

@@ -1,5 +1,5 @@
 use Rattle.std.proofs.Common.{rules, tests, refl}
-use Rattle.dine_plan.specs.Refusals.{has_bad_name}
+use Rattle.dine_plan.specs.RefusalTests.{has_bad_name}
 use Rattle.dine_plan.proofs.Searches.{position_seen}
 use Rattle.dine_plan.proofs.sites.first_bad_name.Goals as goal
 

@@ -1,7 +1,7 @@
 use Rattle.std.proofs.Common.{◌≡◌, ℕ, ◌<◌, false, List, [], take}
 use Rattle.std.specs.List.{list_any}
 use Rattle.std.specs.Str.{bytes_eq}
-use Rattle.dine_plan.specs.Refusals.{stands_before}
+use Rattle.dine_plan.specs.RefusalTests.{stands_before}
 use Rattle.dine_plan.proofs.DocumentLemmas.{names_seen}
 use Rattle.dine_plan.proofs.sites.first_site_twice.Given as goal
 

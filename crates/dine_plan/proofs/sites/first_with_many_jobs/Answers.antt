@@ -1,5 +1,5 @@
 use Rattle.std.proofs.Common.{rules, tests, refl}
-use Rattle.dine_plan.specs.Refusals.{has_many_jobs}
+use Rattle.dine_plan.specs.RefusalTests.{has_many_jobs}
 use Rattle.dine_plan.proofs.Searches.{position_seen}
 use Rattle.dine_plan.proofs.sites.first_with_many_jobs.Goals as goal
 

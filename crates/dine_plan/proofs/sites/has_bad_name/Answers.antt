@@ -1,5 +1,5 @@
 use Rattle.std.proofs.Common.{rules, tests, sym, ◌∙◌}
-use Rattle.dine_plan.specs.Refusals.{has_bad_name, is_unnamed}
+use Rattle.dine_plan.specs.RefusalTests.{has_bad_name, is_unnamed}
 use Rattle.dine_plan.proofs.Searches.{any_seen}
 use Rattle.dine_plan.proofs.sites.has_bad_name.Goals as goal
 

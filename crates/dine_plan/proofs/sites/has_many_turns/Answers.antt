@@ -1,7 +1,7 @@
 use Rattle.std.proofs.Common.{Bool, nat_lt, rules, tests}
 use Rattle.toml.specs.Data.{Data}
 use Rattle.dine_plan.specs.Document.{turns_in}
-use Rattle.dine_plan.specs.Refusals.{has_many_turns}
+use Rattle.dine_plan.specs.RefusalTests.{has_many_turns}
 use Rattle.dine_plan.proofs.Searches.{any_seen}
 use Rattle.dine_plan.proofs.sites.has_many_turns.Goals as goal
 

@@ -1,4 +1,4 @@
-use Rattle.std.proofs.Common.{◌≡◌, ◌∙◌, ℕ, All, List, None, Some, is_some, slice_get, map, sym, subst, ap, vec_items, arith}
+use Rattle.std.proofs.Common.{◌≡◌, ◌∙◌, ℕ, All, List, None, Some, is_some, refl, slice_get, map, sym, subst, ap, vec_items, arith}
 use Rattle.std.specs.List.{position}
 use Rattle.dine_run.specs.declared.gathered.SiteOut.{SiteOut}
 use Rattle.dine_run.specs.declared.site_end.SiteEnd.{SiteEnd}
@@ -92,3 +92,69 @@ returns-in-None-clause-journals g c =
     let links = vec_items c.collect-forks.result.2 in
     subst (λ (outs : List (SiteOut _)). AreJournals c.args.plan.now (map (λ (out : SiteOut _). out.ate) outs) links (map (λ (out : SiteOut _). out.journal.items) outs)) (sym c.collect-forks.ensures.sites)
     (journals_stand (ended_well g c) (no_fault g c) links c.collect-forks.ensures.links (wired g c))
+
+pub returns-then-len-sites : goal.returns-then-len-sites
+returns-then-len-sites g c = record {
+  many = tt;
+  finished = tt;
+  headline = tt;
+  journals = tt;
+  tokens = tt;
+  sites = tt;
+  fault = (c.len-then-len-sites.ensures, refl, λ same. omega (arith, same, c.if-len-sites.true, c.len.ensures, c.sites.ensures.count));
+  limit = λ few. tt;
+}
+
+pub returns-in_default : goal.returns-in_default
+returns-in_default g c = record {
+  many = tt;
+  finished = tt;
+  headline = tt;
+  journals = tt;
+  tokens = tt;
+  sites = tt;
+  fault = omega (arith, c.if-len-sites.false, c.len.ensures, c.sites.ensures.count);
+  limit = λ few. tt;
+}
+
+pub returns-in-Some : goal.returns-in-Some
+returns-in-Some g c = record {
+  many = tt;
+  finished = tt;
+  headline = tt;
+  journals = tt;
+  tokens = tt;
+  sites = tt;
+  fault = (omega (arith, c.if-len-sites.false, c.len.ensures, c.sites.ensures.count), omega (arith, rw c.in-Some.is at c.start_all-refused.ensures.some, c.in-Ok.ensures.count));
+  limit = λ few. rw c.in-Some.is at c.start_all-refused.ensures.some_within;
+}
+
+pub returns-in-None-clause-many : goal.returns-in-None-clause-many
+returns-in-None-clause-many g c = omega (arith, c.if-len-sites.false, c.len.ensures, c.sites.ensures.count)
+
+pub returns-in-None-clause-fault : goal.returns-in-None-clause-fault
+returns-in-None-clause-fault g c = tt
+
+pub returns-in-None-clause-limit : goal.returns-in-None-clause-limit
+returns-in-None-clause-limit g c few = omega (arith, few, rw c.in_default-refused.is at c.start_all-refused.ensures.all_within, c.in-Ok.ensures.count)
+
+pub returns-clause-many : goal.returns-clause-many
+returns-clause-many g c = tt
+
+pub returns-clause-finished : goal.returns-clause-finished
+returns-clause-finished g c = tt
+
+pub returns-clause-headline : goal.returns-clause-headline
+returns-clause-headline g c = tt
+
+pub returns-clause-journals : goal.returns-clause-journals
+returns-clause-journals g c = tt
+
+pub returns-clause-tokens : goal.returns-clause-tokens
+returns-clause-tokens g c = tt
+
+pub returns-clause-sites : goal.returns-clause-sites
+returns-clause-sites g c = tt
+
+pub returns-clause-limit : goal.returns-clause-limit
+returns-clause-limit g c few = omega (arith, few, rw c.in_default-refused.is at c.start_all-refused.ensures.all_within, c.in-Ok.ensures.count)

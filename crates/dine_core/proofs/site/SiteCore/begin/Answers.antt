@@ -14,18 +14,26 @@ use Rattle.dine_core.proofs.one_site.SiteTests.{may_begin}
 use Rattle.dine_core.proofs.one_site.Eating.{all_may_eat, forks_are_all, fork_at_place, is_meal, sound_begun, stands_begun, in_hand_begun}
 use Rattle.dine_core.proofs.site.SiteCore.begin.Goals as goal
 
+pub returns-clause-core : goal.returns-clause-core
+returns-clause-core c =
+    let begun_with : List Place → SeenCore = λ (places : List Place). record (begun (seen c.self.inside)) { places = places } in
+    ap begun_with c.lift.ensures.places ∙ ap begun c.self.view_is
+
+pub returns-clause-forks : goal.returns-clause-forks
+returns-clause-forks c = grind (arith, common_steps)
+
 pub begin-requires-clause-may_eat : goal.begin-requires-clause-may_eat
 begin-requires-clause-may_eat c =
     let old = seen c.self.inside in
     let can : can_begin old ≡ true = subst (λ (core : SeenCore). can_begin core ≡ true) (sym c.self.view_is) c.requires in
-    let is : c.lift.new.hands.items ≡ forks_of old.places = grind (arith, common_steps) in
+    let is : c.lift.new.hands.items ≡ forks_of old.places = c.lift.ensures.hands in
     subst (All (MayEat old.site (old.ate + 1))) (sym is) (all_may_eat old c.self.invariant.sound can)
 
 pub begin-requires-clause-countable : goal.begin-requires-clause-countable
 begin-requires-clause-countable c =
     let old = seen c.self.inside in
     let can : can_begin old ≡ true = subst (λ (core : SeenCore). can_begin core ≡ true) (sym c.self.view_is) c.requires in
-    let is : c.lift.new.hands.items ≡ forks_of old.places = grind (arith, common_steps) in
+    let is : c.lift.new.hands.items ≡ forks_of old.places = c.lift.ensures.hands in
     let same : length c.lift.new.hands.items ≡ length old.places = ap length is ∙ ap length (forks_are_all old c.self.invariant.sound can) ∙ length-map old.places fork_at_place in
     omega (arith, same, c.self.invariant.room.few, c.lift.new.hands.ok.0)
 
@@ -34,27 +42,22 @@ invariant_of-self c =
     let kept = c.self.invariant in
     let old = seen c.self.inside in
     let can : can_begin old ≡ true = subst (λ (core : SeenCore). can_begin core ≡ true) (sym c.self.view_is) c.requires in
-    let is : c.lift.new.self ≡ map (lifted old.site) old.places = grind (arith, common_steps) in
+    let is : c.lift.new.self ≡ map (lifted old.site) old.places = c.lift.ensures.places in
     record {
       sound = subst (λ (l : List Place). IsSound (record (begun old) { places = l })) (sym is) (sound_begun old kept.sound can);
-      no_hands = grind (arith, common_steps);
+      no_hands = ap (λ v. v.items) c.replace-hands.ensures.after ∙ c.new.ensures.items;
       room_for_hands = λ h. absurd (false≢true (sym h));
       room = subst (λ (n : ℕ). HasRoom n c.self.inside.parts) (sym (ap length is ∙ length-map old.places (lifted old.site))) kept.room;
     }
-
-pub returns-clause-core : goal.returns-clause-core
-returns-clause-core c = grind (arith, common_steps)
-
-pub returns-clause-forks : goal.returns-clause-forks
-returns-clause-forks c = grind (arith, common_steps)
 
 pub returns-clause-meal : goal.returns-clause-meal
 returns-clause-meal c =
     let core = c.args.self.now in
     let sound : IsSound core = subst IsSound c.self.view_is c.self.invariant.sound in
-    let site : c.begin.result.site ≡ core.site = grind (arith, common_steps) in
-    let forks : c.begin.result.forks ≡ map (eaten core.site (core.ate + 1) (next_act core)) (forks_of core.places) = grind (arith, common_steps) in
-    let k : c.begin.result.k ≡ core.ate + 1 = grind (arith, common_steps) in
+    let site : c.begin.result.site ≡ core.site = c.begin.ensures.site ∙ ap (λ (seen : SeenCore). seen.site) c.self.view_is in
+    let forks : c.begin.result.forks ≡ map (eaten core.site (core.ate + 1) (next_act core)) (forks_of core.places) =
+    returns-clause-forks c ∙ ap (λ (seen : SeenCore). map (eaten seen.site (seen.ate + 1) (next_act core)) (forks_of core.places)) c.self.view_is in
+    let k : c.begin.result.k ≡ core.ate + 1 = c.begin.ensures.k ∙ ap (λ (seen : SeenCore). seen.ate + 1) c.self.view_is in
     subst (λ (new : SeenCore). IsMealOf new c.begin.result) (sym (returns-clause-core c)) (is_meal core sound c.requires c.begin.result site k forks)
 
 pub returns-clause-step : goal.returns-clause-step
@@ -67,5 +70,6 @@ pub returns-clause-in_hand : goal.returns-clause-in_hand
 returns-clause-in_hand c plan state keeps stands =
     let core = c.args.self.now in
     let sound : IsSound core = subst IsSound c.self.view_is c.self.invariant.sound in
-    let forks : c.begin.result.forks ≡ map (eaten core.site (core.ate + 1) (next_act core)) (forks_of core.places) = grind (arith, common_steps) in
+    let forks : c.begin.result.forks ≡ map (eaten core.site (core.ate + 1) (next_act core)) (forks_of core.places) =
+    returns-clause-forks c ∙ ap (λ (seen : SeenCore). map (eaten seen.site (seen.ate + 1) (next_act core)) (forks_of core.places)) c.self.view_is in
     forks ∙ in_hand_begun core sound c.requires plan state keeps stands

@@ -1,9 +1,9 @@
-use Rattle.std.proofs.Common.{◌≡◌, ◌<◌, ◌++◌, ◌∷◌, [], List, length, take, set, get_or, sym, ◌∙◌, ap, subst, arith}
-use Rattle.std.proofs.lemmas.List.{length-take-le}
+use Rattle.std.proofs.Common.{◌≡◌, ◌<◌, ◌++◌, ◌∷◌, [], List, length, map, take, set, get_or, sym, ◌∙◌, ap, subst, arith}
+use Rattle.std.proofs.lemmas.List.{append-nil, at_drop_all, length-take-le, take_all}
 use Rattle.std.proofs.lemmas.List.Edits.{map_over_more}
 use Rattle.dine_token.specs.Fork.{SeenFork}
 use Rattle.dine_core.specs.declared.site.places.Place.{Place}
-use Rattle.dine_core.specs.Places.{lifted, forks_of, OnHere}
+use Rattle.dine_core.specs.Places.{lifted, forks_of, IsLiftable, OnHere}
 use Rattle.dine_core.proofs.lists.Lists.{get_or-map_over, forks_of-few, forks_of-more, fork_is}
 use Rattle.dine_core.proofs.site.meals.lift.Goals as goal
 
@@ -30,3 +30,23 @@ loop-place-preserved c =
           ∙ ap (λ (l : List SeenFork). forks_of (take i xs) ++ l) (sym (fork_is (get_or xs i d).fork c.lift.result held)) ∙ sym (forks_of-more xs i d within),
       c.push_reserved.ensures.capacity ∙ c.loop-place.invariant.2,
     )
+
+pub lift-requires : goal.lift-requires
+lift-requires c =
+    let xs = c.args.places.now in
+    let i = c.loop-place.place-index in
+    let d = c.place-item.result in
+    let within = c.loop-place-test.true in
+    subst (IsLiftable c.args.site) (sym (get_or-map_over (lifted c.args.site) xs c.loop-place.places i d within c.loop-place.invariant.0)) (c.requires.here i d within)
+
+pub returns-clause-places : goal.returns-clause-places
+returns-clause-places c =
+    let xs = c.args.places.now in
+    let i = c.loop-place.place-index in
+    let done : List Place = map (lifted c.args.site) (take i xs) in
+    c.loop-place.invariant.0
+    ∙ at_drop_all (λ (l : List Place). done ++ l) xs i c.loop-place-test.false ∙ append-nil done
+    ∙ ap (map (lifted c.args.site)) (take_all i xs c.loop-place-test.false)
+
+pub returns-clause-hands : goal.returns-clause-hands
+returns-clause-hands c = c.loop-place.invariant.1 ∙ ap forks_of (take_all c.loop-place.place-index c.args.places.now c.loop-place-test.false)

@@ -1,11 +1,11 @@
-use Rattle.std.proofs.Common.{◌≡◌, ◌+◌, ◌-◌, ◌<◌, ◌∷◌, ◌++◌, ℕ, List, [], map, length, take, get_or, slice_index_or, sym, ◌∙◌, ap, arith, rules}
+use Rattle.std.proofs.Common.{◌≡◌, ◌+◌, ◌-◌, ◌<◌, ◌≤◌, ◌∷◌, ◌++◌, ℕ, List, [], map, length, take, get_or, slice_index_or, sym, ◌∙◌, ap, arith, rules}
 use Rattle.std.proofs.Math.Nat.{add-sub_cancel}
 use Rattle.std.proofs.Math.ListN.{get_or-map}
-use Rattle.std.proofs.lemmas.List.{take_more, length-map}
+use Rattle.std.proofs.lemmas.List.{length-map, take_all, take_more}
 use Rattle.dine_token.specs.declared.act.Act.{Act}
 use Rattle.dine_token.specs.declared.act.Act.TheVariants.{Add}
 use Rattle.dine_plan.specs.Job.{seen_job}
-use Rattle.dine_plan.specs.Plan.{SeenJob, job_count, jobs_of, no_job}
+use Rattle.dine_plan.specs.Plan.{SeenJob, acts_of, job_count, jobs_of, no_job}
 use Rattle.dine_core.proofs.site.opening.acts_of.Goals as goal
 
 -- the act of one job more
@@ -26,3 +26,21 @@ loop-done-preserved c =
       count = search rules;
       room = search rules;
     }
+
+pub loop-done-init : goal.loop-done-init
+loop-done-init c = record {
+  acts = c.in_ok-acts.ensures.items;
+  count = c.in_ok-acts.ensures.len;
+  room = search rules;
+}
+
+pub push_reserved-requires : goal.push_reserved-requires
+push_reserved-requires c = omega (arith, c.loop-done.invariant.count, c.loop-done.invariant.room, c.loop-done-test.true)
+
+pub returns : goal.returns
+returns c =
+    let plan = c.args.plan.now in
+    let jobs : List SeenJob = jobs_of plan c.args.site in
+    let act : SeenJob → Act = λ (job : SeenJob). job.act in
+    let all : length (acts_of plan c.args.site) ≤ c.loop-done.done = omega (arith, c.loop-done-test.false, c.jobs-jobs.ensures.count, length-map jobs act) in
+    c.loop-done.invariant.acts ∙ take_all c.loop-done.done (acts_of plan c.args.site) all

@@ -27,3 +27,8 @@ returns c =
     ∙ ap (λ (marks : List Bool). option_or (option_map event.Take (position (λ b. b) marks)) (next_of world_site.core)) row
     ∙ sym (first_by_set kept.plan kept.state seen kept.stands nonempty_inboxes kept.nonempty_inboxes s world_site found)
     ∙ ap (λ (w : SeenWorld). first_kind_at w s) c.self.view_is
+
+pub index-nonempty_inboxes-requires : goal.index-nonempty_inboxes-requires
+index-nonempty_inboxes-requires c =
+    let found = c.in_ok-world_site.ensures.lookup in
+    omega (arith, found.3.0, ap length c.deref.ensures.value, c.self.invariant.nonempty_inboxes.every_site)

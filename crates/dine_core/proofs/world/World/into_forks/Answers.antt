@@ -1,4 +1,4 @@
-use Rattle.std.proofs.Common.{◌≡◌, map, List, sym, subst, arith}
+use Rattle.std.proofs.Common.{◌≡◌, map, List, length, sym, ap, subst, arith}
 use Rattle.std.proofs.lemmas.Grind.{common_steps}
 use Rattle.std.specs.List.{All}
 use Rattle.dine_token.specs.Fork.{SeenFork}
@@ -39,3 +39,9 @@ returns c plan world is =
     (subst (λ (x : List (List Letter)). AreForksOf (map meal_ended seen.sites) x c.as_slice.result.now forks) c.as_mut_slice-3.ensures.value
     (subst (λ (x : List WorldSite). AreForksOf x c.as_mut_slice-3.result.now c.as_slice.result.now forks) sites c.collect.ensures.forks)) in
     meal_ended_forks plan world seen (subst (IsWorldOf plan world) (sym c.self.view_is) is) forks are
+
+pub collect-requires-clause-none : goal.collect-requires-clause-none
+collect-requires-clause-none c = c.self.invariant.no_forks
+
+pub collect-requires-clause-room : goal.collect-requires-clause-room
+collect-requires-clause-room c = omega (arith, ap length c.as_slice.ensures.value, c.self.invariant.room)

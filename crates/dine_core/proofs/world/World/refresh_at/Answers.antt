@@ -20,3 +20,12 @@ invariant_of-self c =
       nonempty_inboxes = kept.nonempty_inboxes;
       counts = subst (HasCounts seen c.self.inside.counts.items) (sym c.remove.ensures) (past_counted seen c.self.inside.counts.items c.self.inside.outdated_counts c.args.site past kept.counts);
     }
+
+pub index_mut-requires : goal.index_mut-requires
+index_mut-requires c = omega (arith, c.if-site-site_count.false, c.site_count.ensures.count, ap (λ (w : SeenWorld). length w.sites) c.self.view_is, c.self.invariant.counts.every_site)
+
+pub returns-then-site-site_count : goal.returns-then-site-site_count
+returns-then-site-site_count c = c.self.view_is
+
+pub returns : goal.returns
+returns c = c.self.view_is

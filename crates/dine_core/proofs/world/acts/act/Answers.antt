@@ -66,3 +66,15 @@ returns-in-Take-clause-does c plan state one keeps eats world_site is =
 
 pub returns-in-Give-clause-does : goal.returns-in-Give-clause-does
 returns-in-Give-clause-does c = subst (λ (k : EventKind). SiteSteps k c.args.world_site.now c.put.new.world_site c.args.links.now c.put.new.links) c.in-Give.kind-is c.put.ensures.does
+
+pub end-requires-clause-eating : goal.end-requires-clause-eating
+end-requires-clause-eating c = subst (λ (kind : EventKind). can_do c.args.links.now c.args.world_site.now.core kind ≡ true) c.in-End.is c.requires.can
+
+pub end-requires-clause-meal : goal.end-requires-clause-meal
+end-requires-clause-meal c = c.requires.meal
+
+pub begin-requires-clause-can : goal.begin-requires-clause-can
+begin-requires-clause-can c = subst (λ (kind : EventKind). can_do c.args.links.now c.args.world_site.now.core kind ≡ true) c.in-Begin.is c.requires.can
+
+pub take-requires-clause-allowed : goal.take-requires-clause-allowed
+take-requires-clause-allowed c = subst (λ (kind : EventKind). TakesAllowed c.args.links.now c.args.world_site.now.core (shape_of kind)) c.in-Take.is c.requires.allowed

@@ -1,5 +1,5 @@
 -- One diner more, and what is left at the end: each job is seated with the log of its site.
-use Rattle.std.proofs.Common.{◌≡◌, ◌<◌, ◌≤◌, ◌++◌, Some, [], List, length, map, get_or, slice_get, option_map, ap, sym, ◌∙◌, refl, arith, vec_items}
+use Rattle.std.proofs.Common.{◌≡◌, ◌<◌, ◌++◌, [], List, length, map, get_or, option_map, ap, sym, ◌∙◌, refl, arith, vec_items}
 use Rattle.std.specs.Vec.Iter.{into_iter_items}
 use Rattle.std.proofs.lemmas.List.{nil_from_length, length-map, append-nil}
 use Rattle.std.proofs.lemmas.List.FromFn.{get_or-map-range_with_len, length-map-range_with_len}
@@ -9,6 +9,7 @@ use Rattle.dine_run.specs.CallLogs.{SeenCallLog, no_calls}
 use Rattle.dine_run.specs.JobsSeated.{fresh_logs}
 use Rattle.dine_run.specs.declared.jobs.Jobs.{Jobs}
 use Rattle.dine_run.proofs.lists.Zips.{mapped_split}
+use Rattle.dine_run.proofs.all_sites.Collected.{none_left}
 use Rattle.dine_run.proofs.jobs.Jobs.seat.Goals as goal
 
 pub loop-log-preserved : goal.loop-log-preserved
@@ -54,3 +55,21 @@ returns-clause-room g c = λ s diner at.
     let same : diner.log ≡ no_calls (job_count plan s) =
     sym here ∙ ap (λ (logs : List SeenCallLog). get_or logs s diner.log) all ∙ get_or-map-range_with_len (λ k. no_calls (job_count plan k)) 0 (site_count plan) s s diner.log within (omega arith) in
     omega (arith, ap (λ (log : SeenCallLog). log.room) same)
+
+pub push_reserved-requires : goal.push_reserved-requires
+push_reserved-requires g c = omega (arith, c.loop-log.invariant.room, c.in-Some.ensures.steps.1)
+
+pub returns-clause-many : goal.returns-clause-many
+returns-clause-many g c = omega (arith, c.if-len-sites.false, c.len.ensures, c.sites.ensures.count)
+
+pub returns-clause-jobs : goal.returns-clause-jobs
+returns-clause-jobs g c =
+    let waiting = into_iter_items c.loop-log.waiting in
+    let none : waiting ≡ [] = nil_from_length waiting (omega (arith, c.loop-log.invariant.pairs, c.in-None.ensures.steps.0, c.loop-log.waiting.rest.ok.0)) in
+    none_left (map (λ (d : Jobs _). d.job) (vec_items c.loop-log.diners)) waiting (vec_items c.args.jobs) none c.loop-log.invariant.jobs
+
+pub returns-clause-logs : goal.returns-clause-logs
+returns-clause-logs g c =
+    let rest = into_iter_items c.loop-log.log-iterator in
+    let none : rest ≡ [] = nil_from_length rest (omega (arith, c.in-None.ensures.steps.0, c.loop-log.log-iterator.rest.ok.0)) in
+    none_left (map (λ (d : Jobs _). d.log) (vec_items c.loop-log.diners)) rest (fresh_logs c.args.plan.now) none c.loop-log.invariant.logs

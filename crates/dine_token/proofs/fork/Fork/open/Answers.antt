@@ -1,5 +1,5 @@
 use Rattle.std.proofs.Common.{[], ◌∷◌, ◌++◌, List, refl, sym, subst, ◌∙◌, ap, arith}
-use Rattle.dine_token.specs.declared.period.Period.{Period}
+use Rattle.dine_token.specs.declared.log_period.Period.{Period}
 use Rattle.dine_token.specs.private.Fields.{IsKept}
 use Rattle.dine_token.proofs.Periods.{period}
 use Rattle.dine_token.proofs.Kept.{kept_opened}

@@ -3,7 +3,7 @@ use Rattle.std.specs.List.{All}
 use Rattle.std.proofs.lemmas.List.Elements.{All-get_or}
 use Rattle.std.proofs.lemmas.Option.{slice_get-get_or}
 use Rattle.dine_token.specs.declared.fork.Kept.{Kept}
-use Rattle.dine_token.specs.declared.period.Period.{Period}
+use Rattle.dine_token.specs.declared.log_period.Period.{Period}
 use Rattle.dine_token.specs.Fork.{SeenFork}
 use Rattle.dine_token.specs.Periods.{periods_of}
 use Rattle.dine_token.specs.private.Fields.{seen}

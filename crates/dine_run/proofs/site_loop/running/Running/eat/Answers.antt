@@ -40,3 +40,9 @@ returns-clause-heeds g c first heeding =
     subst (λ (x : SeenCore). IsHeeding x.resigns (x.must_quit || x.has_quit) (nat_lt x.ate x.due) first calls) (sym is)
     (heeds_meal core.resigns core.must_quit core.has_quit (nat_lt core.ate core.due) (drops_jobs failed begun_is) has_left first (g.D.Diner.calls c.args.self.now.diner) calls _ heeding goes_on.0 goes_on.1 c.eat.ensures.calls
     (ap (λ (ok : Bool). not ok && core.resigns && has_left) c.is_ok-ok.ensures.value))
+
+pub returns-clause-resigns : goal.returns-clause-resigns
+returns-clause-resigns g c = ap (λ (core : SeenCore). core.resigns) c.end.ensures.core ∙ ap (λ (core : SeenCore). core.resigns) c.begin-meal.ensures.core
+
+pub returns-clause-site : goal.returns-clause-site
+returns-clause-site g c = ap (λ (core : SeenCore). core.site) c.end.ensures.core ∙ ap (λ (core : SeenCore). core.site) c.begin-meal.ensures.core

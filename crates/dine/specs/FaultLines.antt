@@ -1,0 +1,83 @@
+-- What ends a command before its end.
+use Rattle.std.specs.Prelude.{ℕ, List, [], ◌∷◌, ◌++◌, Option, Some, None, IfSome, codes, option_map}
+use Rattle.std.specs.declared.io.ErrorKind.{ErrorKind}
+use Rattle.std.specs.declared.io.ErrorKind.TheVariants as kind
+use Rattle.dine_plan.specs.declared.plan_fault.PlanFault.{PlanFault}
+use Rattle.dine_plan.specs.declared.plan_fault.PlanFault.TheVariants as text
+use Rattle.dine_run.specs.Causes.{cause_of, cause_words}
+use Rattle.dine_run.specs.declared.causes.RunCause.{RunCause}
+use Rattle.dine_run.specs.declared.causes.RunCause.TheVariants as run_cause
+use Rattle.dine_run.specs.declared.gathered.RunFault.{RunFault}
+use Rattle.dine_words.specs.Output.{WritesPrefix}
+use Rattle.dine.specs.PlanDiners.{SeenPlanDiner}
+use Rattle.dine.specs.declared.fault_lines.Fault.{Fault}
+use Rattle.dine.specs.declared.fault_lines.Fault.TheVariants as fault
+use Rattle.dine_words.specs.declared.status.Status.{Status}
+use Rattle.dine_words.specs.declared.status.Status.TheVariants as status
+use Rattle.dine_words.specs.declared.words.WordsFault.{WordsFault}
+use Rattle.dine_words.specs.declared.words.WordsFault.TheVariants as words
+use Rattle.dine_words.specs.declared.input.InputFault.{InputFault}
+use Rattle.dine_words.specs.declared.input.InputFault.TheVariants as input
+
+-- the status that a fault ends the program with
+abbrev pub status_of : Fault → Status
+status_of fault.Usage = status.Usage
+status_of (fault.NoPlan cause) = status.PlanRefused
+status_of (fault.RunFailed cause) = status.RunFailed
+status_of fault.OutOfMemory = status.OutOfMemory
+status_of fault.ReadingFailed = status.InputOutput
+status_of fault.InputTooLong = status.InputOutput
+status_of fault.WritingFailed = status.InputOutput
+
+-- the fault of the program that a fault of the words is
+abbrev pub fault_of_words : WordsFault → Fault
+fault_of_words words.Usage = fault.Usage
+fault_of_words words.Memory = fault.OutOfMemory
+
+-- the fault of the program that a fault of the input is
+abbrev pub fault_of_input : InputFault → Fault
+fault_of_input input.Failed = fault.ReadingFailed
+fault_of_input input.TooLong = fault.InputTooLong
+fault_of_input input.Memory = fault.OutOfMemory
+
+-- the fault that an error is with which `env::args` answers no words; want of memory is told apart from every other
+-- kind
+abbrev pub fault_of_arguments : ErrorKind → Fault
+fault_of_arguments kind.OutOfMemory = fault.OutOfMemory
+fault_of_arguments _ = fault.Usage
+
+-- the fault of the program that a cause to refuse a text is: want of memory is told apart from all others
+abbrev pub fault_of_text : PlanFault → Fault
+fault_of_text text.Memory = fault.OutOfMemory
+fault_of_text cause = fault.NoPlan cause
+
+-- the fault of the program that the cause of a run is: want of memory is told apart from all others
+abbrev pub fault_of_cause : RunCause → Fault
+fault_of_cause run_cause.Memory = fault.OutOfMemory
+fault_of_cause cause = fault.RunFailed cause
+
+-- the fault that an answer of `run` is, by its cause
+abbrev pub fault_of_run : RunFault SeenPlanDiner → Fault
+fault_of_run answer = fault_of_cause (cause_of answer)
+
+-- the words that tell of a fault; those of a plan end in its cause, as the plan's fault prints it
+abbrev pub fault_words : Fault → Option (List ℕ)
+fault_words fault.Usage = Some (codes "usage: dine [run [--table edges|sites] [--links channel|ring] | replay [--choices LIST] | check]")
+fault_words (fault.NoPlan cause) = None
+fault_words (fault.RunFailed cause) = Some (cause_words cause)
+fault_words fault.OutOfMemory = Some (codes "out of memory")
+fault_words fault.ReadingFailed = Some (codes "reading failed")
+fault_words fault.InputTooLong = Some (codes "input too long")
+fault_words fault.WritingFailed = Some (codes "writing failed")
+
+-- the line that tells of a fault, without its line feed
+abbrev pub line_of : Fault → Option (List ℕ)
+line_of cause = option_map (λ words. codes "dine: " ++ words) (fault_words cause)
+
+-- a line with its line feed
+abbrev pub whole_line : List ℕ → List ℕ
+whole_line line = line ++ 10 ∷ []
+
+-- what was written is a beginning of the line, and it may be none of it: how much a writer takes is not known
+abbrev pub TellsLine : Option (List ℕ) → Option (List ℕ) → Option (List ℕ) → Type 0
+TellsLine line before after = IfSome line (λ text. WritesPrefix before after (whole_line text))
