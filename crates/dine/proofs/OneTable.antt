@@ -4,7 +4,7 @@ use Rattle.std.specs.List.{flat_map, range_with_len}
 use Rattle.std.proofs.lemmas.List.Concat.{flat_map-cons}
 use Rattle.std.proofs.lemmas.List.FromFn.{fill_by_all}
 use Rattle.std.proofs.lemmas.Option.{slice_get-get_or}
-use Rattle.dine_plan.specs.Plan.{SeenPlan, edge_count, lo_of, hi_of}
+use Rattle.dine_graph.specs.Plan.{SeenPlan, edge_count, lo_of, hi_of}
 use Rattle.dine_rules.specs.Values.{added_up, has_no_set}
 use Rattle.dine_run.specs.declared.tables.EdgeRow.{EdgeRow}
 use Rattle.dine_run.specs.Tables.{AreDueValues, due_edge_rows, edge_row}

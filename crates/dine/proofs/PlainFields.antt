@@ -10,7 +10,7 @@ use Rattle.std.proofs.lemmas.List.{append-nil}
 use Rattle.std.proofs.lemmas.Str.Parse.{numerals_by_value, tells_all_ascii_digits}
 use Rattle.csv.specs.Quoting.{needs_byte}
 use Rattle.csv.specs.Writing.{default_writer, field_text, fields_text, is_blank, needs_quotes, quoted, row_body, row_text}
-use Rattle.dine_plan.specs.Plan.{SeenPlan, IsPlan, is_name_byte, name_of, site_count}
+use Rattle.dine_graph.specs.Plan.{SeenPlan, IsPlan, is_name_byte, name_of, site_count}
 use Rattle.dine.specs.private.Records.{is_plain}
 use Rattle.dine.specs.Tables.{record_text}
 

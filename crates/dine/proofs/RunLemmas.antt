@@ -4,7 +4,7 @@ use Rattle.std.proofs.lemmas.List.{length-map}
 use Rattle.std.proofs.lemmas.List.Sums.{sum_by-append}
 use Rattle.std.proofs.lemmas.List.FromFn.{fill_by_all, get_or-map-range_with_len, length-map-range_with_len}
 use Rattle.std.proofs.lemmas.Option.{get_or_from_slice_get, same_Some, slice_get-map, slice_get_read, slice_get_within}
-use Rattle.dine_plan.specs.Plan.{SeenPlan, SeenJob, IsPlan, site_count, edge_count, job_count, jobs_of, resigns}
+use Rattle.dine_graph.specs.Plan.{SeenPlan, SeenJob, IsPlan, site_count, edge_count, job_count, jobs_of, resigns}
 use Rattle.dine_token.specs.declared.log_entry.Entry.{Entry}
 use Rattle.dine_token.specs.Fork.{SeenFork}
 use Rattle.dine_token.specs.Lawful.{count_from}

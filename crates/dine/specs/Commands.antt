@@ -1,7 +1,7 @@
 -- What each command does with the bytes that are left in the input, and with what the output holds.
 use Rattle.std.specs.Prelude.{◌≡◌, ◌≢◌, ◌<◌, List, ℕ, Option, Some, None, IfSome, length, take}
 use Rattle.std.specs.Io.KnownBytes.{Appends, Keeps}
-use Rattle.dine_plan.specs.Plan.{SeenPlan}
+use Rattle.dine_graph.specs.Plan.{SeenPlan}
 use Rattle.dine_plan.specs.declared.plan_fault.PlanFault.{PlanFault}
 use Rattle.dine.specs.declared.fault_lines.Fault.{Fault}
 use Rattle.dine.specs.declared.fault_lines.Fault.TheVariants as fault

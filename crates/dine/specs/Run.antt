@@ -2,7 +2,7 @@
 use Rattle.std.specs.Prelude.{◌≡◌, ◌<◌, ℕ, ◌+◌, List, [], ◌∷◌, map, count_by, take, if◌then◌else◌}
 use Rattle.std.specs.Global.{Vec}
 use Rattle.std.specs.List.{range_with_len}
-use Rattle.dine_plan.specs.Plan.{SeenPlan, SeenJob, IsPlan, site_count, job_count, jobs_of, resigns}
+use Rattle.dine_graph.specs.Plan.{SeenPlan, SeenJob, IsPlan, site_count, job_count, jobs_of, resigns}
 use Rattle.dine_token.specs.Fork.{SeenFork}
 use Rattle.dine_run.specs.declared.causes.RunCause.TheVariants as run_cause
 use Rattle.dine_run.specs.declared.gathered.RunFault.{RunFault}

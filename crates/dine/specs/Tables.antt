@@ -2,7 +2,7 @@
 use Rattle.std.specs.Prelude.{ℕ, ◌==◌, if◌then◌else◌, ◌<◌, List, [], ◌∷◌, ◌++◌, codes}
 use Rattle.std.specs.Fmt.{decimal}
 use Rattle.std.specs.List.{flat_map, join_with_byte}
-use Rattle.dine_plan.specs.Plan.{SeenPlan, site_count, edge_count, name_of}
+use Rattle.dine_graph.specs.Plan.{SeenPlan, site_count, edge_count, name_of}
 use Rattle.dine_run.specs.declared.tables.EdgeRow.{EdgeRow}
 use Rattle.dine_run.specs.declared.tables.SiteRow.{SiteRow}
 

@@ -1,6 +1,6 @@
 //! Laws over the definitions alone. Each function does nothing: its contract is the law.
 ghost use Rattle.std.specs.Prelude.{◌≡◌, ◌⊎◌, List, true, ℕ};
-ghost use Rattle.dine_plan.specs.Plan.{SeenPlan};
+ghost use Rattle.dine_graph.specs.Plan.{SeenPlan};
 ghost use Rattle.dine_rules.specs.Values.{has_no_set};
 ghost use Rattle.dine.specs.Run.{IsRunText};
 ghost use Rattle.dine_words.specs.declared.words.Table.{Table};

@@ -1,6 +1,6 @@
 //! The diner that does the jobs of a site as its plan tells them.
 ghost use Rattle.std.specs.Prelude.{◌≡◌, ◌<◌, [], IfOk};
-ghost use Rattle.dine_plan.specs.Plan.{site_count, job_count};
+ghost use Rattle.dine_graph.specs.Plan.{site_count, job_count};
 ghost use Rattle.dine.specs.PlanDiners.{fails_of, first_word, fits_marks, mark_of};
 
 use dine_plan::Plan;

@@ -1,6 +1,6 @@
 //! The command `run`.
 ghost use Rattle.std.specs.Prelude.{◌≡◌, ◌≢◌, ◌≤◌, IfErr, IfOk, Some, slice_get};
-ghost use Rattle.dine_plan.specs.Plan.{IsPlan, job_count};
+ghost use Rattle.dine_graph.specs.Plan.{IsPlan, job_count};
 ghost use Rattle.dine.specs.Run.{HasDueRows, IsRunText, NamesSite, TellsRun, diners_of};
 
 use crate::fault_lines::Fault;

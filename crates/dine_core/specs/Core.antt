@@ -4,7 +4,7 @@ use Rattle.std.specs.Prelude.{◌≡◌, ℕ, ◌<◌, ◌==◌, Bool, List, [],
 use Rattle.dine_token.specs.declared.act.Act.{Act}
 use Rattle.dine_token.specs.Log.{meals_of}
 use Rattle.dine_token.specs.Fork.{SeenFork}
-use Rattle.dine_plan.specs.Plan.{SeenPlan, IsPlan, acts_of, job_count, lo_of, hi_of, other_of, resigns, site_count}
+use Rattle.dine_graph.specs.Plan.{SeenPlan, IsPlan, acts_of, job_count, lo_of, hi_of, other_of, resigns, site_count}
 use Rattle.dine_rules.specs.declared.phase.Phase.{Phase}
 use Rattle.dine_core.specs.declared.site.places.Place.{Place}
 use Rattle.dine_core.specs.declared.site.places.ForkSlot.{ForkSlot}

@@ -2,7 +2,7 @@
 use Rattle.std.specs.Prelude.{◌≡◌, ℕ, ◌<◌, ◌&&◌, Bool, List, length, Option}
 use Rattle.std.specs.List.{list_all, range_with_len}
 use Rattle.dine_token.specs.Fork.{SeenFork}
-use Rattle.dine_plan.specs.Plan.{SeenPlan, IsPlan, site_count}
+use Rattle.dine_graph.specs.Plan.{SeenPlan, IsPlan, site_count}
 use Rattle.dine_rules.specs.declared.letters.Letter.{Letter}
 use Rattle.dine_rules.specs.declared.breach.Breach.{Breach}
 use Rattle.dine_rules.specs.Letters.{has_done, has_close}

@@ -2,7 +2,7 @@
 -- which letters lie in a link, and what was said at a place.
 use Rattle.std.specs.Prelude.{◌≡◌, ◌⊎◌, ℕ, ◌<◌, ◌≤◌, ◌==◌, ◌&&◌, ◌||◌, nat_lt, Bool, Option, Some, None, MatchOption, length, if◌then◌else◌}
 use Rattle.dine_token.specs.Log.{is_dirty}
-use Rattle.dine_plan.specs.Plan.{SeenPlan, edge_count, edges_of, hi_of, lo_of, site_count}
+use Rattle.dine_graph.specs.Plan.{SeenPlan, edge_count, edges_of, hi_of, lo_of, site_count}
 use Rattle.dine_core.specs.declared.site.said.Said.{Said}
 use Rattle.dine_core.specs.declared.world.whereabouts.Whereabouts.{Whereabouts}
 use Rattle.dine_core.specs.declared.world.whereabouts.Whereabouts.TheVariants.{At, To}

@@ -2,7 +2,7 @@
 -- alone.
 use Rattle.std.specs.Prelude.{◌≡◌, ℕ, ◌-◌, ◌<◌, ◌&&◌, not, nat_lt, Bool, false, true, List, [], ◌∷◌, ◌++◌, map, length, drop, slice_get, slice_index_or, slice_set, Option, Some, None, is_some, option_and_then, MatchOption, if◌then◌else◌}
 use Rattle.dine_token.specs.Meal.{SeenMeal}
-use Rattle.dine_plan.specs.Plan.{SeenPlan, SeenJob, jobs_of}
+use Rattle.dine_graph.specs.Plan.{SeenPlan, SeenJob, jobs_of}
 use Rattle.dine_rules.specs.declared.letters.Letter.{Letter}
 use Rattle.dine_rules.specs.declared.events.EventKind.{EventKind}
 use Rattle.dine_rules.specs.declared.events.EventKind.TheVariants as event

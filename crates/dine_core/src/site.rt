@@ -4,7 +4,7 @@ ghost use Rattle.std.specs.Prelude.{◌≡◌, ◌≢◌, ℕ, ◌<◌, ◌==◌
 ghost use Rattle.std.specs.List.{list_all};
 ghost use Rattle.dine_token.specs.Fork.{eaten, moved};
 ghost use Rattle.dine_set.specs.Marks.{marks_of};
-ghost use Rattle.dine_plan.specs.Plan.{SeenPlan, site_count, edges_of};
+ghost use Rattle.dine_graph.specs.Plan.{SeenPlan, site_count, edges_of};
 ghost use Rattle.dine_rules.specs.Breach.{first_breach};
 ghost use Rattle.dine_rules.specs.Letters.{has_close};
 ghost use Rattle.dine_rules.specs.Streams.{IsProper};
@@ -27,7 +27,7 @@ mod packed;
 pub(crate) mod places;
 mod said;
 
-use dine_plan::Plan;
+use dine_graph::Plan;
 pub use dine_rules::{Breach, Kind4, Letter, Phase};
 use dine_set::BitSet64;
 use dine_token::{Act, Fork, Held, Meal, Token};

@@ -18,7 +18,7 @@ mod sites;
 mod whereabouts;
 
 use crate::site::SiteCore;
-use dine_plan::Plan;
+use dine_graph::Plan;
 use dine_rules::Phase;
 pub use dine_rules::{Event, EventKind};
 use dine_set::BitSet64;

@@ -1,7 +1,7 @@
 // The reader of plan texts, and what a plan tells. The texts that it refuses are in tests/texts/, which tools/texts
 // tries.
 ghost use Rattle.std.specs.Prelude.{◌<◌};
-ghost use Rattle.dine_plan.specs.Plan.{site_count};
+ghost use Rattle.dine_graph.specs.Plan.{site_count};
 
 use dine_plan::{Plan, PlanFault, read_plan};
 use dine_token::Act;

@@ -2,7 +2,7 @@
 use Rattle.std.proofs.Common.{◌≡◌, ℕ, zero, suc, ◌+◌, ◌-◌, ◌<◌, ◌++◌, List, [], ◌∷◌, map, sym, ap, ◌∙◌, zero-add, add-one, arith}
 use Rattle.std.specs.List.{range_with_len}
 use Rattle.std.proofs.lemmas.List.FromFn.{map-range_with_len_more}
-use Rattle.dine_plan.specs.Plan.{SeenPlan, job_count}
+use Rattle.dine_graph.specs.Plan.{SeenPlan, job_count}
 use Rattle.dine_example.specs.Balances.{before, balance_of}
 use Rattle.dine_example.specs.declared.TheConstants.{START}
 

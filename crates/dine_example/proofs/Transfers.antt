@@ -3,7 +3,7 @@ use Rattle.std.proofs.Common.{◌≡◌, ℕ, zero, suc, ◌+◌, ◌<◌, ◌++
 use Rattle.std.proofs.lemmas.List.{length-map}
 use Rattle.std.proofs.lemmas.Option.{slice_get_within}
 use Rattle.dine_token.specs.Lawful.{count_from}
-use Rattle.dine_plan.specs.Plan.{SeenPlan, job_count}
+use Rattle.dine_graph.specs.Plan.{SeenPlan, job_count}
 use Rattle.dine_run.specs.CallLogs.{SeenCallLog}
 use Rattle.dine_run.specs.Diners.{HasEaten, HasLastFailed}
 use Rattle.dine_run.specs.Gathered.{AreFinishedOuts, AreOutsOf}

@@ -1,7 +1,7 @@
 -- What each account has at the end.
 use Rattle.std.specs.Prelude.{◌≡◌, ℕ, zero, suc, ◌+◌, ◌-◌, ◌*◌, map, sum}
 use Rattle.std.specs.List.{range_with_len}
-use Rattle.dine_plan.specs.Plan.{SeenPlan, site_count, job_count}
+use Rattle.dine_graph.specs.Plan.{SeenPlan, site_count, job_count}
 use Rattle.dine_example.specs.declared.Books.{Books}
 use Rattle.dine_example.specs.declared.TheConstants.{START}
 

@@ -1,6 +1,6 @@
 -- The tellers of all sites, before the run and after it.
 use Rattle.std.specs.Prelude.{◌≡◌, ℕ, List, Some, length, slice_get}
-use Rattle.dine_plan.specs.Plan.{SeenPlan, site_count, job_count}
+use Rattle.dine_graph.specs.Plan.{SeenPlan, site_count, job_count}
 use Rattle.dine_run.specs.CallLogs.{no_calls}
 use Rattle.dine_run.specs.declared.gathered.SiteOut.{SiteOut}
 use Rattle.dine_example.specs.declared.teller.Teller.{Teller}

@@ -19,7 +19,7 @@
 mod teller;
 
 ghost use Rattle.std.specs.Prelude.{◌≡◌, List, Some, IfOk, length, slice_get};
-ghost use Rattle.dine_plan.specs.Plan.{job_count, site_count};
+ghost use Rattle.dine_graph.specs.Plan.{job_count, site_count};
 ghost use Rattle.dine_rules.specs.Journals.{IsWholeOrder};
 ghost use Rattle.dine_rules.specs.declared.events.EventKind.{EventKind};
 ghost use Rattle.dine_run.specs.Orders.{plan_shown};

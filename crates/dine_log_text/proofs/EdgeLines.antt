@@ -5,7 +5,7 @@ use Rattle.std.proofs.lemmas.List.Concat.{flat_map-cons}
 use Rattle.std.proofs.lemmas.List.FromFn.{get_or-map-range_with_len, length-map-range_with_len}
 use Rattle.std.proofs.lemmas.Option.{slice_get-get_or}
 use Rattle.dine_token.specs.Fork.{SeenFork}
-use Rattle.dine_plan.specs.Plan.{SeenPlan, edge_count, name_of}
+use Rattle.dine_graph.specs.Plan.{SeenPlan, edge_count, name_of}
 use Rattle.dine_core.specs.Outcomes.{with_outcomes}
 use Rattle.dine_core.specs.World.{WorldState}
 use Rattle.dine_core.specs.Worlds.{fork_seen, forks_seen}

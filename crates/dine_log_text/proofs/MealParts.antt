@@ -7,7 +7,7 @@ use Rattle.std.proofs.lemmas.List.{length-append, append-nil, take_at, drop_at, 
 use Rattle.std.proofs.Math.Seq.{get_or-append_seam}
 use Rattle.dine_token.specs.Periods.{meals_from}
 use Rattle.dine_log_text.specs.Logs.{entries_text}
-use Rattle.dine_plan.specs.Plan.{SeenPlan, SeenSite, name_of, job_count, no_site}
+use Rattle.dine_graph.specs.Plan.{SeenPlan, SeenSite, name_of, job_count, no_site}
 use Rattle.dine_log_text.specs.private.MealTexts.{SeenMealTexts, meals_text, texts_of, IsMealTexts}
 
 -- the meals of a site have the same text under each naming that gives it that name

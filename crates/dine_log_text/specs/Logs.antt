@@ -4,7 +4,7 @@ use Rattle.std.specs.Fmt.{decimal}
 use Rattle.std.specs.List.{flat_map, range_with_len}
 use Rattle.dine_token.specs.declared.log_entry.Entry.{Entry}
 use Rattle.dine_token.specs.declared.log_entry.Entry.TheVariants.{Meal, Move}
-use Rattle.dine_plan.specs.Plan.{SeenPlan, edge_count, ends_of, name_of}
+use Rattle.dine_graph.specs.Plan.{SeenPlan, edge_count, ends_of, name_of}
 use Rattle.dine_core.specs.Bound.{bound_of}
 use Rattle.dine_core.specs.Precedence.{fork_log}
 use Rattle.dine_core.specs.Values.{value_by}

@@ -1,6 +1,6 @@
 -- What the command `replay` writes.
 use Rattle.std.specs.Prelude.{ℕ, List}
-use Rattle.dine_plan.specs.Plan.{SeenPlan}
+use Rattle.dine_graph.specs.Plan.{SeenPlan}
 use Rattle.dine_core.specs.Schedules.{whole_run}
 use Rattle.dine_log_text.specs.Logs.{world_text}
 

@@ -4,7 +4,7 @@ ghost use Rattle.std.specs.Prelude.{◌≡◌, ◌+◌, ◌≤◌, ◌∷◌, �
 ghost use Rattle.dine_token.specs.declared.log_entry.Entry.TheVariants.{Move};
 ghost use Rattle.dine_token.specs.Periods.{meals_in};
 ghost use Rattle.std.specs.Fmt.{decimal};
-ghost use Rattle.dine_plan.specs.Plan.{name_of};
+ghost use Rattle.dine_graph.specs.Plan.{name_of};
 ghost use Rattle.dine_core.specs.Outcomes.{with_outcomes};
 ghost use Rattle.dine_core.specs.World.{WorldState};
 ghost use Rattle.dine_core.specs.Worlds.{IsWorldOf};
@@ -13,7 +13,7 @@ ghost use Rattle.dine_log_text.specs.private.MealTexts.{texts_of};
 
 use crate::logs::meal_texts::{MealTexts, push_meal, separator};
 use dine_core::World;
-use dine_plan::Plan;
+use dine_graph::Plan;
 use dine_token::{Fork, Period};
 use std::alloc::{AllocError, Global};
 

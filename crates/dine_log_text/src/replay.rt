@@ -4,7 +4,7 @@ ghost use Rattle.dine_log_text.specs.Replay.{replay_text};
 
 use crate::logs::world_text;
 use dine_core::{World, laws};
-use dine_plan::Plan;
+use dine_graph::Plan;
 use std::alloc::{AllocError, Global};
 
 /// The text of the plan's world, in which the choices are done one after the other, and then the first enabled event

@@ -7,14 +7,15 @@ use Rattle.std.proofs.lemmas.Bool.{false≢true, ltb-false, eqb-false, eq-eqb, o
 use Rattle.std.proofs.lemmas.List.{get_or-map, ext_get_or, length-map}
 use Rattle.std.proofs.lemmas.Slice.Eq.{bytes_eq-Decides}
 use Rattle.toml.specs.Data.{Data, boolean}
-use Rattle.dine_plan.specs.Plan.{SeenSite, IsPlan, no_site, no_job, is_name}
+use Rattle.dine_graph.specs.Plan.{SeenSite, IsPlan, no_site, no_job, is_name}
 use Rattle.dine_token.specs.declared.act.Act.TheVariants.{Add, Set}
 use Rattle.dine_token.specs.Values.{amount_of}
 use Rattle.dine_plan.specs.Document.{is_second, version_in, sites_in, edges_in, jobs_in, name_in, has_key, turns_in, act_in, value_in, end_in}
 use Rattle.dine_plan.specs.PlanOf.{job_in, site_in, ends_in, number_of, plan_in, plan_of_document}
 use Rattle.dine_plan.specs.RefusalTests.{first_some, first_refusal, graph_refusals, form_refusals, on, site_refusals, end_refusals, pair_refusals, first_twice, same_ends, has_bad_name, has_many_jobs, has_many_turns, is_unnamed, is_unknown, has_unknown_end, joined_by, is_loop, act_refusals, has_large_act, has_large_value, is_large}
 use Rattle.dine_plan.specs.declared.plan_fault.PlanFault.{PlanFault}
-use Rattle.dine_plan.proofs.ListLemmas.{position_none_at, list_any_false_at, position_within, first_twice_none_apart, first_some-append}
+use Rattle.dine_graph.proofs.ListLemmas.{position_none_at}
+use Rattle.dine_plan.proofs.ListLemmas.{list_any_false_at, position_within, first_twice_none_apart, first_some-append}
 
 option_or_none : {A : Type 0} (a b : Option A) → option_or a b ≡ None → (a ≡ None) × (b ≡ None)
 option_or_none None b h = (refl, h)

@@ -2,7 +2,6 @@ pub mod DocumentLemmas
 pub mod Searches
 pub mod NameLemmas
 pub mod ListLemmas
-pub mod PlaceLemmas
 pub mod GraphLemmas
 pub mod FirstLemmas
 pub mod TableLemmas

@@ -1,13 +1,12 @@
 -- Tests of the elements of a list, and their places; and what a loop that pushes one value for each element has.
-use Rattle.std.proofs.Common.{◌≡◌, ℕ, zero, suc, ◌+◌, ◌<◌, ◌≤◌, ◌==◌, Bool, true, false, not, ◌||◌, cond, ltb, List, [], ◌∷◌, ◌++◌, map, filter, length, get_or, take, Option, Some, None, inl, inr, zero-add, refl, sym, ap, ◌∙◌, arith}
+use Rattle.std.proofs.Common.{◌≡◌, ℕ, ◌+◌, ◌<◌, Bool, true, false, not, ◌||◌, cond, List, [], ◌∷◌, ◌++◌, map, length, get_or, take, Option, Some, None, inl, inr, zero-add, refl, sym, ap, ◌∙◌, arith}
 use Rattle.std.specs.List.{list_any, position, position_or_len, range_with_len}
 use Rattle.std.specs.Option.{option_or}
-use Rattle.std.proofs.lemmas.Bool.{cases_Bool, cases_lt, false≢true, lt-ltb, le-ltb, ltb-false, ne_eqb}
-use Rattle.std.proofs.lemmas.List.{length-take-le, get_or-take, take_more, map_push, map_more, length-map, get_or_append_left, get_or_push}
-use Rattle.std.proofs.lemmas.List.Filters.{length-filter_both}
+use Rattle.std.proofs.lemmas.Bool.{cases_Bool, cases_lt, false≢true, lt-ltb, le-ltb}
+use Rattle.std.proofs.lemmas.List.{length-take-le, get_or-take, take_more, map_push, map_more, length-map}
 use Rattle.std.proofs.lemmas.List.Folds.{list_any_at, list_any_none}
 use Rattle.std.proofs.lemmas.List.Sums.{position_or_len_is, fails_before_first}
-use Rattle.std.proofs.lemmas.List.FromFn.{length-range_with_len, get_or-range_with_len, filter_of_map_range_with_len_more}
+use Rattle.std.proofs.lemmas.List.FromFn.{length-range_with_len, get_or-range_with_len}
 use Rattle.dine_plan.specs.RefusalTests.{stands_before, first_twice, first_some}
 
 pub list_any-map : {X Y : Type 0} (p : X → Bool) (h : Y → X) (ys : List Y) → list_any p (map h ys) ≡ list_any (λ y. p (h y)) ys
@@ -48,14 +47,7 @@ first_twice_none same none xs h =
     let long : length places ≡ length xs = length-range_with_len 0 (length xs) in
     position_none (stands_before same none xs) places 0 (λ k b. rw (at k (omega arith)) (h k (omega arith)))
 
--- no element passes where there is no position, and where no element passes in all
-pub position_none_at : {X : Type 0} (p : X → Bool) (xs : List X) (i : ℕ) (d : X) → position p xs ≡ None → i < length xs → p (get_or xs i d) ≡ false
-position_none_at p xs i d none within =
-    elim (cases_Bool (ltb (position_or_len p xs) (length xs))) [
-      | inl found ↦ absurd (let here : Some (position_or_len p xs) ≡ None = rw found at none in cc)
-      | inr missing ↦ fails_before_first p xs i d (let past : length xs ≤ position_or_len p xs = ltb-false _ _ missing in omega arith)
-    ]
-
+-- no element passes where none passes in all
 pub list_any_false_at : {X : Type 0} (p : X → Bool) (xs : List X) (i : ℕ) (d : X) → list_any p xs ≡ false → i < length xs → p (get_or xs i d) ≡ false
 list_any_false_at p xs i d none within =
     elim (cases_Bool (p (get_or xs i d))) [
@@ -90,33 +82,6 @@ first_some-append [] ys = refl
 first_some-append (None ∷ xs) ys = first_some-append xs ys
 first_some-append (Some x ∷ xs) ys = refl
 
--- the elements of a filter
-pub length-filter-le : {X : Type 0} (p : X → Bool) (xs : List X) → length (filter p xs) ≤ length xs
-length-filter-le p xs = let both = length-filter_both p (λ x. not (p x)) (λ _. refl) xs in omega arith
-
-pub list_any-filter : {X : Type 0} (p t : X → Bool) (xs : List X) (i : ℕ) (d : X) → i < length xs → p (get_or xs i d) ≡ true → t (get_or xs i d) ≡ true → list_any t (filter p xs) ≡ true
-list_any-filter p t [] i d within kept passes = absurd (omega arith)
-list_any-filter p t (x ∷ xs) zero d within kept passes = rw (kept, passes)
-list_any-filter p t (x ∷ xs) (suc i) d within kept passes =
-    let later = list_any-filter p t xs i d (omega arith) kept passes in
-    elim (cases_Bool (p x)) [
-      | inl keeps ↦ rw keeps (elim (cases_Bool (t x)) [ inl here ↦ rw here | inr other ↦ rw other later ])
-      | inr drops ↦ rw drops later
-    ]
-
-map_same : {X : Type 0} (xs : List X) → map (λ x. x) xs ≡ xs
-map_same [] = refl
-map_same (x ∷ xs) = ap (λ ys. x ∷ ys) (map_same xs)
-
--- one more number in a filtered range
-pub filter-range_more : (p : ℕ → Bool) (n : ℕ) → filter p (range_with_len 0 (n + 1)) ≡ filter p (range_with_len 0 n) ++ cond (p n) (n ∷ []) []
-filter-range_more p n = rw (map_same (range_with_len 0 (n + 1)), map_same (range_with_len 0 n)) at (filter_of_map_range_with_len_more p (λ x. x) 0 n n (omega arith))
-
--- a number that no place of the list holds
-pub list_any_missing : (xs : List ℕ) (e : ℕ) → ((k : ℕ) → k < length xs → get_or xs k 0 ≡ e → ⊥) → list_any (λ x. x == e) xs ≡ false
-list_any_missing [] e h = refl
-list_any_missing (x ∷ xs) e h = rw (ne_eqb x e (h 0 (omega arith)), list_any_missing xs e (λ k b. h (suc k) (omega arith)))
-
 -- one more element of a mapped front
 pub map-take_more : {X Y : Type 0} (f : X → Y) (xs : List X) (i : ℕ) (x : X) → i < length xs → x ≡ get_or xs i x → map f (take (i + 1) xs) ≡ map f (take i xs) ++ f x ∷ []
 map-take_more f xs i x within is = ap (map f) (take_more xs i x within) ∙ map_push f (take i xs) (get_or xs i x) ∙ ap (λ y. map f (take i xs) ++ f y ∷ []) (sym is)
@@ -137,13 +102,3 @@ pub each_kept_more : {X Y Z : Type 0} (f : Y → Z) (g : X → Y) (done : List Z
 each_kept_more f g done z xs i x within is before here =
     ap (λ zs. zs ++ z ∷ []) before ∙ ap (λ y. map f (map g (take i xs)) ++ y ∷ []) here
     ∙ sym (ap (map f) (map-take_more g xs i x within is) ∙ map_push f (map g (take i xs)) (g x))
-
--- what holds of each element, by its number, once one more is pushed
-pub each_pushed : {X : Type 0} (P : ℕ → X → Type 0) (xs : List X) (x : X) (n : ℕ) (d : X) → length xs ≡ n → ((e : ℕ) → e < n → P e (get_or xs e d)) → P n x → (e : ℕ) → e < n + 1 → P e (get_or (xs ++ x ∷ []) e d)
-each_pushed P xs x n d long before here e within =
-    elim (cases_lt e n) [
-      | inl earlier ↦ rw (get_or_append_left xs (x ∷ []) d e (omega arith)) (before e earlier)
-      | inr last ↦
-          let is : e ≡ n = omega arith in
-          rw (is, get_or_push xs x d n long) here
-    ]

@@ -12,7 +12,7 @@ use Rattle.dine_token.specs.declared.act.Act.TheVariants.{Add, Set}
 use Rattle.dine_token.specs.Values.{amount_of}
 use Rattle.dine_plan.specs.declared.drafts.DraftJob.{DraftJob}
 use Rattle.dine_plan.specs.declared.drafts.DraftEdge.{DraftEdge}
-use Rattle.dine_plan.specs.Plan.{SeenJob, SeenSite, SeenPlan, IsPlan, no_site, no_job, is_name}
+use Rattle.dine_graph.specs.Plan.{SeenJob, SeenSite, SeenPlan, IsPlan, no_site, no_job, is_name}
 use Rattle.dine_plan.specs.Document.{sites_in, edges_in, name_in, text_at, items_at, number_at, has_key, fails_in, act_in, resigns_in, value_in, version_in, end_in}
 use Rattle.dine_plan.specs.PlanOf.{job_in, site_in, ends_in, number_of, plan_of_document, IsPlanOf}
 use Rattle.dine_plan.specs.RefusalTests.{first_refusal}

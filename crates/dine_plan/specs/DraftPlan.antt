@@ -4,7 +4,7 @@ use Rattle.std.specs.Fmt.{decimal}
 use Rattle.dine_plan.specs.declared.drafts.DraftJob.{DraftJob}
 use Rattle.dine_plan.specs.declared.drafts.DraftEdge.{DraftEdge}
 use Rattle.dine_plan.specs.Draft.{SeenDraftSite, Draft}
-use Rattle.dine_plan.specs.Plan.{SeenJob, SeenSite, SeenPlan}
+use Rattle.dine_graph.specs.Plan.{SeenJob, SeenSite, SeenPlan}
 
 -- a job with its number as its name
 abbrev pub job_told : DraftJob → SeenJob

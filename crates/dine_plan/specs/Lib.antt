@@ -1,5 +1,3 @@
-pub mod Plan
-pub mod Job
 pub mod Document
 pub mod Fault
 pub mod RefusalTests

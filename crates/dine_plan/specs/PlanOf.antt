@@ -4,7 +4,7 @@ use Rattle.std.specs.List.{position_or_len}
 use Rattle.std.specs.Str.{bytes_eq}
 use Rattle.toml.specs.Data.{Data, Members, table}
 use Rattle.toml.specs.Parse.{parse_document}
-use Rattle.dine_plan.specs.Plan.{SeenJob, SeenSite, SeenPlan}
+use Rattle.dine_graph.specs.Plan.{SeenJob, SeenSite, SeenPlan}
 use Rattle.dine_plan.specs.Document.{sites_in, edges_in, jobs_in, name_in, turns_in, fails_in, act_in, resigns_in, value_in, version_in, end_in}
 
 -- the job of a job table

@@ -5,7 +5,7 @@ use Rattle.std.specs.List.{range_with_len, list_any, list_all}
 use Rattle.std.specs.Str.{bytes_eq}
 use Rattle.toml.specs.Data.{Data, table, Members, get, as_str, as_integer, as_bool, as_array, as_table}
 use Rattle.toml.specs.Parse.{parse_document}
-use Rattle.dine_plan.specs.Plan.{is_name}
+use Rattle.dine_graph.specs.Plan.{is_name}
 use Rattle.dine_plan.specs.Document.{items_in, keys_in, sites_in, edges_in, jobs_in, name_in, number_at, has_key, is_second, turns_in, value_in, policy_in, end_in}
 use Rattle.dine_plan.specs.PlanOf.{ends_in}
 use Rattle.dine_plan.specs.declared.plan_fault.PlanFault.{PlanFault}

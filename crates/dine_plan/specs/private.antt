@@ -1,5 +1,3 @@
--- What no public contract names: how values are kept, and what private functions promise one another.
-pub mod Fields
-pub mod Site
+-- What no public contract names: how a builder is kept, and what private functions promise one another.
 pub mod DraftFields
 pub mod Tables

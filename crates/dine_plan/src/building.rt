@@ -2,15 +2,15 @@
 ghost use Rattle.std.specs.Prelude.{◌≡◌, ◌≤◌, false, None, map, position, nat_lt, IfOk};
 ghost use Rattle.std.specs.List.{list_any};
 ghost use Rattle.toml.specs.View.{view};
-ghost use Rattle.dine_plan.specs.Plan.{IsPlan};
-ghost use Rattle.dine_plan.specs.Job.{seen_job};
-ghost use Rattle.dine_plan.specs.private.Site.{seen_site};
+ghost use Rattle.dine_graph.specs.Plan.{IsPlan};
+ghost use Rattle.dine_graph.specs.Job.{seen_job};
+ghost use Rattle.dine_graph.specs.Site.{seen_site};
 ghost use Rattle.dine_plan.specs.Document.{turns_in, value_in};
 ghost use Rattle.dine_plan.specs.PlanOf.{job_in, site_in};
 ghost use Rattle.dine_plan.specs.RefusalTests.{has_many_turns};
 
 use crate::documents::{act_in, fails_in, items_at, number_at, resigns_in, text_at};
-use crate::plans::{Job, Plan, Site};
+use dine_graph::{Job, Plan, Site};
 use std::alloc::{AllocError, Global};
 use toml::Value;
 

@@ -6,9 +6,9 @@ ghost use Rattle.dine_plan.specs.DraftDocument.{IsOfDraft, Says, first_fault_of}
 ghost use Rattle.dine_plan.specs.DraftPlan.{plan_told};
 
 use crate::plan_fault::PlanFault;
-use crate::plans::Plan;
 use crate::reading::read_tables;
 use crate::tables::document;
+use dine_graph::Plan;
 use dine_token::Act;
 use std::alloc::{AllocError, Global};
 use std::marker::Model;

@@ -5,7 +5,7 @@ ghost use Rattle.toml.specs.Data.{Data};
 ghost use Rattle.dine_plan.specs.Draft.{Draft};
 ghost use Rattle.dine_plan.specs.DraftDocument.{Says, first_fault_of};
 ghost use Rattle.dine_plan.specs.DraftPlan.{plan_told};
-ghost use Rattle.dine_plan.specs.Plan.{SeenPlan};
+ghost use Rattle.dine_graph.specs.Plan.{SeenPlan};
 ghost use Rattle.dine_plan.specs.PlanOf.{IsPlanOf};
 ghost use Rattle.dine_plan.specs.RefusalTests.{first_fault, first_refusal};
 ghost use Rattle.dine_plan.specs.RefusalFacts.{Refuses, IsFirst};

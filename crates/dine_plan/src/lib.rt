@@ -1,5 +1,5 @@
-//! The plan of a table of philosophers: sites with their jobs, and the edges between them, as a TOML text names them.
-//! A text that is no plan is refused by the first of a fixed list of causes.
+//! The plan of a TOML text, or of what a program tells of sites, jobs and edges. What is no plan is refused by the first
+//! of a fixed list of causes.
 #![tactic(auto)]
 
 mod acts;
@@ -9,14 +9,12 @@ mod drafts;
 mod edges;
 mod forms;
 pub mod laws;
-mod places;
 mod plan_fault;
-mod plans;
 mod reading;
 mod sites;
 mod tables;
 
+pub use dine_graph::{Job, Plan};
 pub use drafts::PlanBuilder;
 pub use plan_fault::PlanFault;
-pub use plans::{Job, Plan};
 pub use reading::read_plan;

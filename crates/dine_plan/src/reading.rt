@@ -12,8 +12,8 @@ use crate::documents::{items_at, version_in};
 use crate::edges::{first_end_fault, first_pair_fault, pairs_in};
 use crate::forms::first_form_fault;
 use crate::plan_fault::PlanFault;
-use crate::plans::Plan;
 use crate::sites::first_site_fault;
+use dine_graph::Plan;
 use std::alloc::Global;
 use toml::Value;
 

@@ -3,7 +3,7 @@ ghost use Rattle.std.specs.Prelude.{◌≡◌, [], map, position, IfOk};
 ghost use Rattle.std.specs.List.{list_any};
 ghost use Rattle.std.specs.Str.{bytes_eq};
 ghost use Rattle.toml.specs.View.{view};
-ghost use Rattle.dine_plan.specs.Plan.{is_name, is_name_byte};
+ghost use Rattle.dine_graph.specs.Plan.{is_name, is_name_byte};
 ghost use Rattle.dine_plan.specs.Document.{name_in};
 ghost use Rattle.dine_plan.specs.RefusalTests.{first_some, first_twice, has_bad_name, has_many_jobs, has_many_turns, is_unnamed, site_refusals};
 

@@ -1,6 +1,6 @@
 // The tables of a run, and the text of a world.
 ghost use Rattle.std.specs.Prelude.{◌≡◌, IfOk};
-ghost use Rattle.dine_plan.specs.Plan.{edge_count, site_count};
+ghost use Rattle.dine_graph.specs.Plan.{edge_count, site_count};
 ghost use Rattle.dine_run.specs.Tables.{IsGatheredOf};
 
 use crate::calls::Told;

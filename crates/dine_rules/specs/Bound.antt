@@ -2,7 +2,7 @@
 -- within the bound: the laws `events_are_counted` and `events_are_bounded`.
 use Rattle.std.specs.Prelude.{ℕ, ◌+◌, ◌-◌, ◌*◌, length, sum, map, if◌then◌else◌}
 use Rattle.std.specs.List.{range_with_len}
-use Rattle.dine_plan.specs.Plan.{SeenPlan, site_count, edge_count, job_count, lo_of, hi_of}
+use Rattle.dine_graph.specs.Plan.{SeenPlan, site_count, edge_count, job_count, lo_of, hi_of}
 use Rattle.dine_rules.specs.Local.{LocalState, Traffic, is_hungry, is_eating}
 use Rattle.dine_rules.specs.World.{WorldState}
 

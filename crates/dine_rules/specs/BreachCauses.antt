@@ -5,7 +5,7 @@ use Rattle.dine_token.specs.declared.log_entry.Entry.{Entry}
 use Rattle.dine_token.specs.declared.log_entry.Entry.TheVariants.{Move}
 use Rattle.dine_token.specs.Fork.{SeenFork}
 use Rattle.dine_token.specs.Log.{meals_of}
-use Rattle.dine_plan.specs.Plan.{SeenPlan, job_count, resigns}
+use Rattle.dine_graph.specs.Plan.{SeenPlan, job_count, resigns}
 use Rattle.dine_rules.specs.declared.letters.Letter.{Letter}
 use Rattle.dine_rules.specs.declared.letters.Letter.TheVariants.{Fork, Request, Done, Close}
 use Rattle.dine_rules.specs.declared.breach.Breach.{Breach}

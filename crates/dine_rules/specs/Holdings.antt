@@ -5,7 +5,7 @@ use Rattle.std.specs.Prelude.{◌≡◌, ℕ, zero, suc, true, ◌<◌, length, 
 use Rattle.dine_token.specs.declared.log_entry.Entry.{Entry}
 use Rattle.dine_token.specs.declared.log_entry.Entry.TheVariants.{Meal}
 use Rattle.dine_token.specs.Log.{meals_of}
-use Rattle.dine_plan.specs.Plan.{SeenPlan, lo_of, hi_of}
+use Rattle.dine_graph.specs.Plan.{SeenPlan, lo_of, hi_of}
 use Rattle.dine_rules.specs.Letters.{forks_in, requests_in, last_log_or}
 use Rattle.dine_rules.specs.Local.{LocalState, Traffic, traffic_at, edge_at, is_eating}
 

@@ -7,7 +7,7 @@ use Rattle.dine_token.specs.declared.log_entry.Entry.{Entry}
 use Rattle.dine_token.specs.Fork.{SeenFork}
 use Rattle.dine_token.specs.Log.{meals_of, numbers_of}
 use Rattle.dine_token.specs.Lawful.{IsLawful, count_from}
-use Rattle.dine_plan.specs.Plan.{SeenPlan, edges_of, job_count, lo_of, hi_of}
+use Rattle.dine_graph.specs.Plan.{SeenPlan, edges_of, job_count, lo_of, hi_of}
 use Rattle.dine_rules.specs.declared.letters.Letter.{Letter}
 use Rattle.dine_rules.specs.Letters.{forks_among, requests_in, last_log_or}
 use Rattle.dine_rules.specs.Local.{Traffic, traffic_at, edge_at, neighbour_at}

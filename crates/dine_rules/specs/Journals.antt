@@ -2,7 +2,7 @@
 -- they leave out.
 use Rattle.std.specs.Prelude.{◌≡◌, ◌≢◌, ℕ, ◌+◌, ◌<◌, ◌==◌, Bool, true, false, List, [], ◌∷◌, ◌++◌, filter, length, map, slice_get, slice_index_or, Option, Some, None, option_and_then}
 use mathlib.Core.List.{IsPrefix}
-use Rattle.dine_plan.specs.Plan.{SeenPlan, IsPlan, edges_of, job_count, job_of, site_count}
+use Rattle.dine_graph.specs.Plan.{SeenPlan, IsPlan, edges_of, job_count, job_of, site_count}
 use Rattle.dine_rules.specs.declared.letters.Letter.{Letter}
 use Rattle.dine_rules.specs.declared.events.Event.{Event}
 use Rattle.dine_rules.specs.declared.events.EventKind.{EventKind}

@@ -1,6 +1,6 @@
 -- The letters in the links, and what there is of each edge in the whole world.
 use Rattle.std.specs.Prelude.{ℕ, ◌+◌, ◌<◌, List, length, drop}
-use Rattle.dine_plan.specs.Plan.{SeenPlan, IsPlan, site_count, edge_count, edges_of, lo_of, hi_of}
+use Rattle.dine_graph.specs.Plan.{SeenPlan, IsPlan, site_count, edge_count, edges_of, lo_of, hi_of}
 use Rattle.dine_rules.specs.declared.events.Event.{Event}
 use Rattle.dine_rules.specs.declared.letters.Letter.{Letter}
 use Rattle.dine_rules.specs.Letters.{forks_in, requests_in}

@@ -1,6 +1,6 @@
 -- One site, by what it has put and taken. A place is a position in the list of the site's edges.
 use Rattle.std.specs.Prelude.{ℕ, ◌==◌, ◌||◌, Bool, true, false, List, [], map, slice_index_or}
-use Rattle.dine_plan.specs.Plan.{SeenPlan, edges_of, job_count, job_of, other_of}
+use Rattle.dine_graph.specs.Plan.{SeenPlan, edges_of, job_count, job_of, other_of}
 use Rattle.dine_rules.specs.declared.letters.Letter.{Letter}
 use Rattle.dine_rules.specs.declared.phase.Phase.{Phase}
 use Rattle.dine_rules.specs.declared.phase.Phase.TheVariants.{Thinking, Hungry, Eating}

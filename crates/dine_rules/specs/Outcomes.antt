@@ -1,6 +1,6 @@
 -- A plan whose jobs have other outcomes. A world with given outcomes is a world of such a plan.
 use Rattle.std.specs.Prelude.{◌≡◌, ℕ, Bool, false, List, [], ◌∷◌}
-use Rattle.dine_plan.specs.Plan.{SeenPlan, SeenSite, SeenJob, resigns}
+use Rattle.dine_graph.specs.Plan.{SeenPlan, SeenSite, SeenJob, resigns}
 
 -- the jobs, each with the outcome that stands at its place in the list; one past the end of the list keeps its own
 abbrev pub jobs_with : List SeenJob → List Bool → List SeenJob

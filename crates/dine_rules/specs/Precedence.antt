@@ -5,7 +5,7 @@ use Rattle.std.specs.List.{range_with_len}
 use Rattle.std.specs.Prelude.{IsPermutation}
 use Rattle.dine_token.specs.declared.log_entry.Entry.{Entry}
 use Rattle.dine_token.specs.Log.{is_dirty, location_of}
-use Rattle.dine_plan.specs.Plan.{SeenPlan, site_count, edge_count, lo_of, hi_of, other_of}
+use Rattle.dine_graph.specs.Plan.{SeenPlan, site_count, edge_count, lo_of, hi_of, other_of}
 use Rattle.dine_rules.specs.Letters.{forks_in, last_log_or}
 use Rattle.dine_rules.specs.Local.{traffic_at}
 use Rattle.dine_rules.specs.Holdings.{fork_at, hand_at}

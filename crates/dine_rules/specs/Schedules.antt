@@ -1,7 +1,7 @@
 -- Schedules: lists of choices among the enabled events. That `bound_of` events are enough for any run is the law
 -- `finished_runs_are_complete`.
 use Rattle.std.specs.Prelude.{ℕ, zero, suc, ◌+◌, List, [], ◌∷◌, Option, Some, None, slice_get, unwrap_or}
-use Rattle.dine_plan.specs.Plan.{SeenPlan}
+use Rattle.dine_graph.specs.Plan.{SeenPlan}
 use Rattle.dine_rules.specs.declared.events.Event.{Event}
 use Rattle.dine_rules.specs.World.{WorldState, world_after, enabled_events, start}
 use Rattle.dine_rules.specs.Bound.{bound_of}

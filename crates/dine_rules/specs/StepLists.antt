@@ -1,6 +1,6 @@
 -- Lists of steps of one site.
 use Rattle.std.specs.Prelude.{◌≡◌, ℕ, suc, ◌==◌, Bool, true, false, List, [], ◌∷◌}
-use Rattle.dine_plan.specs.Plan.{SeenPlan}
+use Rattle.dine_graph.specs.Plan.{SeenPlan}
 use Rattle.dine_rules.specs.Local.{LocalState}
 use Rattle.dine_rules.specs.Steps.{Step, Give, Begin, may, after}
 

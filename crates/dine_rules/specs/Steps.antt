@@ -4,7 +4,7 @@ use Rattle.std.specs.List.{list_all, range_with_len}
 use Rattle.dine_token.specs.declared.log_entry.Entry.{Entry}
 use Rattle.dine_token.specs.Fork.{SeenFork, moved}
 use Rattle.dine_token.specs.Log.{is_dirty}
-use Rattle.dine_plan.specs.Plan.{SeenPlan, job_count, lo_of, hi_of, resigns, value_of}
+use Rattle.dine_graph.specs.Plan.{SeenPlan, job_count, lo_of, hi_of, resigns, value_of}
 use Rattle.dine_rules.specs.declared.events.EventKind.{EventKind}
 use Rattle.dine_rules.specs.declared.events.EventKind.TheVariants as event
 use Rattle.dine_rules.specs.declared.letters.Letter.{Letter}

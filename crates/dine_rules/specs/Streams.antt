@@ -5,7 +5,7 @@ use Rattle.dine_token.specs.declared.log_entry.Entry.TheVariants.{Move}
 use Rattle.dine_token.specs.Fork.{SeenFork}
 use Rattle.dine_token.specs.Log.{is_dirty, meals_of}
 use Rattle.dine_token.specs.Lawful.{IsLawful}
-use Rattle.dine_plan.specs.Plan.{SeenPlan, edges_of, job_count, lo_of, hi_of, other_of, resigns}
+use Rattle.dine_graph.specs.Plan.{SeenPlan, edges_of, job_count, lo_of, hi_of, other_of, resigns}
 use Rattle.dine_rules.specs.declared.letters.Letter.{Letter}
 use Rattle.dine_rules.specs.declared.letters.Letter.TheVariants.{Fork, Request, Done, Close}
 use Rattle.dine_rules.specs.Letters.{forks_in, requests_in, has_done, has_close, last_log_or}

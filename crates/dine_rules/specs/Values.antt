@@ -11,7 +11,7 @@ use Rattle.dine_token.specs.declared.act.Act.{Act}
 use Rattle.dine_token.specs.declared.act.Act.TheVariants.{Add, Set}
 use Rattle.dine_token.specs.Lawful.{count_from}
 use Rattle.dine_token.specs.Values.{amount_of, applied}
-use Rattle.dine_plan.specs.Plan.{SeenPlan, SeenSite, SeenJob, act_of, lo_of, hi_of, value_of}
+use Rattle.dine_graph.specs.Plan.{SeenPlan, SeenSite, SeenJob, act_of, lo_of, hi_of, value_of}
 use Rattle.dine_rules.specs.declared.letters.Letter.{Letter}
 use Rattle.dine_rules.specs.declared.letters.Letter.TheVariants.{Fork}
 use Rattle.dine_rules.specs.Holdings.{hand}

@@ -2,7 +2,7 @@
 
 ghost use Rattle.std.specs.Prelude.{◌≡◌, ◌≢◌, ◌<◌, ◌≤◌, ◌+◌, ◌*◌, ◌↔◌, ℕ, Bool, List, [], ◌∷◌, ◌++◌, None, Option, Some, false, length, map, slice_get, true};
 ghost use Rattle.std.specs.List.{list_any};
-ghost use Rattle.dine_plan.specs.Plan.{IsPlan, SeenPlan, edge_count, hi_of, job_count, lo_of, site_count};
+ghost use Rattle.dine_graph.specs.Plan.{IsPlan, SeenPlan, edge_count, hi_of, job_count, lo_of, site_count};
 ghost use Rattle.dine_token.specs.Fork.{SeenFork};
 ghost use Rattle.dine_token.specs.Lawful.{IsLawful};
 ghost use Rattle.dine_token.specs.declared.log_entry.Entry.TheVariants.{Meal, Move};

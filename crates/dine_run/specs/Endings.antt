@@ -1,6 +1,6 @@
 -- How a site ended: its meals, tokens, journal, fault and links, beside a state of whole lists.
 use Rattle.std.specs.Prelude.{◌≡◌, ◌≢◌, ◌==◌, ℕ, ◌<◌, ◌≤◌, ◌++◌, ◌⊎◌, Bool, true, false, List, [], length, map, slice_index_or, Option, Some, None, option_to_list, if◌then◌else◌}
-use Rattle.dine_plan.specs.Plan.{SeenPlan}
+use Rattle.dine_graph.specs.Plan.{SeenPlan}
 use Rattle.dine_rules.specs.declared.breach.Breach.{Breach}
 use Rattle.dine_rules.specs.declared.events.EventKind.{EventKind}
 use Rattle.dine_rules.specs.declared.letters.Letter.{Letter}

@@ -1,7 +1,7 @@
 -- A site on its way: what holds of its core and its link ends between two of its events, while a letter goes out, after
 -- its first fault, and at its end; and what is left as it was. Contracts of private functions alone name these.
 use Rattle.std.specs.Prelude.{◌≡◌, ◌≢◌, ℕ, ◌+◌, ◌<◌, ◌≤◌, ◌++◌, ◌&&◌, ◌||◌, not, nat_lt, Bool, true, false, List, [], ◌∷◌, length, slice_get, Option, Some, None, option_to_list, Result, MatchResult, vec_len}
-use Rattle.dine_plan.specs.Plan.{SeenPlan, IsPlan, site_count}
+use Rattle.dine_graph.specs.Plan.{SeenPlan, IsPlan, site_count}
 use Rattle.dine_rules.specs.declared.breach.Breach.{Breach}
 use Rattle.dine_rules.specs.declared.events.EventKind.{EventKind}
 use Rattle.dine_rules.specs.declared.letters.Letter.{Letter}

@@ -1,6 +1,6 @@
 // What the sites left is brought together: their link ends by edge, their forks by edge, and the rest by site.
 ghost use Rattle.std.specs.Prelude.{◌≡◌, ◌<◌, ◌≤◌, ◌*◌, All, IfOk, Some, None, is_some, length, map, position, replicate, slice_get, vec_len, vec_capacity};
-ghost use Rattle.dine_plan.specs.Plan.{edge_count, edges_of, site_count};
+ghost use Rattle.dine_graph.specs.Plan.{edge_count, edges_of, site_count};
 ghost use Rattle.dine_run.specs.private.Collecting.{AreForksOf, AreJoined, AreLinksLeft, AreWholeEnds, IsRoomFor, IsTakenToClose, forks_left, found, laid, links_left, out_of, rows_left};
 ghost use Rattle.dine_run.specs.Gathered.{IsTakenInOrder};
 ghost use Rattle.dine_run.specs.private.Wirings.{AreWired};
@@ -11,7 +11,7 @@ use crate::port::Port;
 use crate::site_end::SiteEnd;
 use crate::slots::{Both, fill_row, pair_up};
 use dine_link::{Lane, LinkEnd};
-use dine_plan::Plan;
+use dine_graph::Plan;
 use dine_token::Fork;
 use std::alloc::{AllocError, Global};
 

@@ -1,7 +1,7 @@
 //! Laws over the definitions alone. Each function does nothing: its contract is the law.
 
 ghost use Rattle.std.specs.Prelude.{◌≡◌, List, ℕ};
-ghost use Rattle.dine_plan.specs.Plan.{IsPlan, SeenPlan};
+ghost use Rattle.dine_graph.specs.Plan.{IsPlan, SeenPlan};
 ghost use Rattle.dine_token.specs.Fork.{SeenFork};
 ghost use Rattle.dine_rules.specs.Journals.{IsOrderOf};
 ghost use Rattle.dine_rules.specs.World.{Reaches, WorldState};

@@ -1,6 +1,6 @@
 //! One order of the journals of all sites.
 ghost use Rattle.std.specs.Prelude.{◌≡◌, ◌≢◌, IfErr, IfOk, length, replicate};
-ghost use Rattle.dine_plan.specs.Plan.{site_count};
+ghost use Rattle.dine_graph.specs.Plan.{site_count};
 ghost use Rattle.dine_rules.specs.Journals.{IsLowestFirst, IsWholeOrder};
 ghost use Rattle.dine_rules.specs.Outcomes.{NoSiteResigns};
 ghost use Rattle.dine_run.specs.Orders.{FirstLeft, OrderFaultIs, lists_in, plan_shown};
@@ -10,7 +10,7 @@ mod outcomes;
 mod placing;
 
 use dine_core::{Event, EventKind, World};
-use dine_plan::Plan;
+use dine_graph::Plan;
 use dine_rules::laws;
 use std::alloc::{AllocError, Global};
 use thiserror::Error;

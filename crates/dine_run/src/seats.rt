@@ -1,7 +1,7 @@
 // The threads of the sites: what moves into each, and what it leaves.
 ghost use Rattle.std.specs.Prelude.{◌≡◌, ◌<◌, ◌≤◌, All, IfNone, IfOk, IfSome, OnOk, Some, length, map, slice_get, vec_len, vec_capacity};
 ghost use Rattle.std.specs.List.{AllZip};
-ghost use Rattle.dine_plan.specs.Plan.{SeenPlan, job_count, site_count};
+ghost use Rattle.dine_graph.specs.Plan.{SeenPlan, job_count, site_count};
 ghost use Rattle.dine_core.specs.Standing.{IsFresh, IsFreshFor};
 ghost use Rattle.dine_run.specs.Diners.{HasEaten, HeedsFailures};
 ghost use Rattle.dine_run.specs.Ports.{IsFreshPort, seen_ports};
@@ -16,7 +16,7 @@ use crate::site_end::{SiteEnd, SiteFault};
 use crate::site_loop::run_site;
 use dine_core::{Packed, SiteCore, site};
 use dine_link::{Bell, Gate, Lane};
-use dine_plan::Plan;
+use dine_graph::Plan;
 use dine_rules::laws;
 use std::alloc::{AllocError, Global};
 use std::snapshot::Snapshot;

@@ -1,6 +1,6 @@
 //! One site on its thread, from its first step to its last.
 ghost use Rattle.std.specs.Prelude.{◌≡◌, ◌≤◌, ◌+◌, All, false, length, vec_len};
-ghost use Rattle.dine_plan.specs.Plan.{SeenPlan};
+ghost use Rattle.dine_graph.specs.Plan.{SeenPlan};
 ghost use Rattle.dine_core.specs.Standing.{IsFresh, IsFreshFor};
 ghost use Rattle.dine_run.specs.Diners.{HasEaten, HeedsFailures};
 ghost use Rattle.dine_run.specs.Ports.{IsFreshPort, seen_ports};

@@ -1,6 +1,6 @@
 // Diners and jobs for tests.
 ghost use Rattle.std.specs.Prelude.{◌≡◌, ◌≤◌, ◌∷◌, [], Some, true, length, slice_get, IfOk};
-ghost use Rattle.dine_plan.specs.Plan.{job_count};
+ghost use Rattle.dine_graph.specs.Plan.{job_count};
 ghost use Rattle.dine_core.specs.Worlds.{AreOutcomesFor, lists_of};
 
 use dine_plan::Plan;

@@ -1,6 +1,6 @@
 // The tables of edges and of sites.
 ghost use Rattle.std.specs.Prelude.{◌≡◌, IfOk};
-ghost use Rattle.dine_plan.specs.Plan.{edge_count, site_count};
+ghost use Rattle.dine_graph.specs.Plan.{edge_count, site_count};
 
 use dine::{write_edges, write_sites};
 use dine_plan::{Plan, read_plan};

@@ -1,7 +1,7 @@
 -- What the command `check` writes.
 use Rattle.std.specs.Prelude.{ℕ, List, ◌++◌, length, map, sum, codes}
 use Rattle.std.specs.Fmt.{decimal}
-use Rattle.dine_plan.specs.Plan.{SeenPlan, site_count, edge_count}
+use Rattle.dine_graph.specs.Plan.{SeenPlan, site_count, edge_count}
 
 -- how many jobs all sites have together
 abbrev pub job_total : SeenPlan → ℕ

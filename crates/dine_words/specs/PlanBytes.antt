@@ -1,7 +1,7 @@
 -- Which bytes are the text of a plan, and why others are refused.
 use Rattle.std.specs.Prelude.{◌≡◌, ℕ, List, Option, Some, None, if◌then◌else◌}
 use Rattle.std.specs.Str.{is_utf8}
-use Rattle.dine_plan.specs.Plan.{SeenPlan}
+use Rattle.dine_graph.specs.Plan.{SeenPlan}
 use Rattle.dine_plan.specs.PlanOf.{IsPlanOf}
 use Rattle.dine_plan.specs.RefusalTests.{first_fault}
 use Rattle.dine_plan.specs.declared.plan_fault.PlanFault.{PlanFault}

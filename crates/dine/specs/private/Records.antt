@@ -2,7 +2,7 @@
 use Rattle.std.specs.Prelude.{◌≡◌, ◌++◌, ℕ, Bool, false, List}
 use Rattle.std.specs.Global.{Vec}
 use Rattle.std.specs.List.{list_all}
-use Rattle.dine_plan.specs.Plan.{is_name_byte}
+use Rattle.dine_graph.specs.Plan.{is_name_byte}
 use Rattle.csv.specs.Writing.{default_writer, writer_setup, writer_under, writer_pending, fields_written, has_written}
 use Rattle.csv.specs.declared.writer.Writer.{Writer}
 

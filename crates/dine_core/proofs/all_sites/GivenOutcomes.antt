@@ -4,7 +4,7 @@ use Rattle.std.proofs.Common.{◌≡◌, ℕ, zero, suc, ◌+◌, ◌*◌, ◌-�
 use Rattle.std.specs.List.{range_with_len}
 use Rattle.std.proofs.lemmas.Option.{slice_get-map}
 use Rattle.dine_token.specs.declared.act.Act.{Act}
-use Rattle.dine_plan.specs.Plan.{SeenPlan, SeenSite, SeenJob, edges_of, edge_count, job_count, job_of, jobs_of, lo_of, hi_of, no_job, no_site, other_of, resigns, site_count, value_of}
+use Rattle.dine_graph.specs.Plan.{SeenPlan, SeenSite, SeenJob, edges_of, edge_count, job_count, job_of, jobs_of, lo_of, hi_of, no_job, no_site, other_of, resigns, site_count, value_of}
 use Rattle.dine_rules.specs.declared.phase.Phase.TheVariants.{Thinking}
 use Rattle.dine_core.specs.declared.site.places.Place.{Place}
 use Rattle.dine_core.specs.declared.site.places.ForkSlot.TheVariants.{Away, Here}

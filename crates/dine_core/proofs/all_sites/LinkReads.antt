@@ -1,7 +1,7 @@
 -- What is read at a place of a site: the link that leads to it, and what was said.
 use Rattle.std.proofs.Common.{◌≡◌, ℕ, ◌<◌, ◌≤◌, ◌&&◌, nat_lt, Bool, true, false, List, get_or, length, Some, None, ◌∙◌, ap, ap₂, arith}
 use Rattle.std.proofs.lemmas.Bool.{and_parts, cond-false, cond-true, le-ltb, lt-ltb, ltb-true}
-use Rattle.dine_plan.specs.Plan.{SeenPlan, edges_of, site_count}
+use Rattle.dine_graph.specs.Plan.{SeenPlan, edges_of, site_count}
 use Rattle.dine_rules.specs.declared.letters.Letter.{Letter}
 use Rattle.dine_core.specs.declared.world.sites.WorldSite.{WorldSite}
 use Rattle.dine_rules.specs.Links.{queue_to}

@@ -2,7 +2,7 @@
 use Rattle.std.proofs.Common.{◌≡◌, ◌≢◌, ℕ, zero, suc, ◌<◌, ◌≤◌, List, [], ◌∷◌, ◌++◌, length, drop, get_or, slice_set, refl, sym, ◌∙◌, ap, subst, inl, inr, arith, add-one}
 use Rattle.std.proofs.lemmas.Bool.{cases_eq}
 use Rattle.std.proofs.lemmas.List.{get_or-set_same, get_or-set_other, length-set, length_push, drop-append-le}
-use Rattle.dine_plan.specs.Plan.{SeenPlan, IsPlan, site_count, edges_of}
+use Rattle.dine_graph.specs.Plan.{SeenPlan, IsPlan, site_count, edges_of}
 use Rattle.dine_rules.specs.declared.letters.Letter.{Letter}
 use Rattle.dine_rules.specs.Local.{LocalState, Traffic, no_traffic, traffic_at, edge_at, neighbour_at}
 use Rattle.dine_rules.specs.World.{WorldState, no_state, state_of, place_of, put_to}

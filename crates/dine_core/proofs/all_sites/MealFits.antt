@@ -5,7 +5,7 @@ use Rattle.std.proofs.lemmas.Bool.{cases_Bool, cond-true, cond-false, eq-eqb}
 use Rattle.dine_token.specs.Fork.{SeenFork}
 use Rattle.dine_token.specs.Log.{meals_of}
 use Rattle.dine_token.specs.Meal.{SeenMeal}
-use Rattle.dine_plan.specs.Plan.{SeenPlan, IsPlan}
+use Rattle.dine_graph.specs.Plan.{SeenPlan, IsPlan}
 use Rattle.dine_core.specs.declared.site.places.Place.{Place}
 use Rattle.dine_core.specs.declared.site.places.ForkSlot.TheVariants.{Away, Here, InMeal}
 use Rattle.dine_core.specs.declared.world.sites.WorldSite.{WorldSite}

@@ -5,7 +5,7 @@ use Rattle.std.proofs.lemmas.List.FromFn.{get_or-map-range_with_len, length-map-
 use Rattle.std.proofs.lemmas.Option.{same_Some, slice_get-get_or}
 use Rattle.dine_token.specs.Fork.{SeenFork}
 use Rattle.dine_token.specs.Log.{is_dirty}
-use Rattle.dine_plan.specs.Plan.{SeenPlan, edge_count, hi_of, lo_of, site_count}
+use Rattle.dine_graph.specs.Plan.{SeenPlan, edge_count, hi_of, lo_of, site_count}
 use Rattle.dine_rules.specs.declared.letters.Letter.{Letter}
 use Rattle.dine_core.specs.declared.world.EdgeEnds.{EdgeEnds}
 use Rattle.dine_core.specs.declared.world.sites.WorldSite.{WorldSite}

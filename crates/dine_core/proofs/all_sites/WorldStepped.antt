@@ -1,7 +1,7 @@
 -- An event that can happen, at the site where it happens.
 use Rattle.std.proofs.Common.{◌≡◌, ◌<◌, true, List, length, get_or, slice_get, slice_set, Some, sym, ◌∙◌, subst, arith}
 use Rattle.std.proofs.lemmas.Option.{get_or_from_slice_get, slice_get_within}
-use Rattle.dine_plan.specs.Plan.{SeenPlan, site_count}
+use Rattle.dine_graph.specs.Plan.{SeenPlan, site_count}
 use Rattle.dine_rules.specs.declared.letters.Letter.{Letter}
 use Rattle.dine_rules.specs.declared.events.Event.{Event}
 use Rattle.dine_core.specs.declared.world.sites.WorldSite.{WorldSite}

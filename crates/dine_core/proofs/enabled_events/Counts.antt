@@ -5,7 +5,7 @@ use Rattle.std.specs.Option.{option_map_or}
 use Rattle.std.proofs.lemmas.Bool.{cases_eq}
 use Rattle.std.proofs.lemmas.List.{get_or-set_other, get_or-set_same, get_or_past, length-map, length-set}
 use Rattle.std.proofs.lemmas.Option.{get_or_from_slice_get, same_Some, slice_get-get_or, slice_get-map, slice_get_past}
-use Rattle.dine_plan.specs.Plan.{SeenPlan, edges_of}
+use Rattle.dine_graph.specs.Plan.{SeenPlan, edges_of}
 use Rattle.dine_rules.specs.declared.events.Event.{Event}
 use Rattle.dine_rules.specs.declared.events.EventKind.{EventKind}
 use Rattle.dine_rules.specs.declared.events.EventKind.TheVariants as event
@@ -13,7 +13,7 @@ use Rattle.dine_rules.specs.World.{WorldState, events_at, is_enabled, kinds_at}
 use Rattle.dine_core.specs.declared.world.sites.WorldSite.{WorldSite}
 use Rattle.dine_core.specs.private.Counts.{HasCounts, kinds_now, kinds_now_at}
 use Rattle.dine_core.specs.Worlds.{IsWorldOf, SeenWorld, can_at, can_happen}
-use Rattle.dine_plan.proofs.ListLemmas.{length-filter-le}
+use Rattle.dine_graph.proofs.ListLemmas.{length-filter-le}
 use Rattle.dine_rules.proofs.counting.KindNumbers.{choices, choices_count, found_at, of_sites}
 use Rattle.dine_core.proofs.enabled_events.FirstSite.{past_full}
 use Rattle.dine_core.proofs.all_sites.CanHappen.{site_at}

@@ -3,7 +3,7 @@ use Rattle.std.proofs.Common.{◌≡◌, ℕ, ◌<◌, ◌≤◌, length, get_or
 use Rattle.std.specs.List.{filter, range_with_len}
 use Rattle.std.proofs.lemmas.List.Elements.{filter_agree}
 use Rattle.std.proofs.lemmas.List.FromFn.{length-range_with_len}
-use Rattle.dine_plan.specs.Plan.{SeenPlan, edge_count, edges_of, is_end, site_count}
+use Rattle.dine_graph.specs.Plan.{SeenPlan, edge_count, edges_of, is_end, site_count}
 use Rattle.dine_core.specs.declared.world.sites.WorldSite.{WorldSite}
 use Rattle.dine_rules.specs.World.{WorldState, events_at, is_enabled}
 use Rattle.dine_core.specs.Worlds.{IsWorldOf, SeenWorld, can_happen}

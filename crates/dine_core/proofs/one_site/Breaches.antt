@@ -5,7 +5,7 @@ use Rattle.std.proofs.lemmas.Bool.Decides.{nat_tests}
 use Rattle.dine_token.specs.Fork.{SeenFork}
 use Rattle.dine_token.specs.Log.{meals_of}
 use Rattle.dine_token.specs.Lawful.{due_at}
-use Rattle.dine_plan.specs.Plan.{SeenPlan, job_count, lo_of, hi_of, other_of, resigns}
+use Rattle.dine_graph.specs.Plan.{SeenPlan, job_count, lo_of, hi_of, other_of, resigns}
 use Rattle.dine_rules.specs.declared.letters.Letter.{Letter}
 use Rattle.dine_rules.specs.declared.letters.Letter.TheVariants.{Fork, Request, Done, Close}
 use Rattle.dine_rules.specs.declared.phase.Phase.{Phase}

@@ -1,6 +1,6 @@
 -- A step that a core did keeps the streams of the state.
 use Rattle.std.proofs.Common.{◌≡◌, ℕ, true, refl, sym, ◌∙◌, ap, subst}
-use Rattle.dine_plan.specs.Plan.{SeenPlan}
+use Rattle.dine_graph.specs.Plan.{SeenPlan}
 use Rattle.dine_rules.specs.declared.letters.Letter.{Letter}
 use Rattle.dine_rules.specs.Local.{LocalState}
 use Rattle.dine_rules.specs.Steps.{Step, after, may, with_put}

@@ -10,7 +10,7 @@ use Rattle.dine_token.specs.Meal.{SeenMeal}
 use Rattle.dine_token.specs.Lawful.{due_at}
 use Rattle.dine_token.specs.Log.{meals_of}
 use Rattle.dine_token.proofs.Logs.{location_of-push_meal, meals_of-push_own, meals_of-push_other}
-use Rattle.dine_plan.specs.Plan.{SeenPlan, SeenJob, act_of, jobs_of, no_job}
+use Rattle.dine_graph.specs.Plan.{SeenPlan, SeenJob, act_of, jobs_of, no_job}
 use Rattle.dine_rules.specs.declared.phase.Phase.{Phase}
 use Rattle.dine_rules.specs.declared.phase.Phase.TheVariants.{Thinking, Hungry, Eating}
 use Rattle.dine_core.specs.declared.site.places.Place.{Place}

@@ -5,7 +5,7 @@ use Rattle.std.proofs.lemmas.Bool.{false≢true}
 use Rattle.dine_token.specs.Fork.{SeenFork, no_fork}
 use Rattle.dine_token.specs.Log.{meals_of}
 use Rattle.dine_token.specs.Meal.{SeenMeal}
-use Rattle.dine_plan.specs.Plan.{SeenPlan, resigns}
+use Rattle.dine_graph.specs.Plan.{SeenPlan, resigns}
 use Rattle.dine_core.specs.declared.site.places.Place.{Place}
 use Rattle.dine_core.specs.declared.site.places.ForkSlot.{ForkSlot}
 use Rattle.dine_core.specs.declared.site.places.ForkSlot.TheVariants.{Away, Here, InMeal}

@@ -7,7 +7,7 @@ use Rattle.dine_token.specs.declared.act.Act.{Act}
 use Rattle.dine_token.specs.Values.{IsAct}
 use Rattle.dine_token.specs.Fork.{SeenFork}
 use Rattle.std.proofs.lemmas.List.{length-map}
-use Rattle.dine_plan.specs.Plan.{SeenPlan, SeenJob, IsPlan, act_of, acts_of, edge_count, is_end, edges_of, job_count, jobs_of, lo_of, hi_of, no_job, site_count}
+use Rattle.dine_graph.specs.Plan.{SeenPlan, SeenJob, IsPlan, act_of, acts_of, edge_count, is_end, edges_of, job_count, jobs_of, lo_of, hi_of, no_job, site_count}
 use Rattle.dine_rules.specs.declared.phase.Phase.TheVariants.{Thinking}
 use Rattle.dine_core.specs.declared.site.places.Place.{Place}
 use Rattle.dine_core.specs.declared.site.places.ForkSlot.TheVariants.{Away, Here}

@@ -6,7 +6,7 @@ use Rattle.dine_token.specs.Fork.{SeenFork}
 use Rattle.dine_token.specs.Log.{is_dirty, meals_of}
 use Rattle.dine_set.specs.Marks.{marks_of}
 use Rattle.dine_set.proofs.MarksOf.{count_by-marks_of}
-use Rattle.dine_plan.specs.Plan.{SeenPlan}
+use Rattle.dine_graph.specs.Plan.{SeenPlan}
 use Rattle.dine_rules.specs.Local.{LocalState, is_eating, neighbour_at}
 use Rattle.dine_rules.specs.Holdings.{fork_at, hand_at}
 use Rattle.dine_rules.specs.Steps.{hand_fork_at}

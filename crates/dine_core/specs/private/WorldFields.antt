@@ -1,6 +1,6 @@
 -- How a world is kept: what stands for its value, and what is kept beside that.
 use Rattle.std.specs.Prelude.{◌≡◌, ◌≤◌, [], length, vec_capacity}
-use Rattle.dine_plan.specs.Plan.{SeenPlan}
+use Rattle.dine_graph.specs.Plan.{SeenPlan}
 use Rattle.dine_core.specs.declared.world.World.TheInside.{Inside}
 use Rattle.dine_rules.specs.World.{WorldState}
 use Rattle.dine_core.specs.Worlds.{SeenWorld, IsWorldOf}

@@ -1,13 +1,13 @@
 // The places of a site before its first step.
 ghost use Rattle.std.specs.Prelude.{◌≡◌, ℕ, ◌<◌, ◌∷◌, List, IfOk, map};
-ghost use Rattle.dine_plan.specs.Plan.{acts_of, site_count, edge_count, edges_of};
+ghost use Rattle.dine_graph.specs.Plan.{acts_of, site_count, edge_count, edges_of};
 ghost use Rattle.dine_core.specs.Core.{fresh_forks, fresh_tokens, kept_of};
 ghost use Rattle.dine_rules.specs.Local.{no_traffic};
 ghost use Rattle.dine_rules.specs.declared.phase.Phase.TheVariants.{Thinking};
 
 use super::marked::MarkedPlaces;
 use super::places::Place;
-use dine_plan::Plan;
+use dine_graph::Plan;
 use dine_token::{Act, Fork, Token};
 use std::alloc::{AllocError, Global};
 use std::collections::VecDeque;

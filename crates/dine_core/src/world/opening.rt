@@ -1,7 +1,7 @@
 // The parts of a world before its first event.
 ghost use Rattle.std.specs.Prelude.{◌≡◌, ◌<◌, ◌≤◌, ◌+◌, ◌*◌, Bool, List, [], All, IfOk, Vec, false, map, length, option_and_then, replicate, slice_get, sum};
 ghost use Rattle.std.specs.List.{range_with_len};
-ghost use Rattle.dine_plan.specs.Plan.{edge_count, edges_of, job_count, job_of, site_count};
+ghost use Rattle.dine_graph.specs.Plan.{edge_count, edges_of, job_count, job_of, site_count};
 ghost use Rattle.dine_rules.specs.Bound.{bound_of, meals_due};
 ghost use Rattle.dine_rules.specs.declared.letters.Letter.{Letter};
 ghost use Rattle.dine_rules.specs.Local.{start_of};
@@ -15,7 +15,7 @@ use super::outcomes::Outcomes;
 use super::queue::Queue;
 use super::sites::WorldSite;
 use crate::site::{SiteCore, fresh_forks, fresh_tokens};
-use dine_plan::Plan;
+use dine_graph::Plan;
 use dine_set::BitSet64;
 use std::alloc::{AllocError, Global};
 

@@ -1,7 +1,7 @@
 use Rattle.std.proofs.Common.{◌≡◌, ◌+◌, ◌-◌, ◌*◌, map, vec_items}
 use Rattle.std.specs.Prelude.{sum}
 use Rattle.std.specs.List.{range_with_len}
-use Rattle.dine_plan.specs.Plan.{site_count, job_count}
+use Rattle.dine_graph.specs.Plan.{site_count, job_count}
 use Rattle.dine_example.specs.Balances.{before, balance_of}
 use Rattle.dine_example.specs.declared.TheConstants.{START}
 use Rattle.dine_example.proofs.books_of.Given as goal

@@ -1,6 +1,6 @@
 use Rattle.std.proofs.Common.{◌∙◌, length, ap, arith}
 use Rattle.std.proofs.lemmas.List.FromFn.{length-map-range_with_len}
-use Rattle.dine_plan.specs.Plan.{site_count}
+use Rattle.dine_graph.specs.Plan.{site_count}
 use Rattle.dine_example.specs.Balances.{balance_of}
 use Rattle.dine_example.proofs.main.Goals as goal
 

@@ -1,7 +1,7 @@
 -- The text of a site's meals, as the logs of all its forks take parts of it.
 use Rattle.std.specs.Prelude.{◌≡◌, ℕ, ◌-◌, ◌<◌, ◌≤◌, List, codes, length, map, slice_index_or}
 use Rattle.dine_token.specs.Periods.{meals_from}
-use Rattle.dine_plan.specs.Plan.{SeenPlan, SeenSite}
+use Rattle.dine_graph.specs.Plan.{SeenPlan, SeenSite}
 use Rattle.dine_log_text.specs.Logs.{entries_text}
 
 -- the meals first, first + 1, .. of a site with this name, so many of them, each behind a comma

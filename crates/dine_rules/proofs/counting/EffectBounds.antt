@@ -5,7 +5,7 @@ use mathlib.Core.List.{IsPrefix}
 use Rattle.std.proofs.lemmas.Bool.{cases_Bool, cond-true, cond-false}
 use Rattle.std.proofs.lemmas.List.Sums.{sum-map, sum_by-le-sum_by}
 use Rattle.std.proofs.lemmas.List.FromFn.{length-range_with_len, get_or-range_with_len}
-use Rattle.dine_plan.specs.Plan.{SeenPlan, IsPlan, site_count, edge_count, job_count, edges_of, lo_of, hi_of, is_end}
+use Rattle.dine_graph.specs.Plan.{SeenPlan, IsPlan, site_count, edge_count, job_count, edges_of, lo_of, hi_of, is_end}
 use Rattle.dine_rules.specs.declared.letters.Letter.{Letter}
 use Rattle.dine_rules.specs.declared.events.Event.{Event}
 use Rattle.dine_rules.specs.Letters.{requests_in}

@@ -4,7 +4,7 @@ use Rattle.std.specs.List.{flat_map, range_with_len}
 use Rattle.std.proofs.lemmas.Bool.{and_parts, not-true, true≢false, eqb-true, ltb-true, or_cases, or_right}
 use Rattle.std.proofs.lemmas.Option.{slice_get_past}
 use Rattle.dine_token.specs.Log.{is_dirty}
-use Rattle.dine_plan.specs.Plan.{SeenPlan, IsPlan, edges_of, job_count, site_count}
+use Rattle.dine_graph.specs.Plan.{SeenPlan, IsPlan, edges_of, job_count, site_count}
 use Rattle.dine_rules.specs.declared.events.Event.{Event}
 use Rattle.dine_rules.specs.declared.events.EventKind.{EventKind}
 use Rattle.dine_rules.specs.declared.events.EventKind.TheVariants as event

@@ -1,7 +1,7 @@
 -- A run that does the first enabled event again and again ends in a world with no enabled event, which is complete.
 use Rattle.std.proofs.Common.{◌≡◌, ℕ, zero, suc, ◌+◌, ◌≤◌, List, [], ◌∷◌, ◌++◌, length, slice_get, Option, Some, None, unwrap_or, refl, sym, ap, subst, arith, length-append}
 use Rattle.std.specs.List.{range_with_len, flat_map}
-use Rattle.dine_plan.specs.Plan.{SeenPlan, IsPlan, site_count}
+use Rattle.dine_graph.specs.Plan.{SeenPlan, IsPlan, site_count}
 use Rattle.dine_rules.specs.declared.events.Event.{Event}
 use Rattle.dine_rules.specs.World.{WorldState, start, world_after, is_enabled, events_at, enabled_events, Reaches, IsComplete}
 use Rattle.dine_rules.specs.Bound.{bound_of}

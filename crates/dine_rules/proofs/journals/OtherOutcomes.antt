@@ -8,7 +8,7 @@ use Rattle.dine_token.specs.Log.{meals_of}
 use Rattle.dine_token.specs.Values.{IsAct, applied}
 use Rattle.dine_token.specs.declared.act.Act.{Act}
 use Rattle.dine_token.specs.declared.log_entry.Entry.{Entry}
-use Rattle.dine_plan.specs.Plan.{SeenPlan, SeenSite, SeenJob, IsPlan, act_of, is_name, job_count, job_of, lo_of, hi_of, name_of, no_job, no_site, resigns, site_count, value_of}
+use Rattle.dine_graph.specs.Plan.{SeenPlan, SeenSite, SeenJob, IsPlan, act_of, is_name, job_count, job_of, lo_of, hi_of, name_of, no_job, no_site, resigns, site_count, value_of}
 use Rattle.dine_rules.specs.Breach.{has_all_of_neighbour, is_fork_of, may_come, was_sent_to}
 use Rattle.dine_rules.specs.Holdings.{fork_at, hand, hand_at, token_at}
 use Rattle.dine_rules.specs.Journals.{AreStatesAfter, IsJournal, IsWholeOrder, fails_before, next_of_these, state_after, state_after_all}

@@ -2,7 +2,7 @@
 use Rattle.std.proofs.Common.{◌≡◌, ◌≢◌, ℕ, zero, suc, ◌+◌, ◌<◌, ◌≤◌, Bool, true, false, not, ◌==◌, nat_lt, List, [], ◌∷◌, filter, length, get_or, Some, None, unwrap_or, Option, ◌⊎◌, refl, sym, ◌∙◌, ap, subst, inl, inr, arith}
 use Rattle.std.specs.List.{range_with_len, position, position_or_len}
 use Rattle.std.proofs.lemmas.Bool.{cases_Bool, cases_eq, cond-true, cond-false, lt-ltb, eq-eqb, ne_eqb, or_left, or_right, not_from_true, not_from_false, false≢true}
-use Rattle.dine_plan.specs.Plan.{SeenPlan, IsPlan, site_count, edge_count, edges_of, lo_of, hi_of, is_end, other_of}
+use Rattle.dine_graph.specs.Plan.{SeenPlan, IsPlan, site_count, edge_count, edges_of, lo_of, hi_of, is_end, other_of}
 use Rattle.dine_rules.specs.Local.{edge_at, neighbour_at}
 use Rattle.dine_rules.specs.World.{place_of}
 use Rattle.dine_rules.specs.Streams.{is_lower_at}

@@ -1,6 +1,6 @@
 -- In a world that events reach from the start, who eats holds all forks, and no neighbour eats.
 use Rattle.std.proofs.Common.{◌≡◌, ℕ, ◌<◌, true, false, List, length, arith}
-use Rattle.dine_plan.specs.Plan.{SeenPlan, IsPlan, site_count, edges_of}
+use Rattle.dine_graph.specs.Plan.{SeenPlan, IsPlan, site_count, edges_of}
 use Rattle.dine_rules.specs.declared.events.Event.{Event}
 use Rattle.dine_rules.specs.Local.{is_eating, neighbour_at}
 use Rattle.dine_rules.specs.Holdings.{EatsWithAll, fork_at}

@@ -1,7 +1,7 @@
 -- All forks and all tokens of an edge in the world: one each.
 use Rattle.std.proofs.Common.{◌≡◌, ℕ, ◌+◌, ◌<◌, length, refl, sym, ◌∙◌, ap, ap₂, arith, true, ◌==◌}
 use Rattle.std.proofs.lemmas.Bool.{eq-eqb, cond-true, or_left}
-use Rattle.dine_plan.specs.Plan.{SeenPlan, IsPlan, site_count, edge_count, edges_of, lo_of, hi_of, other_of}
+use Rattle.dine_graph.specs.Plan.{SeenPlan, IsPlan, site_count, edge_count, edges_of, lo_of, hi_of, other_of}
 use Rattle.dine_rules.specs.Letters.{forks_in, requests_in}
 use Rattle.dine_rules.specs.Local.{edge_at, neighbour_at}
 use Rattle.dine_rules.specs.Holdings.{fork_at, token_at}

@@ -2,7 +2,7 @@
 use Rattle.std.proofs.Common.{◌≡◌, ℕ, ◌<◌, ◌≤◌, List, ◌++◌, length, drop, refl, sym, ◌∙◌, ap, arith}
 use mathlib.Core.List.{IsPrefix}
 use Rattle.std.proofs.Math.Seq.{drop-append_seam}
-use Rattle.dine_plan.specs.Plan.{SeenPlan, IsPlan, site_count, edges_of}
+use Rattle.dine_graph.specs.Plan.{SeenPlan, IsPlan, site_count, edges_of}
 use Rattle.dine_rules.specs.declared.letters.Letter.{Letter}
 use Rattle.dine_rules.specs.Letters.{forks_in, requests_in, dones_in, closes_in}
 use Rattle.dine_rules.specs.Local.{traffic_at, edge_at, neighbour_at}

@@ -1,7 +1,7 @@
 -- The Forks in a link, counted, and a log that lies near an end.
 use Rattle.std.proofs.Common.{◌≡◌, ℕ, ◌+◌, ◌<◌, Bool, List, length, Option, Some, None, ap, ◌∙◌, if◌then◌else◌}
 use Rattle.dine_token.specs.declared.log_entry.Entry.{Entry}
-use Rattle.dine_plan.specs.Plan.{SeenPlan, IsPlan, site_count, edges_of}
+use Rattle.dine_graph.specs.Plan.{SeenPlan, IsPlan, site_count, edges_of}
 use Rattle.dine_rules.specs.declared.letters.Letter.{Letter}
 use Rattle.dine_rules.specs.Letters.{forks_in}
 use Rattle.dine_rules.specs.Local.{traffic_at}

@@ -2,7 +2,7 @@
 use Rattle.std.proofs.Common.{◌≡◌, ◌⊎◌, ℕ, zero, suc, ◌+◌, ◌<◌, Bool, true, eqb, List, [], ◌∷◌, filter, length, get_or, sym, ◌∙◌, subst, inl, inr, arith}
 use Rattle.std.specs.List.{range_with_len}
 use Rattle.std.proofs.lemmas.Bool.{cases_Bool, or_cases, eqb-true, cond-true, cond-false, false≢true}
-use Rattle.dine_plan.specs.Plan.{SeenPlan, IsPlan, edge_count, edges_of, lo_of, hi_of, is_end, other_of}
+use Rattle.dine_graph.specs.Plan.{SeenPlan, IsPlan, edge_count, edges_of, lo_of, hi_of, is_end, other_of}
 use Rattle.dine_rules.specs.Local.{edge_at, neighbour_at}
 
 -- each element of the list has P and passes the test

@@ -6,7 +6,7 @@ use Rattle.dine_token.specs.declared.log_entry.Entry.{Entry}
 use Rattle.dine_token.specs.declared.log_entry.Entry.TheVariants.{Move}
 use Rattle.dine_token.specs.Log.{meals_of}
 use Rattle.dine_token.proofs.Logs.{meals_of-push_other}
-use Rattle.dine_plan.specs.Plan.{SeenPlan, lo_of, other_of}
+use Rattle.dine_graph.specs.Plan.{SeenPlan, lo_of, other_of}
 use Rattle.dine_rules.specs.Letters.{forks_in, last_log_or}
 use Rattle.dine_rules.specs.Local.{Traffic}
 use Rattle.dine_rules.specs.Streams.{IsChained, logs_of}

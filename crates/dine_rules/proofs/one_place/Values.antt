@@ -6,7 +6,7 @@ use Rattle.dine_token.specs.declared.log_entry.Entry.{Entry}
 use Rattle.dine_token.specs.Fork.{SeenFork, no_fork}
 use Rattle.dine_token.specs.Log.{meals_of}
 use Rattle.dine_token.specs.Values.{applied}
-use Rattle.dine_plan.specs.Plan.{SeenPlan, act_of, lo_of, value_of}
+use Rattle.dine_graph.specs.Plan.{SeenPlan, act_of, lo_of, value_of}
 use Rattle.dine_rules.specs.declared.letters.Letter.{Letter}
 use Rattle.dine_rules.specs.declared.letters.Letter.TheVariants.{Fork, Request, Done, Close}
 use Rattle.dine_rules.specs.Letters.{forks_among, forks_in, last_log_or, last_value_or}

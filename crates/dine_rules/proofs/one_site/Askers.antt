@@ -6,7 +6,7 @@ use Rattle.std.proofs.lemmas.List.{get_or-set_same, get_or-set_other, length-set
 use Rattle.dine_token.specs.declared.log_entry.Entry.{Entry}
 use Rattle.dine_token.specs.Log.{is_dirty, meals_of}
 use Rattle.dine_token.proofs.Logs.{is_dirty-push_meal}
-use Rattle.dine_plan.specs.Plan.{SeenPlan, edges_of, lo_of, hi_of}
+use Rattle.dine_graph.specs.Plan.{SeenPlan, edges_of, lo_of, hi_of}
 use Rattle.dine_rules.specs.declared.letters.Letter.{Letter}
 use Rattle.dine_rules.specs.declared.letters.Letter.TheVariants as letter
 use Rattle.dine_rules.specs.Letters.{forks_in, requests_in, last_log_or}

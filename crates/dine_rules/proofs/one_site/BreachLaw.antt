@@ -1,7 +1,7 @@
 -- A letter is allowed exactly where it is no breach.
 use Rattle.std.proofs.Common.{◌≡◌, ◌↔◌, ℕ, Bool, true, false, cond, not, ◌&&◌, ◌||◌, ◌==◌, nat_lt, nat_le, Option, Some, None, refl, ◌∙◌}
 use Rattle.std.proofs.lemmas.Bool.{false≢true, and_parts, and_from, not-true, not_from_false, cond-false, ltb-true, leb-false, lt-ltb, lt-leb}
-use Rattle.dine_plan.specs.Plan.{SeenPlan, job_count, lo_of}
+use Rattle.dine_graph.specs.Plan.{SeenPlan, job_count, lo_of}
 use Rattle.dine_token.specs.Log.{meals_of}
 use Rattle.dine_rules.specs.declared.letters.Letter.{Letter}
 use Rattle.dine_rules.specs.declared.letters.Letter.TheVariants.{Fork, Request, Done, Close}

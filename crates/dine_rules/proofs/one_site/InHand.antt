@@ -1,7 +1,7 @@
 -- The fork in hand at a place: it is at the site, with all meals of the site.
 use Rattle.std.proofs.Common.{◌≡◌, ℕ, ◌<◌, [], length}
 use Rattle.dine_token.specs.Log.{location_of, meals_of}
-use Rattle.dine_plan.specs.Plan.{SeenPlan, IsPlan, lo_of}
+use Rattle.dine_graph.specs.Plan.{SeenPlan, IsPlan, lo_of}
 use Rattle.dine_rules.specs.Letters.{last_log_or}
 use Rattle.dine_rules.specs.Local.{LocalState, traffic_at, edge_at}
 use Rattle.dine_rules.specs.Holdings.{fork_at, hand_at}

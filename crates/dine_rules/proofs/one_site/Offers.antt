@@ -1,6 +1,6 @@
 -- Each Fork that a site put or took has a lawful log, as a letter offered to the other end must have.
 use Rattle.std.proofs.Common.{◌≡◌, ℕ, List, slice_get, Some}
-use Rattle.dine_plan.specs.Plan.{SeenPlan}
+use Rattle.dine_graph.specs.Plan.{SeenPlan}
 use Rattle.dine_rules.specs.declared.letters.Letter.{Letter}
 use Rattle.dine_rules.specs.declared.letters.Letter.TheVariants.{Fork, Request, Done, Close}
 use Rattle.dine_rules.specs.Steps.{Take}

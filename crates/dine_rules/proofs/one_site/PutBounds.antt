@@ -5,7 +5,7 @@ use Rattle.dine_token.specs.declared.log_entry.Entry.{Entry}
 use Rattle.dine_token.specs.declared.log_entry.Entry.TheVariants.{Move}
 use Rattle.dine_token.specs.Log.{is_dirty, location_of}
 use Rattle.dine_token.proofs.Logs.{clean_ends_in_move, location_of-push_move}
-use Rattle.dine_plan.specs.Plan.{SeenPlan, IsPlan, site_count, job_count}
+use Rattle.dine_graph.specs.Plan.{SeenPlan, IsPlan, site_count, job_count}
 use Rattle.dine_rules.specs.declared.letters.Letter.{Letter}
 use Rattle.dine_rules.specs.declared.letters.Letter.TheVariants.{Fork, Request, Done, Close}
 use Rattle.dine_rules.specs.Letters.{forks_in, requests_in, dones_in, closes_in, has_done}

@@ -5,7 +5,7 @@ use Rattle.std.proofs.lemmas.List.{length-map}
 use Rattle.dine_token.specs.declared.log_entry.Entry.{Entry}
 use Rattle.dine_token.specs.Log.{is_dirty, location_of}
 use Rattle.dine_token.proofs.Lawfulness.{IsLawful-none}
-use Rattle.dine_plan.specs.Plan.{SeenPlan, IsPlan, site_count, edges_of, job_count, lo_of, hi_of}
+use Rattle.dine_graph.specs.Plan.{SeenPlan, IsPlan, site_count, edges_of, job_count, lo_of, hi_of}
 use Rattle.dine_rules.specs.declared.letters.Letter.{Letter}
 use Rattle.dine_rules.specs.declared.phase.Phase.TheVariants.{Thinking}
 use Rattle.dine_rules.specs.Letters.{forks_in, requests_in, last_log_or}

@@ -6,7 +6,7 @@ use Rattle.std.proofs.lemmas.List.{get_or-set_same, get_or-set_other, length-set
 use Rattle.dine_token.specs.Fork.{SeenFork}
 use Rattle.dine_token.specs.Log.{meals_of}
 use Rattle.dine_token.proofs.Logs.{meals_of-push_move}
-use Rattle.dine_plan.specs.Plan.{SeenPlan, IsPlan, site_count, job_count, resigns}
+use Rattle.dine_graph.specs.Plan.{SeenPlan, IsPlan, site_count, job_count, resigns}
 use Rattle.dine_rules.specs.declared.letters.Letter.{Letter}
 use Rattle.dine_rules.specs.declared.letters.Letter.TheVariants as letter
 use Rattle.dine_rules.specs.declared.phase.Phase.{Phase}

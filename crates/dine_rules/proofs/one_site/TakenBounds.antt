@@ -1,6 +1,6 @@
 -- How many letters a site takes at a place.
 use Rattle.std.proofs.Common.{ℕ, ◌+◌, ◌<◌, ◌≤◌, not, length, arith}
-use Rattle.dine_plan.specs.Plan.{SeenPlan, IsPlan, site_count, job_count}
+use Rattle.dine_graph.specs.Plan.{SeenPlan, IsPlan, site_count, job_count}
 use Rattle.dine_rules.specs.Letters.{forks_in, requests_in, dones_in, closes_in}
 use Rattle.dine_rules.specs.Local.{LocalState, traffic_at}
 use Rattle.dine_rules.specs.Streams.{KeepsStreams, KeepsStreamsAt, is_lower_at}

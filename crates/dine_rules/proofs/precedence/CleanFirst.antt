@@ -2,7 +2,7 @@
 use Rattle.std.proofs.Common.{◌≡◌, ◌⊎◌, ℕ, ◌+◌, ◌<◌, ◌≤◌, Bool, true, false, ◌==◌, nat_lt, refl, sym, ◌∙◌, ap, subst, inl, inr, arith}
 use Rattle.std.proofs.lemmas.Bool.{false≢true, cond-true, cond-false, eq-eqb, ne_eqb, false_from_ne_true, ltb-true}
 use Rattle.dine_token.specs.Log.{is_dirty}
-use Rattle.dine_plan.specs.Plan.{SeenPlan, IsPlan, edge_count, lo_of, hi_of}
+use Rattle.dine_graph.specs.Plan.{SeenPlan, IsPlan, edge_count, lo_of, hi_of}
 use Rattle.dine_rules.specs.Letters.{forks_in}
 use Rattle.dine_rules.specs.Local.{LocalState, traffic_at}
 use Rattle.dine_rules.specs.Holdings.{fork_at, hand_at}

@@ -8,7 +8,7 @@ use Rattle.dine_token.specs.Lawful.{IsLawful, due_at, count_from}
 use Rattle.dine_token.specs.Log.{location_of, meals_of}
 use Rattle.dine_token.proofs.Lawfulness.{IsLawful-none, IsLawful-push_meal, due_at-lower, due_at-higher}
 use Rattle.dine_token.proofs.Logs.{location_of-push_move}
-use Rattle.dine_plan.specs.Plan.{SeenPlan, IsPlan, edges_of, job_count, lo_of, hi_of, other_of}
+use Rattle.dine_graph.specs.Plan.{SeenPlan, IsPlan, edges_of, job_count, lo_of, hi_of, other_of}
 use Rattle.dine_rules.specs.declared.letters.Letter.{Letter}
 use Rattle.dine_rules.specs.Letters.{forks_in, requests_in, last_log_or}
 use Rattle.dine_rules.specs.Local.{LocalState, Traffic, traffic_at, edge_at}

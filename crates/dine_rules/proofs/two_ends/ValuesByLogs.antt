@@ -15,7 +15,7 @@ use Rattle.dine_token.specs.Values.{amount_of, applied}
 use Rattle.dine_token.proofs.Bounds.{IsLawful-front}
 use Rattle.dine_token.proofs.Lawfulness.{at_an_end}
 use Rattle.dine_token.proofs.Logs.{meals_of-push_move}
-use Rattle.dine_plan.specs.Plan.{SeenPlan, SeenSite, SeenJob, IsPlan, act_of, edges_of, job_count, jobs_of, lo_of, hi_of, no_job, no_site, other_of, site_count, value_of}
+use Rattle.dine_graph.specs.Plan.{SeenPlan, SeenSite, SeenJob, IsPlan, act_of, edges_of, job_count, jobs_of, lo_of, hi_of, no_job, no_site, other_of, site_count, value_of}
 use Rattle.dine_rules.specs.declared.letters.Letter.{Letter}
 use Rattle.dine_rules.specs.Holdings.{hand, meals_from, with_meals_to}
 use Rattle.dine_rules.specs.JoinedEnds.{AccountsForFork, AreForksLinked, AreLinked, IsWholeLog, traffic_across}

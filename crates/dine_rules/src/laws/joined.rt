@@ -3,7 +3,7 @@
 ghost use Rattle.std.specs.Prelude.{◌≡◌, ◌<◌, ◌≤◌, ◌+◌, Bool, List, Some, false, length, true, ℕ};
 ghost use mathlib.Core.List.{IsPrefix};
 ghost use Rattle.dine_token.specs.declared.log_entry.Entry.{Entry};
-ghost use Rattle.dine_plan.specs.Plan.{IsPlan, SeenPlan, edge_count, edges_of, hi_of, lo_of, site_count};
+ghost use Rattle.dine_graph.specs.Plan.{IsPlan, SeenPlan, edge_count, edges_of, hi_of, lo_of, site_count};
 ghost use Rattle.dine_rules.specs.Breach.{first_breach, is_allowed};
 ghost use Rattle.dine_rules.specs.Examples.{broken_off, pair};
 ghost use Rattle.dine_rules.specs.Holdings.{forks_held, tokens_held};

@@ -1,7 +1,7 @@
 //! Laws on journals, the events of each site in its order, and on the orders that hold all of them in one list.
 
 ghost use Rattle.std.specs.Prelude.{◌≡◌, ◌≢◌, ◌<◌, ◌+◌, ◌++◌, Bool, List, None, Option, Some, [], ◌∷◌, false, length, slice_get, true, ℕ};
-ghost use Rattle.dine_plan.specs.Plan.{IsPlan, SeenPlan, act_of, edges_of, job_count, job_of, name_of, resigns, site_count};
+ghost use Rattle.dine_graph.specs.Plan.{IsPlan, SeenPlan, act_of, edges_of, job_count, job_of, name_of, resigns, site_count};
 ghost use Rattle.dine_rules.specs.Outcomes.{NoSiteResigns, with_outcomes};
 ghost use Rattle.dine_token.specs.declared.log_entry.Entry.TheVariants.{Meal, Move};
 ghost use Rattle.dine_rules.specs.Examples.{pair, resigning};

@@ -9,7 +9,7 @@ use Rattle.std.proofs.lemmas.Option.{get_or_from_slice_get, none-some, same_Some
 use Rattle.std.proofs.Math.Nat.{zero-add}
 use mathlib.Core.List.{IsPrefix}
 use Rattle.dine_token.specs.Fork.{SeenFork}
-use Rattle.dine_plan.specs.Plan.{SeenPlan, IsPlan, site_count, edge_count, edges_of, is_end, lo_of, hi_of}
+use Rattle.dine_graph.specs.Plan.{SeenPlan, IsPlan, site_count, edge_count, edges_of, is_end, lo_of, hi_of}
 use Rattle.dine_rules.specs.declared.breach.Breach.{Breach}
 use Rattle.dine_rules.specs.declared.breach.Breach.TheVariants.{AfterClose, ClosedEarly}
 use Rattle.dine_rules.specs.declared.letters.Letter.{Letter}

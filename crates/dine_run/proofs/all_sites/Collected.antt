@@ -5,7 +5,7 @@ use Rattle.std.proofs.lemmas.List.{length-map, take_at, drop_at}
 use Rattle.std.proofs.lemmas.List.Elements.{All-take, All-drop}
 use Rattle.std.proofs.lemmas.Option.{get_or_from_slice_get, none-some, same_Some, slice_get-get_or, slice_get-map}
 use Rattle.dine_token.specs.Fork.{SeenFork}
-use Rattle.dine_plan.specs.Plan.{SeenPlan, edge_count, edges_of}
+use Rattle.dine_graph.specs.Plan.{SeenPlan, edge_count, edges_of}
 use Rattle.dine_link.specs.Lanes.{seen_end}
 use Rattle.dine_link.specs.Links.{SeenEnd, SeenLink, link_of}
 use Rattle.dine_run.specs.declared.port.Port.{Port}

@@ -5,7 +5,7 @@ use Rattle.std.proofs.lemmas.Option.{slice_get-get_or, same_Some, none-some}
 use Rattle.std.specs.List.{range_with_len}
 use Rattle.std.proofs.lemmas.List.Filters.{length-filter_both}
 use Rattle.std.proofs.lemmas.List.FromFn.{length-range_with_len}
-use Rattle.dine_plan.specs.Plan.{SeenPlan, IsPlan, edge_count, edges_of, is_one_of, lo_of, hi_of}
+use Rattle.dine_graph.specs.Plan.{SeenPlan, IsPlan, edge_count, edges_of, is_one_of, lo_of, hi_of}
 use Rattle.dine_rules.specs.JoinedEnds.{AreEndsOfEdge}
 use Rattle.dine_rules.specs.Local.{edge_at}
 use Rattle.dine_rules.specs.World.{place_of}

@@ -10,8 +10,8 @@ use Rattle.std.proofs.lemmas.Option.{same_Some, none-some, slice_get-map, slice_
 use Rattle.std.proofs.lemmas.Slice.Zip.{AllZip-long}
 use Rattle.std.proofs.Math.Nat.{zero-add}
 use Rattle.dine_token.specs.Fork.{SeenFork}
-use Rattle.dine_plan.specs.Plan.{SeenPlan, IsPlan, site_count, edge_count, edges_of, job_count, lo_of, hi_of, resigns}
-use Rattle.dine_plan.proofs.ListLemmas.{position_none_at}
+use Rattle.dine_graph.specs.Plan.{SeenPlan, IsPlan, site_count, edge_count, edges_of, job_count, lo_of, hi_of, resigns}
+use Rattle.dine_graph.proofs.ListLemmas.{position_none_at}
 use Rattle.dine_rules.specs.declared.letters.Letter.{Letter}
 use Rattle.dine_rules.specs.declared.letters.Letter.TheVariants.{Fork, Request, Done, Close}
 use Rattle.dine_rules.specs.Letters.{has_close, has_done}

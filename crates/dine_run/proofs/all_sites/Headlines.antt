@@ -7,7 +7,7 @@ use Rattle.std.proofs.lemmas.List.{ext_get_or, get_or-map, length-map, length-re
 use Rattle.std.proofs.Math.Nat.{zero-add}
 use Rattle.std.proofs.lemmas.Option.{get_or_from_slice_get, same_Some, slice_get-map, slice_get_within, none-some}
 use Rattle.dine_token.specs.Fork.{SeenFork}
-use Rattle.dine_plan.specs.Plan.{SeenPlan, IsPlan, site_count, edge_count, edges_of, is_end, job_count, lo_of, hi_of}
+use Rattle.dine_graph.specs.Plan.{SeenPlan, IsPlan, site_count, edge_count, edges_of, is_end, job_count, lo_of, hi_of}
 use Rattle.dine_rules.specs.Holdings.{forks_held, tokens_held, fork_at, token_at, hand}
 use Rattle.dine_rules.specs.JoinedEnds.{AccountsForFork, AccountsForToken, AreForksLinked, AreWhollyTaken, HaveOneWholeFork, IsWholeLog}
 use Rattle.dine_rules.specs.declared.events.EventKind.{EventKind}

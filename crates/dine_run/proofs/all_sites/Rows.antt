@@ -8,7 +8,7 @@ use Rattle.std.proofs.lemmas.Option.{get_or_from_slice_get, same_Some, slice_get
 use Rattle.dine_token.specs.declared.log_entry.Entry.{Entry}
 use Rattle.dine_token.specs.Fork.{SeenFork, no_fork}
 use Rattle.dine_token.specs.Log.{meals_of}
-use Rattle.dine_plan.specs.Plan.{SeenPlan, IsPlan, site_count, edge_count, lo_of, hi_of}
+use Rattle.dine_graph.specs.Plan.{SeenPlan, IsPlan, site_count, edge_count, lo_of, hi_of}
 use Rattle.dine_link.specs.Links.{SeenLink}
 use Rattle.dine_rules.specs.JoinedEnds.{IsWholeLog}
 use Rattle.dine_rules.specs.Values.{added_up, has_no_set, value_by}

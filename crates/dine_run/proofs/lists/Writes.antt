@@ -4,7 +4,7 @@ use Rattle.std.specs.Global.{Vec}
 use Rattle.std.proofs.lemmas.List.{get_or-set_other}
 use Rattle.std.proofs.lemmas.Bool.{cases_eq}
 use Rattle.std.proofs.lemmas.Option.{same_Some}
-use Rattle.dine_plan.specs.Plan.{SeenPlan, edges_of}
+use Rattle.dine_graph.specs.Plan.{SeenPlan, edges_of}
 use Rattle.dine_run.specs.private.Spots.{row_at, slot_at}
 use Rattle.dine_run.specs.declared.slots.Spot.{Spot}
 

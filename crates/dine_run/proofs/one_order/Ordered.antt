@@ -6,7 +6,7 @@ use Rattle.std.proofs.lemmas.List.{ext_get_or, get_or-map, length-map}
 use Rattle.std.proofs.lemmas.List.FromFn.{get_or-map-range_with_len, length-map-range_with_len, length-range_with_len}
 use Rattle.std.proofs.lemmas.Option.{slice_get-get_or}
 use Rattle.dine_token.specs.Fork.{SeenFork}
-use Rattle.dine_plan.specs.Plan.{SeenPlan, IsPlan, edge_count, edges_of, hi_of, lo_of, site_count}
+use Rattle.dine_graph.specs.Plan.{SeenPlan, IsPlan, edge_count, edges_of, hi_of, lo_of, site_count}
 use Rattle.dine_rules.specs.declared.events.Event.{Event}
 use Rattle.dine_rules.specs.declared.events.EventKind.{EventKind}
 use Rattle.dine_rules.specs.Holdings.{fork_at, forks_held, hand, hand_at}

@@ -10,7 +10,7 @@ use Rattle.dine_token.specs.declared.log_entry.Entry.{Entry}
 use Rattle.dine_token.specs.declared.log_entry.Entry.TheVariants.{Meal, Move}
 use Rattle.dine_token.specs.declared.act.Act.{Act}
 use Rattle.dine_token.specs.Values.{applied}
-use Rattle.dine_plan.specs.Plan.{SeenPlan, act_of, hi_of, job_count, lo_of, site_count, value_of}
+use Rattle.dine_graph.specs.Plan.{SeenPlan, act_of, hi_of, job_count, lo_of, site_count, value_of}
 use Rattle.dine_rules.specs.declared.events.Event.{Event}
 use Rattle.dine_rules.specs.declared.events.EventKind.{EventKind}
 use Rattle.dine_rules.specs.declared.events.EventKind.TheVariants.{End, Quit}

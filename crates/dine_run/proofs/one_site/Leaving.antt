@@ -5,7 +5,7 @@ use Rattle.std.proofs.lemmas.List.{append-nil}
 use Rattle.std.proofs.lemmas.List.Elements.{All-head, All-tail}
 use Rattle.std.proofs.lemmas.Option.{same_Some, none-some}
 use Rattle.dine_token.specs.Fork.{SeenFork}
-use Rattle.dine_plan.specs.Plan.{SeenPlan, edges_of}
+use Rattle.dine_graph.specs.Plan.{SeenPlan, edges_of}
 use Rattle.dine_rules.specs.Local.{Traffic, no_traffic, start_of, traffic_at}
 use Rattle.dine_rules.specs.declared.events.EventKind.{EventKind}
 use Rattle.dine_rules.specs.Journals.{IsJournal}

@@ -1,7 +1,7 @@
 -- What the sites left, brought together: their links by edge, their forks by edge, and the rest by site.
 use Rattle.std.specs.Prelude.{◌≡◌, ℕ, ◌*◌, ◌<◌, ◌≤◌, ◌++◌, true, List, [], ◌∷◌, All, length, map, set, slice_get, replicate, Option, Some, None, vec_len, vec_capacity}
 use Rattle.dine_token.specs.Fork.{SeenFork}
-use Rattle.dine_plan.specs.Plan.{SeenPlan, site_count, edge_count, edges_of}
+use Rattle.dine_graph.specs.Plan.{SeenPlan, site_count, edge_count, edges_of}
 use Rattle.dine_rules.specs.Letters.{has_close}
 use Rattle.dine_link.specs.Lanes.{seen_end}
 use Rattle.dine_link.specs.Links.{SeenEnd, SeenLink, link_of}

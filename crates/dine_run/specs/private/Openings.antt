@@ -1,7 +1,7 @@
 -- What is opened for the sites before their threads start: their link ends and their bells.
 use Rattle.std.specs.Prelude.{◌≡◌, ℕ, ◌<◌, false, List, [], All, filter, length, map, slice_get, slice_index_or, Option, Some}
 use Rattle.std.specs.List.{range_with_len}
-use Rattle.dine_plan.specs.Plan.{SeenPlan, site_count, edges_of, is_end}
+use Rattle.dine_graph.specs.Plan.{SeenPlan, site_count, edges_of, is_end}
 use Rattle.std.specs.Global.{Vec}
 use Rattle.dine_link.specs.Bells.{SeenBell, SeenRinger, new_ringer}
 use Rattle.dine_link.specs.Links.{SeenEnd}

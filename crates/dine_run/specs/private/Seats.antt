@@ -1,6 +1,6 @@
 -- What moves into the thread of a site, and what the thread leaves.
 use Rattle.std.specs.Prelude.{◌≡◌, ℕ, ◌≤◌, Bool, false, List, All, length, slice_get, Some}
-use Rattle.dine_plan.specs.Plan.{SeenPlan}
+use Rattle.dine_graph.specs.Plan.{SeenPlan}
 use Rattle.std.specs.declared.thread.PromisedHandle.{PromisedHandle}
 use Rattle.dine_core.specs.Standing.{IsFresh, IsFreshFor}
 use Rattle.dine_link.specs.Links.{SeenEnd}

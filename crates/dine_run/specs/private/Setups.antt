@@ -1,6 +1,6 @@
 -- All that a run needs before its threads start.
 use Rattle.std.specs.Prelude.{◌≡◌, ℕ, ◌≤◌, List, All, map, vec_len, vec_capacity}
-use Rattle.dine_plan.specs.Plan.{SeenPlan, site_count}
+use Rattle.dine_graph.specs.Plan.{SeenPlan, site_count}
 use Rattle.dine_link.specs.Bells.{SeenBell}
 use Rattle.dine_link.specs.Links.{SeenEnd}
 use Rattle.dine_run.specs.declared.seats.Seat.{Seat}

@@ -1,7 +1,7 @@
 -- Things that stand at the places of sites, one row a site, and the places of the two ends of an edge.
 use Rattle.std.specs.Prelude.{◌≡◌, ℕ, zero, suc, ◌<◌, Option, Some, None, IsSome, List, [], ◌∷◌, slice_index_or, slice_get, length}
 use Rattle.std.specs.Global.{Vec}
-use Rattle.dine_plan.specs.Plan.{SeenPlan, site_count, edges_of, lo_of, hi_of}
+use Rattle.dine_graph.specs.Plan.{SeenPlan, site_count, edges_of, lo_of, hi_of}
 use Rattle.dine_rules.specs.World.{place_of}
 use Rattle.dine_run.specs.declared.slots.Spot.{Spot}
 use Rattle.dine_run.specs.declared.slots.Both.{Both}

@@ -1,6 +1,6 @@
 -- How the sites' link ends are joined: each end of an edge takes from the link that the other puts in.
 use Rattle.std.specs.Prelude.{◌≡◌, ℕ, ◌<◌, List, [], slice_get, slice_index_or, Option, Some}
-use Rattle.dine_plan.specs.Plan.{SeenPlan, edge_count, lo_of, hi_of}
+use Rattle.dine_graph.specs.Plan.{SeenPlan, edge_count, lo_of, hi_of}
 use Rattle.dine_rules.specs.World.{place_of}
 use Rattle.dine_link.specs.Bells.{SeenBell, SeenRinger, new_ringer}
 use Rattle.dine_run.specs.declared.slots.Both.{Both}

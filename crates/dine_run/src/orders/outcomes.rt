@@ -1,11 +1,11 @@
 // The outcomes of meals that journals show.
 ghost use Rattle.std.specs.Prelude.{◌≡◌, IfOk, length};
-ghost use Rattle.dine_plan.specs.Plan.{site_count};
+ghost use Rattle.dine_graph.specs.Plan.{site_count};
 ghost use Rattle.dine_core.specs.Worlds.{lists_of};
 ghost use Rattle.dine_run.specs.Orders.{lists_in, noted, shown_by, shown_in};
 
 use dine_core::EventKind;
-use dine_plan::Plan;
+use dine_graph::Plan;
 use std::alloc::{AllocError, Global};
 
 /// For each site, which of its jobs failed: the last one before each Quit of its journal, and no other.

@@ -1,6 +1,6 @@
 // The events of the journals are placed one after the other.
 ghost use Rattle.std.specs.Prelude.{◌≡◌, ◌<◌, IfOk, IfSome, List, ◌∷◌, [], ◌++◌, length, replicate};
-ghost use Rattle.dine_plan.specs.Plan.{edges_of, site_count};
+ghost use Rattle.dine_graph.specs.Plan.{edges_of, site_count};
 ghost use Rattle.dine_rules.specs.Steps.{IsPlaceWithin, shape_of};
 ghost use Rattle.dine_rules.specs.World.{start};
 ghost use Rattle.dine_rules.specs.declared.events.Event.{Event};
@@ -9,7 +9,7 @@ ghost use Rattle.dine_core.specs.Worlds.{IsWorldOf, SeenWorld};
 ghost use Rattle.dine_run.specs.Orders.{FindsNext, IsFound, IsSearched, IsSearching, kind_at, lists_in, plan_shown, receiver_of};
 
 use dine_core::{Event, EventKind, World};
-use dine_plan::Plan;
+use dine_graph::Plan;
 use dine_rules::laws;
 use dine_set::BitSet64;
 use std::alloc::{AllocError, Global};

@@ -1,6 +1,6 @@
 // A site on its way.
 ghost use Rattle.std.specs.Prelude.{◌≡◌, ◌<◌, ◌≤◌, ◌+◌, ◌^◌, List, OnOk, length, true, false, None, Some, vec_capacity, vec_len, slice_get, slice_set, IfSome, MatchResult};
-ghost use Rattle.dine_plan.specs.Plan.{SeenPlan};
+ghost use Rattle.dine_graph.specs.Plan.{SeenPlan};
 ghost use Rattle.dine_rules.specs.Letters.{has_close};
 ghost use Rattle.dine_rules.specs.Local.{traffic_at};
 ghost use Rattle.dine_core.specs.NextEvent.{can_by_itself};

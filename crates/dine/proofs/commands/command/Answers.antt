@@ -1,6 +1,6 @@
 -- A fault of a run tells of the plan that was read.
 use Rattle.std.proofs.Common.{◌≡◌, ◌≢◌, ◌∙◌, List, ℕ, Option, Some, Result, Ok, Err, IfErr, IfSome, IsErrAnd, ap, sym, subst}
-use Rattle.dine_plan.specs.Plan.{SeenPlan}
+use Rattle.dine_graph.specs.Plan.{SeenPlan}
 use Rattle.dine.specs.Commands.{FailsRun, IsFailedRun}
 use Rattle.dine.specs.FaultLines.{status_of}
 use Rattle.dine_words.specs.PlanBytes.{IsPlanBytes}

@@ -2,7 +2,7 @@
 use Rattle.std.proofs.Common.{◌≡◌, ◌∙◌, ℕ, ap, arith, map}
 use Rattle.std.specs.List.{range_with_len}
 use Rattle.std.proofs.lemmas.List.FromFn.{map-range_with_len_more}
-use Rattle.dine_plan.specs.Plan.{site_count}
+use Rattle.dine_graph.specs.Plan.{site_count}
 use Rattle.dine.specs.Run.{diner_of, diners_of}
 use Rattle.dine.proofs.RunLemmas.{diner_has_room, diner_is}
 use Rattle.dine.proofs.run_text.open_diners.Goals as goal

@@ -1,6 +1,6 @@
 use Rattle.std.proofs.Common.{◌≡◌, ◌≤◌, map, vec_len, vec_capacity}
 use Rattle.std.specs.List.{range_with_len}
-use Rattle.dine_plan.specs.Plan.{site_count}
+use Rattle.dine_graph.specs.Plan.{site_count}
 use Rattle.dine.specs.Run.{diner_of}
 use Rattle.dine.proofs.run_text.open_diners.Given as goal
 

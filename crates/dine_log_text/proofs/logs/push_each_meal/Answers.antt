@@ -2,7 +2,7 @@ use Rattle.std.proofs.Common.{◌++◌, ◌+◌, ◌∙◌, ap, List, ℕ, codes
 use Rattle.std.specs.Fmt.{decimal}
 use Rattle.dine_token.specs.Periods.{meals_in}
 use Rattle.dine_log_text.specs.Logs.{entries_text, separator}
-use Rattle.dine_plan.specs.Plan.{name_of}
+use Rattle.dine_graph.specs.Plan.{name_of}
 use Rattle.dine_log_text.proofs.EntryTexts.{meals_step}
 use Rattle.dine_log_text.proofs.logs.push_each_meal.Goals as goal
 

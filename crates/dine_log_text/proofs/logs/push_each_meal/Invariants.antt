@@ -1,7 +1,7 @@
 use Rattle.std.proofs.Common.{◌≡◌, ◌+◌, ◌-◌, ◌++◌, string_bytes}
 use Rattle.dine_token.specs.Periods.{meals_from, meals_in}
 use Rattle.dine_log_text.specs.Logs.{entries_text, separator}
-use Rattle.dine_plan.specs.Plan.{name_of}
+use Rattle.dine_graph.specs.Plan.{name_of}
 use Rattle.dine_log_text.proofs.logs.push_each_meal.Given as goal
 
 -- the text so far, and that of the meals left, make the whole

@@ -1,7 +1,7 @@
 use Rattle.std.proofs.Common.{◌++◌, ◌∙◌, ap, List, ℕ, eqb, drop, codes, string_bytes, append_assoc}
 use Rattle.dine_token.specs.Periods.{periods_of, meals_in, moved_entries}
 use Rattle.dine_log_text.specs.Logs.{entries_text, separator}
-use Rattle.dine_plan.specs.Plan.{name_of}
+use Rattle.dine_graph.specs.Plan.{name_of}
 use Rattle.dine_log_text.proofs.EntryTexts.{periods_step, first_period}
 use Rattle.dine_log_text.proofs.logs.push_entries.Goals as goal
 

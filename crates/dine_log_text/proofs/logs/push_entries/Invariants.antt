@@ -1,7 +1,7 @@
 use Rattle.std.proofs.Common.{◌≡◌, ◌++◌, drop, codes, string_bytes}
 use Rattle.dine_token.specs.Periods.{periods_of, moved_entries}
 use Rattle.dine_log_text.specs.Logs.{entries_text, separator}
-use Rattle.dine_plan.specs.Plan.{name_of}
+use Rattle.dine_graph.specs.Plan.{name_of}
 use Rattle.dine_log_text.proofs.logs.push_entries.Given as goal
 
 -- the text so far, and that of the periods left, make the whole

@@ -1,7 +1,7 @@
 use Rattle.std.proofs.Common.{◌≡◌, ◌<◌, Option, Some, None, ◌∙◌, ap, arith, String, Global, string_bytes}
 use Rattle.std.proofs.lemmas.Option.{same_Some}
 use Rattle.dine_token.specs.Fork.{SeenFork}
-use Rattle.dine_plan.specs.Plan.{edge_count}
+use Rattle.dine_graph.specs.Plan.{edge_count}
 use Rattle.dine_core.specs.Outcomes.{with_outcomes}
 use Rattle.dine_core.specs.Worlds.{fork_seen}
 use Rattle.dine_log_text.proofs.EdgeLines.{fork_there, lines_step}

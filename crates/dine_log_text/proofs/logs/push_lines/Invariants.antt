@@ -1,6 +1,6 @@
 use Rattle.std.proofs.Common.{◌≡◌, ◌++◌, ◌-◌, Bool, List, string_bytes}
 use Rattle.std.specs.List.{flat_map, range_with_len}
-use Rattle.dine_plan.specs.Plan.{edge_count}
+use Rattle.dine_graph.specs.Plan.{edge_count}
 use Rattle.dine_core.specs.Outcomes.{with_outcomes}
 use Rattle.dine_core.specs.World.{WorldState}
 use Rattle.dine_core.specs.Worlds.{IsWorldOf}

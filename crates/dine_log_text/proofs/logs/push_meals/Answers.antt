@@ -1,5 +1,5 @@
 use Rattle.std.proofs.Common.{◌≡◌, ◌++◌, ◌<◌, ◌∙◌, ap, List, ℕ, length, string_bytes, rules, slice_index_or}
-use Rattle.dine_plan.specs.Plan.{name_of}
+use Rattle.dine_graph.specs.Plan.{name_of}
 use Rattle.dine_log_text.specs.Logs.{separator}
 use Rattle.dine_log_text.proofs.MealParts.{same_meals, name_at}
 use Rattle.dine_log_text.proofs.logs.push_meals.Goals as goal

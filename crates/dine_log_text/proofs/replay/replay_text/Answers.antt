@@ -3,7 +3,7 @@
 use Rattle.std.proofs.Common.{◌≡◌, ◌+◌, ◌∙◌, Bool, List, [], ap, ap₂, arith, subst, sym}
 use Rattle.std.proofs.lemmas.Result.{IfOk-weaker}
 use Rattle.dine_core.specs.Schedules.{after_choices, from_here, replay, whole_run}
-use Rattle.dine_plan.specs.Plan.{SeenPlan}
+use Rattle.dine_graph.specs.Plan.{SeenPlan}
 use Rattle.dine_core.specs.Outcomes.{with_outcomes}
 use Rattle.dine_core.specs.World.{WorldState, start}
 use Rattle.dine_core.specs.Worlds.{IsWorldOf}

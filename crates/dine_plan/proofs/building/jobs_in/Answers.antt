@@ -4,7 +4,7 @@ use Rattle.std.proofs.lemmas.List.{get_or-map, length-map}
 use Rattle.toml.specs.Data.{Data}
 use Rattle.toml.specs.View.{view}
 use Rattle.dine_plan.specs.Document.{turns_in}
-use Rattle.dine_plan.specs.Job.{seen_job}
+use Rattle.dine_graph.specs.Job.{seen_job}
 use Rattle.dine_plan.specs.PlanOf.{job_in}
 use Rattle.dine_plan.proofs.ListLemmas.{list_any_false_at, each_seen_more}
 use Rattle.dine_plan.proofs.building.jobs_in.Goals as goal

@@ -1,6 +1,6 @@
 use Rattle.std.proofs.Common.{◌≡◌, map, take}
 use Rattle.toml.specs.View.{view}
-use Rattle.dine_plan.specs.Job.{seen_job}
+use Rattle.dine_graph.specs.Job.{seen_job}
 use Rattle.dine_plan.specs.PlanOf.{job_in}
 use Rattle.dine_plan.proofs.building.jobs_in.Given as goal
 

@@ -2,9 +2,10 @@ use Rattle.std.proofs.Common.{◌≡◌, map, length, sym, ap, ◌∙◌, arith}
 use Rattle.std.proofs.lemmas.List.{get_or-map, length-map}
 use Rattle.toml.specs.View.{view}
 use Rattle.dine_plan.specs.RefusalTests.{has_many_turns}
-use Rattle.dine_plan.specs.private.Site.{seen_site}
+use Rattle.dine_graph.specs.Site.{seen_site}
 use Rattle.dine_plan.specs.PlanOf.{site_in}
-use Rattle.dine_plan.proofs.ListLemmas.{position_none_at, each_seen_more}
+use Rattle.dine_graph.proofs.ListLemmas.{position_none_at}
+use Rattle.dine_plan.proofs.ListLemmas.{each_seen_more}
 use Rattle.dine_plan.proofs.building.sites_in.Goals as goal
 
 pub site_in-requires : goal.site_in-requires

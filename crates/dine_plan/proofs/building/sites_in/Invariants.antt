@@ -1,6 +1,6 @@
 use Rattle.std.proofs.Common.{◌≡◌, map, take}
 use Rattle.toml.specs.View.{view}
-use Rattle.dine_plan.specs.private.Site.{seen_site}
+use Rattle.dine_graph.specs.Site.{seen_site}
 use Rattle.dine_plan.specs.PlanOf.{site_in}
 use Rattle.dine_plan.proofs.building.sites_in.Given as goal
 

@@ -2,7 +2,7 @@ use Rattle.std.proofs.Common.{length, le-leb, rules, tests, arith, sym, ◌∙�
 use Rattle.std.proofs.lemmas.Bool.{eqb-false}
 use Rattle.std.proofs.lemmas.Iterator.{YieldsList-from_slice}
 use Rattle.std.proofs.lemmas.Iterator.Search.{all_from_yields_List}
-use Rattle.dine_plan.specs.Plan.{is_name_byte}
+use Rattle.dine_graph.specs.Plan.{is_name_byte}
 use Rattle.dine_plan.proofs.sites.is_name.Goals as goal
 
 pub returns-then-bytes-le-MAX_NAME : goal.returns-then-bytes-le-MAX_NAME

@@ -1,6 +1,6 @@
 use Rattle.std.proofs.Common.{◌≡◌, Bool, Vec, Global, length, map, vec_items}
 use Rattle.std.specs.List.{range_with_len}
-use Rattle.dine_plan.specs.Plan.{job_count}
+use Rattle.dine_graph.specs.Plan.{job_count}
 use Rattle.dine_refusals.proofs.calls.outcomes_of.Given as goal
 
 -- the lists of the sites so far have a value for each job

@@ -1,7 +1,7 @@
 -- One log more.
 use Rattle.std.proofs.Common.{◌∙◌, arith, ap}
 use Rattle.std.proofs.lemmas.List.FromFn.{map-range_with_len_more}
-use Rattle.dine_plan.specs.Plan.{job_count}
+use Rattle.dine_graph.specs.Plan.{job_count}
 use Rattle.dine_run.specs.CallLogs.{no_calls}
 use Rattle.dine_run.proofs.jobs.logs_for.Goals as goal
 

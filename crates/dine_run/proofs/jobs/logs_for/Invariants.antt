@@ -1,6 +1,6 @@
 use Rattle.std.proofs.Common.{◌≡◌, ◌≤◌, map, vec_len, vec_capacity}
 use Rattle.std.specs.List.{range_with_len}
-use Rattle.dine_plan.specs.Plan.{job_count, site_count}
+use Rattle.dine_graph.specs.Plan.{job_count, site_count}
 use Rattle.dine_run.specs.CallLogs.{no_calls}
 use Rattle.dine_run.proofs.jobs.logs_for.Given as goal
 

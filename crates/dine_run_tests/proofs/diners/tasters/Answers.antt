@@ -1,5 +1,5 @@
 use Rattle.std.proofs.Common.{◌≡◌, ◌≤◌, length, ap, subst, vec_items, arith}
-use Rattle.dine_plan.specs.Plan.{job_count}
+use Rattle.dine_graph.specs.Plan.{job_count}
 use Rattle.dine_run.specs.CallLogs.{SeenCallLog}
 use Rattle.dine_run_tests.specs.declared.diners.Taster.{Taster}
 use Rattle.dine_run.proofs.all_sites.Collected.{each_more, each_of_none}

@@ -1,5 +1,5 @@
 use Rattle.std.proofs.Common.{◌≡◌, ◌≤◌, ℕ, Some, slice_get, vec_len, vec_items}
-use Rattle.dine_plan.specs.Plan.{job_count}
+use Rattle.dine_graph.specs.Plan.{job_count}
 use Rattle.dine_run_tests.specs.declared.diners.Taster.{Taster}
 use Rattle.dine_run_tests.proofs.diners.tasters.Given as goal
 

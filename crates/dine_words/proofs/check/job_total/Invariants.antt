@@ -1,5 +1,5 @@
 use Rattle.std.proofs.Common.{◌≡◌, ◌≤◌, ◌*◌, length, map, sum, take}
-use Rattle.dine_plan.specs.Plan.{SeenSite}
+use Rattle.dine_graph.specs.Plan.{SeenSite}
 use Rattle.dine_words.proofs.check.job_total.Given as goal
 
 -- the jobs of the sites so far, at most 1,000 a site

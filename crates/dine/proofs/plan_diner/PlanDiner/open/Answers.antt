@@ -1,8 +1,8 @@
 use Rattle.std.proofs.Common.{◌≡◌, ◌+◌, ◌-◌, ◌<◌, ◌∷◌, ◌++◌, ℕ, Bool, false, List, [], map, length, take, get_or, slice_index_or, sym, ◌∙◌, ap, arith, rules}
 use Rattle.std.proofs.Math.Nat.{add-sub_cancel}
 use Rattle.std.proofs.lemmas.List.{take_more, map-append, get_or-map, length-map}
-use Rattle.dine_plan.specs.Job.{seen_job}
-use Rattle.dine_plan.specs.Plan.{SeenJob, jobs_of, no_job, job_count}
+use Rattle.dine_graph.specs.Job.{seen_job}
+use Rattle.dine_graph.specs.Plan.{SeenJob, jobs_of, no_job, job_count}
 use Rattle.dine.specs.PlanDiners.{fails_of}
 use Rattle.dine.specs.declared.plan_diner.Chore.{Chore}
 use Rattle.dine.proofs.plan_diner.PlanDiner.open.Goals as goal

@@ -4,8 +4,8 @@ use Rattle.std.proofs.Math.ListN.{get_or-map}
 use Rattle.std.proofs.lemmas.List.{length-map, take_all, take_more}
 use Rattle.dine_token.specs.declared.act.Act.{Act}
 use Rattle.dine_token.specs.declared.act.Act.TheVariants.{Add}
-use Rattle.dine_plan.specs.Job.{seen_job}
-use Rattle.dine_plan.specs.Plan.{SeenJob, acts_of, job_count, jobs_of, no_job}
+use Rattle.dine_graph.specs.Job.{seen_job}
+use Rattle.dine_graph.specs.Plan.{SeenJob, acts_of, job_count, jobs_of, no_job}
 use Rattle.dine_core.proofs.site.opening.acts_of.Goals as goal
 
 -- the act of one job more

@@ -1,5 +1,5 @@
 use Rattle.std.proofs.Common.{◌≡◌, take, vec_len, vec_capacity}
-use Rattle.dine_plan.specs.Plan.{acts_of}
+use Rattle.dine_graph.specs.Plan.{acts_of}
 use Rattle.dine_core.proofs.site.opening.acts_of.Given as goal
 
 -- the acts of the jobs so far, and room for the others

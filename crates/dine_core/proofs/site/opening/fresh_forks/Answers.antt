@@ -2,7 +2,7 @@ use Rattle.std.proofs.Common.{◌≡◌, ◌≢◌, ℕ, ◌+◌, ◌<◌, List,
 use Rattle.std.proofs.lemmas.Bool.Decides.{nat_tests}
 use Rattle.std.proofs.lemmas.List.{append-nil, at_drop_all, at_drop_more}
 use Rattle.dine_token.specs.Fork.{SeenFork}
-use Rattle.dine_plan.specs.Plan.{SeenPlan, IsPlan, edge_count, lo_of, site_count}
+use Rattle.dine_graph.specs.Plan.{SeenPlan, IsPlan, edge_count, lo_of, site_count}
 use Rattle.dine_rules.specs.Steps.{opened_fork}
 use Rattle.dine_core.specs.Core.{fresh_forks}
 use Rattle.dine_core.proofs.site.opening.fresh_forks.Goals as goal

@@ -1,7 +1,7 @@
 use Rattle.std.proofs.Common.{◌≡◌, ◌≢◌, ℕ, ◌+◌, List, [], ◌∷◌, ◌++◌, get_or, drop, append_assoc, sym, ◌∙◌, ap, arith}
 use Rattle.std.proofs.lemmas.Bool.Decides.{nat_tests}
 use Rattle.std.proofs.lemmas.List.{append-nil, at_drop_all, at_drop_more}
-use Rattle.dine_plan.specs.Plan.{SeenPlan, hi_of}
+use Rattle.dine_graph.specs.Plan.{SeenPlan, hi_of}
 use Rattle.dine_core.specs.Core.{fresh_tokens}
 use Rattle.dine_core.proofs.site.opening.fresh_tokens.Goals as goal
 use Rattle.dine_core.proofs.site.opening.fresh_tokens.Goals.{then-higher-site+in_ok-push, else-higher-site}

@@ -1,7 +1,7 @@
 use Rattle.std.proofs.Common.{◌≡◌, Option, Some, sym, ◌∙◌, ap, subst}
 use Rattle.std.specs.Option.{option_map}
 use Rattle.dine_token.specs.Log.{is_dirty}
-use Rattle.dine_plan.specs.Plan.{SeenPlan}
+use Rattle.dine_graph.specs.Plan.{SeenPlan}
 use Rattle.dine_core.specs.declared.world.whereabouts.Whereabouts.{Whereabouts}
 use Rattle.dine_core.specs.declared.world.whereabouts.Whereabouts.TheVariants.{At, To}
 use Rattle.dine_core.specs.Whereabouts.{IsForkAt, TellsWhere, is_fork_dirty}

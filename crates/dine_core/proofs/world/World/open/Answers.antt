@@ -1,5 +1,5 @@
 use Rattle.std.proofs.Common.{Bool, List, Vec, Global, [], ◌≡◌, ◌∙◌, ap, subst, IfOk}
-use Rattle.dine_plan.specs.Plan.{SeenPlan}
+use Rattle.dine_graph.specs.Plan.{SeenPlan}
 use Rattle.dine_rules.specs.Outcomes.{with_outcomes}
 use Rattle.dine_rules.specs.World.{start}
 use Rattle.dine_rules.proofs.journals.OtherOutcomes.{own-outcomes}

@@ -1,6 +1,6 @@
 use Rattle.std.proofs.Common.{◌≡◌, ◌≤◌, map, vec_len, vec_capacity}
 use Rattle.std.specs.List.{range_with_len}
-use Rattle.dine_plan.specs.Plan.{edge_count}
+use Rattle.dine_graph.specs.Plan.{edge_count}
 use Rattle.dine_core.specs.Worlds.{ends_seen}
 use Rattle.dine_core.proofs.world.opening.ends_of.Given as goal
 

@@ -1,5 +1,5 @@
 use Rattle.std.proofs.Common.{Some, None, ap, ◌∙◌}
-use Rattle.dine_plan.specs.Plan.{SeenJob}
+use Rattle.dine_graph.specs.Plan.{SeenJob}
 use Rattle.dine_core.proofs.all_sites.GivenOutcomes.{outcome_given}
 use Rattle.dine_core.proofs.world.opening.has_failed.Goals as goal
 

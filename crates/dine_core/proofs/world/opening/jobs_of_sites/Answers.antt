@@ -1,5 +1,5 @@
 use Rattle.std.proofs.Common.{arith}
-use Rattle.dine_plan.specs.Plan.{job_count}
+use Rattle.dine_graph.specs.Plan.{job_count}
 use Rattle.dine_core.proofs.all_sites.WorldOpened.{sum_more}
 use Rattle.dine_core.proofs.world.opening.jobs_of_sites.Goals as goal
 

@@ -1,6 +1,6 @@
 use Rattle.std.proofs.Common.{◌≡◌, ◌≤◌, ◌*◌, map, sum}
 use Rattle.std.specs.List.{range_with_len}
-use Rattle.dine_plan.specs.Plan.{job_count}
+use Rattle.dine_graph.specs.Plan.{job_count}
 use Rattle.dine_core.proofs.world.opening.jobs_of_sites.Given as goal
 
 -- the jobs of the sites so far, at most 1,000 a site

@@ -1,5 +1,5 @@
 use Rattle.std.proofs.Common.{◌≡◌, arith}
-use Rattle.dine_plan.specs.Plan.{job_count, lo_of, hi_of}
+use Rattle.dine_graph.specs.Plan.{job_count, lo_of, hi_of}
 use Rattle.dine_core.proofs.all_sites.WorldOpened.{letters_more, few_letters}
 use Rattle.dine_core.proofs.world.opening.letters_of_edges.Goals as goal
 

@@ -3,7 +3,7 @@ use Rattle.std.proofs.Math.Nat.{add-sub_cancel}
 use Rattle.std.proofs.Math.ListN.{get_or-map}
 use Rattle.std.proofs.Math.Seq.{take-length}
 use Rattle.std.proofs.lemmas.List.{take_more, length-map}
-use Rattle.dine_plan.specs.Plan.{SeenPlan, SeenJob, job_count, jobs_of, no_job}
+use Rattle.dine_graph.specs.Plan.{SeenPlan, SeenJob, job_count, jobs_of, no_job}
 use Rattle.dine_rules.specs.Outcomes.{with_outcomes}
 use Rattle.dine_core.specs.WorldSites.{outcomes_of}
 use Rattle.dine_core.specs.Worlds.{lists_of}

@@ -1,5 +1,5 @@
 use Rattle.std.proofs.Common.{List, Bool, refl, sym, ◌∙◌, ap}
-use Rattle.dine_plan.specs.Plan.{SeenPlan}
+use Rattle.dine_graph.specs.Plan.{SeenPlan}
 use Rattle.dine_rules.specs.Outcomes.{with_outcomes}
 use Rattle.dine_core.specs.WorldSites.{outcomes_of}
 use Rattle.dine_core.specs.Worlds.{lists_of}

@@ -1,5 +1,5 @@
 use Rattle.std.proofs.Common.{◌≡◌, arith, subst}
-use Rattle.dine_plan.specs.Plan.{SeenPlan, site_count}
+use Rattle.dine_graph.specs.Plan.{SeenPlan, site_count}
 use Rattle.dine_rules.specs.Outcomes.{with_outcomes}
 use Rattle.dine_core.specs.Worlds.{lists_of}
 use Rattle.dine_rules.proofs.journals.OtherOutcomes.{sites-same}

@@ -1,5 +1,5 @@
 use Rattle.std.proofs.Common.{◌≤◌, vec_capacity}
-use Rattle.dine_plan.specs.Plan.{site_count}
+use Rattle.dine_graph.specs.Plan.{site_count}
 use Rattle.dine_rules.specs.Outcomes.{with_outcomes}
 use Rattle.dine_core.specs.Worlds.{lists_of}
 use Rattle.dine_core.proofs.all_sites.WorldOpened.{AreFresh}

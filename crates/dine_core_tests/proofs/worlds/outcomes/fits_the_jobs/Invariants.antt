@@ -1,5 +1,5 @@
 use Rattle.std.proofs.Common.{◌≡◌, ℕ, ◌<◌, Bool, List, length, slice_index_or}
-use Rattle.dine_plan.specs.Plan.{job_count}
+use Rattle.dine_graph.specs.Plan.{job_count}
 use Rattle.dine_core.specs.Worlds.{lists_of}
 use Rattle.dine_core_tests.proofs.worlds.outcomes.fits_the_jobs.Given as goal
 

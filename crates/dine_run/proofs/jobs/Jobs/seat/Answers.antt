@@ -4,7 +4,7 @@ use Rattle.std.specs.Vec.Iter.{into_iter_items}
 use Rattle.std.proofs.lemmas.List.{nil_from_length, length-map, append-nil}
 use Rattle.std.proofs.lemmas.List.FromFn.{get_or-map-range_with_len, length-map-range_with_len}
 use Rattle.std.proofs.lemmas.Option.{get_or_from_slice_get, slice_get-map, slice_get_within}
-use Rattle.dine_plan.specs.Plan.{job_count, site_count}
+use Rattle.dine_graph.specs.Plan.{job_count, site_count}
 use Rattle.dine_run.specs.CallLogs.{SeenCallLog, no_calls}
 use Rattle.dine_run.specs.JobsSeated.{fresh_logs}
 use Rattle.dine_run.specs.declared.jobs.Jobs.{Jobs}

@@ -1,6 +1,6 @@
 use Rattle.std.proofs.Common.{◌≡◌, ◌≤◌, map, vec_capacity, vec_len}
 use Rattle.std.specs.List.{range_with_len}
-use Rattle.dine_plan.specs.Plan.{job_count, site_count}
+use Rattle.dine_graph.specs.Plan.{job_count, site_count}
 use Rattle.dine_rules.specs.Journals.{journal_of}
 use Rattle.dine_core.specs.Worlds.{lists_of}
 use Rattle.dine_run.specs.Orders.{lists_in, shown_in}

@@ -1,0 +1,4 @@
+pub mod Plan
+pub mod Job
+pub mod Site
+pub mod private

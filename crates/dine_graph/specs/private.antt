@@ -1,0 +1,2 @@
+-- What no public contract names: how a plan is kept.
+pub mod Fields

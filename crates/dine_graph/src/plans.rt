@@ -1,0 +1,206 @@
+//! A plan: sites with their jobs, and edges between two sites.
+ghost use Rattle.std.specs.Prelude.{◌≡◌, ℕ, ◌<◌, ◌≤◌, map, length, Some, All, IfOk, IsTrue, slice_get};
+ghost use Rattle.dine_graph.specs.Plan.{IsPlan, site_count, edge_count, job_count, job_of, name_of, ends_of, other_of, edges_of, is_end, resigns, value_of};
+ghost use Rattle.std.specs.List.Sorted.{IsStrictlyIncreasing};
+
+use crate::places::{lists_at, places_in};
+use dine_token::Act;
+use std::alloc::{AllocError, Global};
+use std::marker::Model;
+
+/// One job of a site.
+#[derive(Debug, PartialEq, Eq, Drop)]
+pub struct Job {
+    /// The name of the job. Two jobs of a site may have the same.
+    pub name: String,
+    /// How many turns the job takes, at most 1,000,000.
+    pub turns: u32,
+    /// Whether the job fails.
+    pub fails: bool,
+    /// What its meal does to the value of each edge of the site. A job that names nothing adds 0.
+    pub act: Act,
+}
+
+/// A site of a plan that is made.
+#[derive(Debug, Drop)]
+pub struct Site {
+    /// The name of the site.
+    pub name: String,
+    /// Its jobs, in order.
+    pub jobs: Vec<Job>,
+    /// Whether it drops the jobs that it has left once one failed.
+    pub resigns: bool,
+}
+
+/// A plan: 1 to 64 sites in the order of the plan text, each with a name of its own and at most 1,000 jobs, and at
+/// most 512 edges in the order of the text, each between two sites that no other edge joins. Sites and edges are
+/// numbered from 0, and the jobs of a site from 1.
+#[derive(Debug, Drop)]
+pub struct Plan {
+    version: u32,
+    sites: Vec<Site>,
+    ends: Vec<(u32, u32)>,
+    values: Vec<u64>,
+    // For each site its edges, ascending, and for each edge its places in the lists of its two ends.
+    edges_of: Vec<Vec<u32>>,
+    places: Vec<(u32, u32)>,
+}
+
+impl Model for Plan {
+    ghost use Rattle.dine_graph.specs.Plan.{SeenPlan};
+
+    ghost Value = { SeenPlan };
+
+    ghost use Rattle.dine_graph.specs.private.Fields.{seen_plan, IsKept};
+
+    ghost view = { seen_plan };
+
+    ghost invariant = { IsKept };
+}
+
+impl Plan {
+    ghost use Rattle.dine_graph.specs.Job.{seen_job};
+    ghost use Rattle.dine_graph.specs.Site.{seen_site};
+
+    /// The plan of this version, these sites, these ends of edges and their values, which a caller shows to be a plan.
+    /// It answers `AllocError` where memory is refused. `dine_plan` reads plans from texts, and refuses what is none.
+    pub fn new(
+        alloc: Global,
+        version: u32,
+        sites: Vec<Site>,
+        ends: Vec<(u32, u32)>,
+        values: Vec<u64>,
+    ) -> Result<Plan, AllocError>
+        requires { IsPlan (record { version = version; sites = map seen_site sites.items; edges = ends.items; values = values.items }) }
+        ensures { IfOk result (λ p. p ≡ record { version = version; sites = map seen_site sites.items; edges = ends.items; values = values.items }) }
+    {
+        let edges_of = lists_at(alloc, sites.len(), ends.as_slice())?;
+        let places = places_in(alloc, ends.as_slice(), edges_of.as_slice())?;
+        Ok(Plan {
+            version,
+            sites,
+            ends,
+            values,
+            edges_of,
+            places,
+        })
+    }
+
+    /// The version of the plan's format, 1 or 2. In version 1 each value is 0, each job adds 0, and no site resigns.
+    pub fn version(&self) -> u32
+        ensures version { result ≡ self.now.version }
+        ensures plan { IsPlan self.now }
+    {
+        self.version
+    }
+
+    /// How many sites there are, 1 to 64.
+    pub fn sites(&self) -> u32
+        ensures count { result ≡ site_count self.now }
+        ensures plan { IsPlan self.now }
+    {
+        self.sites.len() as u32
+    }
+
+    /// How many edges there are, 0 to 512.
+    pub fn edges(&self) -> u32
+        ensures count { result ≡ edge_count self.now }
+        ensures plan { IsPlan self.now }
+    {
+        self.ends.len() as u32
+    }
+
+    /// The name of a site, whose number is below `sites`.
+    pub fn name(&self, site: u32) -> &str
+        requires { site < site_count self.now }
+        ensures name { result.now ≡ name_of self.now site }
+        ensures plan { IsPlan self.now }
+    {
+        self.sites[site as usize].name.as_str()
+    }
+
+    /// How many jobs a site has, 0 to 1,000.
+    pub fn jobs(&self, site: u32) -> u32
+        requires { site < site_count self.now }
+        ensures count { result ≡ job_count self.now site }
+        ensures plan { IsPlan self.now }
+    {
+        self.sites[site as usize].jobs.len() as u32
+    }
+
+    /// Job `k` of a site, from 1 to `jobs`.
+    pub fn job(&self, site: u32, k: u32) -> &Job
+        requires site_in { site < site_count self.now }
+        requires from_one { 1 ≤ k }
+        requires job_in { k ≤ job_count self.now site }
+        ensures job { seen_job result.now ≡ job_of self.now site k }
+        ensures plan { IsPlan self.now }
+    {
+        &self.sites[site as usize].jobs[(k - 1) as usize]
+    }
+
+    /// Whether a site, whose number is below `sites`, drops the jobs that it has left once one failed.
+    pub fn resigns(&self, site: u32) -> bool
+        requires { site < site_count self.now }
+        ensures policy { result ≡ resigns self.now site }
+        ensures plan { IsPlan self.now }
+    {
+        self.sites[site as usize].resigns
+    }
+
+    /// The value of an edge before the first meal, at most 1,000,000. The edge's number is below `edges`.
+    pub fn value(&self, edge: u32) -> u64
+        requires { edge < edge_count self.now }
+        ensures value { result ≡ value_of self.now edge }
+        ensures plan { IsPlan self.now }
+    {
+        self.values[edge as usize]
+    }
+
+    /// The edges that have the site as an end, ascending. The place of an edge is its position here, from 0.
+    pub fn edges_of(&self, site: u32) -> &[u32]
+        requires { site < site_count self.now }
+        ensures edges { result.now ≡ edges_of self.now site }
+        ensures ascending { IsStrictlyIncreasing result.now }
+        ensures ends { All (λ e. IsTrue (is_end self.now site e)) result.now }
+        ensures within { All (λ e. e < edge_count self.now) result.now }
+        ensures plan { IsPlan self.now }
+    {
+        self.edges_of[site as usize].as_slice()
+    }
+
+    /// The place of an edge in `edges_of` the site, which is an end of the edge.
+    pub fn place(&self, edge: u32, site: u32) -> u32
+        requires edge_in { edge < edge_count self.now }
+        requires end { IsTrue (is_end self.now site edge) }
+        ensures place { slice_get (edges_of self.now site) result ≡ Some edge }
+        ensures only { (i : ℕ) → slice_get (edges_of self.now site) i ≡ Some edge → i ≡ result }
+        ensures within { result < length (edges_of self.now site) }
+        ensures plan { IsPlan self.now }
+    {
+        let (lo, _) = self.ends(edge);
+        let (at_lo, at_hi) = self.places[edge as usize];
+        if lo == site { at_lo } else { at_hi }
+    }
+
+    /// The two ends of an edge, whose number is below `edges`: the lower site number first.
+    pub fn ends(&self, edge: u32) -> (u32, u32)
+        requires { edge < edge_count self.now }
+        ensures ends { result ≡ ends_of self.now edge }
+        ensures plan { IsPlan self.now }
+    {
+        self.ends[edge as usize]
+    }
+
+    /// The end of an edge other than the site, which is an end of it.
+    pub fn other(&self, edge: u32, site: u32) -> u32
+        requires edge_in { edge < edge_count self.now }
+        requires end { IsTrue (is_end self.now site edge) }
+        ensures other { result ≡ other_of self.now edge site }
+        ensures end { IsTrue (is_end self.now result edge) }
+        ensures plan { IsPlan self.now }
+    {
+        let (lo, hi) = self.ends(edge);
+        if lo == site { hi } else { lo }
+    }
+}
