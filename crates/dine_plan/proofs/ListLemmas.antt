@@ -7,6 +7,7 @@ use Rattle.std.proofs.lemmas.List.{length-take-le, get_or-take, take_more, map_p
 use Rattle.std.proofs.lemmas.List.Folds.{list_any_at, list_any_none}
 use Rattle.std.proofs.lemmas.List.Sums.{position_or_len_is, fails_before_first}
 use Rattle.std.proofs.lemmas.List.FromFn.{length-range_with_len, get_or-range_with_len}
+use Rattle.dine_graph.proofs.ListLemmas.{position_none_at}
 use Rattle.dine_plan.specs.RefusalTests.{stands_before, first_twice, first_some}
 
 pub list_any-map : {X Y : Type 0} (p : X → Bool) (h : Y → X) (ys : List Y) → list_any p (map h ys) ≡ list_any (λ y. p (h y)) ys
