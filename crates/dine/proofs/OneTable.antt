@@ -6,8 +6,8 @@ use Rattle.std.proofs.lemmas.List.FromFn.{fill_by_all}
 use Rattle.std.proofs.lemmas.Option.{slice_get-get_or}
 use Rattle.dine_graph.specs.Plan.{SeenPlan, edge_count, lo_of, hi_of}
 use Rattle.dine_rules.specs.Values.{added_up, has_no_set}
-use Rattle.dine_run.specs.declared.tables.EdgeRow.{EdgeRow}
-use Rattle.dine_run.specs.Tables.{AreDueValues, due_edge_rows, edge_row}
+use Rattle.dine_threads.specs.declared.tables.EdgeRow.{EdgeRow}
+use Rattle.dine_threads.specs.Tables.{AreDueValues, due_edge_rows, edge_row}
 use Rattle.dine_words.specs.declared.words.Table.{Table}
 use Rattle.dine_words.specs.declared.words.Table.TheVariants.{Edges, Sites}
 use Rattle.dine.specs.Run.{IsRunText, meals_at}

@@ -4,10 +4,10 @@ use Rattle.std.specs.declared.io.ErrorKind.{ErrorKind}
 use Rattle.std.specs.declared.io.ErrorKind.TheVariants as kind
 use Rattle.dine_plan.specs.declared.plan_fault.PlanFault.{PlanFault}
 use Rattle.dine_plan.specs.declared.plan_fault.PlanFault.TheVariants as text
-use Rattle.dine_run.specs.Causes.{cause_of, cause_words}
-use Rattle.dine_run.specs.declared.causes.RunCause.{RunCause}
-use Rattle.dine_run.specs.declared.causes.RunCause.TheVariants as run_cause
-use Rattle.dine_run.specs.declared.gathered.RunFault.{RunFault}
+use Rattle.dine_threads.specs.Causes.{cause_of, cause_words}
+use Rattle.dine_threads.specs.declared.causes.RunCause.{RunCause}
+use Rattle.dine_threads.specs.declared.causes.RunCause.TheVariants as run_cause
+use Rattle.dine_threads.specs.declared.gathered.RunFault.{RunFault}
 use Rattle.dine_words.specs.Output.{WritesPrefix}
 use Rattle.dine.specs.PlanDiners.{SeenPlanDiner}
 use Rattle.dine.specs.declared.fault_lines.Fault.{Fault}

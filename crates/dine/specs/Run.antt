@@ -4,11 +4,11 @@ use Rattle.std.specs.Global.{Vec}
 use Rattle.std.specs.List.{range_with_len}
 use Rattle.dine_graph.specs.Plan.{SeenPlan, SeenJob, IsPlan, site_count, job_count, jobs_of, resigns}
 use Rattle.dine_token.specs.Fork.{SeenFork}
-use Rattle.dine_run.specs.declared.causes.RunCause.TheVariants as run_cause
-use Rattle.dine_run.specs.declared.gathered.RunFault.{RunFault}
-use Rattle.dine_run.specs.declared.gathered.SiteOut.{SiteOut}
-use Rattle.dine_run.specs.Headline.{FaultIs}
-use Rattle.dine_run.specs.Tables.{AreDueValues, IsGatheredOf, edge_rows, site_rows, due_edge_rows, due_site_rows}
+use Rattle.dine_threads.specs.declared.causes.RunCause.TheVariants as run_cause
+use Rattle.dine_threads.specs.declared.gathered.RunFault.{RunFault}
+use Rattle.dine_threads.specs.declared.gathered.SiteOut.{SiteOut}
+use Rattle.dine_threads.specs.Headline.{FaultIs}
+use Rattle.dine_threads.specs.Tables.{AreDueValues, IsGatheredOf, edge_rows, site_rows, due_edge_rows, due_site_rows}
 use Rattle.dine.specs.PlanDiners.{SeenPlanDiner, fails_of, first_word, fits_marks}
 use Rattle.dine.specs.Tables.{edges_table, sites_table}
 use Rattle.dine_words.specs.declared.words.Table.{Table}

@@ -3,8 +3,8 @@ use Rattle.std.specs.Prelude.{ℕ, ◌==◌, if◌then◌else◌, ◌<◌, List,
 use Rattle.std.specs.Fmt.{decimal}
 use Rattle.std.specs.List.{flat_map, join_with_byte}
 use Rattle.dine_graph.specs.Plan.{SeenPlan, site_count, edge_count, name_of}
-use Rattle.dine_run.specs.declared.tables.EdgeRow.{EdgeRow}
-use Rattle.dine_run.specs.declared.tables.SiteRow.{SiteRow}
+use Rattle.dine_threads.specs.declared.tables.EdgeRow.{EdgeRow}
+use Rattle.dine_threads.specs.declared.tables.SiteRow.{SiteRow}
 
 -- the fields with a comma between each two, and a line feed
 abbrev pub record_text : List (List ℕ) → List ℕ

@@ -3,7 +3,7 @@ ghost use Rattle.std.specs.Prelude.{◌≡◌};
 
 use crate::plan_diner::PlanDiner;
 use dine_plan::PlanFault;
-use dine_run::{RunCause, RunFault};
+use dine_threads::{RunCause, RunFault};
 use dine_words::{InputFault, Status, WordsFault, WriteFault, write_line};
 use std::alloc::AllocError;
 use std::fmt;

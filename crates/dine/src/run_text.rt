@@ -9,7 +9,7 @@ use crate::tables::{write_edges, write_sites};
 use dine_link::{ChannelLane, Lane, RingLane};
 use dine_plan::Plan;
 use dine_rules::laws;
-use dine_run::{Gathered, edge_table, run, site_table};
+use dine_threads::{Gathered, edge_table, run, site_table};
 use dine_words::{Links, Table};
 use std::alloc::{AllocError, Global};
 use std::sync::Wait;

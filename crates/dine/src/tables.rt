@@ -6,7 +6,7 @@ ghost use Rattle.dine.specs.Tables.{IsEdgeRowOf, IsSiteRowOf, edge_record, edges
 
 use csv::Writer;
 use dine_plan::Plan;
-use dine_run::{EdgeRow, SiteRow};
+use dine_threads::{EdgeRow, SiteRow};
 use std::alloc::{AllocError, Global};
 
 /// The table of edges: the header `edge,lo,hi,lo_meals,hi_meals`, and for each row a record of the edge's number, the

@@ -2,7 +2,7 @@
 use Rattle.std.specs.Prelude.{◌≡◌, ℕ, List, Some, length, slice_get}
 use Rattle.dine_graph.specs.Plan.{SeenPlan, site_count, job_count}
 use Rattle.dine_run.specs.CallLogs.{no_calls}
-use Rattle.dine_run.specs.declared.gathered.SiteOut.{SiteOut}
+use Rattle.dine_threads.specs.declared.gathered.SiteOut.{SiteOut}
 use Rattle.dine_example.specs.declared.teller.Teller.{Teller}
 
 -- The tellers before the run: one for each site, not yet called, with room for its jobs.

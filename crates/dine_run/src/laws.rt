@@ -9,9 +9,9 @@ ghost use Rattle.dine_rules.specs.declared.events.Event.{Event};
 ghost use Rattle.dine_rules.specs.declared.events.EventKind.{EventKind};
 ghost use Rattle.dine_core.specs.Worlds.{forks_seen};
 ghost use Rattle.dine_link.specs.Links.{SeenLink};
-ghost use Rattle.dine_run.specs.Headline.{IsHeadline};
-ghost use Rattle.dine_run.specs.Journals.{AreJournals};
-ghost use Rattle.dine_run.specs.Orders.{plan_shown};
+ghost use Rattle.dine_threads.specs.Headline.{IsHeadline};
+ghost use Rattle.dine_threads.specs.Journals.{AreJournals};
+ghost use Rattle.dine_order.specs.Orders.{plan_shown};
 
 use dine_rules::laws;
 

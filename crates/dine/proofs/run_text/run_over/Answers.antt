@@ -2,9 +2,9 @@
 use Rattle.std.proofs.Common.{◌≡◌, ◌≢◌, ◌∙◌, refl, Result, Ok, Err, IfErr, IsErrAnd, length, vec_items, vec_len, ap, subst, sym, arith}
 use Rattle.std.specs.Global.{Vec}
 use Rattle.dine_graph.specs.Plan.{SeenPlan, site_count}
-use Rattle.dine_run.specs.Headline.{FaultIs}
-use Rattle.dine_run.specs.declared.gathered.RunFault.{RunFault}
-use Rattle.dine_run.specs.declared.gathered.RunFault.TheVariants as run
+use Rattle.dine_threads.specs.Headline.{FaultIs}
+use Rattle.dine_threads.specs.declared.gathered.RunFault.{RunFault}
+use Rattle.dine_threads.specs.declared.gathered.RunFault.TheVariants as run
 use Rattle.dine.specs.FaultLines.{fault_of_run}
 use Rattle.dine.specs.PlanDiners.{SeenPlanDiner, fits_marks}
 use Rattle.dine.specs.Run.{NamesSite, TellsRun, diners_of}

@@ -1,6 +1,6 @@
 -- The rows are those of the plan, whose numbers are in range.
 use Rattle.std.proofs.Common.{◌≡◌, ◌∙◌, All, sym, subst}
-use Rattle.dine_run.specs.Tables.{due_edge_rows, due_site_rows}
+use Rattle.dine_threads.specs.Tables.{due_edge_rows, due_site_rows}
 use Rattle.dine.specs.Run.{failing_by_site, meals_at}
 use Rattle.dine.specs.Tables.{IsEdgeRowOf, IsSiteRowOf}
 use Rattle.dine.proofs.RunLemmas.{due_edge_rows_named, due_site_rows_named}

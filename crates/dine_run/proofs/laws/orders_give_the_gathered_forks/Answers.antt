@@ -1,4 +1,4 @@
-use Rattle.dine_run.proofs.one_order.Ordered.{Known, forks_of_order}
+use Rattle.dine_run.proofs.Ordered.{Known, forks_of_order}
 use Rattle.dine_run.proofs.laws.orders_give_the_gathered_forks.Goals as goal
 
 pub returns : goal.returns

@@ -3,7 +3,7 @@ use Rattle.std.specs.List.{range_with_len}
 use Rattle.std.proofs.lemmas.Option.{none-some, same_Some}
 use Rattle.dine_token.specs.Fork.{SeenFork}
 use Rattle.dine_graph.specs.Plan.{SeenPlan, edge_count, site_count, job_count, ends_of, lo_of, hi_of}
-use Rattle.dine_run.specs.declared.gathered.SiteOut.{SiteOut}
+use Rattle.dine_threads.specs.declared.gathered.SiteOut.{SiteOut}
 use Rattle.dine_run.specs.Tables.{IsGatheredOf}
 use Rattle.dine_run_tests.proofs.tables.gathered_of_path.Goals as goal
 

@@ -1,0 +1,5 @@
+mod Outcomes
+mod Sets
+mod Placing
+mod Answering
+pub mod Shown

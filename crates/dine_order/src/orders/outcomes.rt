@@ -1,0 +1,53 @@
+// The outcomes of meals that journals show.
+ghost use Rattle.std.specs.Prelude.{◌≡◌, IfOk, length};
+ghost use Rattle.dine_graph.specs.Plan.{site_count};
+ghost use Rattle.dine_core.specs.Worlds.{lists_of};
+ghost use Rattle.dine_order.specs.Orders.{lists_in, noted, shown_by, shown_in};
+
+use dine_core::EventKind;
+use dine_graph::Plan;
+use std::alloc::{AllocError, Global};
+
+/// For each site, which of its jobs failed: the last one before each Quit of its journal, and no other.
+pub(super) fn shown_by(
+    alloc: Global,
+    plan: &Plan,
+    journals: &[Vec<EventKind>],
+) -> Result<Vec<Vec<bool>>, AllocError>
+    requires { length journals.now ≡ site_count plan.now }
+    ensures { IfOk result (λ fails. lists_of fails.items ≡ shown_by plan.now (lists_in journals.now)) }
+{
+    let mut fails = Vec::with_capacity(alloc, plan.sites() as usize)?;
+    for site in 0..plan.sites() {
+        let journal = journals[site as usize].as_slice();
+        fails.push_reserved(shown_in(alloc, plan.jobs(site), journal)?);
+    }
+    Ok(fails)
+}
+
+// Which of so many jobs failed.
+fn shown_in(alloc: Global, jobs: u32, journal: &[EventKind]) -> Result<Vec<bool>, AllocError>
+    ensures { IfOk result (λ fails. fails.items ≡ shown_in jobs journal.now) }
+{
+    let mut fails = vec![in alloc; false; jobs as usize]?;
+    // How many meals have ended.
+    let mut ended = 0;
+    for kind in journal.iter() {
+        match *kind {
+            EventKind::End => ended += 1,
+            EventKind::Quit => note(&mut fails, ended),
+            _ => {}
+        }
+    }
+    Ok(fails)
+}
+
+// The site quits after so many meals: the last one failed. Where none ended, or the site has no job of that number,
+// nothing is noted.
+fn note(fails: &mut Vec<bool>, ended: usize)
+    ensures { fails.new.items ≡ noted ended fails.old.items }
+{
+    if 1 <= ended && ended <= fails.len() {
+        fails[ended - 1] = true;
+    }
+}

@@ -1,0 +1,65 @@
+use Rattle.std.proofs.Common.{rules, ◌≡◌, [], All, ap, sym, subst, ◌∙◌, arith, vec_items}
+use Rattle.std.proofs.lemmas.Grind.{common_steps}
+use Rattle.std.proofs.lemmas.List.{nil_from_length}
+use Rattle.std.specs.Vec.Iter.{into_iter_items}
+use Rattle.dine_rules.specs.Letters.{has_close}
+use Rattle.dine_link.specs.Lanes.{seen_end}
+use Rattle.dine_link.specs.Links.{SeenLink, link_of}
+use Rattle.dine_threads.specs.private.Collecting.{AreJoined, IsTakenToClose, links_left}
+use Rattle.dine_threads.specs.Gathered.{IsTakenInOrder}
+use Rattle.dine_threads.proofs.lists.Pairs.{links_left-push}
+use Rattle.dine_threads.proofs.lists.Zips.{all_first, all_rest, two_more, all_two_more}
+use Rattle.dine_threads.proofs.collecting.reconcile_all.Goals as goal
+
+pub loop-pair-init : goal.loop-pair-init
+loop-pair-init g c =
+    let none : vec_items c.args.links.now ≡ [] = nil_from_length (vec_items c.args.links.now) (omega (arith, c.requires.none, c.args.links.now.ok.0)) in
+    let gives : into_iter_items c.into_iter-pair-iterator.result ≡ vec_items c.args.pairs = c.into_iter-pair-iterator.ensures.into_iter_gives.0 in
+    record {
+      room = search rules;
+      joined = subst (All (AreJoined g.L.Lane.seen_tx g.L.Lane.seen_closed g.L.Lane.seen_rx)) (sym gives) c.requires.joined;
+      split = search rules;
+      lists = none;
+      in_order = subst (All IsTakenInOrder) (sym none) (λ k d within. absurd (omega (arith, within)));
+      whole = subst (All IsTakenToClose) (sym none) (λ k d within. absurd (omega (arith, within)));
+    }
+
+pub reconcile-requires : goal.reconcile-requires
+reconcile-requires g c =
+    let joined = all_first (AreJoined g.L.Lane.seen_tx g.L.Lane.seen_closed g.L.Lane.seen_rx) (into_iter_items c.loop-pair.pair-iterator) (into_iter_items c.next.new.self) c.in-Some.pair c.in-Some.ensures.steps.0 c.loop-pair.invariant.joined in
+    record { pair = joined.goes }
+
+pub reconcile-requires-in-loop-pair : goal.reconcile-requires-in-loop-pair
+reconcile-requires-in-loop-pair g c =
+    let joined = all_first (AreJoined g.L.Lane.seen_tx g.L.Lane.seen_closed g.L.Lane.seen_rx) (into_iter_items c.loop-pair.pair-iterator) (into_iter_items c.next.new.self) c.in-Some.pair c.in-Some.ensures.steps.0 c.loop-pair.invariant.joined in
+    record { pair = joined.comes }
+
+pub loop-pair-preserved : goal.loop-pair-preserved
+loop-pair-preserved g c =
+    let was = c.loop-pair.invariant in
+    let live = g.L.Lane.seen_tx in
+    let shut = g.L.Lane.seen_closed in
+    let taking = g.L.Lane.seen_rx in
+    let old = vec_items c.loop-pair.links in
+    let mid = vec_items c.push_reserved.new.self in
+    let new = vec_items c.push_reserved-in-loop-pair.new.self in
+    let goes = c.reconcile.ensures in
+    let comes = c.reconcile-in-loop-pair.ensures in
+    record {
+      room = omega (arith, was.room, c.in-Some.ensures.steps.1, c.push_reserved.ensures.len, c.push_reserved-in-loop-pair.ensures.len, c.push_reserved.ensures.capacity, c.push_reserved-in-loop-pair.ensures.capacity);
+      joined = all_rest (AreJoined live shut taking) (into_iter_items c.loop-pair.pair-iterator) (into_iter_items c.next.new.self) c.in-Some.pair c.in-Some.ensures.steps.0 was.joined;
+      split = grind (arith, common_steps);
+      lists =
+          two_more (links_left live shut taking c.loop-pair.yielded) old mid new c.reconcile.result c.reconcile-in-loop-pair.result
+          (link_of (seen_end live shut c.in-Some.pair.low.tx) (taking c.in-Some.pair.high.rx)) (link_of (seen_end live shut c.in-Some.pair.high.tx) (taking c.in-Some.pair.low.rx))
+          was.lists c.push_reserved.ensures.items c.push_reserved-in-loop-pair.ensures.items goes.lists comes.lists
+          ∙ sym (links_left-push live shut taking c.loop-pair.yielded c.in-Some.pair);
+      in_order =
+          all_two_more IsTakenInOrder old mid new c.reconcile.result c.reconcile-in-loop-pair.result c.push_reserved.ensures.items c.push_reserved-in-loop-pair.ensures.items was.in_order
+          (record { prefix = goes.prefix; nothing_after_close = goes.close_last })
+          (record { prefix = comes.prefix; nothing_after_close = comes.close_last });
+      whole =
+          all_two_more IsTakenToClose old mid new c.reconcile.result c.reconcile-in-loop-pair.result c.push_reserved.ensures.items c.push_reserved-in-loop-pair.ensures.items was.whole
+          (λ closed. goes.whole (sym (ap (λ (l : SeenLink). has_close l.taken) goes.lists) ∙ closed))
+          (λ closed. comes.whole (sym (ap (λ (l : SeenLink). has_close l.taken) comes.lists) ∙ closed));
+    }

@@ -1,0 +1,23 @@
+use Rattle.std.proofs.Common.{[], ◌∷◌, ◌++◌, List, map, ap, arith}
+use Rattle.std.proofs.Math.Seq.{map-set_same}
+use Rattle.dine_threads.specs.Ports.{SeenPort, seen_port}
+use Rattle.dine_threads.specs.declared.opening.Stand.{Stand}
+use Rattle.dine_threads.proofs.all_sites.Laying.{map_grown, map-set_read}
+use Rattle.dine_threads.proofs.opening.lay.Goals as goal
+
+pub returns-clause-bells : goal.returns-clause-bells
+returns-clause-bells g c =
+    let stands = c.args.stands.now in
+    let old = c.index_mut.result.now in
+    let new : Stand _ _ _ _ = record { ports = c.push.new.self; bell = old.bell } in
+    let bell = λ (stand : Stand _ _ _ _). stand.bell in
+    map-set_same bell stands.items c.args.site new old (ap bell c.index_mut.ensures.value)
+
+pub returns-clause-rows : goal.returns-clause-rows
+returns-clause-rows g c =
+    let stands = c.args.stands.now in
+    let old = c.index_mut.result.now in
+    let new : Stand _ _ _ _ = record { ports = c.push.new.self; bell = old.bell } in
+    let seen = seen_port g.L.Lane.seen_tx g.L.Lane.seen_closed g.L.Lane.seen_rx in
+    map-set_read (λ (stand : Stand _ _ _ _). map seen stand.ports.items) stands.items c.args.site old new (λ (row : List (SeenPort g.L.Lane.Identity)). row ++ seen c.args.port ∷ []) []
+    (omega (arith, stands.ok.0)) c.index_mut.ensures.value (map_grown seen old.ports.items c.push.new.self.items c.args.port c.in_ok-push.ensures.items)

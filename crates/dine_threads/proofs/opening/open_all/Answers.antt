@@ -1,0 +1,22 @@
+use Rattle.std.proofs.Common.{◌∙◌, sym, subst, vec_items, arith}
+use Rattle.dine_threads.proofs.all_sites.Laying.{ringers_at, stands_from_laid}
+use Rattle.dine_threads.specs.private.Openings.{bells_of, rows_of}
+use Rattle.dine_threads.specs.private.Wirings.{AreRung}
+use Rattle.dine_threads.specs.declared.opening.Stand.{Stand}
+use Rattle.std.proofs.lemmas.List.{length-map}
+use Rattle.std.proofs.lemmas.Option.{slice_get_within}
+use Rattle.dine_threads.proofs.opening.open_all.Goals as goal
+
+pub returns-clause-each : goal.returns-clause-each
+returns-clause-each g c =
+    stands_from_laid g.L.Lane.seen_tx g.L.Lane.seen_closed g.L.Lane.seen_rx c.args.plan.now (vec_items c.open_stands.new.stands) (vec_items c.open_edges.new.stands)
+    c.in_ok-open_stands.ensures.bare c.in_ok-open_edges.ensures.bells c.in_ok-open_edges.ensures.laid
+
+pub returns-clause-rung : goal.returns-clause-rung
+returns-clause-rung g c =
+    subst (λ bells. AreRung c.args.plan.now bells (rows_of g.L.Lane.seen_tx g.L.Lane.seen_closed g.L.Lane.seen_rx (vec_items c.open_edges.new.stands))) (sym c.in_ok-open_edges.ensures.bells) c.in_ok-open_edges.ensures.laid.rung
+
+pub open_edges-requires-clause-each : goal.open_edges-requires-clause-each
+open_edges-requires-clause-each g c κs ls edge both at =
+    ringers_at c.args.plan.now (bells_of (vec_items c.open_stands.new.stands)) (vec_items c.open_stands.new.ringers) c.in_ok-open_stands.ensures.ringers edge both c.sites-sites.ensures.plan
+    (omega (arith, slice_get_within (vec_items c.pair_up.new.pairs) edge both at, c.pair_up.ensures.count, c.pair_up.new.pairs.ok.0)) (length-map (vec_items c.open_stands.new.stands) (λ (stand : Stand _ _ _ _). stand.bell) ∙ omega (arith, c.in_ok-open_stands.ensures.count, c.open_stands.new.stands.ok.0)) (c.pair_up.ensures.each edge both at)

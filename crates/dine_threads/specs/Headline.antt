@@ -1,0 +1,78 @@
+-- The headline. Whenever all sites have joined (Ok or Broken), what was taken from each link is a prefix of what was
+-- put, in order, each letter once, nothing after Close. Where `run` answers Ok, everything put was taken, exactly one
+-- fork per edge is gathered, and its log is lawful and holds every meal that either end ate exactly once. Where it
+-- answers Broken, at most one fork per edge is found, and each breach that a site tells is a Close that came early.
+-- When anything happened, and in what order the sites ate, is not said.
+use Rattle.std.specs.Prelude.{◌≡◌, ◌≢◌, ℕ, ◌+◌, ◌<◌, ◌≤◌, ◌==◌, Bool, List, All, filter, length, map, slice_get, slice_index_or, vec_len, Some, Result, Ok, Err, if◌then◌else◌}
+use Rattle.std.specs.Global.{Vec}
+use Rattle.std.specs.List.{range_with_len}
+use Rattle.dine_token.specs.declared.log_entry.Entry.{Entry}
+use Rattle.dine_token.specs.Fork.{SeenFork}
+use Rattle.dine_graph.specs.Plan.{SeenPlan, site_count, edge_count, edges_of, lo_of, hi_of}
+use Rattle.dine_rules.specs.Holdings.{forks_held, tokens_held, hand}
+use Rattle.dine_rules.specs.JoinedEnds.{IsWholeLog}
+use Rattle.dine_rules.specs.Local.{edge_at}
+use Rattle.dine_rules.specs.Steps.{fork_by}
+use Rattle.dine_rules.specs.Streams.{IsPutInOrder}
+use Rattle.dine_link.specs.Links.{SeenLink}
+use Rattle.dine_threads.specs.declared.diner.Call.{Call}
+use Rattle.dine_threads.specs.declared.gathered.SiteOut.{SiteOut}
+use Rattle.dine_threads.specs.declared.gathered.RunFault.{RunFault}
+use Rattle.dine_threads.specs.declared.gathered.RunFault.TheVariants.{DinersDiffer, Memory, Thread, Broken}
+use Rattle.dine_threads.specs.Brokens.{AllClosedEarly, AreStatesLeft}
+use Rattle.dine_threads.specs.Gathered.{AreLinksOf, AreOutsOf, IsTakenInOrder, IsClosedWhole, IsLowestFault, low_traffic, high_traffic, traffic_of}
+
+-- Once all have joined: each link was taken in order, and what each end put is in order.
+pub record AllJoined (plan : SeenPlan) (ates : List ℕ) (links : List SeenLink) : Type 0 where
+  pub by_edge : AreLinksOf plan links
+  pub in_order : All IsTakenInOrder links
+  pub puts : (s i : ℕ) → s < site_count plan → i < length (edges_of plan s) → IsPutInOrder plan s i (slice_index_or ates s 0) (traffic_of plan links s (edge_at plan s i))
+
+module _ (plan : SeenPlan) (ates : List ℕ) (links : List SeenLink) where
+  -- how many meals a site ate
+  abbrev pub ate_of : ℕ → ℕ
+  ate_of s = slice_index_or ates s 0
+
+  -- the log in the hand of the end that holds the edge's fork
+  abbrev pub log_in_hand : ℕ → List Entry
+  log_in_hand edge = if forks_held plan (lo_of plan edge) edge (low_traffic links edge) == 1
+      then hand (lo_of plan edge) (ate_of (lo_of plan edge)) (low_traffic links edge)
+      else hand (hi_of plan edge) (ate_of (hi_of plan edge)) (high_traffic links edge)
+
+  -- Exactly one end holds the edge's fork: this is it, with a whole log, and the value that the log gives.
+  -- [paper: one fork]
+  pub record IsTheFork (edge : ℕ) (fork : SeenFork) : Type 0 where
+    pub one : forks_held plan (lo_of plan edge) edge (low_traffic links edge) + forks_held plan (hi_of plan edge) edge (high_traffic links edge) ≡ 1
+    pub in_hand : fork ≡ fork_by plan edge (log_in_hand edge)
+    pub whole : IsWholeLog plan edge (ate_of (lo_of plan edge)) (ate_of (hi_of plan edge)) fork.log
+
+  -- `run` answers Ok: all joined, all put was taken, and there is one fork an edge, by edge, each as `IsTheFork`.
+  pub record IsHeadline (forks : List SeenFork) : Type 0 where
+    pub joined : AllJoined plan ates links
+    pub all_taken : All IsClosedWhole links
+    pub one_fork_an_edge : map (λ (fork : SeenFork). fork.edge) forks ≡ range_with_len 0 (edge_count plan)
+    pub each_fork : (edge : ℕ) (fork : SeenFork) → slice_get forks edge ≡ Some fork → IsTheFork edge fork
+
+-- Exactly one end of each edge holds its token, and each site has those that it holds, in edge order.
+pub record AreTokensOf {D : Type 0} (plan : SeenPlan) (links : List SeenLink) (outs : List (SiteOut D)) : Type 0 where
+  pub one : (edge : ℕ) → edge < edge_count plan → tokens_held plan (lo_of plan edge) edge (low_traffic links edge) + tokens_held plan (hi_of plan edge) edge (high_traffic links edge) ≡ 1
+  pub stand : (s : ℕ) (out : SiteOut D) → slice_get outs s ≡ Some out → out.tokens.items ≡ filter (λ edge. tokens_held plan s edge (traffic_of plan links s edge) == 1) (edges_of plan s)
+
+-- Why a run gathered nothing, or not all: the diners were not as many as the sites, and these are they; or all joined,
+-- the site named is the lowest with a fault, and what is found is as `AreStatesLeft` and `AllClosedEarly` say. Where
+-- memory or a thread is told to have been refused, nothing is said of the cause, nor of what moved.
+abbrev pub FaultIs : {D : Type 0} → (D → List Call) → (D → List Bool) → (List Bool → ℕ → Bool → Bool) → SeenPlan → Vec D → RunFault D → Type 0
+FaultIs calls marks fits plan diners (DinersDiffer given back) = (given ≡ vec_len diners) × (back ≡ diners) × (vec_len diners ≢ site_count plan)
+FaultIs calls marks fits plan diners Memory = vec_len diners ≡ site_count plan
+FaultIs calls marks fits plan diners (Thread site) = (vec_len diners ≡ site_count plan) × (site < site_count plan)
+FaultIs calls marks fits plan diners (Broken site joined) = (vec_len diners ≡ site_count plan) × AllJoined plan (map (λ (out : SiteOut _). out.ate) joined.sites.items) joined.links.items × AreOutsOf calls marks fits plan diners.items joined.sites.items × IsLowestFault site joined.sites.items
+    × AreStatesLeft plan joined.sites.items joined.links.items joined.forks.items × AllClosedEarly joined.sites.items
+
+-- With fewer threads than sites nothing is gathered and nothing breaks: a site that is told to lack a thread has at
+-- most as many before it as there are threads.
+abbrev pub FallsShort : {G D : Type 0} → ℕ → Result G (RunFault D) → Type 0
+FallsShort threads (Ok gathered) = ⊥
+FallsShort threads (Err (DinersDiffer given back)) = Unit {0}
+FallsShort threads (Err Memory) = Unit {0}
+FallsShort threads (Err (Thread site)) = site ≤ threads
+FallsShort threads (Err (Broken site joined)) = ⊥

@@ -1,0 +1,27 @@
+-- The journals of a run: the events of each site, in the order in which it did them on its thread.
+use Rattle.std.specs.Prelude.{ℕ, ◌<◌, nat_lt, false, List, map}
+use Rattle.std.specs.List.{range_with_len}
+use Rattle.dine_graph.specs.Plan.{SeenPlan, site_count, edges_of, job_count}
+use Rattle.dine_rules.specs.declared.events.EventKind.{EventKind}
+use Rattle.dine_rules.specs.declared.phase.Phase.TheVariants.{Thinking}
+use Rattle.dine_rules.specs.Journals.{IsJournal, journal_of}
+use Rattle.dine_rules.specs.Local.{LocalState}
+use Rattle.dine_rules.specs.World.{WorldState}
+use Rattle.dine_link.specs.Links.{SeenLink}
+use Rattle.dine_threads.specs.Gathered.{traffic_of}
+use Rattle.dine_threads.specs.Headline.{ate_of}
+
+module _ (plan : SeenPlan) (ates : List ℕ) (links : List SeenLink) where
+  -- The state in which a site is left that did all: it thinks, it ate so many meals and quit if these are not all, and
+  -- what it put and took stands in its links.
+  abbrev pub state_left : ℕ → LocalState
+  state_left s = record { phase = Thinking; ate = ate_of plan ates links s; must_quit = false; has_quit = nat_lt (ate_of plan ates links s) (job_count plan s); traffic = map (traffic_of plan links s) (edges_of plan s) }
+
+  -- the same of all sites
+  abbrev pub states_left : WorldState
+  states_left = map state_left (range_with_len 0 (site_count plan))
+
+  -- The journal of each site, done from the start with the letters that it took from its links, leads to the meals that
+  -- it ate and to all that it put on its links.
+  abbrev pub AreJournals : List (List EventKind) → Type 0
+  AreJournals journals = (s : ℕ) → s < site_count plan → IsJournal plan s (journal_of journals s) (state_left s)

@@ -1,0 +1,15 @@
+pub mod Doings
+pub mod Diners
+pub mod CallLogs
+pub mod JobsSeated
+pub mod Ports
+pub mod Endings
+pub mod SiteEnds
+pub mod Running
+pub mod Gathered
+pub mod Causes
+pub mod Brokens
+pub mod Headline
+pub mod Tables
+pub mod Journals
+pub mod private

@@ -1,0 +1,98 @@
+//! Why a run gathers nothing, or not all, in words.
+ghost use Rattle.std.specs.Prelude.{◌≡◌, Some};
+ghost use Rattle.dine_threads.specs.Causes.{cause_of, cause_words, site_fault_words};
+
+use crate::diner::Diner;
+use crate::gathered::RunFault;
+use crate::site_end::SiteFault;
+use std::error::Error;
+use std::fmt;
+
+/// Why a run gathers nothing, or not all, without what it hands back.
+#[derive(Clone, Copy, Debug, PartialEq, Eq)]
+pub enum RunCause {
+    /// There were not as many diners as sites.
+    DinersDiffer,
+    /// Memory was refused before any thread started.
+    Memory,
+    /// The thread of this site was refused.
+    Thread(u32),
+    /// This is the lowest site that ended with a fault, and its fault.
+    Broken(u32, SiteFault),
+}
+
+impl<D: Diner> From<&RunFault<D>> for RunCause {
+    ghost from_gives = { λ fault cause. cause ≡ cause_of fault.now };
+
+    fn from(fault: &RunFault<D>) -> RunCause {
+        match fault {
+            RunFault::DinersDiffer { .. } => RunCause::DinersDiffer,
+            RunFault::Memory => RunCause::Memory,
+            RunFault::Thread(site) => RunCause::Thread(*site),
+            RunFault::Broken { site, joined } => {
+                // `run` tells no site as broken that has no fault; that would be one not started.
+                let fault = match joined.sites.get(*site as usize) {
+                    Some(out) => out.fault.unwrap_or(SiteFault::NotStarted),
+                    None => SiteFault::NotStarted,
+                };
+                RunCause::Broken(*site, fault)
+            }
+        }
+    }
+}
+
+/// `Breach 6 on link 0`, `Lost on link 0`, `NotStarted` or `Memory`: a breach has its number, 1 to 6, and each link the
+/// number of its place.
+impl fmt::Display for SiteFault {
+    ghost output = { λ fault. Some (site_fault_words fault) };
+
+    fn fmt<W: fmt::Write>(&self, f: &mut fmt::Formatter<W>) -> fmt::Result {
+        match *self {
+            SiteFault::Breach(link, breach) => {
+                let number = breach.number();
+                write!(f, "Breach {number} on link {link}")
+            }
+            SiteFault::Lost(link) => write!(f, "Lost on link {link}"),
+            SiteFault::NotStarted => f.write_str("NotStarted"),
+            SiteFault::Memory => f.write_str("Memory"),
+        }
+    }
+}
+
+impl Error for SiteFault {}
+
+/// `run refused: diners differ`, `out of memory`, `run refused: thread of site 0`, or `run broken at site 0: ` and the
+/// fault.
+impl fmt::Display for RunCause {
+    ghost output = { λ cause. Some (cause_words cause) };
+
+    fn fmt<W: fmt::Write>(&self, f: &mut fmt::Formatter<W>) -> fmt::Result {
+        match *self {
+            RunCause::DinersDiffer => f.write_str("run refused: diners differ"),
+            RunCause::Memory => f.write_str("out of memory"),
+            RunCause::Thread(site) => write!(f, "run refused: thread of site {site}"),
+            RunCause::Broken(site, fault) => write!(f, "run broken at site {site}: {fault}"),
+        }
+    }
+}
+
+impl Error for RunCause {}
+
+/// The cause in words.
+impl<D: Diner> fmt::Display for RunFault<D> {
+    ghost output = { λ fault. Some (cause_words (cause_of fault)) };
+
+    fn fmt<W: fmt::Write>(&self, f: &mut fmt::Formatter<W>) -> fmt::Result {
+        let cause = RunCause::from(self);
+        write!(f, "{cause}")
+    }
+}
+
+/// The cause alone, since a diner need not be printed.
+impl<D: Diner> fmt::Debug for RunFault<D> {
+    fn fmt<W: fmt::Write>(&self, f: &mut fmt::Formatter<W>) -> fmt::Result {
+        fmt::Debug::fmt(&RunCause::from(self), f)
+    }
+}
+
+impl<D: Diner> Error for RunFault<D> {}

@@ -1,0 +1,205 @@
+// What the sites left is brought together: their link ends by edge, their forks by edge, and the rest by site.
+ghost use Rattle.std.specs.Prelude.{◌≡◌, ◌<◌, ◌≤◌, ◌*◌, All, IfOk, Some, None, is_some, length, map, position, replicate, slice_get, vec_len, vec_capacity};
+ghost use Rattle.dine_graph.specs.Plan.{edge_count, edges_of, site_count};
+ghost use Rattle.dine_threads.specs.private.Collecting.{AreForksOf, AreJoined, AreLinksLeft, AreWholeEnds, IsRoomFor, IsTakenToClose, forks_left, found, laid, links_left, out_of, rows_left};
+ghost use Rattle.dine_threads.specs.Gathered.{IsTakenInOrder};
+ghost use Rattle.dine_threads.specs.private.Wirings.{AreWired};
+
+use crate::diner::Diner;
+use crate::gathered::SiteOut;
+use crate::port::Port;
+use crate::site_end::SiteEnd;
+use crate::slots::{Both, fill_row, pair_up};
+use dine_link::{Lane, LinkEnd};
+use dine_graph::Plan;
+use dine_token::Fork;
+use std::alloc::{AllocError, Global};
+
+/// Room for all that is gathered, got before any thread starts.
+#[derive(Drop)]
+pub struct Room<L: Lane, D: Diner> {
+    pub sites: Vec<SiteOut<D>>,
+    // An empty row for the ports of each site, and room for the rows that are filled.
+    pub empty: Vec<Vec<Option<Port<L>>>>,
+    pub rows: Vec<Vec<Option<Port<L>>>>,
+    pub pairs: Vec<Both<Port<L>>>,
+    pub links: Vec<LinkEnd>,
+    pub slots: Vec<Option<Fork>>,
+    pub forks: Vec<Fork>,
+}
+
+// An empty row for the ports of each site.
+fn empty_rows<P: Drop>(alloc: Global, plan: &Plan) -> Result<Vec<Vec<Option<P>>>, AllocError>
+    ensures count { IfOk result (λ rows. vec_len rows ≡ site_count plan.now) }
+    ensures room { IfOk result (λ rows. (s : _) (row : _) → slice_get rows.items s ≡ Some row → length (edges_of plan.now s) ≤ vec_capacity row) }
+    ensures none { IfOk result (λ rows. (s : _) (row : _) → slice_get rows.items s ≡ Some row → vec_len row ≡ 0) }
+{
+    let mut rows = Vec::with_capacity(alloc, plan.sites() as usize)?;
+    for site in 0..plan.sites() {
+        rows.push_reserved(Vec::with_capacity(alloc, plan.edges_of(site).len())?);
+    }
+    Ok(rows)
+}
+
+// An empty slot for each edge.
+fn empty_slots<P: Drop>(alloc: Global, plan: &Plan) -> Result<Vec<Option<P>>, AllocError>
+    ensures { IfOk result (λ slots. slots.items ≡ replicate (edge_count plan.now) None) }
+{
+    let mut slots = Vec::with_capacity(alloc, plan.edges() as usize)?;
+    for _ in 0..plan.edges() {
+        slots.push_reserved(None);
+    }
+    Ok(slots)
+}
+
+pub fn make_room<L: Lane, D: Diner>(alloc: Global, plan: &Plan) -> Result<Room<L, D>, AllocError>
+    ensures { IfOk result (IsRoomFor plan.now) }
+{
+    let edges = plan.edges() as usize;
+    let sites = plan.sites() as usize;
+    Ok(Room {
+        sites: Vec::with_capacity(alloc, sites)?,
+        empty: empty_rows(alloc, plan)?,
+        rows: Vec::with_capacity(alloc, sites)?,
+        pairs: Vec::with_capacity(alloc, edges)?,
+        links: Vec::with_capacity(alloc, 2 * edges)?,
+        slots: empty_slots(alloc, plan)?,
+        forks: Vec::with_capacity(alloc, edges)?,
+    })
+}
+
+/// The lowest site with a fault.
+pub fn first_fault<L: Lane, D: Diner>(ends: &[SiteEnd<L, D>]) -> Option<u32>
+    requires few { length ends.now ≤ 64 }
+    ensures { result ≡ position (λ end. is_some end.fault) ends.now }
+{
+    match ends.iter().position(|end| end.fault.is_some()) {
+        Some(site) => Some(site as u32),
+        None => None,
+    }
+}
+
+// Lays the forks into the slots of their edges.
+fn lay_forks(forks: Vec<Fork>, slots: &mut Vec<Option<Fork>>)
+    requires { All (λ fork. fork.edge < vec_len slots.old) forks.items }
+    ensures { slots.new.items ≡ laid forks.items slots.old.items }
+{
+    for fork in forks {
+        let edge = fork.edge() as usize;
+        slots[edge] = Some(fork);
+    }
+}
+
+/// Takes the ends apart: the ports into rows by site, the forks into slots by edge, and the rest by site.
+fn take_apart<L: Lane, D: Diner>(
+    plan: &Plan,
+    ends: Vec<SiteEnd<L, D>>,
+    empty: Vec<Vec<Option<Port<L>>>>,
+    sites: &mut Vec<SiteOut<D>>,
+    rows: &mut Vec<Vec<Option<Port<L>>>>,
+    slots: &mut Vec<Option<Fork>>,
+)
+    requires whole { AreWholeEnds plan.now ends.items }
+    requires empty_rows { vec_len empty ≡ site_count plan.now }
+    requires empty_room { (s : _) (row : _) → slice_get empty.items s ≡ Some row → length (edges_of plan.now s) ≤ vec_capacity row }
+    requires no_thing { (s : _) (row : _) → slice_get empty.items s ≡ Some row → vec_len row ≡ 0 }
+    requires site_room { site_count plan.now ≤ vec_capacity sites.old }
+    requires no_site { vec_len sites.old ≡ 0 }
+    requires row_room { site_count plan.now ≤ vec_capacity rows.old }
+    requires no_row { vec_len rows.old ≡ 0 }
+    requires slots { vec_len slots.old ≡ edge_count plan.now }
+    ensures sites { sites.new.items ≡ map out_of ends.items }
+    ensures rows { map (λ row. row.items) rows.new.items ≡ map (λ end. map Some end.ports.items) ends.items }
+    ensures slots { slots.new.items ≡ laid (forks_left ends.items) slots.old.items }
+{
+    let mut empty = empty.into_iter();
+    for end in ends {
+        let SiteEnd {
+            site,
+            ate,
+            failed,
+            diner,
+            forks,
+            tokens,
+            journal,
+            ports,
+            bell: _,
+            stray,
+            fault,
+        } = end;
+        let mut row = empty.next().unwrap();
+        fill_row(ports, &mut row);
+        rows.push_reserved(row);
+        lay_forks(forks, slots);
+        sites.push_reserved(SiteOut {
+            site,
+            ate,
+            failed,
+            diner,
+            tokens,
+            journal,
+            stray,
+            fault,
+        });
+    }
+}
+
+// The links of each edge, the one from the lower end first.
+fn reconcile_all<L: Lane>(pairs: Vec<Both<Port<L>>>, links: &mut Vec<LinkEnd>)
+    requires joined { All (AreJoined L.seen_tx L.seen_closed L.seen_rx) pairs.items }
+    requires room { 2 * vec_len pairs ≤ vec_capacity links.old }
+    requires none { vec_len links.old ≡ 0 }
+    ensures lists { links.new.items ≡ links_left L.seen_tx L.seen_closed L.seen_rx pairs.items }
+    ensures in_order { All IsTakenInOrder links.new.items }
+    ensures whole { All IsTakenToClose links.new.items }
+{
+    for pair in pairs {
+        let Both { low, high } = pair;
+        links.push_reserved(L::reconcile(low.tx, high.rx));
+        links.push_reserved(L::reconcile(high.tx, low.rx));
+    }
+}
+
+// The forks that were found, by edge.
+fn pick_forks(slots: Vec<Option<Fork>>, forks: &mut Vec<Fork>)
+    requires room { vec_len slots ≤ vec_capacity forks.old }
+    requires none { vec_len forks.old ≡ 0 }
+    ensures { forks.new.items ≡ found slots.items }
+{
+    for slot in slots {
+        if let Some(fork) = slot {
+            forks.push_reserved(fork);
+        }
+    }
+}
+
+/// Brings together what the sites left.
+pub fn collect<L: Lane, D: Diner>(
+    plan: &Plan,
+    ends: Vec<SiteEnd<L, D>>,
+    room: Room<L, D>,
+) -> (Vec<Fork>, Vec<SiteOut<D>>, Vec<LinkEnd>)
+    requires room { IsRoomFor plan.now room }
+    requires whole { AreWholeEnds plan.now ends.items }
+    requires wired { AreWired plan.now (rows_left L.seen_tx L.seen_closed L.seen_rx ends.items) }
+    ensures forks { result.0.items ≡ found (laid (forks_left ends.items) (replicate (edge_count plan.now) None)) }
+    ensures sites { result.1.items ≡ map out_of ends.items }
+    ensures links { AreLinksLeft plan.now (rows_left L.seen_tx L.seen_closed L.seen_rx ends.items) result.2.items }
+    ensures in_order { All IsTakenInOrder result.2.items }
+    ensures whole { All IsTakenToClose result.2.items }
+{
+    let Room {
+        mut sites,
+        empty,
+        mut rows,
+        mut pairs,
+        mut links,
+        mut slots,
+        mut forks,
+    } = room;
+    take_apart(plan, ends, empty, &mut sites, &mut rows, &mut slots);
+    pair_up(plan, &mut rows, &mut pairs);
+    reconcile_all(pairs, &mut links);
+    pick_forks(slots, &mut forks);
+    (forks, sites, links)
+}

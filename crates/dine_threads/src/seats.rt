@@ -1,0 +1,231 @@
+// The threads of the sites: what moves into each, and what it leaves.
+ghost use Rattle.std.specs.Prelude.{◌≡◌, ◌<◌, ◌≤◌, All, IfNone, IfOk, IfSome, OnOk, Some, length, map, slice_get, vec_len, vec_capacity};
+ghost use Rattle.std.specs.List.{AllZip};
+ghost use Rattle.dine_graph.specs.Plan.{SeenPlan, job_count, site_count};
+ghost use Rattle.dine_core.specs.Standing.{IsFresh, IsFreshFor};
+ghost use Rattle.dine_threads.specs.Diners.{HasEaten, HeedsFailures};
+ghost use Rattle.dine_threads.specs.Ports.{IsFreshPort, seen_ports};
+ghost use Rattle.dine_threads.specs.private.Openings.{AreStands};
+ghost use Rattle.dine_threads.specs.private.Seats.{AreSeatsOf, IsReady, LeavesSeat, seat_of, seen_site_end};
+ghost use Rattle.dine_threads.specs.SiteEnds.{IsLeft};
+
+use crate::diner::Diner;
+use crate::opening::Stand;
+use crate::port::Port;
+use crate::site_end::{SiteEnd, SiteFault};
+use crate::site_loop::run_site;
+use dine_core::{Packed, SiteCore, site};
+use dine_link::{Bell, Gate, Lane};
+use dine_graph::Plan;
+use dine_rules::laws;
+use std::alloc::{AllocError, Global};
+use std::snapshot::Snapshot;
+use std::sync::{Arc, Wait};
+use std::thread;
+use std::thread::{Promise, PromisedHandle, Threads};
+
+// What moves into the thread of a site.
+#[derive(Drop)]
+pub struct Seat<L: Lane, D: Diner> {
+    pub packed: Packed,
+    pub ports: Vec<Port<L>>,
+    pub bell: Bell,
+    pub diner: D,
+    pub alloc: Global,
+    pub gate: Arc<Gate, Global>,
+}
+
+// The thread leaves what its seat gives.
+#[derive(Drop)]
+pub struct EndOf<L: Lane, D: Diner> {
+    pub seat: Snapshot<Seat<L, D>>,
+}
+
+impl<L: Lane, D: Diner> Promise<SiteEnd<L, D>> for EndOf<L, D> {
+    ghost kept_by = { λ p r. LeavesSeat L.seen_tx L.seen_closed L.seen_rx D.calls D.marks D.fits p.seat.value r };
+}
+
+pub type Child<L, D> = PromisedHandle<SiteEnd<L, D>, EndOf<L, D>>;
+
+// What a site leaves that was not started.
+fn not_started<L: Lane, D: Diner>(
+    alloc: Global,
+    core: SiteCore,
+    ports: Vec<Port<L>>,
+    bell: Bell,
+    diner: D,
+) -> SiteEnd<L, D>
+    requires fresh { IsFresh core }
+    requires unused { All IsFreshPort (seen_ports L.seen_tx L.seen_closed L.seen_rx ports.items) }
+    ensures left { (plan : SeenPlan) → IsFreshFor plan core → IsLeft plan core.site (seen_ports L.seen_tx L.seen_closed L.seen_rx ports.items) (seen_site_end L.seen_tx L.seen_closed L.seen_rx result) }
+    ensures eaten { HasEaten D.calls D.marks D.fits result.ate result.failed diner result.diner }
+    ensures heeds { HeedsFailures core.resigns result.journal.items (D.calls diner) (D.calls result.diner) }
+{
+    laws::streams_are_kept();
+    laws::letters_cut_short_are_in_order();
+    let site = core.site();
+    let parts = core.into_parts();
+    SiteEnd {
+        site,
+        ate: 0,
+        failed: 0,
+        diner,
+        forks: parts.forks,
+        tokens: parts.tokens,
+        journal: Vec::new(alloc),
+        ports,
+        bell,
+        stray: None,
+        fault: Some(SiteFault::NotStarted),
+    }
+}
+
+// Runs the site of a seat, once the gate is open.
+fn sit<R: Wait, L: Lane, D: Diner>(rt: &R, seat: Seat<L, D>) -> SiteEnd<L, D>
+    requires { IsReady L.seen_tx L.seen_closed L.seen_rx D.room_left seat }
+    ensures { LeavesSeat L.seen_tx L.seen_closed L.seen_rx D.calls D.marks D.fits seat result }
+{
+    let Seat {
+        packed,
+        ports,
+        bell,
+        diner,
+        alloc,
+        gate,
+    } = seat;
+    let core = packed.unpack();
+    if gate.pass(rt) {
+        run_site(rt, alloc, core, ports, bell, diner)
+    } else {
+        not_started(alloc, core, ports, bell, diner)
+    }
+}
+
+// Starts the thread of a seat.
+fn start<R: Threads + Wait + Copy + Send + 'static, L: Lane + 'static, D: Diner + 'static>(
+    rt: &R,
+    seat: Seat<L, D>,
+) -> Option<Child<L, D>>
+where
+    L::Tx: 'static,
+    L::ClosedTx: 'static,
+    L::Rx: 'static,
+    requires { IsReady L.seen_tx L.seen_closed L.seen_rx D.room_left seat }
+    ensures { IfSome result (λ child. seat_of child ≡ seat) }
+{
+    let promise = EndOf {
+        seat: Snapshot::of(&seat),
+    };
+    let theirs = *rt;
+    let run = move || -> SiteEnd<L, D>
+        requires { IsReady L.seen_tx L.seen_closed L.seen_rx D.room_left seat }
+        ensures { LeavesSeat L.seen_tx L.seen_closed L.seen_rx D.calls D.marks D.fits seat result }
+    { sit(&theirs, seat) };
+    thread::spawn_with(rt, promise, run).ok()
+}
+
+/// Starts a thread for each seat, at most `threads` of them. Answers the first seat that has none.
+pub fn start_all<R: Threads + Wait + Copy + Send + 'static, L: Lane + 'static, D: Diner + 'static>(
+    rt: &R,
+    seats: Vec<Seat<L, D>>,
+    children: &mut Vec<Child<L, D>>,
+    threads: u32,
+) -> Option<u32>
+where
+    L::Tx: 'static,
+    L::ClosedTx: 'static,
+    L::Rx: 'static,
+    requires ready { All (IsReady L.seen_tx L.seen_closed L.seen_rx D.room_left) seats.items }
+    requires room { vec_len seats ≤ vec_capacity children.old }
+    requires few { vec_len seats ≤ 64 }
+    requires none { vec_len children.old ≡ 0 }
+    ensures few { vec_len children.new ≤ vec_len seats }
+    ensures all { IfNone result (map seat_of children.new.items ≡ seats.items) }
+    ensures some { IfSome result (λ site. site < vec_len seats) }
+    ensures first { IfSome result (λ site. site ≡ vec_len children.new) }
+    ensures all_within { IfNone result (vec_len seats ≤ threads) }
+    ensures some_within { IfSome result (λ site. site ≤ threads) }
+{
+    let mut started = 0u32;
+    for seat in seats {
+        if started == threads {
+            return Some(started);
+        }
+        let Some(child) = start(rt, seat) else {
+            return Some(started);
+        };
+        children.push_reserved(child);
+        started += 1;
+    }
+    None
+}
+
+/// Joins each thread, in order.
+pub fn join_all<R: Threads, L: Lane, D: Diner>(
+    rt: &R,
+    children: Vec<Child<L, D>>,
+    ends: &mut Vec<SiteEnd<L, D>>,
+)
+    requires room { vec_len children ≤ vec_capacity ends.old }
+    requires none { vec_len ends.old ≡ 0 }
+    ensures len { vec_len ends.new ≡ vec_len children }
+    ensures left { AllZip (LeavesSeat L.seen_tx L.seen_closed L.seen_rx D.calls D.marks D.fits) (map seat_of children.items) ends.new.items }
+{
+    for child in children {
+        ends.push_reserved(child.join(rt));
+    }
+}
+
+// The core of a site, packed.
+fn pack_site(alloc: Global, plan: &Plan, number: u32) -> Result<Packed, AllocError>
+    requires { number < site_count plan.now }
+    ensures fresh { IfOk result (IsFreshFor plan.now) }
+    ensures site { IfOk result (λ packed. packed.site ≡ number) }
+{
+    let forks = site::fresh_forks(alloc, plan, number)?;
+    let tokens = site::fresh_tokens(alloc, plan, number)?;
+    let core = SiteCore::open(alloc, plan, number, forks, tokens)?;
+    Ok(core.pack())
+}
+
+/// A seat for each site.
+pub fn seat_all<L: Lane, D: Diner>(
+    alloc: Global,
+    plan: &Plan,
+    stands: Vec<Stand<L>>,
+    diners: Vec<D>,
+    gate: &Arc<Gate, Global>,
+    seats: &mut Vec<Seat<L, D>>,
+) -> Result<(), AllocError>
+    requires stands { vec_len stands ≡ site_count plan.now }
+    requires diners { vec_len diners ≡ site_count plan.now }
+    requires each { AreStands L.seen_tx L.seen_closed L.seen_rx plan.now stands.items }
+    requires rooms { (s : _) (diner : _) → slice_get diners.items s ≡ Some diner → job_count plan.now s ≤ D.room_left diner }
+    requires capacity { site_count plan.now ≤ vec_capacity seats.old }
+    requires none { vec_len seats.old ≡ 0 }
+    ensures len { OnOk result (vec_len seats.new ≡ site_count plan.now) }
+    ensures ready { OnOk result (All (IsReady L.seen_tx L.seen_closed L.seen_rx D.room_left) seats.new.items) }
+    ensures fresh { OnOk result (AreSeatsOf plan.now seats.new.items) }
+    ensures diners { OnOk result (map (λ seat. seat.diner) seats.new.items ≡ diners.items) }
+    ensures ports { OnOk result (map (λ seat. seat.ports) seats.new.items ≡ map (λ stand. stand.ports) stands.items) }
+    ensures bells { OnOk result (map (λ seat. seat.bell) seats.new.items ≡ map (λ stand. stand.bell) stands.items) }
+{
+    let mut number = 0u32;
+    let mut waiting = diners.into_iter();
+    for stand in stands {
+        let packed = pack_site(alloc, plan, number)?;
+        let gate = Arc::try_clone(gate)?;
+        let diner = waiting.next().unwrap();
+        let Stand { ports, bell } = stand;
+        seats.push_reserved(Seat {
+            packed,
+            ports,
+            bell,
+            diner,
+            alloc,
+            gate,
+        });
+        number += 1;
+    }
+    Ok(())
+}

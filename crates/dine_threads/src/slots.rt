@@ -1,0 +1,80 @@
+// Things that stand at places, one row a site, and are taken by place.
+ghost use Rattle.std.specs.Prelude.{◌≡◌, ◌≢◌, ◌≤◌, Some, map, vec_capacity, vec_len};
+ghost use Rattle.dine_graph.specs.Plan.{edge_count};
+ghost use Rattle.dine_threads.specs.private.Spots.{AreBothAt, AreFull, slot_at};
+
+use dine_graph::Plan;
+use dine_rules::laws;
+
+// What stands at the two ends of an edge.
+#[derive(Drop)]
+pub struct Both<P> {
+    pub low: P,
+    pub high: P,
+}
+
+// A place of a site.
+#[derive(Clone, Copy)]
+pub struct Spot {
+    pub site: u32,
+    pub at: u32,
+}
+
+// Takes what stands at the place.
+pub fn take_slot<P: Drop>(rows: &mut Vec<Vec<Option<P>>>, spot: Spot) -> Option<P>
+    ensures value { result ≡ slot_at rows.old.items spot }
+    ensures others { (other : _) → other ≢ spot → slot_at rows.new.items other ≡ slot_at rows.old.items other }
+{
+    let site = spot.site as usize;
+    let at = spot.at as usize;
+    if site >= rows.len() {
+        return None;
+    }
+    let row = &mut rows[site];
+    if at >= row.len() {
+        return None;
+    }
+    row[at].take()
+}
+
+// Things, each in a slot of its own.
+pub fn fill_row<P: Drop>(things: Vec<P>, row: &mut Vec<Option<P>>)
+    requires room { vec_len things ≤ vec_capacity row.old }
+    requires none { vec_len row.old ≡ 0 }
+    ensures { row.new.items ≡ map Some things.items }
+{
+    for thing in things {
+        row.push_reserved(Some(thing));
+    }
+}
+
+// What stands at the two ends of each edge.
+pub fn pair_up<P: Drop>(plan: &Plan, rows: &mut Vec<Vec<Option<P>>>, pairs: &mut Vec<Both<P>>)
+    requires full { AreFull plan.now rows.old.items }
+    requires room { edge_count plan.now ≤ vec_capacity pairs.old }
+    requires none { vec_len pairs.old ≡ 0 }
+    ensures count { vec_len pairs.new ≡ edge_count plan.now }
+    ensures each { AreBothAt plan.now rows.old.items pairs.new.items }
+{
+    laws::edges_have_a_place_at_each_end();
+    for edge in 0..plan.edges() {
+        let (lower, higher) = plan.ends(edge);
+        let low = take_slot(
+            rows,
+            Spot {
+                site: lower,
+                at: plan.place(edge, lower),
+            },
+        )
+        .unwrap();
+        let high = take_slot(
+            rows,
+            Spot {
+                site: higher,
+                at: plan.place(edge, higher),
+            },
+        )
+        .unwrap();
+        pairs.push_reserved(Both { low, high });
+    }
+}
