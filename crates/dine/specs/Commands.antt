@@ -2,7 +2,7 @@
 use Rattle.std.specs.Prelude.{◌≡◌, ◌≢◌, ◌<◌, List, ℕ, Option, Some, None, IfSome, length, take}
 use Rattle.std.specs.Io.KnownBytes.{Appends, Keeps}
 use Rattle.dine_graph.specs.Plan.{SeenPlan}
-use Rattle.dine_plan.specs.declared.plan_fault.PlanFault.{PlanFault}
+use Rattle.dine_reader.specs.declared.plan_fault.PlanFault.{PlanFault}
 use Rattle.dine.specs.declared.fault_lines.Fault.{Fault}
 use Rattle.dine.specs.declared.fault_lines.Fault.TheVariants as fault
 use Rattle.dine_words.specs.declared.status.Status.{Status}

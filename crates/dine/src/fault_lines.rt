@@ -2,7 +2,7 @@
 ghost use Rattle.std.specs.Prelude.{◌≡◌};
 
 use crate::plan_diner::PlanDiner;
-use dine_plan::PlanFault;
+use dine_reader::PlanFault;
 use dine_threads::{RunCause, RunFault};
 use dine_words::{InputFault, Status, WordsFault, WriteFault, write_line};
 use std::alloc::AllocError;

@@ -5,7 +5,7 @@ ghost use Rattle.dine.specs.private.Records.{IsBetweenRecords, is_plain, text_so
 ghost use Rattle.dine.specs.Tables.{IsEdgeRowOf, IsSiteRowOf, edge_record, edges_header, edges_table, record_text, site_record, sites_header, sites_table};
 
 use csv::Writer;
-use dine_plan::Plan;
+use dine_graph::Plan;
 use dine_threads::{EdgeRow, SiteRow};
 use std::alloc::{AllocError, Global};
 

@@ -63,7 +63,8 @@ impl Plan {
     ghost use Rattle.dine_graph.specs.Site.{seen_site};
 
     /// The plan of this version, these sites, these ends of edges and their values, which a caller shows to be a plan.
-    /// It answers `AllocError` where memory is refused. `dine_plan` reads plans from texts, and refuses what is none.
+    /// It answers `AllocError` where memory is refused. `dine_reader` reads plans from texts, and refuses
+    /// what is none.
     pub fn new(
         alloc: Global,
         version: u32,

@@ -1,33 +1,4 @@
-//! Laws over the definitions alone. Each function does nothing: its contract is the law.
+//! The laws of plans, of the crates below.
 
-ghost use Rattle.std.specs.Prelude.{◌≡◌, ◌↔◌, ℕ, List, None, Some};
-ghost use Rattle.toml.specs.Data.{Data};
-ghost use Rattle.dine_plan.specs.Draft.{Draft};
-ghost use Rattle.dine_plan.specs.DraftDocument.{Says, first_fault_of};
-ghost use Rattle.dine_plan.specs.DraftPlan.{plan_told};
-ghost use Rattle.dine_graph.specs.Plan.{SeenPlan};
-ghost use Rattle.dine_plan.specs.PlanOf.{IsPlanOf};
-ghost use Rattle.dine_plan.specs.RefusalTests.{first_fault, first_refusal};
-ghost use Rattle.dine_plan.specs.RefusalFacts.{Refuses, IsFirst};
-ghost use Rattle.dine_plan.specs.declared.plan_fault.PlanFault.{PlanFault};
-ghost use Rattle.dine_plan.specs.declared.plan_fault.PlanFault.TheVariants.{UnknownEnd, Loop, EdgeTwice};
-
-/// The first refusal of a document is the first cause of the list that holds of it, at the least position at which it
-/// holds; and where there is no first refusal, no cause holds.
-pub fn first_refusal_is_first()
-    ensures first { (doc : Data) (fault : PlanFault) → first_refusal doc ≡ Some fault → IsFirst doc fault }
-    ensures none { (doc : Data) (fault : PlanFault) → first_refusal doc ≡ None → Refuses doc fault → ⊥ }
-{}
-
-/// An edge with an end that is no site's name is no loop, and joins no pair of sites that an earlier edge joins.
-pub fn loops_and_pairs_are_of_known_ends()
-    ensures loops { (doc : Data) (edge : ℕ) → Refuses doc (UnknownEnd edge) → Refuses doc (Loop edge) → ⊥ }
-    ensures pairs { (doc : Data) (edge : ℕ) → Refuses doc (UnknownEnd edge) → Refuses doc (EdgeTwice edge) → ⊥ }
-{}
-
-/// What a builder answers is what `read_plan` answers of any text that says what the builder was told: the same plan,
-/// or the same refusal.
-pub fn built_is_read()
-    ensures faults { (text : List ℕ) (told : Draft) → Says text told → first_fault text ≡ first_fault_of told }
-    ensures plans { (text : List ℕ) (told : Draft) (p : SeenPlan) → Says text told → first_fault_of told ≡ None → IsPlanOf text p ↔ (p ≡ plan_told told) }
-{}
+pub use dine_builder::laws::built_is_read;
+pub use dine_reader::laws::{first_refusal_is_first, loops_and_pairs_are_of_known_ends};

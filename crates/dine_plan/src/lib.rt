@@ -1,20 +1,9 @@
-//! The plan of a TOML text, or of what a program tells of sites, jobs and edges. What is no plan is refused by the first
-//! of a fixed list of causes.
+//! Plans, under one name: the plan that stands, the reader of plan texts with the causes to refuse one, and the builder of
+//! plans that a program tells. The code stands in the crates below.
 #![tactic(auto)]
 
-mod acts;
-mod building;
-mod documents;
-mod drafts;
-mod edges;
-mod forms;
 pub mod laws;
-mod plan_fault;
-mod reading;
-mod sites;
-mod tables;
 
+pub use dine_builder::PlanBuilder;
 pub use dine_graph::{Job, Plan};
-pub use drafts::PlanBuilder;
-pub use plan_fault::PlanFault;
-pub use reading::read_plan;
+pub use dine_reader::{PlanFault, read_plan};

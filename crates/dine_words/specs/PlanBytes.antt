@@ -2,10 +2,10 @@
 use Rattle.std.specs.Prelude.{◌≡◌, ℕ, List, Option, Some, None, if◌then◌else◌}
 use Rattle.std.specs.Str.{is_utf8}
 use Rattle.dine_graph.specs.Plan.{SeenPlan}
-use Rattle.dine_plan.specs.PlanOf.{IsPlanOf}
-use Rattle.dine_plan.specs.RefusalTests.{first_fault}
-use Rattle.dine_plan.specs.declared.plan_fault.PlanFault.{PlanFault}
-use Rattle.dine_plan.specs.declared.plan_fault.PlanFault.TheVariants as fault
+use Rattle.dine_reader.specs.PlanOf.{IsPlanOf}
+use Rattle.dine_reader.specs.RefusalTests.{first_fault}
+use Rattle.dine_reader.specs.declared.plan_fault.PlanFault.{PlanFault}
+use Rattle.dine_reader.specs.declared.plan_fault.PlanFault.TheVariants as fault
 
 -- why the bytes are refused, where they are: bytes that are no text are no TOML
 abbrev pub fault_of_bytes : List ℕ → Option PlanFault

@@ -2,7 +2,7 @@
 ghost use Rattle.std.specs.Prelude.{◌≡◌, ◌++◌, IfOk, OnOk, string_bytes};
 ghost use Rattle.dine_words.specs.Check.{check_text, job_total, sizes_line};
 
-use dine_plan::Plan;
+use dine_graph::Plan;
 use std::alloc::{AllocError, Global};
 
 /// How large the plan is, in words.

@@ -2,7 +2,8 @@
 ghost use Rattle.std.specs.Prelude.{◌≡◌, ◌≢◌, IfErr, IfOk, Some};
 ghost use Rattle.dine_words.specs.PlanBytes.{IsPlanBytes, fault_of_bytes};
 
-use dine_plan::{Plan, PlanFault, read_plan};
+use dine_graph::Plan;
+use dine_reader::{PlanFault, read_plan};
 use std::alloc::Global;
 
 /// The plan that the bytes are the text of. Bytes that are no text are refused as no TOML.

@@ -1,6 +1,6 @@
 use Rattle.std.proofs.Common.{◌≡◌, ◌≢◌, ◌≤◌, ◌∙◌, Err, Some, IfSome, length, arith, ap, subst, sym, vec_items}
 use Rattle.std.proofs.lemmas.Option.{IfSome_then}
-use Rattle.dine_plan.specs.declared.plan_fault.PlanFault.TheVariants as text
+use Rattle.dine_reader.specs.declared.plan_fault.PlanFault.TheVariants as text
 use Rattle.dine_words.specs.Input.{input_limit}
 use Rattle.dine_words.specs.PlanBytes.{fault_of_bytes}
 use Rattle.dine.specs.private.InputFaults.{IsInputFault}

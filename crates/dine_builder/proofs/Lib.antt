@@ -1,0 +1,5 @@
+mod TableLemmas
+mod DraftLemmas
+mod DepthLemmas
+mod ToldLemmas
+mod MetLemmas

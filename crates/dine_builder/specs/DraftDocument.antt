@@ -1,0 +1,84 @@
+-- The document that says what a builder was told, and so the refusal of the text that says it.
+use Rattle.std.specs.Prelude.{◌≡◌, ℕ, min, pos, Bool, List, [], map, slice_index_or, Option, Some, codes, ⊤, if◌then◌else◌}
+use Rattle.std.specs.Fmt.{decimal}
+use Rattle.toml.specs.Data.{Data, string, integer, boolean, array, table, no_items, item, Members, no_members, member}
+use Rattle.toml.specs.Parse.{parse_document}
+use Rattle.toml.specs.View.{items_of}
+use Rattle.dine_token.specs.declared.act.Act.{Act}
+use Rattle.dine_token.specs.declared.act.Act.TheVariants.{Add, Set}
+use Rattle.dine_builder.specs.declared.drafts.DraftJob.{DraftJob}
+use Rattle.dine_builder.specs.declared.drafts.DraftEdge.{DraftEdge}
+use Rattle.dine_reader.specs.declared.plan_fault.PlanFault.{PlanFault}
+use Rattle.dine_reader.specs.declared.plan_fault.PlanFault.TheVariants.{NotToml, Version, UnknownKey, MissingKey, WrongKind, TwoActs, UnknownPolicy}
+use Rattle.dine_builder.specs.Draft.{SeenDraftSite, Draft}
+use Rattle.dine_reader.specs.RefusalTests.{first_refusal}
+
+-- a whole number as a text writes it; one above the greatest that TOML has is written as that one, which each limit
+-- refuses too
+abbrev pub whole : ℕ → Data
+whole n = integer (pos (min n 9223372036854775807))
+
+-- the keys of a job from "fails" to "name", before those that come after
+abbrev pub job_members : DraftJob → Members → Members
+job_members job rest = member (codes "fails") (boolean job.fails) (member (codes "name") (string (decimal job.number)) rest)
+
+-- the job table with all keys of a job that does this to values; its name is its number
+abbrev pub job_members_with : DraftJob → Act → Members
+job_members_with job (Add amount) = member (codes "add") (whole amount) (job_members job (member (codes "turns") (whole job.turns) no_members))
+job_members_with job (Set amount) = job_members job (member (codes "set") (whole amount) (member (codes "turns") (whole job.turns) no_members))
+
+-- the table of a job
+unfoldable pub job_table : DraftJob → Data
+job_table job = table (job_members_with job job.act)
+
+-- what a site says of a failed job
+abbrev pub policy_word : Bool → List ℕ
+policy_word resigns = if resigns then codes "resign" else codes "go"
+
+-- the table of a site
+unfoldable pub site_table : SeenDraftSite → Data
+site_table site =
+    table (member (codes "jobs") (array (items_of (map job_table site.jobs)))
+    (member (codes "name") (string site.name)
+    (member (codes "on_fault") (string (policy_word site.resigns)) no_members)))
+
+-- the names of sites
+abbrev pub names_told : List SeenDraftSite → List (List ℕ)
+names_told sites = map (λ (site : SeenDraftSite). site.name) sites
+
+-- what stands for an end: the name of the site, or the empty text, which is no site's name, where there is no site of
+-- this number
+abbrev pub end_name : List (List ℕ) → ℕ → List ℕ
+end_name names s = slice_index_or names s []
+
+-- the table of an edge between sites of these names
+unfoldable pub edge_table : List (List ℕ) → DraftEdge → Data
+edge_table names edge =
+    table (member (codes "ends") (array (item (string (end_name names edge.a)) (item (string (end_name names edge.b)) no_items)))
+    (member (codes "value") (whole edge.value) no_members))
+
+-- the document that says what was told, of version 2 of the format
+unfoldable pub document_of : Draft → Members
+document_of d =
+    member (codes "edge") (array (items_of (map (edge_table (names_told d.sites)) d.edges)))
+    (member (codes "site") (array (items_of (map site_table d.sites)))
+    (member (codes "version") (integer (pos 2)) no_members))
+
+-- the text says what was told: it reads as that document
+abbrev pub Says : List ℕ → Draft → Type 0
+Says text d = parse_document text ≡ Some (document_of d)
+
+-- the first cause to refuse that document, at the least position; none where no cause holds
+abbrev pub first_fault_of : Draft → Option PlanFault
+first_fault_of d = first_refusal (table (document_of d))
+
+-- the causes for which what was told may be refused: those in its names, numbers and edges, and want of memory
+abbrev pub IsOfDraft : PlanFault → Type 0
+IsOfDraft NotToml = ⊥
+IsOfDraft Version = ⊥
+IsOfDraft UnknownKey = ⊥
+IsOfDraft MissingKey = ⊥
+IsOfDraft WrongKind = ⊥
+IsOfDraft (TwoActs site) = ⊥
+IsOfDraft (UnknownPolicy site) = ⊥
+IsOfDraft _ = ⊤

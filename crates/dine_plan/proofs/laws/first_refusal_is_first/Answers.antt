@@ -1,8 +1,0 @@
-use Rattle.dine_plan.proofs.FirstLemmas.{is_first, none_holds}
-use Rattle.dine_plan.proofs.laws.first_refusal_is_first.Goals as goal
-
-pub returns-clause-first : goal.returns-clause-first
-returns-clause-first c = is_first
-
-pub returns-clause-none : goal.returns-clause-none
-returns-clause-none c = none_holds

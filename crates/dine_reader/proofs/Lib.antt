@@ -1,0 +1,6 @@
+pub mod DocumentLemmas
+pub mod Searches
+pub mod NameLemmas
+pub mod ListLemmas
+pub mod GraphLemmas
+pub mod FirstLemmas

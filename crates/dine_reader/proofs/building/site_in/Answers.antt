@@ -1,0 +1,13 @@
+use Rattle.std.proofs.Common.{◌∙◌}
+use Rattle.dine_reader.specs.PlanOf.{site_in}
+use Rattle.dine_reader.specs.RefusalTests.{has_many_turns}
+use Rattle.dine_reader.proofs.building.site_in.Goals as goal
+
+pub jobs_in-requires : goal.jobs_in-requires
+unfolding has_many_turns
+jobs_in-requires c = rw c.items_at.ensures c.requires
+
+pub returns : goal.returns
+unfolding site_in
+returns c =
+    rw (c.in_ok-name.ensures.ok ∙ c.text_at.ensures, c.in_ok-jobs.ensures, c.items_at.ensures, c.resigns_in-resigns.ensures)

@@ -1,0 +1,10 @@
+use Rattle.std.proofs.Common.{map, rules, tests, refl}
+use Rattle.toml.specs.View.{view}
+use Rattle.dine_reader.specs.Document.{name_in}
+use Rattle.dine_reader.specs.RefusalTests.{has_unknown_end}
+use Rattle.dine_reader.proofs.Searches.{position_seen}
+use Rattle.dine_reader.proofs.edges.first_unknown_end.Goals as goal
+
+pub returns : goal.returns
+returns c =
+    position_seen (has_unknown_end (map name_in (map view c.args.sites.now))) c.args.edges.now _ c.position.result c.position.ensures.ran (cc) (λ x b q k. search (rules, tests)) refl

@@ -1,0 +1,27 @@
+use Rattle.std.proofs.Common.{Result, Ok, Err, OnOk, IfErr, sym, ◌∙◌}
+use Rattle.dine_reader.proofs.GraphLemmas.{first_of_document}
+use Rattle.dine_reader.proofs.reading.read_tables.Goals as goal
+
+ok_then : {A E : Type 0} {P Q : Type 0} (r : Result A E) → (P → Q) → OnOk r P → OnOk r Q
+ok_then (Ok x) f h = f h
+ok_then (Err e) f h = tt
+
+err_then : {A E : Type 0} (P Q : E → Type 0) (r : Result A E) → ((e : E) → P e → Q e) → IfErr r P → IfErr r Q
+err_then P Q (Ok x) f h = tt
+err_then P Q (Err e) f h = f e h
+
+pub returns-in-Some-clause-refused : goal.returns-in-Some-clause-refused
+returns-in-Some-clause-refused c _ =
+    first_of_document _ ∙ rw (sym c.first_form_fault.ensures ∙ c.in-Some.is)
+
+pub returns-clause-unrefused : goal.returns-clause-unrefused
+returns-clause-unrefused c =
+    ok_then c.read_graph.result
+    (λ none. first_of_document _ ∙ rw (sym c.first_form_fault.ensures ∙ c.in_default.is, ← c.items_at-sites.ensures, ← c.items_at-edges.ensures) none)
+    c.read_graph.ensures.unrefused
+
+pub returns-clause-refused : goal.returns-clause-refused
+returns-clause-refused c =
+    err_then _ _ c.read_graph.result
+    (λ fault first other. first_of_document _ ∙ rw (sym c.first_form_fault.ensures ∙ c.in_default.is, ← c.items_at-sites.ensures, ← c.items_at-edges.ensures) (first other))
+    c.read_graph.ensures.refused

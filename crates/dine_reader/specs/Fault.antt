@@ -1,0 +1,43 @@
+-- The number of each cause, and the position that it carries.
+use Rattle.std.specs.Prelude.{ℕ}
+use Rattle.dine_reader.specs.declared.plan_fault.PlanFault.{PlanFault}
+use Rattle.dine_reader.specs.declared.plan_fault.PlanFault.TheVariants.{NotToml, Version, UnknownKey, MissingKey, WrongKind, BadName, SiteTwice, NoSite, TooManySites, TooManyJobs, TurnsTooLarge, UnknownEnd, Loop, EdgeTwice, TooManyEdges, TwoActs, ActTooLarge, ValueTooLarge, UnknownPolicy, Memory}
+
+-- the number of each cause to refuse a plan, 1 to 20, in the order in which they are looked for; want of memory, 16,
+-- comes at any point
+abbrev pub number_of_fault : PlanFault → ℕ
+number_of_fault NotToml = 1
+number_of_fault Version = 2
+number_of_fault UnknownKey = 3
+number_of_fault MissingKey = 4
+number_of_fault WrongKind = 5
+number_of_fault (BadName site) = 6
+number_of_fault (SiteTwice site) = 7
+number_of_fault NoSite = 8
+number_of_fault TooManySites = 9
+number_of_fault (TooManyJobs site) = 10
+number_of_fault (TurnsTooLarge site) = 11
+number_of_fault (UnknownEnd edge) = 12
+number_of_fault (Loop edge) = 13
+number_of_fault (EdgeTwice edge) = 14
+number_of_fault TooManyEdges = 15
+number_of_fault Memory = 16
+number_of_fault (TwoActs site) = 17
+number_of_fault (ActTooLarge site) = 18
+number_of_fault (ValueTooLarge edge) = 19
+number_of_fault (UnknownPolicy site) = 20
+
+-- the position, from 0, of the site or edge that a fault names; 0 where it names none
+abbrev pub position_of_fault : PlanFault → ℕ
+position_of_fault (BadName site) = site
+position_of_fault (SiteTwice site) = site
+position_of_fault (TooManyJobs site) = site
+position_of_fault (TurnsTooLarge site) = site
+position_of_fault (UnknownEnd edge) = edge
+position_of_fault (Loop edge) = edge
+position_of_fault (EdgeTwice edge) = edge
+position_of_fault (TwoActs site) = site
+position_of_fault (ActTooLarge site) = site
+position_of_fault (ValueTooLarge edge) = edge
+position_of_fault (UnknownPolicy site) = site
+position_of_fault _ = 0

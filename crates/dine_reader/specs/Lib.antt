@@ -1,0 +1,5 @@
+pub mod Document
+pub mod Fault
+pub mod RefusalTests
+pub mod RefusalFacts
+pub mod PlanOf

@@ -1,0 +1,21 @@
+//! Laws over the definitions alone. Each function does nothing: its contract is the law.
+
+ghost use Rattle.std.specs.Prelude.{◌≡◌, ℕ, None, Some};
+ghost use Rattle.toml.specs.Data.{Data};
+ghost use Rattle.dine_reader.specs.RefusalTests.{first_refusal};
+ghost use Rattle.dine_reader.specs.RefusalFacts.{Refuses, IsFirst};
+ghost use Rattle.dine_reader.specs.declared.plan_fault.PlanFault.{PlanFault};
+ghost use Rattle.dine_reader.specs.declared.plan_fault.PlanFault.TheVariants.{UnknownEnd, Loop, EdgeTwice};
+
+/// The first refusal of a document is the first cause of the list that holds of it, at the least position at which it
+/// holds; and where there is no first refusal, no cause holds.
+pub fn first_refusal_is_first()
+    ensures first { (doc : Data) (fault : PlanFault) → first_refusal doc ≡ Some fault → IsFirst doc fault }
+    ensures none { (doc : Data) (fault : PlanFault) → first_refusal doc ≡ None → Refuses doc fault → ⊥ }
+{}
+
+/// An edge with an end that is no site's name is no loop, and joins no pair of sites that an earlier edge joins.
+pub fn loops_and_pairs_are_of_known_ends()
+    ensures loops { (doc : Data) (edge : ℕ) → Refuses doc (UnknownEnd edge) → Refuses doc (Loop edge) → ⊥ }
+    ensures pairs { (doc : Data) (edge : ℕ) → Refuses doc (UnknownEnd edge) → Refuses doc (EdgeTwice edge) → ⊥ }
+{}

@@ -1,0 +1,157 @@
+//! Why a text is no plan.
+ghost use Rattle.std.specs.Prelude.{◌≡◌};
+ghost use Rattle.dine_reader.specs.Fault.{number_of_fault};
+ghost use Rattle.dine_reader.specs.declared.plan_fault.PlanFault.TheVariants.{Memory};
+
+use std::alloc::{AllocError, AllocFailed};
+use std::error::Error;
+use std::fmt;
+
+/// Why a plan text was refused. The checks run over the whole document, one after the other in this order, and the
+/// number in a fault is the least position, from 0, in the text's list of sites or of edges at which it holds.
+#[derive(Clone, Copy, Debug, PartialEq, Eq)]
+pub enum PlanFault {
+    /// The text is no TOML.
+    NotToml,
+    /// `version` is absent or is not the whole number 1 or 2.
+    Version,
+    /// The document, a site, a job or an edge has a key that its version of the format does not name for it.
+    UnknownKey,
+    /// A site or a job has no `name`, or an edge no `ends`.
+    MissingKey,
+    /// A value is of another kind than the format names for its key.
+    WrongKind,
+    /// The name of this site, or of one of its jobs, is no name.
+    BadName(usize),
+    /// The name of this site stands at an earlier site.
+    SiteTwice(usize),
+    /// There is no site.
+    NoSite,
+    /// There are more than 64 sites.
+    TooManySites,
+    /// This site has more than 1,000 jobs.
+    TooManyJobs(usize),
+    /// A job of this site has `turns` above 1,000,000.
+    TurnsTooLarge(usize),
+    /// An end of this edge is no site's name.
+    UnknownEnd(usize),
+    /// Both ends of this edge are one site.
+    Loop(usize),
+    /// An earlier edge joins the two sites of this one.
+    EdgeTwice(usize),
+    /// There are more than 512 edges.
+    TooManyEdges,
+    /// A job of this site both adds and sets.
+    TwoActs(usize),
+    /// A job of this site adds or sets more than 1,000,000.
+    ActTooLarge(usize),
+    /// The value of this edge is above 1,000,000.
+    ValueTooLarge(usize),
+    /// What this site says of a failed job is neither `go` nor `resign`.
+    UnknownPolicy(usize),
+    /// Memory ran out.
+    Memory,
+}
+
+impl PlanFault {
+    /// The number of the cause, 1 to 20, in the order in which the causes are looked for. `Memory`, which comes at any
+    /// point, is 16.
+    pub fn number(&self) -> u32
+        ensures { result ≡ number_of_fault self.now }
+    {
+        match self {
+            PlanFault::NotToml => 1,
+            PlanFault::Version => 2,
+            PlanFault::UnknownKey => 3,
+            PlanFault::MissingKey => 4,
+            PlanFault::WrongKind => 5,
+            PlanFault::BadName(_) => 6,
+            PlanFault::SiteTwice(_) => 7,
+            PlanFault::NoSite => 8,
+            PlanFault::TooManySites => 9,
+            PlanFault::TooManyJobs(_) => 10,
+            PlanFault::TurnsTooLarge(_) => 11,
+            PlanFault::UnknownEnd(_) => 12,
+            PlanFault::Loop(_) => 13,
+            PlanFault::EdgeTwice(_) => 14,
+            PlanFault::TooManyEdges => 15,
+            PlanFault::Memory => 16,
+            PlanFault::TwoActs(_) => 17,
+            PlanFault::ActTooLarge(_) => 18,
+            PlanFault::ValueTooLarge(_) => 19,
+            PlanFault::UnknownPolicy(_) => 20,
+        }
+    }
+
+    // The cause's number and name, and for a cause with a position of what.
+    fn words(&self) -> &'static str {
+        match self {
+            PlanFault::NotToml => "1 NotToml",
+            PlanFault::Version => "2 Version",
+            PlanFault::UnknownKey => "3 UnknownKey",
+            PlanFault::MissingKey => "4 MissingKey",
+            PlanFault::WrongKind => "5 WrongKind",
+            PlanFault::BadName(_) => "6 BadName at site",
+            PlanFault::SiteTwice(_) => "7 SiteTwice at site",
+            PlanFault::NoSite => "8 NoSite",
+            PlanFault::TooManySites => "9 TooManySites",
+            PlanFault::TooManyJobs(_) => "10 TooManyJobs at site",
+            PlanFault::TurnsTooLarge(_) => "11 TurnsTooLarge at site",
+            PlanFault::UnknownEnd(_) => "12 UnknownEnd at edge",
+            PlanFault::Loop(_) => "13 Loop at edge",
+            PlanFault::EdgeTwice(_) => "14 EdgeTwice at edge",
+            PlanFault::TooManyEdges => "15 TooManyEdges",
+            PlanFault::Memory => "16 Memory",
+            PlanFault::TwoActs(_) => "17 TwoActs at site",
+            PlanFault::ActTooLarge(_) => "18 ActTooLarge at site",
+            PlanFault::ValueTooLarge(_) => "19 ValueTooLarge at edge",
+            PlanFault::UnknownPolicy(_) => "20 UnknownPolicy at site",
+        }
+    }
+
+    // The position of the cause, where it has one.
+    fn position(&self) -> Option<usize> {
+        match self {
+            PlanFault::BadName(at)
+            | PlanFault::SiteTwice(at)
+            | PlanFault::TooManyJobs(at)
+            | PlanFault::TurnsTooLarge(at)
+            | PlanFault::UnknownEnd(at)
+            | PlanFault::Loop(at)
+            | PlanFault::EdgeTwice(at)
+            | PlanFault::TwoActs(at)
+            | PlanFault::ActTooLarge(at)
+            | PlanFault::ValueTooLarge(at)
+            | PlanFault::UnknownPolicy(at) => Some(*at),
+            _ => None,
+        }
+    }
+}
+
+impl fmt::Display for PlanFault {
+    fn fmt<W: fmt::Write>(&self, f: &mut fmt::Formatter<W>) -> fmt::Result {
+        f.write_str(self.words())?;
+        match self.position() {
+            Some(at) => write!(f, " {at}"),
+            None => Ok(()),
+        }
+    }
+}
+
+impl Error for PlanFault {}
+
+impl From<AllocError> for PlanFault {
+    ghost from_gives = { λ _ f. f ≡ Memory };
+
+    fn from(_error: AllocError) -> PlanFault {
+        PlanFault::Memory
+    }
+}
+
+impl<T: Drop> From<AllocFailed<T>> for PlanFault {
+    ghost from_gives = { λ _ f. f ≡ Memory };
+
+    fn from(_error: AllocFailed<T>) -> PlanFault {
+        PlanFault::Memory
+    }
+}

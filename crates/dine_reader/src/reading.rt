@@ -1,0 +1,87 @@
+//! A plan from its text.
+ghost use Rattle.std.specs.Prelude.{◌≡◌, ◌≢◌, ◌⊎◌, ◌≤◌, List, ℕ, None, Some, map, OnOk, IfOk, IfErr};
+ghost use Rattle.toml.specs.Data.{Members, table};
+ghost use Rattle.toml.specs.Parse.{parse_document};
+ghost use Rattle.toml.specs.View.{view};
+ghost use Rattle.dine_reader.specs.PlanOf.{IsPlanOf, plan_in, plan_of_document};
+ghost use Rattle.dine_reader.specs.RefusalTests.{first_some, graph_refusals, first_refusal, first_fault};
+
+use crate::acts::first_act_fault;
+use crate::building::build;
+use crate::documents::{items_at, version_in};
+use crate::edges::{first_end_fault, first_pair_fault, pairs_in};
+use crate::forms::first_form_fault;
+use crate::plan_fault::PlanFault;
+use crate::sites::first_site_fault;
+use dine_graph::Plan;
+use std::alloc::Global;
+use toml::Value;
+
+/// Reads a plan text, version 1 or 2 of the format. The plan comes exactly where no cause of `PlanFault` before
+/// `Memory` holds of the text, and otherwise the first one that holds, at the least position. `Memory` comes at any
+/// point where memory runs out, and stands for no other cause.
+pub fn read_plan(alloc: Global, text: &str) -> Result<Plan, PlanFault>
+    ensures unrefused { OnOk result (first_fault text.now ≡ None) }
+    ensures plan { IfOk result (IsPlanOf text.now) }
+    ensures refused { IfErr result (λ f. f ≢ PlanFault.Memory → first_fault text.now ≡ Some f) }
+{
+    let document = read_document(alloc, text)?;
+    read_tables(alloc, &document)
+}
+
+/// The plan of a TOML document, as `read_plan` reads it of a text.
+pub fn read_tables(alloc: Global, document: &Value) -> Result<Plan, PlanFault>
+    ensures unrefused { OnOk result (first_refusal (view document.now) ≡ None) }
+    ensures plan { IfOk result (λ p. p ≡ plan_of_document (view document.now)) }
+    ensures refused { IfErr result (λ f. f ≢ PlanFault.Memory → first_refusal (view document.now) ≡ Some f) }
+{
+    if let Some(fault) = first_form_fault(document) {
+        return Err(fault);
+    }
+    let sites = items_at(document, "site");
+    let edges = items_at(document, "edge");
+    let version = version_in(document);
+    read_graph(alloc, version, sites, edges)
+}
+
+// The text as data.
+fn read_document(alloc: Global, text: &str) -> Result<Value, PlanFault>
+    ensures ok { IfOk result (λ v. (doc : Members) × (parse_document text.now ≡ Some doc) × (view v ≡ table doc)) }
+    ensures refused { IfErr result (λ f. f ≢ PlanFault.Memory → (f ≡ PlanFault.NotToml) × (parse_document text.now ≡ None)) }
+{
+    match toml::table_from_str(alloc, text) {
+        Ok(document) => Ok(Value::Table(document)),
+        Err(error) if error.is_memory() => Err(PlanFault::Memory),
+        Err(_) => Err(PlanFault::NotToml),
+    }
+}
+
+// The plan of the version, the site tables and the edge tables of a document whose form is right.
+fn read_graph(
+    alloc: Global,
+    version: u32,
+    sites: &[Value],
+    edges: &[Value],
+) -> Result<Plan, PlanFault>
+    requires first { 1 ≤ version }
+    requires last { version ≤ 2 }
+    ensures unrefused { OnOk result (first_some (graph_refusals (map view sites.now) (map view edges.now)) ≡ None) }
+    ensures plan { IfOk result (λ p. p ≡ plan_in version (map view sites.now) (map view edges.now)) }
+    ensures refused { IfErr result (λ f. f ≢ PlanFault.Memory → first_some (graph_refusals (map view sites.now) (map view edges.now)) ≡ Some f) }
+{
+    let site_fault = first_site_fault(alloc, sites)?;
+    if let Some(fault) = site_fault {
+        return Err(fault);
+    }
+    if let Some(fault) = first_end_fault(sites, edges) {
+        return Err(fault);
+    }
+    let pairs = pairs_in(alloc, sites, edges)?;
+    if let Some(fault) = first_pair_fault(pairs.as_slice()) {
+        return Err(fault);
+    }
+    if let Some(fault) = first_act_fault(sites, edges) {
+        return Err(fault);
+    }
+    Ok(build(alloc, version, sites, edges, pairs)?)
+}
