@@ -1,7 +1,6 @@
 pub mod Doings
 pub mod Diners
 pub mod CallLogs
-pub mod JobsSeated
 pub mod Ports
 pub mod Endings
 pub mod SiteEnds

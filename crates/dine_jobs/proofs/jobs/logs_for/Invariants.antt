@@ -2,7 +2,7 @@ use Rattle.std.proofs.Common.{◌≡◌, ◌≤◌, map, vec_len, vec_capacity}
 use Rattle.std.specs.List.{range_with_len}
 use Rattle.dine_graph.specs.Plan.{job_count, site_count}
 use Rattle.dine_threads.specs.CallLogs.{no_calls}
-use Rattle.dine_threads.proofs.jobs.logs_for.Given as goal
+use Rattle.dine_jobs.proofs.jobs.logs_for.Given as goal
 
 -- the logs of the sites so far, and room for the others
 abbrev pub invariant-loop-site : goal.invariant-loop-site

@@ -1,8 +1,8 @@
 use Rattle.std.proofs.Common.{◌≡◌, ◌+◌, ◌≤◌, ◌++◌, map, vec_len, vec_capacity, vec_items}
 use Rattle.std.specs.Vec.Iter.{into_iter_items, into_iter_len}
-use Rattle.dine_threads.specs.declared.jobs.Jobs.{Jobs}
-use Rattle.dine_threads.specs.JobsSeated.{fresh_logs}
-use Rattle.dine_threads.proofs.jobs.Jobs.seat.Given as goal
+use Rattle.dine_jobs.specs.declared.jobs.Jobs.{Jobs}
+use Rattle.dine_jobs.specs.JobsSeated.{fresh_logs}
+use Rattle.dine_jobs.proofs.jobs.Jobs.seat.Given as goal
 
 -- as many jobs wait as logs, there is room for them, and what is seated and what waits is all
 abbrev pub invariant-loop-log : goal.invariant-loop-log

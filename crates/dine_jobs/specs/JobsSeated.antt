@@ -4,8 +4,8 @@ use Rattle.std.specs.Global.{Vec}
 use Rattle.std.specs.List.{range_with_len}
 use Rattle.dine_graph.specs.Plan.{SeenPlan, job_count, site_count}
 use Rattle.dine_threads.specs.CallLogs.{SeenCallLog, no_calls}
-use Rattle.dine_threads.specs.declared.jobs.SeatFault.{SeatFault}
-use Rattle.dine_threads.specs.declared.jobs.SeatFault.TheVariants as fault
+use Rattle.dine_jobs.specs.declared.jobs.SeatFault.{SeatFault}
+use Rattle.dine_jobs.specs.declared.jobs.SeatFault.TheVariants as fault
 
 -- a log without calls for each site, with room for its jobs
 abbrev pub fresh_logs : SeenPlan → List SeenCallLog

@@ -1,11 +1,10 @@
 //! Jobs of which nothing is to be proved, and the diner that does them.
 ghost use Rattle.std.specs.Prelude.{◌≡◌, ◌≤◌, IfErr, IfOk, Some, [], map, slice_get, true, vec_len};
 ghost use Rattle.dine_graph.specs.Plan.{job_count, site_count};
-ghost use Rattle.dine_threads.specs.JobsSeated.{TellsCount, fresh_logs, given_back, seat_fault_words};
+ghost use Rattle.dine_jobs.specs.JobsSeated.{TellsCount, fresh_logs, given_back, seat_fault_words};
 
-use crate::call_log::CallLog;
-use crate::diner::{Call, Diner, JobFault};
 use dine_graph::Plan;
+use dine_threads::{Call, CallLog, Diner, JobFault};
 use dine_token::Meal;
 use std::alloc::{AllocError, Global};
 use std::error::Error;

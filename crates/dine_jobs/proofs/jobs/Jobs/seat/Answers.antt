@@ -6,11 +6,11 @@ use Rattle.std.proofs.lemmas.List.FromFn.{get_or-map-range_with_len, length-map-
 use Rattle.std.proofs.lemmas.Option.{get_or_from_slice_get, slice_get-map, slice_get_within}
 use Rattle.dine_graph.specs.Plan.{job_count, site_count}
 use Rattle.dine_threads.specs.CallLogs.{SeenCallLog, no_calls}
-use Rattle.dine_threads.specs.JobsSeated.{fresh_logs}
-use Rattle.dine_threads.specs.declared.jobs.Jobs.{Jobs}
+use Rattle.dine_jobs.specs.JobsSeated.{fresh_logs}
+use Rattle.dine_jobs.specs.declared.jobs.Jobs.{Jobs}
 use Rattle.dine_threads.proofs.lists.Zips.{mapped_split}
 use Rattle.dine_threads.proofs.all_sites.Collected.{none_left}
-use Rattle.dine_threads.proofs.jobs.Jobs.seat.Goals as goal
+use Rattle.dine_jobs.proofs.jobs.Jobs.seat.Goals as goal
 
 pub loop-log-preserved : goal.loop-log-preserved
 loop-log-preserved g c =
