@@ -10,8 +10,8 @@ ghost use Rattle.dine_words.specs.Words.{AreRight, HasNoFault, are_taken, asked_
 
 use crate::fault_lines::Fault;
 use crate::run_text::run_text;
-use dine_log_text::replay_text;
 use dine_graph::Plan;
+use dine_log_text::replay_text;
 use dine_words::{Command, Status, check_text, command_of, plan_of_bytes, read_input, write_out};
 use std::alloc::Global;
 use std::io::{Read, Write};

@@ -6,8 +6,8 @@ ghost use Rattle.dine.specs.Run.{HasDueRows, IsRunText, NamesSite, TellsRun, din
 use crate::fault_lines::Fault;
 use crate::plan_diner::PlanDiner;
 use crate::tables::{write_edges, write_sites};
-use dine_link::{ChannelLane, Lane, RingLane};
 use dine_graph::Plan;
+use dine_link::{ChannelLane, Lane, RingLane};
 use dine_rules::laws;
 use dine_threads::{Gathered, edge_table, run, site_table};
 use dine_words::{Links, Table};

@@ -10,8 +10,8 @@ use crate::gathered::SiteOut;
 use crate::port::Port;
 use crate::site_end::SiteEnd;
 use crate::slots::{Both, fill_row, pair_up};
-use dine_link::{Lane, LinkEnd};
 use dine_graph::Plan;
+use dine_link::{Lane, LinkEnd};
 use dine_token::Fork;
 use std::alloc::{AllocError, Global};
 

@@ -9,8 +9,8 @@ ghost use Rattle.dine_threads.specs.private.Wirings.{AreRingersAt, AreRung, AreW
 
 use crate::port::Port;
 use crate::slots::{Both, fill_row, pair_up};
-use dine_link::{Bell, Lane, Ringer, TxEnd};
 use dine_graph::Plan;
+use dine_link::{Bell, Lane, Ringer, TxEnd};
 use std::alloc::{AllocError, Global};
 
 // The ports of a site, and its bell.
