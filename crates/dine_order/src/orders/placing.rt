@@ -70,7 +70,7 @@ fn next_kind(journals: &[Vec<EventKind>], counts: &[u32], site: u32) -> Option<E
 }
 
 // Counts an event that was placed, and puts the site into the set that gets a letter by it.
-#[tactic(auto, using(crate::proofs::one_order::Shown::sites_shown))]
+#[tactic(auto, using(crate::proofs::Shown::sites_shown))]
 fn note(plan: &Plan, event: Event, counts: &mut [u32], untried: &mut BitSet64)
     requires { (lists : List (List EventKind)) × (placed : List Event) × (seen : SeenWorld) × IsFound (plan_shown plan.now lists) lists placed counts.old untried.old event seen }
     ensures { (lists : List (List EventKind)) (placed : List Event) (seen : SeenWorld) → IsFound (plan_shown plan.now lists) lists placed counts.old untried.old event seen
