@@ -11,16 +11,16 @@ use Rattle.dine_token.specs.Lawful.{count_from}
 use Rattle.dine_rules.specs.JoinedEnds.{IsWholeLog}
 use Rattle.dine_rules.specs.Values.{added_up, has_no_set, value_by}
 use Rattle.dine_link.specs.Links.{SeenLink}
-use Rattle.dine_threads.specs.declared.diner.Call.{Call}
+use Rattle.dine_site.specs.declared.diner.Call.{Call}
 use Rattle.dine_threads.specs.declared.gathered.SiteOut.{SiteOut}
-use Rattle.dine_threads.specs.Diners.{HasLastFailed, StopsAtFailed, meals_called, failed_in, tells_quit}
+use Rattle.dine_site.specs.Diners.{HasLastFailed, StopsAtFailed, meals_called, failed_in, tells_quit}
 use Rattle.dine_threads.specs.Gathered.{AreFinishedOuts, AreOutsOf, IsFinishedOut, IsOutOf}
 use Rattle.dine_threads.specs.Headline.{IsHeadline}
 use Rattle.dine_threads.specs.declared.tables.EdgeRow.{EdgeRow}
 use Rattle.dine_threads.specs.declared.tables.SiteRow.{SiteRow}
 use Rattle.dine_threads.specs.Tables.{due_edge_rows, due_site_rows, edge_row}
 use Rattle.dine_threads.proofs.all_sites.Rows.{edge_rows-due, headline_gathered, site_rows-due, values-due}
-use Rattle.dine_threads.proofs.lists.Seen.{there_is}
+use Rattle.dine_site.proofs.lists.Seen.{there_is}
 use Rattle.dine.specs.PlanDiners.{SeenPlanDiner, fails_of, first_word, fits_marks, mark_of}
 use Rattle.dine.specs.Tables.{IsEdgeRowOf, IsSiteRowOf}
 use Rattle.dine.specs.Run.{HasDueRows, diner_of, diners_of, done_to_failed, failing_by_site, failing_jobs, meals_at}

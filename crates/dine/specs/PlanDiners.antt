@@ -1,7 +1,7 @@
 -- The diner of a plan, as contracts see it. The turns of a job it leaves out.
 use Rattle.std.specs.Prelude.{ℕ, Bool, false, not, List, ◌∷◌, map, slice_index_or, if◌then◌else◌}
 use Rattle.dine_graph.specs.Plan.{SeenPlan, SeenJob, jobs_of}
-use Rattle.dine_threads.specs.declared.diner.Call.{Call}
+use Rattle.dine_site.specs.declared.diner.Call.{Call}
 
 -- a diner of a plan: the calls so far, in order, for each job of its site whether it fails, for how many more calls
 -- there is room, and the word to which the turns so far led

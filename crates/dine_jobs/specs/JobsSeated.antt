@@ -3,7 +3,7 @@ use Rattle.std.specs.Prelude.{◌≡◌, ◌≢◌, ℕ, List, codes, map, vec_l
 use Rattle.std.specs.Global.{Vec}
 use Rattle.std.specs.List.{range_with_len}
 use Rattle.dine_graph.specs.Plan.{SeenPlan, job_count, site_count}
-use Rattle.dine_threads.specs.CallLogs.{SeenCallLog, no_calls}
+use Rattle.dine_site.specs.CallLogs.{SeenCallLog, no_calls}
 use Rattle.dine_jobs.specs.declared.jobs.SeatFault.{SeatFault}
 use Rattle.dine_jobs.specs.declared.jobs.SeatFault.TheVariants as fault
 

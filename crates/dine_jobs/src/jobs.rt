@@ -4,7 +4,7 @@ ghost use Rattle.dine_graph.specs.Plan.{job_count, site_count};
 ghost use Rattle.dine_jobs.specs.JobsSeated.{TellsCount, fresh_logs, given_back, seat_fault_words};
 
 use dine_graph::Plan;
-use dine_threads::{Call, CallLog, Diner, JobFault};
+use dine_site::{Call, CallLog, Diner, JobFault};
 use dine_token::Meal;
 use std::alloc::{AllocError, Global};
 use std::error::Error;

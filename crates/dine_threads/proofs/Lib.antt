@@ -1,3 +1,2 @@
 pub mod lists
-pub mod one_site
 pub mod all_sites

@@ -1,7 +1,4 @@
--- Lists of which one element is read, written or replaced.
-pub mod Lists
-pub mod Seen
+-- Lists that are read side by side or grow by one, and rows of slots of which one is written.
 pub mod Zips
 pub mod Pairs
 pub mod Writes
-pub mod Replaced

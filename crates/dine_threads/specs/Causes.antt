@@ -1,14 +1,14 @@
 -- Why a run gathered nothing, or not all, and how it is told in words.
 use Rattle.std.specs.Prelude.{ℕ, List, ◌++◌, codes, option_and_then, slice_get, unwrap_or}
 use Rattle.std.specs.Fmt.{decimal}
-use Rattle.dine_rules.specs.Breach.{number_of}
+use Rattle.dine_site.specs.FaultWords.{site_fault_words}
 use Rattle.dine_threads.specs.declared.causes.RunCause.{RunCause}
 use Rattle.dine_threads.specs.declared.causes.RunCause.TheVariants as cause
 use Rattle.dine_threads.specs.declared.gathered.RunFault.{RunFault}
 use Rattle.dine_threads.specs.declared.gathered.RunFault.TheVariants as run
 use Rattle.dine_threads.specs.declared.gathered.SiteOut.{SiteOut}
-use Rattle.dine_threads.specs.declared.site_end.SiteFault.{SiteFault}
-use Rattle.dine_threads.specs.declared.site_end.SiteFault.TheVariants as site_fault
+use Rattle.dine_site.specs.declared.site_end.SiteFault.{SiteFault}
+use Rattle.dine_site.specs.declared.site_end.SiteFault.TheVariants as site_fault
 
 -- the fault that a site ended with; a site that has none, which `run` never tells as broken, counts as not started
 abbrev pub fault_at : {D : Type 0} → List (SiteOut D) → ℕ → SiteFault
@@ -21,14 +21,6 @@ cause_of (run.DinersDiffer given diners) = cause.DinersDiffer
 cause_of run.Memory = cause.Memory
 cause_of (run.Thread site) = cause.Thread site
 cause_of (run.Broken site joined) = cause.Broken site (fault_at joined.sites.items site)
-
--- how the fault of a site is told: a breach by its number, 1 to 6, and by the number of the place, a refused link by
--- the number of the place
-abbrev pub site_fault_words : SiteFault → List ℕ
-site_fault_words (site_fault.Breach link breach) = codes "Breach " ++ decimal (number_of breach) ++ codes " on link " ++ decimal link
-site_fault_words (site_fault.Lost link) = codes "Lost on link " ++ decimal link
-site_fault_words site_fault.NotStarted = codes "NotStarted"
-site_fault_words site_fault.Memory = codes "Memory"
 
 -- how the cause is told
 abbrev pub cause_words : RunCause → List ℕ

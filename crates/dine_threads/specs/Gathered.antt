@@ -4,9 +4,9 @@ use Rattle.dine_graph.specs.Plan.{SeenPlan, site_count, edge_count, job_count, l
 use Rattle.dine_rules.specs.Local.{Traffic}
 use Rattle.dine_rules.specs.Streams.{is_close_last, IsClosedInOrder}
 use Rattle.dine_link.specs.Links.{SeenLink, IsLink}
-use Rattle.dine_threads.specs.declared.diner.Call.{Call}
+use Rattle.dine_site.specs.declared.diner.Call.{Call}
 use Rattle.dine_threads.specs.declared.gathered.SiteOut.{SiteOut}
-use Rattle.dine_threads.specs.Diners.{HasEaten, HeedsFailures, tells_quit}
+use Rattle.dine_site.specs.Diners.{HasEaten, HeedsFailures, tells_quit}
 
 -- the link past the end of the list
 abbrev pub no_link : SeenLink

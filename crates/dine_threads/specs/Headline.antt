@@ -15,7 +15,7 @@ use Rattle.dine_rules.specs.Local.{edge_at}
 use Rattle.dine_rules.specs.Steps.{fork_by}
 use Rattle.dine_rules.specs.Streams.{IsPutInOrder}
 use Rattle.dine_link.specs.Links.{SeenLink}
-use Rattle.dine_threads.specs.declared.diner.Call.{Call}
+use Rattle.dine_site.specs.declared.diner.Call.{Call}
 use Rattle.dine_threads.specs.declared.gathered.SiteOut.{SiteOut}
 use Rattle.dine_threads.specs.declared.gathered.RunFault.{RunFault}
 use Rattle.dine_threads.specs.declared.gathered.RunFault.TheVariants.{DinersDiffer, Memory, Thread, Broken}

@@ -1,10 +1,3 @@
-pub mod Doings
-pub mod Diners
-pub mod CallLogs
-pub mod Ports
-pub mod Endings
-pub mod SiteEnds
-pub mod Running
 pub mod Gathered
 pub mod Causes
 pub mod Brokens

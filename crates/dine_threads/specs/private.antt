@@ -1,5 +1,4 @@
--- What no public contract names: how values are kept, and what private functions promise one another.
-pub mod CallLogFields
+-- What no public contract names: what private functions promise one another.
 pub mod Collecting
 pub mod Openings
 pub mod Seats

@@ -1,10 +1,9 @@
 //! Why a run gathers nothing, or not all, in words.
 ghost use Rattle.std.specs.Prelude.{◌≡◌, Some};
-ghost use Rattle.dine_threads.specs.Causes.{cause_of, cause_words, site_fault_words};
+ghost use Rattle.dine_threads.specs.Causes.{cause_of, cause_words};
 
-use crate::diner::Diner;
 use crate::gathered::RunFault;
-use crate::site_end::SiteFault;
+use dine_site::{Diner, SiteFault};
 use std::error::Error;
 use std::fmt;
 
@@ -40,26 +39,6 @@ impl<D: Diner> From<&RunFault<D>> for RunCause {
         }
     }
 }
-
-/// `Breach 6 on link 0`, `Lost on link 0`, `NotStarted` or `Memory`: a breach has its number, 1 to 6, and each link the
-/// number of its place.
-impl fmt::Display for SiteFault {
-    ghost output = { λ fault. Some (site_fault_words fault) };
-
-    fn fmt<W: fmt::Write>(&self, f: &mut fmt::Formatter<W>) -> fmt::Result {
-        match *self {
-            SiteFault::Breach(link, breach) => {
-                let number = breach.number();
-                write!(f, "Breach {number} on link {link}")
-            }
-            SiteFault::Lost(link) => write!(f, "Lost on link {link}"),
-            SiteFault::NotStarted => f.write_str("NotStarted"),
-            SiteFault::Memory => f.write_str("Memory"),
-        }
-    }
-}
-
-impl Error for SiteFault {}
 
 /// `run refused: diners differ`, `out of memory`, `run refused: thread of site 0`, or `run broken at site 0: ` and the
 /// fault.

@@ -5,13 +5,11 @@ ghost use Rattle.dine_threads.specs.private.Collecting.{AreForksOf, AreJoined, A
 ghost use Rattle.dine_threads.specs.Gathered.{IsTakenInOrder};
 ghost use Rattle.dine_threads.specs.private.Wirings.{AreWired};
 
-use crate::diner::Diner;
 use crate::gathered::SiteOut;
-use crate::port::Port;
-use crate::site_end::SiteEnd;
 use crate::slots::{Both, fill_row, pair_up};
 use dine_graph::Plan;
 use dine_link::{Lane, LinkEnd};
+use dine_site::{Diner, Port, SiteEnd};
 use dine_token::Fork;
 use std::alloc::{AllocError, Global};
 

@@ -1,8 +1,7 @@
 //! What is gathered when all sites have joined, and why there may be nothing to gather.
-use crate::diner::Diner;
-use crate::site_end::{SiteFault, Stray};
 use dine_link::LinkEnd;
 use dine_rules::EventKind;
+use dine_site::{Diner, SiteFault, Stray};
 use dine_token::{Fork, Token};
 
 /// What a site left: how many meals it began and how many of their jobs failed, its diner, the tokens in its hands in

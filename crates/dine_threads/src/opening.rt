@@ -3,14 +3,14 @@ ghost use Rattle.std.specs.Prelude.{◌≡◌, ℕ, ◌<◌, ◌≤◌, ◌+◌,
 ghost use Rattle.dine_graph.specs.Plan.{IsPlan, edge_count, edges_of, site_count};
 ghost use Rattle.dine_threads.specs.private.Openings.{AreBare, AreLaid, AreRingersOf, AreStands, IsBareStand, bells_of, rows_of};
 ghost use Rattle.dine_link.specs.Bells.{new_ringer};
-ghost use Rattle.dine_threads.specs.Ports.{seen_port};
+ghost use Rattle.dine_site.specs.Ports.{seen_port};
 ghost use Rattle.dine_threads.specs.private.Spots.{AreFull, IsFullRow};
 ghost use Rattle.dine_threads.specs.private.Wirings.{AreRingersAt, AreRung, AreWired};
 
-use crate::port::Port;
 use crate::slots::{Both, fill_row, pair_up};
 use dine_graph::Plan;
 use dine_link::{Bell, Lane, Ringer, TxEnd};
+use dine_site::Port;
 use std::alloc::{AllocError, Global};
 
 // The ports of a site, and its bell.

@@ -3,21 +3,18 @@ ghost use Rattle.std.specs.Prelude.{◌≡◌, ◌<◌, ◌≤◌, All, IfNone, 
 ghost use Rattle.std.specs.List.{AllZip};
 ghost use Rattle.dine_graph.specs.Plan.{SeenPlan, job_count, site_count};
 ghost use Rattle.dine_core.specs.Standing.{IsFresh, IsFreshFor};
-ghost use Rattle.dine_threads.specs.Diners.{HasEaten, HeedsFailures};
-ghost use Rattle.dine_threads.specs.Ports.{IsFreshPort, seen_ports};
+ghost use Rattle.dine_site.specs.Diners.{HasEaten, HeedsFailures};
+ghost use Rattle.dine_site.specs.Ports.{IsFreshPort, seen_ports};
 ghost use Rattle.dine_threads.specs.private.Openings.{AreStands};
 ghost use Rattle.dine_threads.specs.private.Seats.{AreSeatsOf, IsReady, LeavesSeat, seat_of, seen_site_end};
-ghost use Rattle.dine_threads.specs.SiteEnds.{IsLeft};
+ghost use Rattle.dine_site.specs.SiteEnds.{IsLeft};
 
-use crate::diner::Diner;
 use crate::opening::Stand;
-use crate::port::Port;
-use crate::site_end::{SiteEnd, SiteFault};
-use crate::site_loop::run_site;
 use dine_core::{Packed, SiteCore, site};
 use dine_graph::Plan;
 use dine_link::{Bell, Gate, Lane};
 use dine_rules::laws;
+use dine_site::{Diner, Port, SiteEnd, SiteFault, run_site};
 use std::alloc::{AllocError, Global};
 use std::snapshot::Snapshot;
 use std::sync::{Arc, Wait};

@@ -7,14 +7,13 @@ ghost use Rattle.dine_threads.specs.Journals.{AreJournals};
 ghost use Rattle.dine_threads.specs.Headline.{AllJoined, AreTokensOf, FallsShort, FaultIs, IsHeadline};
 
 use crate::collecting::{Room, collect, first_fault, make_room};
-use crate::diner::Diner;
 use crate::gathered::{Gathered, Joined, RunFault};
 use crate::opening::open_all;
 use crate::seats::{Child, Seat, join_all, seat_all, start_all};
-use crate::site_end::SiteEnd;
 use dine_graph::Plan;
 use dine_link::{Gate, Lane, Signal};
 use dine_rules::laws;
+use dine_site::{Diner, SiteEnd};
 use std::alloc::{AllocError, Global};
 use std::sync::{Arc, Wait};
 use std::thread::Threads;

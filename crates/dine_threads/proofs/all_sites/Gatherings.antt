@@ -24,28 +24,28 @@ use Rattle.dine_rules.proofs.one_site.SiteSteps.{list_all-range}
 use Rattle.dine_rules.proofs.lists.Turns.{ends_in_close}
 use Rattle.dine_core.specs.Core.{forks_in_hand}
 use Rattle.dine_link.specs.Links.{SeenEnd, SeenLink, link_of}
-use Rattle.dine_threads.specs.declared.diner.Call.{Call}
+use Rattle.dine_site.specs.declared.diner.Call.{Call}
 use Rattle.dine_threads.specs.declared.gathered.SiteOut.{SiteOut}
 use Rattle.dine_threads.specs.declared.seats.EndOf.{EndOf}
 use Rattle.dine_threads.specs.declared.seats.Seat.{Seat}
-use Rattle.dine_threads.specs.declared.site_end.SiteEnd.{SiteEnd}
-use Rattle.dine_threads.specs.declared.site_end.SiteFault.{SiteFault}
+use Rattle.dine_site.specs.declared.site_end.SiteEnd.{SiteEnd}
+use Rattle.dine_site.specs.declared.site_end.SiteFault.{SiteFault}
 use Rattle.dine_threads.specs.declared.slots.Spot.{Spot}
 use Rattle.dine_threads.specs.declared.threads.Setup.{Setup}
 use Rattle.dine_threads.specs.private.Collecting.{AreForksOf, AreLinksLeft, AreWholeEnds, IsTakenToClose, forks_left, out_of, rows_left}
-use Rattle.dine_threads.specs.Diners.{HasEaten, HeedsFailures}
+use Rattle.dine_site.specs.Diners.{HasEaten, HeedsFailures}
 use Rattle.dine_threads.specs.Gathered.{AreFinishedOuts, AreLinksOf, AreOutsOf, IsClosedWhole, IsFinishedOut, IsLowestFault, IsOutOf, link_from_low, link_from_high, no_link}
-use Rattle.dine_threads.specs.Ports.{SeenPort, SameLinks, seen_port, seen_ports}
+use Rattle.dine_site.specs.Ports.{SeenPort, SameLinks, seen_port, seen_ports}
 use Rattle.dine_threads.specs.private.Seats.{AreSeatsOf, IsReady, LeavesSeat, seat_of, seen_site_end}
-use Rattle.dine_threads.specs.Endings.{OnLinks, breached_at, hands_back}
-use Rattle.dine_threads.specs.SiteEnds.{IsLeft}
+use Rattle.dine_site.specs.Endings.{OnLinks, breached_at, hands_back}
+use Rattle.dine_site.specs.SiteEnds.{IsLeft}
 use Rattle.dine_threads.specs.private.Setups.{IsSetUp, rows_of_seats}
 use Rattle.dine_threads.specs.private.Spots.{low_spot, high_spot}
 use Rattle.dine_threads.specs.private.Wirings.{AreWired, port_at}
-use Rattle.dine_threads.proofs.one_site.AtPlaces.{links_there}
-use Rattle.dine_threads.proofs.one_site.Quits.{quit_told}
-use Rattle.dine_threads.proofs.lists.Lists.{all_at}
-use Rattle.dine_threads.proofs.lists.Seen.{there_is}
+use Rattle.dine_site.proofs.one_site.AtPlaces.{links_there}
+use Rattle.dine_site.proofs.one_site.Quits.{quit_told}
+use Rattle.dine_site.proofs.lists.Lists.{all_at}
+use Rattle.dine_site.proofs.lists.Seen.{there_is}
 use Rattle.dine_threads.proofs.lists.Zips.{AllZip-at}
 
 -- the element that was made of one

@@ -25,23 +25,23 @@ use Rattle.dine_rules.proofs.links.Across.{edge_at-place_of, place_of-edge_at}
 use Rattle.dine_rules.proofs.one_place.Placed.{placed}
 use Rattle.dine_core.specs.Core.{forks_in_hand, tokens_in_hand}
 use Rattle.dine_link.specs.Links.{SeenEnd, SeenLink}
-use Rattle.dine_threads.specs.declared.diner.Call.{Call}
+use Rattle.dine_site.specs.declared.diner.Call.{Call}
 use Rattle.dine_threads.specs.declared.gathered.SiteOut.{SiteOut}
 use Rattle.dine_threads.specs.declared.seats.Seat.{Seat}
-use Rattle.dine_threads.specs.declared.site_end.SiteEnd.{SiteEnd}
+use Rattle.dine_site.specs.declared.site_end.SiteEnd.{SiteEnd}
 use Rattle.dine_threads.specs.declared.slots.Spot.{Spot}
 use Rattle.dine_threads.specs.private.Collecting.{AreLinksLeft, forks_left, found, laid, out_of, rows_left}
 use Rattle.dine_threads.specs.Gathered.{IsClosedWhole, low_traffic, high_traffic, traffic_of, no_link}
 use Rattle.dine_threads.specs.Headline.{AllJoined, AreTokensOf, IsHeadline, ate_of, log_in_hand}
 use Rattle.dine_threads.specs.Journals.{AreJournals, state_left}
-use Rattle.dine_threads.specs.Ports.{SeenPort, seen_port, seen_ports}
+use Rattle.dine_site.specs.Ports.{SeenPort, seen_port, seen_ports}
 use Rattle.dine_threads.specs.private.Spots.{low_spot, high_spot}
 use Rattle.dine_threads.specs.private.Wirings.{AreWired, port_at}
 use Rattle.dine_threads.proofs.all_sites.Collected.{length-laid}
 use Rattle.dine_threads.proofs.all_sites.Gatherings.{AreAllLeft, end_for, end_of, forks_each, forks_of_all, left_at, put_at, row_of, taken_at}
-use Rattle.dine_threads.proofs.one_site.Letters.{same_traffic}
+use Rattle.dine_site.proofs.one_site.Letters.{same_traffic}
 use Rattle.dine_threads.proofs.all_sites.Laid.{IsFilled, IsIn, IsOnly, found_edges, found_get, in_first, in_here, in_second, in_where, laid_puts}
-use Rattle.dine_threads.proofs.lists.Seen.{there_is}
+use Rattle.dine_site.proofs.lists.Seen.{there_is}
 use Rattle.dine_threads.proofs.lists.Writes.{same_spot}
 
 -- two states are the same, part by part

@@ -6,8 +6,8 @@ use Rattle.std.proofs.lemmas.List.Elements.{All-head, All-tail}
 use Rattle.std.proofs.lemmas.Option.{none-some, same_Some}
 use Rattle.dine_token.specs.Fork.{SeenFork}
 use Rattle.dine_threads.specs.private.Collecting.{found, laid}
-use Rattle.dine_threads.proofs.lists.Lists.{get-set_same}
-use Rattle.dine_threads.proofs.lists.Seen.{there_is}
+use Rattle.dine_site.proofs.lists.Lists.{get-set_other, get-set_same}
+use Rattle.dine_site.proofs.lists.Seen.{there_is}
 
 -- an element of a list, somewhere
 pub record IsIn {X : Type 0} (x : X) (xs : List X) : Type 0 where
@@ -33,13 +33,6 @@ in_where false x y ys h = h
 
 pub in_here : {X : Type 0} (b : Bool) (y : X) (ys : List X) → b ≡ true → IsIn y (if b then y ∷ ys else ys)
 in_here b y ys is = subst (λ c. IsIn y (if c then y ∷ ys else ys)) (sym is) (record { at = 0; is = refl })
-
-pub get-set_other : {X : Type 0} (xs : List X) (i j : ℕ) (b : X) → i ≢ j → slice_get (set xs i b) j ≡ slice_get xs j
-get-set_other [] i j b differ = refl
-get-set_other (x ∷ xs) zero zero b differ = absurd (differ refl)
-get-set_other (x ∷ xs) zero (suc j) b differ = refl
-get-set_other (x ∷ xs) (suc i) zero b differ = refl
-get-set_other (x ∷ xs) (suc i) (suc j) b differ = get-set_other xs i j b (λ same. differ (ap suc same))
 
 module _ (e : ℕ) (f : SeenFork) where
   -- every fork of the edge is this one

@@ -14,14 +14,14 @@ use Rattle.dine_rules.specs.World.{place_of}
 use Rattle.dine_rules.proofs.links.Across.{edge_at-place_of, place_of-edge_at}
 use Rattle.dine_rules.proofs.lists.Counting.{slice_get-before}
 use Rattle.dine_threads.specs.private.Openings.{AreBare, AreLaid, AreRingersOf, AreStands, IsBareStand, bells_of, rows_of}
-use Rattle.dine_threads.specs.Ports.{SeenPort, IsFreshPort, seen_port, seen_ports}
+use Rattle.dine_site.specs.Ports.{SeenPort, IsFreshPort, seen_port, seen_ports}
 use Rattle.dine_threads.specs.private.Spots.{IsBothAt, IsFullRow, row_at, slot_at, low_spot, high_spot}
 use Rattle.dine_threads.specs.private.Wirings.{AreRingersAt, IsRung, IsWired, port_at}
 use Rattle.dine_threads.specs.declared.opening.Stand.{Stand}
 use Rattle.dine_threads.specs.declared.slots.Both.{Both}
 use Rattle.dine_threads.specs.declared.slots.Spot.{Spot}
 use Rattle.dine_threads.proofs.all_sites.Edges.{slice_get-push}
-use Rattle.dine_threads.proofs.lists.Seen.{there_is}
+use Rattle.dine_site.proofs.lists.Seen.{there_is}
 
 -- ---- lists
 

@@ -4,7 +4,7 @@ use Rattle.dine_link.specs.Lanes.{seen_end}
 use Rattle.dine_link.specs.Links.{SeenEnd, SeenLink, link_of}
 use Rattle.dine_threads.specs.private.Collecting.{links_left}
 use Rattle.dine_threads.specs.declared.slots.Both.{Both}
-use Rattle.dine_threads.specs.declared.port.Port.{Port}
+use Rattle.dine_site.specs.declared.port.Port.{Port}
 
 module _ {Lane Tx Closed Rx Identity : Type 0} (live : Tx → SeenEnd Identity) (shut : Closed → SeenEnd Identity) (taking : Rx → SeenEnd Identity) where
   pub links_left-push : (pairs : List (Both (Port Lane Tx Closed Rx))) (both : Both (Port Lane Tx Closed Rx))

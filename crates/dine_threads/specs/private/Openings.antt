@@ -6,7 +6,7 @@ use Rattle.std.specs.Global.{Vec}
 use Rattle.dine_link.specs.Bells.{SeenBell, SeenRinger, new_ringer}
 use Rattle.dine_link.specs.Links.{SeenEnd}
 use Rattle.dine_threads.specs.declared.opening.Stand.{Stand}
-use Rattle.dine_threads.specs.Ports.{SeenPort, IsFreshPort, seen_ports}
+use Rattle.dine_site.specs.Ports.{SeenPort, IsFreshPort, seen_ports}
 use Rattle.dine_threads.specs.private.Spots.{slot_at}
 use Rattle.dine_threads.specs.private.Wirings.{IsRung, IsWired}
 

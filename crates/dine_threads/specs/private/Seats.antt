@@ -4,13 +4,13 @@ use Rattle.dine_graph.specs.Plan.{SeenPlan}
 use Rattle.std.specs.declared.thread.PromisedHandle.{PromisedHandle}
 use Rattle.dine_core.specs.Standing.{IsFresh, IsFreshFor}
 use Rattle.dine_link.specs.Links.{SeenEnd}
-use Rattle.dine_threads.specs.declared.diner.Call.{Call}
+use Rattle.dine_site.specs.declared.diner.Call.{Call}
 use Rattle.dine_threads.specs.declared.seats.EndOf.{EndOf}
 use Rattle.dine_threads.specs.declared.seats.Seat.{Seat}
-use Rattle.dine_threads.specs.declared.site_end.SiteEnd.{SiteEnd}
-use Rattle.dine_threads.specs.Diners.{HasEaten, HeedsFailures}
-use Rattle.dine_threads.specs.Ports.{IsFreshPort, seen_ports}
-use Rattle.dine_threads.specs.SiteEnds.{SeenSiteEnd, IsLeft}
+use Rattle.dine_site.specs.declared.site_end.SiteEnd.{SiteEnd}
+use Rattle.dine_site.specs.Diners.{HasEaten, HeedsFailures}
+use Rattle.dine_site.specs.Ports.{IsFreshPort, seen_ports}
+use Rattle.dine_site.specs.SiteEnds.{SeenSiteEnd, IsLeft}
 
 -- the seat that a thread was given
 abbrev pub seat_of : {Lane D Tx Closed Rx : Type 0} → PromisedHandle (SiteEnd Lane D Tx Closed Rx) (EndOf Lane D Tx Closed Rx) → Seat Lane D Tx Closed Rx

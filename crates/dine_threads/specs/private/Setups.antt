@@ -6,7 +6,7 @@ use Rattle.dine_link.specs.Links.{SeenEnd}
 use Rattle.dine_threads.specs.declared.seats.Seat.{Seat}
 use Rattle.dine_threads.specs.declared.threads.Setup.{Setup}
 use Rattle.dine_threads.specs.private.Collecting.{IsRoomFor}
-use Rattle.dine_threads.specs.Ports.{SeenPort, seen_ports}
+use Rattle.dine_site.specs.Ports.{SeenPort, seen_ports}
 use Rattle.dine_threads.specs.private.Seats.{AreSeatsOf, IsReady}
 use Rattle.dine_threads.specs.private.Wirings.{AreRung, AreWired}
 

@@ -2,7 +2,7 @@
 use Rattle.std.proofs.Common.{◌∙◌, arith, ap}
 use Rattle.std.proofs.lemmas.List.FromFn.{map-range_with_len_more}
 use Rattle.dine_graph.specs.Plan.{job_count}
-use Rattle.dine_threads.specs.CallLogs.{no_calls}
+use Rattle.dine_site.specs.CallLogs.{no_calls}
 use Rattle.dine_jobs.proofs.jobs.logs_for.Goals as goal
 
 pub loop-site-preserved : goal.loop-site-preserved

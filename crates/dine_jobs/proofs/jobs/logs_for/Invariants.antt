@@ -1,7 +1,7 @@
 use Rattle.std.proofs.Common.{◌≡◌, ◌≤◌, map, vec_len, vec_capacity}
 use Rattle.std.specs.List.{range_with_len}
 use Rattle.dine_graph.specs.Plan.{job_count, site_count}
-use Rattle.dine_threads.specs.CallLogs.{no_calls}
+use Rattle.dine_site.specs.CallLogs.{no_calls}
 use Rattle.dine_jobs.proofs.jobs.logs_for.Given as goal
 
 -- the logs of the sites so far, and room for the others

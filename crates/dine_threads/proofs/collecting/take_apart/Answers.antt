@@ -5,8 +5,8 @@ use Rattle.std.proofs.lemmas.Grind.{common_steps}
 use Rattle.std.proofs.lemmas.List.{nil_from_length}
 use Rattle.dine_token.specs.Fork.{SeenFork}
 use Rattle.dine_graph.specs.Plan.{edge_count}
-use Rattle.dine_threads.specs.declared.port.Port.{Port}
-use Rattle.dine_threads.specs.declared.site_end.SiteEnd.{SiteEnd}
+use Rattle.dine_site.specs.declared.port.Port.{Port}
+use Rattle.dine_site.specs.declared.site_end.SiteEnd.{SiteEnd}
 use Rattle.dine_threads.specs.private.Collecting.{AreForksOf, forks_left, laid, out_of}
 use Rattle.dine_threads.proofs.lists.Zips.{mapped_split}
 use Rattle.dine_threads.proofs.all_sites.Collected.{all_parts, laid-append, length-laid, moved_split, none_left}

@@ -1,7 +1,7 @@
 use Rattle.std.proofs.Common.{◌≡◌, ◌∙◌, ℕ, All, List, None, Some, is_some, refl, slice_get, map, sym, subst, ap, vec_items, arith}
 use Rattle.std.specs.List.{position}
 use Rattle.dine_threads.specs.declared.gathered.SiteOut.{SiteOut}
-use Rattle.dine_threads.specs.declared.site_end.SiteEnd.{SiteEnd}
+use Rattle.dine_site.specs.declared.site_end.SiteEnd.{SiteEnd}
 use Rattle.dine_threads.specs.Brokens.{AllClosedEarly, AreStatesLeft}
 use Rattle.dine_threads.specs.private.Collecting.{out_of, rows_left}
 use Rattle.dine_threads.specs.Gathered.{AreFinishedOuts, AreOutsOf, IsClosedWhole, IsLowestFault}

@@ -5,7 +5,7 @@ use Rattle.std.proofs.lemmas.List.{nil_from_length, length-map, append-nil}
 use Rattle.std.proofs.lemmas.List.FromFn.{get_or-map-range_with_len, length-map-range_with_len}
 use Rattle.std.proofs.lemmas.Option.{get_or_from_slice_get, slice_get-map, slice_get_within}
 use Rattle.dine_graph.specs.Plan.{job_count, site_count}
-use Rattle.dine_threads.specs.CallLogs.{SeenCallLog, no_calls}
+use Rattle.dine_site.specs.CallLogs.{SeenCallLog, no_calls}
 use Rattle.dine_jobs.specs.JobsSeated.{fresh_logs}
 use Rattle.dine_jobs.specs.declared.jobs.Jobs.{Jobs}
 use Rattle.dine_threads.proofs.lists.Zips.{mapped_split}

@@ -1,0 +1,64 @@
+use Rattle.std.proofs.Common.{◌≡◌, true, ◌+◌, ◌<◌, ◌^◌, List, length, sym, subst, arith, refl, ap}
+use Rattle.std.specs.List.{slice_get}
+use Rattle.dine_rules.specs.declared.letters.Letter.{Letter}
+use Rattle.dine_rules.specs.declared.letters.Letter.TheVariants as letter
+use Rattle.std.proofs.lemmas.List.{length-map}
+use Rattle.dine_site.specs.Ports.{SeenPort, seen_port}
+use Rattle.dine_site.specs.Running.{SeenRun, ClosedBelow, IsStopped, seen_run}
+use Rattle.dine_site.proofs.lists.Seen.{there_is, if_there, of_there}
+use Rattle.dine_rules.specs.Steps.{Break}
+use Rattle.dine_core.specs.Core.{SeenCore}
+use Rattle.dine_core.specs.Standing.{CorePuts}
+use Rattle.dine_site.proofs.one_site.Stops.{break_live, break_room, break_sends}
+use Rattle.dine_site.proofs.one_site.Ends.{closed_more}
+use Rattle.dine_site.proofs.site_loop.running.Running.break_at.Goals as goal
+
+pub close_at-requires-clause-live : goal.close_at-requires-clause-live
+close_at-requires-clause-live g c κs ls =
+    let p = c.requires.stopped in
+    let run : SeenRun g.L.Lane.Identity = seen_run g.L.Lane.seen_tx g.L.Lane.seen_closed g.L.Lane.seen_rx c.args.self.now in
+    let puts : CorePuts c.args.i (Break c.args.i) c.args.self.now.core c.break_off.new.self letter.Close = subst (λ (l : Letter). CorePuts c.args.i (Break c.args.i) c.args.self.now.core c.break_off.new.self l) c.in-Some.ensures.letter c.in-Some.ensures.step in
+    if_there (λ (port : SeenPort g.L.Lane.Identity). port.is_live ≡ true) (slice_get run.ports c.args.i) (break_live p.2.0 p.2.1 run p.0 p.1 p.2.2 c.args.i c.break_off.new.self puts)
+
+pub close_at-requires-clause-room : goal.close_at-requires-clause-room
+close_at-requires-clause-room g c κs ls =
+    let p = c.requires.stopped in
+    let run : SeenRun g.L.Lane.Identity = seen_run g.L.Lane.seen_tx g.L.Lane.seen_closed g.L.Lane.seen_rx c.args.self.now in
+    let puts : CorePuts c.args.i (Break c.args.i) c.args.self.now.core c.break_off.new.self letter.Close = subst (λ (l : Letter). CorePuts c.args.i (Break c.args.i) c.args.self.now.core c.break_off.new.self l) c.in-Some.ensures.letter c.in-Some.ensures.step in
+    if_there (λ (port : SeenPort g.L.Lane.Identity). length port.tx.letters < 2 ^ 61) (slice_get run.ports c.args.i)
+    (λ port at. break_room p.2.0 p.2.1 run p.0 p.1 p.2.2 c.args.i c.break_off.new.self puts port at c.few_letters_are_put.ensures.letters)
+
+pub returns-clause-way : goal.returns-clause-way
+returns-clause-way g c stray cause plan given stopped =
+    let run : SeenRun g.L.Lane.Identity = seen_run g.L.Lane.seen_tx g.L.Lane.seen_closed g.L.Lane.seen_rx c.args.self.now in
+    let puts : CorePuts c.args.i (Break c.args.i) c.args.self.now.core c.break_off.new.self letter.Close = subst (λ (l : Letter). CorePuts c.args.i (Break c.args.i) c.args.self.now.core c.break_off.new.self l) c.in-Some.ensures.letter c.in-Some.ensures.step in
+    let within : c.args.i < length run.ports = omega (arith, c.requires.place, stopped.has.places) in
+    let there = there_is run.ports c.args.i within in
+    let sent = of_there _ (slice_get run.ports c.args.i) there.0 there.1 c.close_at.ensures.closed in
+    subst (λ (ps : List (SeenPort g.L.Lane.Identity)). IsStopped stray cause plan given (record { core = c.break_off.new.self; ports = ps; bell = run.bell; journal = run.journal })) (sym sent.2)
+    (break_sends plan given run stray cause stopped c.args.i c.break_off.new.self puts there.0 there.1 sent.0 c.close_at.result sent.1)
+
+pub returns-clause-closed : goal.returns-clause-closed
+returns-clause-closed g c =
+    subst (λ (k : SeenCore). ClosedBelow (c.args.i + 1) k) (sym c.in-Some.ensures.core) (closed_more c.args.self.now.core c.args.i c.requires.place c.requires.before)
+
+pub close_at-requires-clause-place : goal.close_at-requires-clause-place
+close_at-requires-clause-place g c κs ls =
+    let ports = length-map c.args.self.now.ports.items (seen_port g.L.Lane.seen_tx g.L.Lane.seen_closed g.L.Lane.seen_rx) in
+    omega (arith, c.requires.place, c.requires.stopped.2.2.has.places, ports, c.args.self.now.ports.ok.0)
+
+pub returns-clause-same : goal.returns-clause-same
+returns-clause-same g c =
+    let is = c.in-Some.ensures.core in
+    record {
+      site = ap (λ (core : SeenCore). core.site) is;
+      due = ap (λ (core : SeenCore). core.due) is;
+      ate = ap (λ (core : SeenCore). core.ate) is;
+      resigns = ap (λ (core : SeenCore). core.resigns) is;
+      must_quit = ap (λ (core : SeenCore). core.must_quit) is;
+      has_quit = ap (λ (core : SeenCore). core.has_quit) is;
+      diner = refl;
+      failed = refl;
+      bell = refl;
+      count = c.close_at.ensures.count;
+    }

@@ -1,0 +1,48 @@
+use mir.Val.{bool_byte}
+use Rattle.std.proofs.Common.{◌≡◌, Bool, true, false, not, ◌&&◌, ◌||◌, ◌+◌, ℕ, refl, sym, ◌∙◌, ap, subst}
+use Rattle.std.proofs.lemmas.Bool.{and_parts}
+use Rattle.std.specs.Prelude.{nat_lt}
+use Rattle.dine_site.specs.Running.{SeenRun, IsHeeding, seen_run}
+use Rattle.dine_core.specs.Core.{SeenCore}
+use Rattle.dine_core.specs.Places.{begun, drops_jobs, ended}
+use Rattle.dine_site.proofs.one_site.Heeding.{heeds_meal, hungry_goes_on}
+use Rattle.dine_site.proofs.one_site.Meals.{eaten_more, failed_by}
+use Rattle.dine_site.proofs.one_site.Ways.{eat_runs}
+use Rattle.dine_site.proofs.site_loop.running.Running.eat.Goals as goal
+
+byte_of : (ok : Bool) → bool_byte (not ok) ≡ failed_by ok
+byte_of true = refl
+byte_of false = refl
+
+pub returns-clause-way : goal.returns-clause-way
+returns-clause-way g c plan given running =
+    let run : SeenRun g.L.Lane.Identity = seen_run g.L.Lane.seen_tx g.L.Lane.seen_closed g.L.Lane.seen_rx c.args.self.now in
+    eat_runs plan given run c.journals_grow_by_each_event.ensures.event (not c.is_ok-ok.result) c.begin-meal.new.self c.end.new.self c.begin-meal.result.forks c.push_reserved.new.self.items c.push_reserved-2.new.self.items c.push_reserved.ensures.items c.push_reserved-2.ensures.items c.begin-meal.ensures.step c.begin-meal.ensures.in_hand c.end.ensures.step running
+
+pub returns-clause-eats : goal.returns-clause-eats
+returns-clause-eats g c first eaten =
+    let ate : c.begin-meal.new.self.ate ≡ c.args.self.now.core.ate + 1 = ap (λ (core : SeenCore). core.ate) c.begin-meal.ensures.core in
+    let later : c.end.new.self.ate ≡ c.begin-meal.new.self.ate = ap (λ (core : SeenCore). core.ate) c.end.ensures.core in
+    let k = c.k.ensures ∙ c.begin-meal.ensures.meal.k ∙ ate in
+    eaten_more g.D.Diner.calls g.D.Diner.marks g.D.Diner.fits c.args.self.now.core.ate c.args.self.now.failed c.k.result c.end.new.self.ate _ first c.args.self.now.diner c.eat.new.self _ eaten
+    k (later ∙ ate) (ap (λ (n : ℕ). c.args.self.now.failed + n) (c.from.ensures ∙ byte_of c.is_ok-ok.result ∙ ap failed_by c.is_ok-ok.ensures.value)) c.eat.ensures.calls c.eat.ensures.fits c.eat.ensures.marks
+
+pub returns-clause-heeds : goal.returns-clause-heeds
+returns-clause-heeds g c first heeding =
+    let core = c.args.self.now.core in
+    let p = c.requires.running in
+    let goes_on = hungry_goes_on p.0 p.2.state core p.2.has.keeps p.2.has.stands (and_parts _ _ c.requires.may).0 in
+    let failed : Bool = not c.is_ok-ok.result in
+    let begun_is : SeenCore = begun core in
+    let calls = g.D.Diner.calls c.eat.new.self in
+    let is = c.end.ensures.core ∙ ap (ended failed c.begin-meal.result.forks) c.begin-meal.ensures.core in
+    let has_left : Bool = nat_lt begun_is.ate begun_is.due in
+    subst (λ (x : SeenCore). IsHeeding x.resigns (x.must_quit || x.has_quit) (nat_lt x.ate x.due) first calls) (sym is)
+    (heeds_meal core.resigns core.must_quit core.has_quit (nat_lt core.ate core.due) (drops_jobs failed begun_is) has_left first (g.D.Diner.calls c.args.self.now.diner) calls _ heeding goes_on.0 goes_on.1 c.eat.ensures.calls
+    (ap (λ (ok : Bool). not ok && core.resigns && has_left) c.is_ok-ok.ensures.value))
+
+pub returns-clause-resigns : goal.returns-clause-resigns
+returns-clause-resigns g c = ap (λ (core : SeenCore). core.resigns) c.end.ensures.core ∙ ap (λ (core : SeenCore). core.resigns) c.begin-meal.ensures.core
+
+pub returns-clause-site : goal.returns-clause-site
+returns-clause-site g c = ap (λ (core : SeenCore). core.site) c.end.ensures.core ∙ ap (λ (core : SeenCore). core.site) c.begin-meal.ensures.core

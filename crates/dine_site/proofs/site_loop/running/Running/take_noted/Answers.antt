@@ -1,0 +1,68 @@
+use Rattle.std.proofs.Common.{◌<◌, List, length, set, Some, None, sym, ◌∙◌, ap, subst, arith}
+use Rattle.std.proofs.lemmas.List.{length-map}
+use Rattle.dine_rules.specs.declared.letters.Letter.{Letter}
+use Rattle.dine_site.specs.declared.site_end.SiteFault.TheVariants as fault
+use Rattle.dine_site.specs.Ports.{SeenPort, seen_port, seen_ports, taken_on, untaken_on}
+use Rattle.dine_site.specs.Running.{SeenRun, IsRunning, IsStopped, seen_run}
+use Rattle.dine_rules.specs.Letters.{has_close}
+use Rattle.dine_site.proofs.lists.Seen.{seen_at, seen_set}
+use Rattle.dine_core.specs.Core.{SeenCore}
+use Rattle.dine_site.proofs.one_site.Stops.{breach_stops, take_stops}
+use Rattle.dine_site.proofs.one_site.Ways.{take_runs, take_room}
+use Rattle.dine_site.proofs.site_loop.running.Running.take_noted.Goals as goal
+
+pub take-requires-clause-open : goal.take-requires-clause-open
+take-requires-clause-open g c κs ls =
+    let f = seen_port g.L.Lane.seen_tx g.L.Lane.seen_closed g.L.Lane.seen_rx in
+    let items = c.args.self.now.ports.items in
+    let run : SeenRun g.L.Lane.Identity = seen_run g.L.Lane.seen_tx g.L.Lane.seen_closed g.L.Lane.seen_rx c.args.self.now in
+    let p = c.requires.running in
+    let within : c.args.i < length items = omega (arith, c.requires.place, p.2.has.places, length-map items f) in
+    let at = seen_at f items c.args.i c.index_mut.result.now within c.index_mut.ensures.value in
+    ap (λ (xs : List Letter). has_close xs) (p.2.lists c.args.i (f c.index_mut.result.now) at).takes ∙ c.requires.not_closed p.0 p.2.state p.2.has.keeps p.2.has.stands
+
+pub take-requires-clause-room : goal.take-requires-clause-room
+take-requires-clause-room g c κs ls =
+    let f = seen_port g.L.Lane.seen_tx g.L.Lane.seen_closed g.L.Lane.seen_rx in
+    let items = c.args.self.now.ports.items in
+    let run : SeenRun g.L.Lane.Identity = seen_run g.L.Lane.seen_tx g.L.Lane.seen_closed g.L.Lane.seen_rx c.args.self.now in
+    let p = c.requires.running in
+    let within : c.args.i < length items = omega (arith, c.requires.place, p.2.has.places, length-map items f) in
+    let at = seen_at f items c.args.i c.index_mut.result.now within c.index_mut.ensures.value in
+    take_room p.0 p.1 run c.few_letters_are_taken.ensures.letters p.2 c.args.i c.requires.place (f c.index_mut.result.now) at
+
+pub returns-in-Ok-take-clause-way : goal.returns-in-Ok-take-clause-way
+returns-in-Ok-take-clause-way g c plan given running =
+    let f = seen_port g.L.Lane.seen_tx g.L.Lane.seen_closed g.L.Lane.seen_rx in
+    let items = c.args.self.now.ports.items in
+    let run : SeenRun g.L.Lane.Identity = seen_run g.L.Lane.seen_tx g.L.Lane.seen_closed g.L.Lane.seen_rx c.args.self.now in
+    let within : c.args.i < length items = omega (arith, c.requires.place, running.has.places, length-map items f) in
+    let at = seen_at f items c.args.i c.index_mut.result.now within c.index_mut.ensures.value in
+    let ports = seen_set f items c.args.i c.take.new.self (taken_on c.in-Ok.letter (f c.index_mut.result.now)) c.in-Ok.ensures in
+    let runs = take_runs plan given run c.journals_grow_by_each_event.ensures.event c.args.i c.in-Ok.letter c.take-in-Ok.new.self c.push_reserved.new.self.items c.push_reserved.ensures.items c.requires.place c.in-Ok-take.ensures.step running (f c.index_mut.result.now) at in
+    subst (λ (ps : List (SeenPort g.L.Lane.Identity)). IsRunning plan given (record { core = c.take-in-Ok.new.self; ports = ps; bell = run.bell; journal = c.push_reserved.new.self.items })) (sym ports) runs
+
+pub returns-in-Err-take-clause-way : goal.returns-in-Err-take-clause-way
+returns-in-Err-take-clause-way g c plan given running =
+    let f = seen_port g.L.Lane.seen_tx g.L.Lane.seen_closed g.L.Lane.seen_rx in
+    let items = c.args.self.now.ports.items in
+    let run : SeenRun g.L.Lane.Identity = seen_run g.L.Lane.seen_tx g.L.Lane.seen_closed g.L.Lane.seen_rx c.args.self.now in
+    let within : c.args.i < length items = omega (arith, c.requires.place, running.has.places, length-map items f) in
+    let at = seen_at f items c.args.i c.index_mut.result.now within c.index_mut.ensures.value in
+    let ports = seen_set f items c.args.i c.take.new.self (taken_on c.in-Ok.letter (f c.index_mut.result.now)) c.in-Ok.ensures in
+    let told = c.in-Err-take.ensures in
+    let stops = breach_stops plan given run c.args.i c.in-Ok.letter c.in-Err-take.breach c.requires.place told.taken running (f c.index_mut.result.now) at in
+    let new = subst (λ (ps : List (SeenPort g.L.Lane.Identity)). IsStopped (Some (record { link = c.args.i; letter = c.in-Ok.letter })) (fault.Breach c.args.i c.in-Err-take.breach) plan given (record { core = run.core; ports = ps; bell = run.bell; journal = run.journal })) (sym ports) stops in
+    let core = subst (λ (k : SeenCore). IsStopped (Some (record { link = c.args.i; letter = c.in-Ok.letter })) (fault.Breach c.args.i c.in-Err-take.breach) plan given (record { core = k; ports = seen_ports g.L.Lane.seen_tx g.L.Lane.seen_closed g.L.Lane.seen_rx (set items c.args.i c.take.new.self); bell = run.bell; journal = run.journal })) (sym told.core.0) new in
+    subst (λ (l : Letter). IsStopped (Some (record { link = c.args.i; letter = l })) (fault.Breach c.args.i c.in-Err-take.breach) plan given (record { core = c.take-in-Ok.new.self; ports = seen_ports g.L.Lane.seen_tx g.L.Lane.seen_closed g.L.Lane.seen_rx (set items c.args.i c.take.new.self); bell = run.bell; journal = run.journal })) (sym told.core.1) core
+
+pub returns-in-Err-clause-way : goal.returns-in-Err-clause-way
+returns-in-Err-clause-way g c plan given running =
+    let f = seen_port g.L.Lane.seen_tx g.L.Lane.seen_closed g.L.Lane.seen_rx in
+    let items = c.args.self.now.ports.items in
+    let run : SeenRun g.L.Lane.Identity = seen_run g.L.Lane.seen_tx g.L.Lane.seen_closed g.L.Lane.seen_rx c.args.self.now in
+    let within : c.args.i < length items = omega (arith, c.requires.place, running.has.places, length-map items f) in
+    let at = seen_at f items c.args.i c.index_mut.result.now within c.index_mut.ensures.value in
+    let ports = seen_set f items c.args.i c.take.new.self (untaken_on (f c.index_mut.result.now)) c.in-Err.ensures in
+    subst (λ (ps : List (SeenPort g.L.Lane.Identity)). IsStopped None (fault.Lost c.args.i) plan given (record { core = run.core; ports = ps; bell = run.bell; journal = run.journal })) (sym ports)
+    (take_stops plan given run c.args.i c.requires.place running (f c.index_mut.result.now) at)

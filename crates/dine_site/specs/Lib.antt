@@ -1,0 +1,9 @@
+pub mod Doings
+pub mod Diners
+pub mod CallLogs
+pub mod Ports
+pub mod Endings
+pub mod SiteEnds
+pub mod FaultWords
+pub mod Running
+pub mod private

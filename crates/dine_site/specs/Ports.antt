@@ -1,0 +1,129 @@
+-- The two link ends of a site at a place, as contracts see them, whatever lane they are of. Rings are counted, and not
+-- ordered among the letters.
+use Rattle.std.specs.Prelude.{◌≡◌, ◌⊎◌, ℕ, ◌+◌, ◌≤◌, Bool, true, false, List, [], ◌∷◌, ◌++◌, length, map, slice_get, slice_set, Option, IfSome, option_to_list}
+use Rattle.dine_rules.specs.declared.letters.Letter.{Letter}
+use Rattle.dine_rules.specs.declared.letters.Letter.TheVariants.{Close}
+use Rattle.dine_site.specs.declared.port.Port.{Port}
+use Rattle.dine_site.specs.declared.port.Sent.{Sent}
+use Rattle.dine_site.specs.declared.port.Sent.TheVariants.{Heard, Refused, Unheard}
+use Rattle.dine_site.specs.declared.port.Closed.{Closed}
+use Rattle.dine_site.specs.declared.port.Closed.TheVariants as closed
+use Rattle.dine_link.specs.declared.lane.TxEnd.{TxEnd}
+use Rattle.dine_link.specs.declared.lane.TxEnd.TheVariants.{Live, Shut}
+use Rattle.dine_link.specs.Lanes.{seen_end}
+use Rattle.dine_link.specs.Bells.{SeenRinger, after_refused_ring, after_ring}
+use Rattle.dine_link.specs.Links.{SeenEnd, after_refusal, with_letter}
+
+-- A port: the end that the site puts in, whether more can be put in it, the end that it takes from, and the ringer of
+-- the neighbour's bell.
+pub record SeenPort (Identity : Type 0) : Type 0 where
+  pub tx : SeenEnd Identity
+  pub is_live : Bool
+  pub rx : SeenEnd Identity
+  pub ringer : SeenRinger
+
+-- the end is live: Close was not put in it
+abbrev pub is_live_end : {Lane Tx Closed Rx : Type 0} → TxEnd Lane Tx Closed Rx → Bool
+is_live_end (Live tx) = true
+is_live_end (Shut tx) = false
+
+-- a port, by what is seen of the ends of its lane; and the ports of all places
+module _ {Lane Tx Closed Rx Identity : Type 0} (live : Tx → SeenEnd Identity) (shut : Closed → SeenEnd Identity) (taking : Rx → SeenEnd Identity) where
+  -- a port, by what is seen of the ends of its lane
+  abbrev pub seen_port : Port Lane Tx Closed Rx → SeenPort Identity
+  seen_port port = record { tx = seen_end live shut port.tx; is_live = is_live_end port.tx; rx = taking port.rx; ringer = port.ringer }
+
+  -- the ports of all places, in order
+  abbrev pub seen_ports : List (Port Lane Tx Closed Rx) → List (SeenPort Identity)
+  seen_ports ports = map seen_port ports
+
+module _ {Identity : Type 0} where
+  -- the port after a letter was put and the bell rung
+  abbrev pub put_on : Letter → SeenPort Identity → SeenPort Identity
+  put_on letter port = record { tx = with_letter letter port.tx; is_live = port.is_live; rx = port.rx; ringer = after_ring port.ringer }
+
+  -- the port after a letter was put and the ring refused
+  abbrev pub put_unheard_on : Letter → SeenPort Identity → SeenPort Identity
+  put_unheard_on letter port = record { tx = with_letter letter port.tx; is_live = port.is_live; rx = port.rx; ringer = after_refused_ring port.ringer }
+
+  -- the port after Close was put and the bell rung; no more can be put
+  abbrev pub closed_on : SeenPort Identity → SeenPort Identity
+  closed_on port = record { tx = with_letter Close port.tx; is_live = false; rx = port.rx; ringer = after_ring port.ringer }
+
+  -- the port after Close was put and the ring refused; no more can be put
+  abbrev pub closed_unheard_on : SeenPort Identity → SeenPort Identity
+  closed_unheard_on port = record { tx = with_letter Close port.tx; is_live = false; rx = port.rx; ringer = after_refused_ring port.ringer }
+
+  -- the port after the link refused a letter or Close
+  abbrev pub refused_on : SeenPort Identity → SeenPort Identity
+  refused_on port = record { tx = after_refusal port.tx; is_live = port.is_live; rx = port.rx; ringer = port.ringer }
+
+  -- the port after a letter was taken
+  abbrev pub taken_on : Letter → SeenPort Identity → SeenPort Identity
+  taken_on letter port = record { tx = port.tx; is_live = port.is_live; rx = with_letter letter port.rx; ringer = port.ringer }
+
+  -- the port after the link refused to give a letter
+  abbrev pub untaken_on : SeenPort Identity → SeenPort Identity
+  untaken_on port = record { tx = port.tx; is_live = port.is_live; rx = after_refusal port.rx; ringer = port.ringer }
+
+  -- the port after the bell was rung
+  abbrev pub rung_on : SeenPort Identity → SeenPort Identity
+  rung_on port = record { tx = port.tx; is_live = port.is_live; rx = port.rx; ringer = after_ring port.ringer }
+
+  -- the port after the bell refused the ring
+  abbrev pub unrung_on : SeenPort Identity → SeenPort Identity
+  unrung_on port = record { tx = port.tx; is_live = port.is_live; rx = port.rx; ringer = after_refused_ring port.ringer }
+
+  -- a letter was sent: it was put and the bell rung, or the link refused it and it is handed back, or the bell refused
+  -- the ring
+  abbrev pub Sends : Letter → SeenPort Identity → SeenPort Identity → Sent → Type 0
+  Sends letter old new Heard = new ≡ put_on letter old
+  Sends letter old new Unheard = new ≡ put_unheard_on letter old
+  Sends letter old new (Refused back) = (back ≡ letter) × (new ≡ refused_on old)
+
+  -- Close was sent: it was put and the bell rung, or it was put and the ring refused, or the link refused it
+  abbrev pub SendsClose : SeenPort Identity → SeenPort Identity → Closed → Type 0
+  SendsClose old new closed.Heard = new ≡ closed_on old
+  SendsClose old new closed.Unheard = new ≡ closed_unheard_on old
+  SendsClose old new closed.Refused = new ≡ refused_on old
+
+  -- one of the ports changed, in this way
+  abbrev pub ChangesAt : ℕ → (SeenPort Identity → SeenPort Identity → Type 0) → List (SeenPort Identity) → List (SeenPort Identity) → Type 0
+  ChangesAt i Way olds news = IfSome (slice_get olds i) (λ (old : SeenPort Identity). (new : SeenPort Identity) × Way old new × (news ≡ slice_set olds i new))
+
+-- no step at the port was refused
+pub record IsUnrefused {Identity : Type 0} (port : SeenPort Identity) : Type 0 where
+  pub put : port.tx.refused ≡ false
+  pub take : port.rx.refused ≡ false
+  pub ring : port.ringer.refused ≡ false
+
+-- nothing was put, taken, rung or refused yet
+pub record IsFreshPort {Identity : Type 0} (port : SeenPort Identity) : Type 0 where
+  pub live : port.is_live ≡ true
+  pub nothing_put : port.tx.letters ≡ []
+  pub nothing_taken : port.rx.letters ≡ []
+  pub nothing_rung : port.ringer.rings ≡ 0
+  pub unrefused : IsUnrefused port
+
+-- the ends are those of the same two links, and the ringer is that of the same bell
+pub record SameLinks {Identity : Type 0} (old new : SeenPort Identity) : Type 0 where
+  pub tx : new.tx.link ≡ old.tx.link
+  pub rx : new.rx.link ≡ old.rx.link
+  pub bell : new.ringer.bell ≡ old.ringer.bell
+  pub number : new.ringer.number ≡ old.ringer.number
+
+-- The bell was rung once for each letter put. Where it refused a ring, one letter has none, and the Close with which
+-- the site then broke off may have none.
+pub record HasRung {Identity : Type 0} (port : SeenPort Identity) : Type 0 where
+  pub no_more : port.ringer.rings ≤ length port.tx.letters
+  pub each : port.ringer.refused ≡ false → port.ringer.rings ≡ length port.tx.letters
+  pub all_but_two : length port.tx.letters ≤ port.ringer.rings + 2
+
+-- What a core put at a place is what was put on the link, but for a letter that the link refused; and for a Close,
+-- where the link did refuse.
+pub record PutsFit (has_refused : Bool) (refused : Option Letter) (by_core on_link : List Letter) : Type 0 where
+  pub front : List Letter
+  pub closing : List Letter
+  pub closes : (closing ≡ []) ⊎ (closing ≡ Close ∷ [])
+  pub core : by_core ≡ front ++ option_to_list refused ++ closing
+  pub link : (on_link ≡ front ++ closing) ⊎ ((on_link ≡ front) × (has_refused ≡ true))

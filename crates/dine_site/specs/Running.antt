@@ -1,0 +1,194 @@
+-- A site on its way: what holds of its core and its link ends between two of its events, while a letter goes out, after
+-- its first fault, and at its end; and what is left as it was. Contracts of private functions alone name these.
+use Rattle.std.specs.Prelude.{◌≡◌, ◌≢◌, ℕ, ◌+◌, ◌<◌, ◌≤◌, ◌++◌, ◌&&◌, ◌||◌, not, nat_lt, Bool, true, false, List, [], ◌∷◌, length, slice_get, Option, Some, None, option_to_list, Result, MatchResult, vec_len}
+use Rattle.dine_graph.specs.Plan.{SeenPlan, IsPlan, site_count}
+use Rattle.dine_rules.specs.declared.breach.Breach.{Breach}
+use Rattle.dine_rules.specs.declared.events.EventKind.{EventKind}
+use Rattle.dine_rules.specs.declared.letters.Letter.{Letter}
+use Rattle.dine_rules.specs.Journals.{IsJournal}
+use Rattle.dine_rules.specs.Letters.{has_close}
+use Rattle.dine_rules.specs.Local.{LocalState, Traffic, is_eating, traffic_at}
+use Rattle.dine_rules.specs.Steps.{with_put}
+use Rattle.dine_rules.specs.Streams.{KeepsStreams}
+use Rattle.dine_core.specs.Core.{SeenCore, Refines}
+use Rattle.dine_core.specs.Places.{place_at}
+use Rattle.dine_core.specs.Standing.{ForEachState, has_finished}
+use Rattle.dine_site.specs.declared.diner.Call.{Call}
+use Rattle.dine_site.specs.declared.site_end.SiteFault.{SiteFault}
+use Rattle.dine_site.specs.declared.site_end.SiteFault.TheVariants as fault
+use Rattle.dine_site.specs.declared.site_end.Stray.{Stray}
+use Rattle.dine_site.specs.declared.site_loop.running.Stop.{Stop}
+use Rattle.dine_site.specs.declared.site_loop.running.Running.{Running}
+use Rattle.dine_link.specs.Bells.{SeenBell}
+use Rattle.dine_link.specs.Links.{SeenEnd}
+use Rattle.dine_site.specs.Diners.{HasEaten}
+use Rattle.dine_site.specs.Doings.{HasDone}
+use Rattle.dine_site.specs.Ports.{HasRung, IsUnrefused, SeenPort, SameLinks, PutsFit, seen_ports}
+use Rattle.dine_site.specs.Endings.{IsBreached, IsLost, breached_at, hands_back, links_at, refused_at}
+use Rattle.dine_site.specs.SiteEnds.{HasBellRefused}
+
+-- a site on its way, but for its diner
+pub record SeenRun (Identity : Type 0) : Type 0 where
+  pub core : SeenCore
+  pub ports : List (SeenPort Identity)
+  pub bell : SeenBell
+  pub journal : List EventKind
+
+-- so it is at each place, of what the state put and took there and of the port
+abbrev pub AtEach : {Identity : Type 0} → (ℕ → Traffic → SeenPort Identity → Type 0) → LocalState → List (SeenPort Identity) → Type 0
+AtEach {Identity} P state ports = (i : ℕ) (port : SeenPort Identity) → slice_get ports i ≡ Some port → P i (traffic_at state i) port
+
+-- the links have just what the state put and took, the end is live where the state has not put Close, and for each
+-- letter put the bell was rung; nothing was refused
+pub record RunsAt {Identity : Type 0} (traffic : Traffic) (port : SeenPort Identity) : Type 0 where
+  pub puts : port.tx.letters ≡ traffic.put
+  pub takes : port.rx.letters ≡ traffic.taken
+  pub live : port.is_live ≡ not (has_close traffic.put)
+  pub rang : port.ringer.rings ≡ length port.tx.letters
+  pub unrefused : IsUnrefused port
+
+-- The same, but for a letter that the link refused, for the letter of a breach, and for a Close that the link refused.
+-- Of the letters before that Close at most one has no ring.
+pub record StopsAt {Identity : Type 0} (refused breached : Option Letter) (traffic : Traffic) (port : SeenPort Identity) : Type 0 where
+  pub puts : PutsFit port.tx.refused refused traffic.put port.tx.letters
+  pub takes : port.rx.letters ≡ traffic.taken ++ option_to_list breached
+  pub live : has_close traffic.put ≡ false → port.is_live ≡ true
+  pub rang : HasRung port
+  pub rang_open : has_close traffic.put ≡ false → length port.tx.letters ≤ port.ringer.rings + 1
+
+-- The core stands for a state that keeps the streams and in which the site does not eat, and the link ends are those
+-- that were handed in, one pair a place.
+pub record HasState {Identity : Type 0} (plan : SeenPlan) (given : List (SeenPort Identity)) (run : SeenRun Identity) (state : LocalState) : Type 0 where
+  pub is_plan : IsPlan plan
+  pub is_site : run.core.site < site_count plan
+  pub keeps : KeepsStreams plan run.core.site state
+  pub stands : Refines plan state run.core
+  pub rests : is_eating state.phase ≡ false
+  pub count : length run.ports ≡ length given
+  pub places : length run.ports ≡ length run.core.places
+  pub same_links : (i : ℕ) (old new : SeenPort Identity) → slice_get given i ≡ Some old → slice_get run.ports i ≡ Some new → SameLinks old new
+
+-- Between two events, without a fault. The journal led to the state, and no wait was refused.
+pub record IsRunning {Identity : Type 0} (plan : SeenPlan) (given : List (SeenPort Identity)) (run : SeenRun Identity) : Type 0 where
+  pub state : LocalState
+  pub has : HasState plan given run state
+  pub lists : AtEach (λ i. RunsAt) state run.ports
+  pub heard : run.bell.refused ≡ false
+  pub did : IsJournal plan run.core.site run.journal state
+
+-- The core has put the letter at place i, and the link has it not yet.
+pub record IsPutting {Identity : Type 0} (i : ℕ) (letter : Letter) (plan : SeenPlan) (given : List (SeenPort Identity)) (run : SeenRun Identity) : Type 0 where
+  pub before : LocalState
+  pub within : i < length before.traffic
+  pub open_place : has_close (traffic_at before i).put ≡ false
+  pub has : HasState plan given run (with_put i letter before)
+  pub lists : AtEach (λ j. RunsAt) before run.ports
+  pub heard : run.bell.refused ≡ false
+  pub did : IsJournal plan run.core.site run.journal (with_put i letter before)
+
+-- After the first fault. What is told is so, and the site was started.
+pub record IsStopped {Identity : Type 0} (stray : Option Stray) (cause : SiteFault) (plan : SeenPlan) (given : List (SeenPort Identity)) (run : SeenRun Identity) : Type 0 where
+  pub state : LocalState
+  pub has : HasState plan given run state
+  pub lists : AtEach (λ i. StopsAt (refused_at i (Some cause) stray) (breached_at i (Some cause) stray)) state run.ports
+  pub did : HasDone plan run.core.site run.journal state
+  pub breach : (link : ℕ) (breach : Breach) → cause ≡ fault.Breach link breach → IsBreached plan run.core.site state stray link breach
+  pub lost : (link : ℕ) → cause ≡ fault.Lost link → IsLost (length state.traffic) (links_at run.ports) stray link
+  pub lost_bell : cause ≡ fault.Lost (length state.traffic) → HasBellRefused run.ports run.bell
+  pub take_told : (i : ℕ) (port : SeenPort Identity) → slice_get run.ports i ≡ Some port → port.rx.refused ≡ true → cause ≡ fault.Lost i
+  pub wait_told : run.bell.refused ≡ true → cause ≡ fault.Lost (length state.traffic)
+  pub no_stray : hands_back (Some cause) ≡ false → stray ≡ None
+  pub started : cause ≢ fault.NotStarted
+
+-- Close is put at each of the places below i
+abbrev pub ClosedBelow : ℕ → SeenCore → Type 0
+ClosedBelow i core = (j : ℕ) → j < i → (place_at core j).close_put ≡ true
+
+-- the site has done all, in each state for which its core stands
+abbrev pub IsFinished : SeenCore → Type 0
+IsFinished core = ForEachState core (λ plan state. has_finished plan core.site state ≡ true)
+
+-- what holds when the site ends: with no fault it has done all, and after a fault Close is put at every place
+abbrev pub MayEnd : {Identity : Type 0} → Option Stray → Option SiteFault → SeenPlan → List (SeenPort Identity) → SeenRun Identity → Type 0
+MayEnd stray None plan given run = IsRunning plan given run × IsFinished run.core × (stray ≡ None)
+MayEnd stray (Some cause) plan given run = IsStopped stray cause plan given run × ClosedBelow (length run.core.places) run.core
+
+-- so it is for some plan, and some ports that were handed in
+abbrev pub ForSome : {Identity : Type 0} → (SeenPlan → List (SeenPort Identity) → SeenRun Identity → Type 0) → SeenRun Identity → Type 0
+ForSome {Identity} P run = (plan : SeenPlan) × (given : List (SeenPort Identity)) × P plan given run
+
+-- for each plan and ports for which the first is so of the old run, the second is so of the new one
+abbrev pub Leads : {Identity : Type 0} → (SeenPlan → List (SeenPort Identity) → SeenRun Identity → Type 0) → (SeenPlan → List (SeenPort Identity) → SeenRun Identity → Type 0) → SeenRun Identity → SeenRun Identity → Type 0
+Leads {Identity} P Q old new = (plan : SeenPlan) (given : List (SeenPort Identity)) → P plan given old → Q plan given new
+
+-- it has stopped, with some stray and some cause
+abbrev pub HasStopped : {Identity : Type 0} → SeenRun Identity → Type 0
+HasStopped run = (stray : Option Stray) × (cause : SiteFault) × ForSome (IsStopped stray cause) run
+
+-- a site that has stopped stays so, with the same stray and the same cause
+abbrev pub StaysStopped : {Identity : Type 0} → SeenRun Identity → SeenRun Identity → Type 0
+StaysStopped old new = (stray : Option Stray) (cause : SiteFault) → Leads (IsStopped stray cause) (IsStopped stray cause) old new
+
+-- after an answer: the site goes on, or it has stopped with this cause and this stray
+abbrev pub GoesOn : {Identity : Type 0} → Result (Unit {0}) Stop → SeenPlan → List (SeenPort Identity) → SeenRun Identity → Type 0
+GoesOn result plan given run = MatchResult result (λ _. IsRunning plan given run) (λ stop. IsStopped stop.stray stop.fault plan given run)
+
+-- the same, and where it goes on it has done all
+abbrev pub GoesToEnd : {Identity : Type 0} → Result (Unit {0}) Stop → SeenPlan → List (SeenPort Identity) → SeenRun Identity → Type 0
+GoesToEnd result plan given run = MatchResult result (λ _. IsRunning plan given run × IsFinished run.core) (λ stop. IsStopped stop.stray stop.fault plan given run)
+
+module _ {Lane Tx Closed Rx Identity Diner : Type 0} (live : Tx → SeenEnd Identity) (shut : Closed → SeenEnd Identity) (taking : Rx → SeenEnd Identity) where
+  -- what is seen of a site on its way
+  abbrev pub seen_run : Running Lane Diner Tx Closed Rx → SeenRun Identity
+  seen_run run = record { core = run.core; ports = seen_ports live shut taking run.ports.items; bell = run.bell; journal = run.journal.items }
+
+-- the last of these calls failed
+abbrev pub last_failed : List Call → Bool
+last_failed [] = false
+last_failed (call ∷ []) = not call.ok
+last_failed (call ∷ next ∷ calls) = last_failed (next ∷ calls)
+
+-- none of these calls failed but the last
+abbrev pub only_last_failed : List Call → Bool
+only_last_failed [] = true
+only_last_failed (call ∷ []) = true
+only_last_failed (call ∷ next ∷ calls) = call.ok && only_last_failed (next ∷ calls)
+
+-- What a site does by the calls of its diner since some start: where it resigns, none came after one that failed; and
+-- it drops its meals, that is, has to quit or has quit, exactly where the last one failed, it resigns and has meals
+-- left.
+pub record IsHeeding (resigns drops has_left : Bool) (first now : List Call) : Type 0 where
+  pub added : List Call
+  pub called : now ≡ first ++ added
+  pub stops : resigns ≡ true → only_last_failed added ≡ true
+  pub drops_where : drops ≡ (last_failed added && resigns && has_left)
+
+module _ {Lane Tx Closed Rx Diner : Type 0} where
+  -- The bell is that of the places, there is room for the calls of all meals to come, and no more meals failed than
+  -- were begun.
+  pub record IsReady (room_left : Diner → ℕ) (run : Running Lane Diner Tx Closed Rx) : Type 0 where
+    pub bell : run.bell.degree ≡ vec_len run.ports
+    pub room : run.core.due ≤ run.core.ate + room_left run.diner
+    pub failed : run.failed ≤ run.core.ate
+
+  -- what the diner did since any start goes on to what it has done now
+  abbrev pub EatsOn : (Diner → List Call) → (Diner → List Bool) → (List Bool → ℕ → Bool → Bool) → Running Lane Diner Tx Closed Rx → Running Lane Diner Tx Closed Rx → Type 0
+  EatsOn calls marks fits old new = (first : Diner) → HasEaten calls marks fits old.core.ate old.failed first old.diner → HasEaten calls marks fits new.core.ate new.failed first new.diner
+
+  -- what the diner did since any start was heeded, and is so still
+  abbrev pub HeedsOn : (Diner → List Call) → Running Lane Diner Tx Closed Rx → Running Lane Diner Tx Closed Rx → Type 0
+  HeedsOn calls old new = (first : List Call) → IsHeeding old.core.resigns (old.core.must_quit || old.core.has_quit) (nat_lt old.core.ate old.core.due) first (calls old.diner)
+      → IsHeeding new.core.resigns (new.core.must_quit || new.core.has_quit) (nat_lt new.core.ate new.core.due) first (calls new.diner)
+
+  -- The site, its meals, its policy, the diner and the bell are as they were, and so is the number of ports.
+  pub record SameMeals (old new : Running Lane Diner Tx Closed Rx) : Type 0 where
+    pub site : new.core.site ≡ old.core.site
+    pub due : new.core.due ≡ old.core.due
+    pub ate : new.core.ate ≡ old.core.ate
+    pub resigns : new.core.resigns ≡ old.core.resigns
+    pub must_quit : new.core.must_quit ≡ old.core.must_quit
+    pub has_quit : new.core.has_quit ≡ old.core.has_quit
+    pub diner : new.diner ≡ old.diner
+    pub failed : new.failed ≡ old.failed
+    pub bell : new.bell.degree ≡ old.bell.degree
+    pub count : vec_len new.ports ≡ vec_len old.ports

@@ -1,0 +1,56 @@
+-- What a site leaves when it ends. When anything happens, that a letter comes, and which number a bell tells, they
+-- leave out.
+use Rattle.std.specs.Prelude.{◌≡◌, ◌≢◌, ◌⊎◌, ℕ, true, false, List, length, slice_get, Option, Some, None}
+use Rattle.dine_token.specs.Fork.{SeenFork}
+use Rattle.dine_graph.specs.Plan.{SeenPlan}
+use Rattle.dine_rules.specs.declared.events.EventKind.{EventKind}
+use Rattle.dine_rules.specs.Local.{LocalState}
+use Rattle.dine_core.specs.Core.{forks_in_hand}
+use Rattle.dine_core.specs.Standing.{all_places}
+use Rattle.dine_link.specs.Bells.{SeenBell}
+use Rattle.dine_site.specs.declared.site_end.SiteFault.{SiteFault}
+use Rattle.dine_site.specs.declared.site_end.SiteFault.TheVariants as fault
+use Rattle.dine_site.specs.declared.site_end.Stray.{Stray}
+use Rattle.dine_site.specs.Endings.{Ending, HasEnded, links_at}
+use Rattle.dine_site.specs.Ports.{HasRung, SeenPort, SameLinks}
+
+-- How a site ended, without its diner: its number, the meals that it began, the forks and tokens in its hands, its
+-- journal, its link ends in order, its bell, and why it ended early.
+pub record SeenSiteEnd (Identity : Type 0) : Type 0 where
+  pub site : ℕ
+  pub ate : ℕ
+  pub forks : List SeenFork
+  pub tokens : List ℕ
+  pub journal : List EventKind
+  pub ports : List (SeenPort Identity)
+  pub bell : SeenBell
+  pub stray : Option Stray
+  pub fault : Option SiteFault
+
+-- what it tells of its end
+abbrev pub told_by : {Identity : Type 0} → SeenSiteEnd Identity → Ending
+told_by end = record { ate = end.ate; tokens = end.tokens; journal = end.journal; stray = end.stray; fault = end.fault }
+
+-- a ring or a wait was refused
+abbrev pub HasBellRefused : {Identity : Type 0} → List (SeenPort Identity) → SeenBell → Type 0
+HasBellRefused {Identity} ports bell = (bell.refused ≡ true) ⊎ ((i : ℕ) × (port : SeenPort Identity) × (slice_get ports i ≡ Some port) × (port.ringer.refused ≡ true))
+
+-- What a site leaves, started or not: it ended in a state of whole lists by which it has its forks and its links, and
+-- these are the links that it was given. After each letter that it put it rang once. A bell that refused is told, and
+-- only one that did.
+pub record IsLeft {Identity : Type 0} (plan : SeenPlan) (s : ℕ) (given : List (SeenPort Identity)) (end : SeenSiteEnd Identity) : Type 0 where
+  pub state : LocalState
+  pub ended : HasEnded plan s state (links_at end.ports) (told_by end)
+  pub site : end.site ≡ s
+  pub forks : end.forks ≡ forks_in_hand plan s state (all_places state)
+  pub count : length end.ports ≡ length given
+  pub same_links : (i : ℕ) (old new : SeenPort Identity) → slice_get given i ≡ Some old → slice_get end.ports i ≡ Some new → SameLinks old new
+  pub rang : (i : ℕ) (port : SeenPort Identity) → slice_get end.ports i ≡ Some port → HasRung port
+  pub heard : end.fault ≡ None → (end.bell.refused ≡ false) × ((i : ℕ) (port : SeenPort Identity) → slice_get end.ports i ≡ Some port → port.ringer.refused ≡ false)
+  pub lost_bell : end.fault ≡ Some (fault.Lost (length state.traffic)) → HasBellRefused end.ports end.bell
+
+-- What a site leaves that was started. A wait for its bell that was refused is told.
+pub record IsSiteEnd {Identity : Type 0} (plan : SeenPlan) (s : ℕ) (given : List (SeenPort Identity)) (end : SeenSiteEnd Identity) : Type 0 where
+  pub left : IsLeft plan s given end
+  pub started : end.fault ≢ Some fault.NotStarted
+  pub wait_told : end.bell.refused ≡ true → end.fault ≡ Some (fault.Lost (length end.ports))

@@ -1,0 +1,2 @@
+-- What no public contract names: how values are kept.
+pub mod CallLogFields

@@ -1,0 +1,63 @@
+//! The record of calls that a diner keeps.
+ghost use Rattle.std.specs.Prelude.{◌≡◌, ◌+◌, ◌<◌, ◌++◌, ◌∷◌, [], IfOk};
+ghost use Rattle.dine_site.specs.declared.diner.Call.{Call};
+ghost use Rattle.dine_site.specs.CallLogs.{no_calls};
+
+use crate::diner::Call;
+use std::alloc::{AllocError, Global};
+use std::marker::Model;
+
+/// The calls that a diner has answered, in order, and for how many more there is room. Room is got once, when it is
+/// opened. A diner of one's own may hold one, and have its calls and its room from it.
+#[derive(Drop)]
+pub struct CallLog {
+    calls: Vec<Call>,
+    room: u32,
+}
+
+impl Model for CallLog {
+    ghost use Rattle.dine_site.specs.CallLogs.{SeenCallLog};
+
+    ghost Value = { SeenCallLog };
+
+    ghost use Rattle.dine_site.specs.private.CallLogFields.{seen_log, HasRoom};
+
+    ghost view = { seen_log };
+
+    ghost invariant = { HasRoom };
+}
+
+impl CallLog {
+    /// A log without calls, with room for one call for each job. It takes memory for them, and fails where that is
+    /// refused.
+    pub fn open(alloc: Global, jobs: u32) -> Result<CallLog, AllocError>
+        ensures { IfOk result (λ log. log ≡ no_calls jobs) }
+    {
+        let calls = Vec::with_capacity(alloc, jobs as usize)?;
+        Ok(CallLog { calls, room: jobs })
+    }
+
+    /// For how many more calls there is room.
+    pub fn room(&self) -> u32
+        ensures { result ≡ self.now.room }
+    {
+        self.room
+    }
+
+    /// Notes a call: the number of the meal, and whether its job went well.
+    pub fn note(&mut self, k: u32, ok: bool)
+        requires { 0 < self.old.room }
+        ensures calls { self.new.calls ≡ self.old.calls ++ record { k = k; ok = ok } ∷ [] }
+        ensures room { self.new.room + 1 ≡ self.old.room }
+    {
+        self.calls.push_reserved(Call { k, ok });
+        self.room -= 1;
+    }
+
+    /// All calls so far, in order.
+    pub fn calls(&self) -> &[Call]
+        ensures { result.now ≡ self.now.calls }
+    {
+        self.calls.as_slice()
+    }
+}

@@ -1,0 +1,104 @@
+//! The ends of a site at one place.
+ghost use Rattle.std.specs.Prelude.{◌≡◌, ◌<◌, ◌^◌, true, false, length, MatchResult};
+ghost use Rattle.dine_rules.specs.Letters.{has_close};
+ghost use Rattle.dine_link.specs.Closing.{is_close};
+ghost use Rattle.dine_site.specs.Ports.{Sends, SendsClose, is_live_end, rung_on, seen_port, taken_on, unrung_on, untaken_on};
+
+use dine_link::{Lane, Lost, Ringer, TxEnd};
+use dine_rules::{Kind4, Letter};
+use std::sync::Wait;
+
+/// What a site has at a place: the end of the link that leads to its neighbour, the end of the link that comes from it,
+/// and the ringer of the neighbour's bell.
+#[derive(Drop)]
+pub struct Port<L: Lane> {
+    pub tx: TxEnd<L>,
+    pub rx: L::Rx,
+    pub ringer: Ringer,
+}
+
+// What came of a letter that was to be sent.
+#[derive(Drop)]
+pub enum Sent {
+    // It was put, and the bell was rung.
+    Heard,
+    // It was put, and the bell refused the ring.
+    Unheard,
+    // The link refused it, and it is handed back.
+    Refused(Letter),
+}
+
+// The same of Close.
+#[derive(Clone, Copy)]
+pub enum Closed {
+    Heard,
+    Unheard,
+    Refused,
+}
+
+impl<L: Lane> Port<L> {
+    // Puts a letter other than Close, where the end is live, and rings.
+    pub(crate) fn put<R: Wait>(&mut self, rt: &R, letter: Letter) -> Sent
+        requires live { is_live_end self.old.tx ≡ true }
+        requires letter { is_close letter ≡ false }
+        requires room { length (seen_port L.seen_tx L.seen_closed L.seen_rx self.old).tx.letters < 2 ^ 61 }
+        ensures { Sends letter (seen_port L.seen_tx L.seen_closed L.seen_rx self.old) (seen_port L.seen_tx L.seen_closed L.seen_rx self.new) result }
+    {
+        let kind = letter.kind();
+        let put = match &mut self.tx {
+            TxEnd::Live(tx) => L::put(rt, tx, letter),
+            TxEnd::Shut(_) => unreachable!(),
+        };
+        match put {
+            Ok(()) => match self.ring(rt, kind) {
+                Ok(()) => Sent::Heard,
+                Err(Lost) => Sent::Unheard,
+            },
+            Err((letter, Lost)) => Sent::Refused(letter),
+        }
+    }
+
+    // Puts Close, where the end is live, and rings. Where the link refuses it, the end stays live.
+    pub(crate) fn close<R: Wait>(self, rt: &R) -> (Port<L>, Closed)
+        requires live { is_live_end self.tx ≡ true }
+        requires room { length (seen_port L.seen_tx L.seen_closed L.seen_rx self).tx.letters < 2 ^ 61 }
+        ensures { SendsClose (seen_port L.seen_tx L.seen_closed L.seen_rx self) (seen_port L.seen_tx L.seen_closed L.seen_rx result.0) result.1 }
+    {
+        let Port { tx, rx, ringer } = self;
+        let TxEnd::Live(tx) = tx else { unreachable!() };
+        match L::close(rt, tx) {
+            Ok(tx) => {
+                let tx = TxEnd::Shut(tx);
+                let mut port = Port { tx, rx, ringer };
+                match port.ring(rt, Kind4::Close) {
+                    Ok(()) => (port, Closed::Heard),
+                    Err(Lost) => (port, Closed::Unheard),
+                }
+            }
+            Err((tx, Lost)) => {
+                let tx = TxEnd::Live(tx);
+                (Port { tx, rx, ringer }, Closed::Refused)
+            }
+        }
+    }
+
+    // Takes the next letter, where Close was not taken.
+    pub(crate) fn take<R: Wait>(&mut self, rt: &R) -> Result<Letter, Lost>
+        requires open { has_close (seen_port L.seen_tx L.seen_closed L.seen_rx self.old).rx.letters ≡ false }
+        requires room { length (seen_port L.seen_tx L.seen_closed L.seen_rx self.old).rx.letters < 2 ^ 61 }
+        ensures { MatchResult result
+            (λ letter. seen_port L.seen_tx L.seen_closed L.seen_rx self.new ≡ taken_on letter (seen_port L.seen_tx L.seen_closed L.seen_rx self.old))
+            (λ _. seen_port L.seen_tx L.seen_closed L.seen_rx self.new ≡ untaken_on (seen_port L.seen_tx L.seen_closed L.seen_rx self.old)) }
+    {
+        L::take(rt, &mut self.rx)
+    }
+
+    // Rings the neighbour's bell for a letter of that kind.
+    fn ring<R: Wait>(&mut self, rt: &R, kind: Kind4) -> Result<(), Lost>
+        ensures { MatchResult result
+            (λ _. seen_port L.seen_tx L.seen_closed L.seen_rx self.new ≡ rung_on (seen_port L.seen_tx L.seen_closed L.seen_rx self.old))
+            (λ _. seen_port L.seen_tx L.seen_closed L.seen_rx self.new ≡ unrung_on (seen_port L.seen_tx L.seen_closed L.seen_rx self.old)) }
+    {
+        self.ringer.ring_for(rt, kind)
+    }
+}

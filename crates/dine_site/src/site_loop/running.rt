@@ -1,0 +1,409 @@
+// A site on its way.
+ghost use Rattle.std.specs.Prelude.{◌≡◌, ◌<◌, ◌≤◌, ◌+◌, ◌^◌, List, OnOk, length, true, false, None, Some, vec_capacity, vec_len, slice_get, slice_set, IfSome, MatchResult};
+ghost use Rattle.dine_graph.specs.Plan.{SeenPlan};
+ghost use Rattle.dine_rules.specs.Letters.{has_close};
+ghost use Rattle.dine_rules.specs.Local.{traffic_at};
+ghost use Rattle.dine_core.specs.NextEvent.{can_by_itself};
+ghost use Rattle.dine_core.specs.Standing.{ForEachState};
+ghost use Rattle.dine_core.specs.Wants.{wants_of};
+ghost use Rattle.dine_link.specs.Closing.{is_close};
+ghost use Rattle.dine_link.specs.Waking.{seen_wants};
+ghost use Rattle.dine_site.specs.Ports.{ChangesAt, SendsClose, SeenPort, seen_ports};
+ghost use Rattle.dine_site.specs.SiteEnds.{IsSiteEnd};
+ghost use Rattle.dine_site.specs.Running.{ClosedBelow, EatsOn, ForSome, GoesOn, GoesToEnd, HasStopped, HeedsOn, IsPutting, IsReady, IsRunning, Leads, MayEnd, SameMeals, StaysStopped, seen_run};
+
+use crate::diner::Diner;
+use crate::port::{Closed, Port, Sent};
+use crate::site_end::{SiteEnd, SiteFault, Stray};
+use dine_core::SiteCore;
+use dine_link::{Bell, Lane, Lost, Wants};
+use dine_rules::{EventKind, Letter, laws};
+use std::sync::Wait;
+
+// The first fault, with the letter that was handed back.
+#[derive(Drop)]
+pub struct Stop {
+    pub fault: SiteFault,
+    pub stray: Option<Stray>,
+}
+
+// A site with its link ends, its bell, its diner, how many jobs of its meals failed, and what it did.
+pub struct Running<L: Lane, D: Diner> {
+    core: SiteCore,
+    ports: Vec<Port<L>>,
+    bell: Bell,
+    diner: D,
+    failed: u32,
+    journal: Vec<EventKind>,
+}
+
+impl<L: Lane, D: Diner> Running<L, D> {
+    pub fn new(
+        core: SiteCore,
+        ports: Vec<Port<L>>,
+        bell: Bell,
+        diner: D,
+        journal: Vec<EventKind>,
+    ) -> Running<L, D>
+        ensures { result ≡ record { core = core; ports = ports; bell = bell; diner = diner; failed = 0; journal = journal } }
+    {
+        Running {
+            core,
+            ports,
+            bell,
+            diner,
+            failed: 0,
+            journal,
+        }
+    }
+
+    // Goes on until the site is finished, or until a fault.
+    pub fn work<R: Wait>(&mut self, rt: &R) -> Result<(), Stop>
+        requires running { ForSome IsRunning (seen_run L.seen_tx L.seen_closed L.seen_rx self.old) }
+        requires ready { IsReady D.room_left self.old }
+        ensures way { Leads IsRunning (GoesToEnd result) (seen_run L.seen_tx L.seen_closed L.seen_rx self.old) (seen_run L.seen_tx L.seen_closed L.seen_rx self.new) }
+        ensures eats { EatsOn D.calls D.marks D.fits self.old self.new }
+        ensures heeds { HeedsOn D.calls self.old self.new }
+        ensures resigns { self.new.core.resigns ≡ self.old.core.resigns }
+        ensures site { self.new.core.site ≡ self.old.core.site }
+    {
+        for _ in rt.forever() {
+            self.do_events(rt)?;
+            if self.core.is_finished() {
+                return Ok(());
+            }
+            self.hear(rt)?;
+        }
+        unreachable!()
+    }
+
+    // Does events other than Take until there is none.
+    fn do_events<R: Wait>(&mut self, rt: &R) -> Result<(), Stop>
+        requires running { ForSome IsRunning (seen_run L.seen_tx L.seen_closed L.seen_rx self.old) }
+        requires ready { IsReady D.room_left self.old }
+        ensures way { Leads IsRunning (GoesOn result) (seen_run L.seen_tx L.seen_closed L.seen_rx self.old) (seen_run L.seen_tx L.seen_closed L.seen_rx self.new) }
+        ensures ready { IsReady D.room_left self.new }
+        ensures eats { EatsOn D.calls D.marks D.fits self.old self.new }
+        ensures heeds { HeedsOn D.calls self.old self.new }
+        ensures resigns { self.new.core.resigns ≡ self.old.core.resigns }
+        ensures site { self.new.core.site ≡ self.old.core.site }
+    {
+        for _ in rt.forever() {
+            match self.core.next_event() {
+                Some(kind) => self.act(rt, kind)?,
+                None => return Ok(()),
+            }
+        }
+        unreachable!()
+    }
+
+    // Does an event other than Take.
+    fn act<R: Wait>(&mut self, rt: &R, kind: EventKind) -> Result<(), Stop>
+        requires running { ForSome IsRunning (seen_run L.seen_tx L.seen_closed L.seen_rx self.old) }
+        requires ready { IsReady D.room_left self.old }
+        requires may { can_by_itself self.old.core kind ≡ true }
+        ensures way { Leads IsRunning (GoesOn result) (seen_run L.seen_tx L.seen_closed L.seen_rx self.old) (seen_run L.seen_tx L.seen_closed L.seen_rx self.new) }
+        ensures ready { IsReady D.room_left self.new }
+        ensures eats { EatsOn D.calls D.marks D.fits self.old self.new }
+        ensures heeds { HeedsOn D.calls self.old self.new }
+        ensures resigns { self.new.core.resigns ≡ self.old.core.resigns }
+        ensures site { self.new.core.site ≡ self.old.core.site }
+    {
+        self.make_room(if kind == EventKind::Begin { 2 } else { 1 })?;
+        self.perform(rt, kind)
+    }
+
+    // Gets room for so many entries of the journal.
+    fn make_room(&mut self, entries: usize) -> Result<(), Stop>
+        ensures way { Leads IsRunning (GoesOn result) (seen_run L.seen_tx L.seen_closed L.seen_rx self.old) (seen_run L.seen_tx L.seen_closed L.seen_rx self.new) }
+        ensures running { OnOk result (seen_run L.seen_tx L.seen_closed L.seen_rx self.new ≡ seen_run L.seen_tx L.seen_closed L.seen_rx self.old) }
+        ensures room { OnOk result (vec_len self.new.journal + entries ≤ vec_capacity self.new.journal) }
+        ensures ready { IsReady D.room_left self.old → IsReady D.room_left self.new }
+        ensures core { self.new.core ≡ self.old.core }
+        ensures bell { self.new.bell ≡ self.old.bell }
+        ensures same { SameMeals self.old self.new }
+    {
+        match self.journal.reserve(entries) {
+            Ok(()) => Ok(()),
+            Err(_) => Err(Stop {
+                fault: SiteFault::Memory,
+                stray: None,
+            }),
+        }
+    }
+
+    // Does an event other than Take, with room for it in the journal.
+    fn perform<R: Wait>(&mut self, rt: &R, kind: EventKind) -> Result<(), Stop>
+        requires running { ForSome IsRunning (seen_run L.seen_tx L.seen_closed L.seen_rx self.old) }
+        requires ready { IsReady D.room_left self.old }
+        requires may { can_by_itself self.old.core kind ≡ true }
+        requires room { vec_len self.old.journal < vec_capacity self.old.journal }
+        requires room_for_end { kind ≡ EventKind.Begin → vec_len self.old.journal + 2 ≤ vec_capacity self.old.journal }
+        ensures way { Leads IsRunning (GoesOn result) (seen_run L.seen_tx L.seen_closed L.seen_rx self.old) (seen_run L.seen_tx L.seen_closed L.seen_rx self.new) }
+        ensures ready { IsReady D.room_left self.new }
+        ensures eats { EatsOn D.calls D.marks D.fits self.old self.new }
+        ensures heeds { HeedsOn D.calls self.old self.new }
+        ensures resigns { self.new.core.resigns ≡ self.old.core.resigns }
+        ensures site { self.new.core.site ≡ self.old.core.site }
+    {
+        laws::journals_grow_by_each_event();
+        match kind {
+            EventKind::Give(i) => {
+                let letter = self.core.give(i);
+                self.journal.push_reserved(EventKind::Give(i));
+                self.put(rt, i, letter)
+            }
+            EventKind::Ask(i) => {
+                let letter = self.core.ask(i);
+                self.journal.push_reserved(EventKind::Ask(i));
+                self.put(rt, i, letter)
+            }
+            EventKind::Done(i) => {
+                let letter = self.core.done(i);
+                self.journal.push_reserved(EventKind::Done(i));
+                self.put(rt, i, letter)
+            }
+            EventKind::Close(i) => {
+                let _ = self.core.close(i);
+                self.journal.push_reserved(EventKind::Close(i));
+                self.close(rt, i)
+            }
+            EventKind::Begin => {
+                self.eat();
+                Ok(())
+            }
+            EventKind::Hungry => {
+                self.core.hungry();
+                self.journal.push_reserved(EventKind::Hungry);
+                Ok(())
+            }
+            EventKind::Quit => {
+                self.core.quit();
+                self.journal.push_reserved(EventKind::Quit);
+                Ok(())
+            }
+            EventKind::End | EventKind::Take(_) => unreachable!(),
+        }
+    }
+
+    // Eats one meal, with room for its begin and its end in the journal. The core is told whether its job failed.
+    fn eat(&mut self)
+        requires running { ForSome IsRunning (seen_run L.seen_tx L.seen_closed L.seen_rx self.old) }
+        requires ready { IsReady D.room_left self.old }
+        requires may { can_by_itself self.old.core EventKind.Begin ≡ true }
+        requires room { vec_len self.old.journal + 2 ≤ vec_capacity self.old.journal }
+        ensures way { Leads IsRunning IsRunning (seen_run L.seen_tx L.seen_closed L.seen_rx self.old) (seen_run L.seen_tx L.seen_closed L.seen_rx self.new) }
+        ensures ready { IsReady D.room_left self.new }
+        ensures eats { EatsOn D.calls D.marks D.fits self.old self.new }
+        ensures heeds { HeedsOn D.calls self.old self.new }
+        ensures resigns { self.new.core.resigns ≡ self.old.core.resigns }
+        ensures site { self.new.core.site ≡ self.old.core.site }
+    {
+        laws::journals_grow_by_each_event();
+        let meal = self.core.begin();
+        self.journal.push_reserved(EventKind::Begin);
+        let ok = self.diner.eat(meal.k(), &meal).is_ok();
+        self.failed += u32::from(!ok);
+        self.core.end(meal, !ok);
+        self.journal.push_reserved(EventKind::End);
+    }
+
+    // Puts a letter other than Close, and rings.
+    fn put<R: Wait>(&mut self, rt: &R, i: u32, letter: Letter) -> Result<(), Stop>
+        requires putting { ForSome (IsPutting i letter) (seen_run L.seen_tx L.seen_closed L.seen_rx self.old) }
+        requires letter { is_close letter ≡ false }
+        ensures way { Leads (IsPutting i letter) (GoesOn result) (seen_run L.seen_tx L.seen_closed L.seen_rx self.old) (seen_run L.seen_tx L.seen_closed L.seen_rx self.new) }
+        ensures same { SameMeals self.old self.new }
+    {
+        laws::few_letters_are_put();
+        match self.ports[i as usize].put(rt, letter) {
+            Sent::Heard => Ok(()),
+            Sent::Unheard => Err(self.lost_bell()),
+            Sent::Refused(letter) => Err(Stop {
+                fault: SiteFault::Lost(i),
+                stray: Some(Stray { link: i, letter }),
+            }),
+        }
+    }
+
+    // Puts Close, and rings.
+    fn close<R: Wait>(&mut self, rt: &R, i: u32) -> Result<(), Stop>
+        requires putting { ForSome (IsPutting i Letter.Close) (seen_run L.seen_tx L.seen_closed L.seen_rx self.old) }
+        ensures way { Leads (IsPutting i Letter.Close) (GoesOn result) (seen_run L.seen_tx L.seen_closed L.seen_rx self.old) (seen_run L.seen_tx L.seen_closed L.seen_rx self.new) }
+        ensures same { SameMeals self.old self.new }
+    {
+        laws::few_letters_are_put();
+        match close_at(rt, &mut self.ports, i as usize) {
+            Closed::Heard => Ok(()),
+            Closed::Unheard => Err(self.lost_bell()),
+            Closed::Refused => Err(Stop {
+                fault: SiteFault::Lost(i),
+                stray: None,
+            }),
+        }
+    }
+
+    // A bell was refused.
+    fn lost_bell(&self) -> Stop
+        ensures { result ≡ record { fault = SiteFault.Lost (length self.now.core.places); stray = None } }
+    {
+        Stop {
+            fault: SiteFault::Lost(self.core.degree()),
+            stray: None,
+        }
+    }
+
+    // The letters that the site waits for: no other gives it an event of its own (`dine_core::waking`).
+    fn wants(&self) -> Wants
+        ensures { seen_wants result ≡ Some (wants_of self.now.core) }
+    {
+        Wants::of(self.core.dirty_places(), self.core.missing_forks())
+    }
+
+    // Waits for the bell until the site could do something, and takes a letter at the place that rang.
+    fn hear<R: Wait>(&mut self, rt: &R) -> Result<(), Stop>
+        requires running { ForSome IsRunning (seen_run L.seen_tx L.seen_closed L.seen_rx self.old) }
+        requires bell { self.old.bell.degree ≡ vec_len self.old.ports }
+        ensures way { Leads IsRunning (GoesOn result) (seen_run L.seen_tx L.seen_closed L.seen_rx self.old) (seen_run L.seen_tx L.seen_closed L.seen_rx self.new) }
+        ensures same { SameMeals self.old self.new }
+    {
+        let wants = self.wants();
+        match self.bell.wait_for(rt, wants) {
+            Ok(i) if self.core.has_taken_close(i) => Ok(()),
+            Ok(i) => self.take(rt, i),
+            Err(Lost) => Err(self.lost_bell()),
+        }
+    }
+
+    // Takes a letter at a place where Close was not taken.
+    fn take<R: Wait>(&mut self, rt: &R, i: u32) -> Result<(), Stop>
+        requires running { ForSome IsRunning (seen_run L.seen_tx L.seen_closed L.seen_rx self.old) }
+        requires place { i < length self.old.core.places }
+        requires not_closed { ForEachState self.old.core (λ plan state. has_close (traffic_at state i).taken ≡ false) }
+        ensures way { Leads IsRunning (GoesOn result) (seen_run L.seen_tx L.seen_closed L.seen_rx self.old) (seen_run L.seen_tx L.seen_closed L.seen_rx self.new) }
+        ensures same { SameMeals self.old self.new }
+    {
+        self.make_room(1)?;
+        self.take_noted(rt, i)
+    }
+
+    // The same, with room for it in the journal.
+    fn take_noted<R: Wait>(&mut self, rt: &R, i: u32) -> Result<(), Stop>
+        requires running { ForSome IsRunning (seen_run L.seen_tx L.seen_closed L.seen_rx self.old) }
+        requires place { i < length self.old.core.places }
+        requires not_closed { ForEachState self.old.core (λ plan state. has_close (traffic_at state i).taken ≡ false) }
+        requires room { vec_len self.old.journal < vec_capacity self.old.journal }
+        ensures way { Leads IsRunning (GoesOn result) (seen_run L.seen_tx L.seen_closed L.seen_rx self.old) (seen_run L.seen_tx L.seen_closed L.seen_rx self.new) }
+        ensures same { SameMeals self.old self.new }
+    {
+        laws::few_letters_are_taken();
+        laws::journals_grow_by_each_event();
+        match self.ports[i as usize].take(rt) {
+            Ok(letter) => match self.core.take(i, letter) {
+                Ok(()) => {
+                    self.journal.push_reserved(EventKind::Take(i));
+                    Ok(())
+                }
+                Err((letter, breach)) => Err(Stop {
+                    fault: SiteFault::Breach(i, breach),
+                    stray: Some(Stray { link: i, letter }),
+                }),
+            },
+            Err(Lost) => Err(Stop {
+                fault: SiteFault::Lost(i),
+                stray: None,
+            }),
+        }
+    }
+
+    // Puts Close at each place where the site has put none, in order. Faults that it meets are not told.
+    pub fn break_off<R: Wait>(&mut self, rt: &R)
+        requires stopped { HasStopped (seen_run L.seen_tx L.seen_closed L.seen_rx self.old) }
+        ensures way { StaysStopped (seen_run L.seen_tx L.seen_closed L.seen_rx self.old) (seen_run L.seen_tx L.seen_closed L.seen_rx self.new) }
+        ensures closed { ClosedBelow (length self.new.core.places) self.new.core }
+        ensures same { SameMeals self.old self.new }
+    {
+        for i in 0..self.core.degree() {
+            self.break_at(rt, i);
+        }
+    }
+
+    // Puts Close at a place, where the site has put none, and rings.
+    fn break_at<R: Wait>(&mut self, rt: &R, i: u32)
+        requires stopped { HasStopped (seen_run L.seen_tx L.seen_closed L.seen_rx self.old) }
+        requires place { i < length self.old.core.places }
+        requires before { ClosedBelow i self.old.core }
+        ensures way { StaysStopped (seen_run L.seen_tx L.seen_closed L.seen_rx self.old) (seen_run L.seen_tx L.seen_closed L.seen_rx self.new) }
+        ensures closed { ClosedBelow (i + 1) self.new.core }
+        ensures places { length self.new.core.places ≡ length self.old.core.places }
+        ensures same { SameMeals self.old self.new }
+    {
+        laws::few_letters_are_put();
+        let Some(_) = self.core.break_off(i) else {
+            return;
+        };
+        let _ = close_at(rt, &mut self.ports, i as usize);
+    }
+
+    // What the site leaves.
+    pub fn end(self, stray: Option<Stray>, fault: Option<SiteFault>) -> SiteEnd<L, D>
+        requires may_end { ForSome (MayEnd stray fault) (seen_run L.seen_tx L.seen_closed L.seen_rx self) }
+        ensures end { (plan : SeenPlan) (given : List (SeenPort L.Identity)) → MayEnd stray fault plan given (seen_run L.seen_tx L.seen_closed L.seen_rx self) → IsSiteEnd plan self.core.site given (record {
+          site = result.site;
+          ate = result.ate;
+          forks = result.forks.items;
+          tokens = result.tokens.items;
+          journal = result.journal.items;
+          ports = seen_ports L.seen_tx L.seen_closed L.seen_rx result.ports.items;
+          bell = result.bell;
+          stray = result.stray;
+          fault = result.fault;
+        }) }
+        ensures ate { result.ate ≡ self.core.ate }
+        ensures failed { result.failed ≡ self.failed }
+        ensures journal { result.journal.items ≡ self.journal.items }
+        ensures diner { result.diner ≡ self.diner }
+    {
+        laws::letters_cut_short_are_in_order();
+        let Running {
+            core,
+            ports,
+            bell,
+            diner,
+            failed,
+            journal,
+        } = self;
+        let site = core.site();
+        let ate = core.ate();
+        let parts = core.into_parts();
+        SiteEnd {
+            site,
+            ate,
+            failed,
+            diner,
+            forks: parts.forks,
+            tokens: parts.tokens,
+            journal,
+            ports,
+            bell,
+            stray,
+            fault,
+        }
+    }
+}
+
+// Puts Close at place i, where the end is live, and rings. Where the link refuses it, the end stays live.
+fn close_at<R: Wait, L: Lane>(rt: &R, ports: &mut Vec<Port<L>>, i: usize) -> Closed
+    requires place { i < vec_len ports.old }
+    requires live { IfSome (slice_get (seen_ports L.seen_tx L.seen_closed L.seen_rx ports.old.items) i) (λ port. port.is_live ≡ true) }
+    requires room { IfSome (slice_get (seen_ports L.seen_tx L.seen_closed L.seen_rx ports.old.items) i) (λ port. length port.tx.letters < 2 ^ 61) }
+    ensures count { vec_len ports.new ≡ vec_len ports.old }
+    ensures closed { ChangesAt i (λ old new. SendsClose old new result) (seen_ports L.seen_tx L.seen_closed L.seen_rx ports.old.items) (seen_ports L.seen_tx L.seen_closed L.seen_rx ports.new.items) }
+{
+    // The last port stands in for this one until it comes back: an end has to be owned to be closed.
+    let (port, closed) = ports.swap_remove(i).close(rt);
+    let last = ports.len();
+    ports.push_reserved(port);
+    ports.swap(i, last);
+    closed
+}
