@@ -105,10 +105,7 @@ impl SiteCore {
     {
         let places = opening::places_of(alloc, plan, site, forks, tokens)?;
         let acts = opening::acts_of(alloc, plan, site)?;
-        let degree = places.len() as usize;
-        let forks = Vec::with_capacity(alloc, degree)?;
-        let tokens = Vec::with_capacity(alloc, degree)?;
-        let hands = Vec::with_capacity(alloc, degree)?;
+        let (hands, parts) = opening::lists_for(alloc, places.len())?;
         Ok(SiteCore {
             site,
             due: plan.jobs(site),
@@ -121,7 +118,7 @@ impl SiteCore {
             places,
             alloc,
             hands,
-            parts: Parts { forks, tokens },
+            parts,
         })
     }
 

@@ -1,14 +1,15 @@
 // The places of a site before its first step.
-ghost use Rattle.std.specs.Prelude.{◌≡◌, ℕ, ◌<◌, ◌∷◌, List, IfOk, map};
+ghost use Rattle.std.specs.Prelude.{◌≡◌, ℕ, ◌<◌, ◌≤◌, [], ◌∷◌, List, IfOk, map, vec_capacity};
 ghost use Rattle.dine_graph.specs.Plan.{acts_of, site_count, edge_count, edges_of};
 ghost use Rattle.dine_core.specs.Core.{fresh_forks, fresh_tokens, kept_of};
 ghost use Rattle.dine_rules.specs.Local.{no_traffic};
 ghost use Rattle.dine_rules.specs.declared.phase.Phase.TheVariants.{Thinking};
 
+use super::Parts;
 use super::marked::MarkedPlaces;
 use super::places::Place;
 use dine_graph::Plan;
-use dine_token::{Act, Fork, Token};
+use dine_token::{Act, Fork, Held, Token};
 use std::alloc::{AllocError, Global};
 use std::collections::VecDeque;
 
@@ -53,6 +54,21 @@ pub fn fresh_tokens(alloc: Global, plan: &Plan, site: u32) -> Result<Vec<Token>,
         }
     }
     Ok(tokens)
+}
+
+/// The lists for what a site will hold, with room for each of its places: they are empty.
+pub(crate) fn lists_for(alloc: Global, degree: u32) -> Result<(Vec<Held>, Parts), AllocError>
+    ensures no_hands { IfOk result (λ lists. lists.0.items ≡ []) }
+    ensures hands { IfOk result (λ lists. degree ≤ vec_capacity lists.0) }
+    ensures no_forks { IfOk result (λ lists. lists.1.forks.items ≡ []) }
+    ensures forks { IfOk result (λ lists. degree ≤ vec_capacity lists.1.forks) }
+    ensures no_tokens { IfOk result (λ lists. lists.1.tokens.items ≡ []) }
+    ensures tokens { IfOk result (λ lists. degree ≤ vec_capacity lists.1.tokens) }
+{
+    let forks = Vec::with_capacity(alloc, degree as usize)?;
+    let tokens = Vec::with_capacity(alloc, degree as usize)?;
+    let hands = Vec::with_capacity(alloc, degree as usize)?;
+    Ok((hands, Parts { forks, tokens }))
 }
 
 /// What each meal of the site does to the values of its forks, in order.

@@ -49,7 +49,7 @@ pub(super) fn links_of(alloc: Global, plan: &Plan) -> Result<Vec<Queue>, AllocEr
     Ok(links)
 }
 
-/// A set of places for each site, in which no letter was nonempty_inboxes of yet.
+/// A set of places for each site: at none of them a letter came yet.
 pub(super) fn no_letters(alloc: Global, plan: &Plan) -> Result<Vec<BitSet64>, AllocError>
     ensures { IfOk result (λ nonempty_inboxes. nonempty_inboxes.items ≡ replicate (site_count plan.now) (replicate 64 false)) }
 {
