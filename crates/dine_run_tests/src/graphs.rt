@@ -1,5 +1,6 @@
 // Graphs, the plans of them, and what is left of a run on one: it is held against the graph, and each fork's log
 // against the rules, entry by entry.
+use crate::asserts::same;
 use crate::diners::Taster;
 use dine_core::EventKind;
 use dine_link::LinkEnd;
@@ -202,7 +203,7 @@ fn told_by(rt: &impl Abort, fork: &Fork, lower: u32, higher: u32) -> Told {
         match fork.entry(i) {
             Entry::Move { to } => {
                 assert!(rt; told.is_used);
-                assert_eq!(rt; to, told.there.site);
+                same(rt, &to, &told.there.site);
                 told = Told {
                     here: told.there,
                     there: told.here,
@@ -211,8 +212,8 @@ fn told_by(rt: &impl Abort, fork: &Fork, lower: u32, higher: u32) -> Told {
                 };
             }
             Entry::Meal { site, k } => {
-                assert_eq!(rt; site, told.here.site);
-                assert_eq!(rt; Some(k), told.here.meals.checked_add(1));
+                let next = (told.here.site, told.here.meals.checked_add(1));
+                same(rt, &(site, Some(k)), &next);
                 told.here.meals = k;
                 told.is_used = true;
             }
@@ -221,81 +222,95 @@ fn told_by(rt: &impl Abort, fork: &Fork, lower: u32, higher: u32) -> Told {
     told
 }
 
-// One fork an edge, in order. By its log each end had all its meals, and the fork says no more than its log.
-pub fn holds_forks(rt: &impl Abort, graph: &Graph, fails_each: u32, forks: &[Fork]) {
-    assert_eq!(rt; forks.len(), graph.edges.len());
-    for (edge, fork) in (0..512u32).zip(forks) {
-        let Some((lower, higher)) = graph.edges.get(edge as usize).copied() else {
-            panic!(rt; "no edge {edge}");
-        };
-        assert_eq!(rt; (fork.edge(), fork.ends()), (edge, (lower, higher)));
-        let told = told_by(rt, fork, lower, higher);
-        for end in [told.here, told.there] {
-            let meals = graph.meals(end.site, fails_each);
-            assert_eq!(rt; meals, Some(end.meals), "site {} at edge {edge}", end.site);
-        }
-        assert_eq!(rt;
-            (fork.at(), fork.is_dirty(), fork.moves()),
-            (told.here.site, told.is_used, told.moves)
-        );
+// The two ends of an edge, the lower one first.
+fn ends_at(rt: &impl Abort, graph: &Graph, edge: u32) -> (u32, u32) {
+    match graph.edges.get(edge as usize) {
+        Some(ends) => *ends,
+        None => panic!(rt; "no edge {edge}"),
     }
 }
 
-// The two links of each edge in order, that from the lower end first. All that was put was taken, and Close is the last
-// of it. Each time that the fork was sent it was asked for before: so both links had a letter each time, and then Done
-// and Close.
+// By the fork's log each end had all its meals, and the fork says no more than its log.
+fn holds_fork(rt: &impl Abort, graph: &Graph, fails_each: u32, edge: u32, fork: &Fork) {
+    let (lower, higher) = ends_at(rt, graph, edge);
+    same(rt, &(fork.edge(), fork.ends()), &(edge, (lower, higher)));
+    let told = told_by(rt, fork, lower, higher);
+    for end in [told.here, told.there] {
+        let ate = (edge, end.site, Some(end.meals));
+        same(rt, &(edge, end.site, graph.meals(end.site, fails_each)), &ate);
+    }
+    let at_end = (told.here.site, told.is_used, told.moves);
+    same(rt, &(fork.at(), fork.is_dirty(), fork.moves()), &at_end);
+}
+
+// One fork an edge, in order.
+pub fn holds_forks(rt: &impl Abort, graph: &Graph, fails_each: u32, forks: &[Fork]) {
+    same(rt, &forks.len(), &graph.edges.len());
+    for (edge, fork) in (0..512u32).zip(forks) {
+        holds_fork(rt, graph, fails_each, edge, fork);
+    }
+}
+
+// All that was put was taken, and Close is the last of it. Each time that the fork was sent it was asked for before: so
+// both links of its edge had a letter each time, and then Done and Close.
+fn holds_link(rt: &impl Abort, link: &LinkEnd, edge: u32, from: u32, fork: &Fork) {
+    same(rt, &(link.edge(), link.from()), &(edge, from));
+    same(rt, &(link.put(), link.shut()), &(link.taken(), true));
+    let letters = 2 + u64::from(fork.moves());
+    same(rt, &(edge, from, link.put()), &(edge, from, letters));
+}
+
+// The two links of each edge in order, that from the lower end first.
 pub fn holds_links(rt: &impl Abort, graph: &Graph, forks: &[Fork], links: &[LinkEnd]) {
-    assert_eq!(rt; (links.len() / 2, links.len() % 2), (graph.edges.len(), 0));
+    let edges = (graph.edges.len(), 0);
+    same(rt, &(links.len() / 2, links.len() % 2), &edges);
     for (number, link) in (0..1024u32).zip(links) {
         let edge = number / 2;
-        let (Some((lower, higher)), Some(fork)) = (
-            graph.edges.get(edge as usize).copied(),
-            forks.get(edge as usize),
-        ) else {
-            panic!(rt; "no edge {edge}");
-        };
+        let (lower, higher) = ends_at(rt, graph, edge);
         let from = if number % 2 == 0 { lower } else { higher };
-        assert_eq!(rt; (link.edge(), link.from()), (edge, from));
-        assert_eq!(rt; (link.put(), link.shut()), (link.taken(), true));
-        assert_eq!(rt;
-            link.put(),
-            2 + u64::from(fork.moves()),
-            "edge {edge} from {from}"
-        );
+        match forks.get(edge as usize) {
+            Some(fork) => holds_link(rt, link, edge, from, fork),
+            None => panic!(rt; "no fork {edge}"),
+        }
     }
 }
 
 // The diner was called for each meal in order, and the jobs that were to fail did.
 fn holds_calls(rt: &impl Abort, diner: &Taster, meals: u32) {
     let calls = diner.log.calls();
-    assert_eq!(rt; calls.len(), meals as usize);
+    same(rt, &calls.len(), &(meals as usize));
     for (k, call) in (1..1001u32).zip(calls) {
         let ok = diner.fails_each == 0 || k % diner.fails_each != 0;
-        assert_eq!(rt; *call, Call { k, ok });
+        same(rt, call, &Call { k, ok });
     }
 }
 
 // The journal tells of one Quit where the site dropped jobs, and else of none.
 fn holds_journal(rt: &impl Abort, journal: &[EventKind], has_quit: bool) {
     let quits = journal.iter().filter(|kind| **kind == EventKind::Quit);
-    assert_eq!(rt; quits.count(), usize::from(has_quit));
+    same(rt, &quits.count(), &usize::from(has_quit));
 }
 
-// Each site in order, which ate all its jobs, or those up to the first that failed.
+// The site ate all its jobs, or those up to the first that failed.
+fn holds_site(rt: &impl Abort, graph: &Graph, fails_each: u32, number: u32, site: &SiteOut<Taster>) {
+    let Some(meals) = graph.meals(number, fails_each) else {
+        panic!(rt; "no site {number}");
+    };
+    let failed = meals.checked_div(fails_each).unwrap_or(0);
+    same(rt, &(site.site, site.ate, site.failed), &(number, meals, failed));
+    assert!(rt; site.stray.is_none() && site.fault.is_none());
+    holds_calls(rt, &site.diner, meals);
+    let jobs = graph.jobs.get(number as usize).copied();
+    holds_journal(rt, site.journal.as_slice(), jobs != Some(meals));
+}
+
+// Each site in order, and one token an edge in all their hands.
 pub fn holds_sites(rt: &impl Abort, graph: &Graph, fails_each: u32, sites: &[SiteOut<Taster>]) {
-    assert_eq!(rt; sites.len(), graph.jobs.len());
+    same(rt, &sites.len(), &graph.jobs.len());
     let mut tokens = 0usize;
     for (number, site) in (0..64u32).zip(sites) {
-        let Some(meals) = graph.meals(number, fails_each) else {
-            panic!(rt; "no site {number}");
-        };
-        let failed = meals.checked_div(fails_each).unwrap_or(0);
-        assert_eq!(rt; (site.site, site.ate, site.failed), (number, meals, failed));
-        assert!(rt; site.stray.is_none() && site.fault.is_none());
-        holds_calls(rt, &site.diner, meals);
-        let jobs = graph.jobs.get(number as usize).copied();
-        holds_journal(rt, site.journal.as_slice(), jobs != Some(meals));
+        holds_site(rt, graph, fails_each, number, site);
         tokens = tokens.wrapping_add(site.tokens.len());
     }
-    assert_eq!(rt; tokens, graph.edges.len());
+    same(rt, &tokens, &graph.edges.len());
 }

@@ -1,9 +1,14 @@
 // Runs of jobs of which nothing is proved.
+use crate::asserts::same;
 use crate::graphs::{plan_text, resigning_pair};
-use dine_run::{Job, JobFault, Jobs, RingLane, SeatFault, read_plan, run};
+use dine_run::{
+    Gathered, Job, JobFault, Jobs, Plan, RingLane, SeatFault, SiteOut, read_plan, run,
+};
 use std::alloc::{AllocError, Global};
 use std::process::Abort;
+use std::sync::Wait;
 use std::test::Fail;
+use std::thread::Threads;
 
 // Counts its jobs, and one of them fails.
 #[derive(Drop)]
@@ -31,6 +36,31 @@ fn counters(alloc: Global, count: u32, fails_at: u32) -> Result<Vec<Counter>, Al
     Ok(jobs)
 }
 
+// The site ate so often, and its diner did each of these jobs once and noted how it went.
+fn did(rt: &impl Abort, site: &SiteOut<Jobs<Counter>>, ate: u32, fails_at: u32) {
+    same(rt, &(site.ate, site.diner.job.done), &(ate, ate));
+    same(rt, &site.diner.calls().len(), &(ate as usize));
+    for call in site.diner.calls() {
+        same(rt, &call.ok, &(call.k != fails_at));
+    }
+}
+
+// What is gathered of a run of two sites over the plan, of which the jobs of that number fail.
+fn gathered<R: Threads + Wait + Copy + Send + 'static>(
+    rt: &R,
+    alloc: Global,
+    plan: &Plan,
+    fails_at: u32,
+) -> Result<Gathered<Jobs<Counter>>, Fail> {
+    let Ok(diners) = Jobs::seat(alloc, plan, counters(alloc, 2, fails_at)?) else {
+        return Err(Fail::new("no diners"));
+    };
+    match run::<RingLane, Jobs<Counter>, R>(rt, alloc, plan, diners) {
+        Ok(gathered) => Ok(gathered),
+        Err(_) => Err(Fail::new("no run")),
+    }
+}
+
 #[test]
 fn each_job_is_done_once_and_noted(rt: HostRuntime) -> Result<(), Fail> {
     let alloc = rt.alloc();
@@ -38,21 +68,11 @@ fn each_job_is_done_once_and_noted(rt: HostRuntime) -> Result<(), Fail> {
     let text = plan_text(alloc, &graph)?;
     let plan = read_plan(alloc, text.as_str()).expect(&rt, "a plan");
     for fails_at in 0..3u32 {
-        let Ok(diners) = Jobs::seat(alloc, &plan, counters(alloc, 2, fails_at)?) else {
-            return Err(Fail::new("no diners"));
-        };
-        let Ok(gathered) = run::<RingLane, Jobs<Counter>, HostRuntime>(&rt, alloc, &plan, diners)
-        else {
-            return Err(Fail::new("no run"));
-        };
+        let gathered = gathered(&rt, alloc, &plan, fails_at)?;
         // The first site drops its jobs behind one that failed.
         let meals = if fails_at == 0 { 3 } else { fails_at };
         for (site, ate) in gathered.sites.iter().zip([meals, 1]) {
-            assert_eq!(rt; (site.ate, site.diner.job.done), (ate, ate));
-            assert_eq!(rt; site.diner.calls().len(), ate as usize);
-            for call in site.diner.calls() {
-                assert_eq!(rt; call.ok, call.k != fails_at);
-            }
+            did(&rt, site, ate, fails_at);
         }
     }
     Ok(())

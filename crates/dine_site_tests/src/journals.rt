@@ -1,4 +1,5 @@
 // One order of the journals of two sites.
+use crate::asserts::same;
 use dine_core::{Event, EventKind, World};
 use dine_plan::{Plan, read_plan};
 use dine_run::{OrderFault, order};
@@ -85,16 +86,16 @@ fn each_event_is_that_of_the_lowest_site_that_was_ready(rt: HostRuntime) -> Resu
     let plan = pair(&rt, alloc);
     let events = order_of(&rt, alloc, &plan, LOWER.as_slice(), HIGHER.as_slice())?;
     let sites = [0, 0, 0, 0, 1, 1, 0, 0, 1, 1, 1, 1, 1, 0, 0, 1, 0, 1];
-    assert_eq!(rt; events.len(), sites.len());
+    same(&rt, &events.len(), &sites.len());
     for (event, site) in events.iter().zip(sites.iter()) {
-        assert_eq!(rt; event.site, *site);
+        same(&rt, &event.site, site);
     }
     let mut world = World::open(alloc, &plan)?;
     for event in events.iter() {
-        assert_eq!(rt; world.step(*event), Ok(()));
+        same(&rt, &world.step(*event), &Ok(()));
     }
-    assert_eq!(rt; world.count(), 0);
-    assert_eq!(rt; world.into_forks().len(), 1);
+    same(&rt, &world.count(), &0);
+    same(&rt, &world.into_forks().len(), &1);
     Ok(())
 }
 
@@ -105,14 +106,14 @@ fn events_that_wait_for_ever_are_stuck(rt: HostRuntime) {
     let higher = [EventKind::Take(0), EventKind::Take(0)];
     let lower = LOWER.as_slice();
     let stuck = order_of(&rt, alloc, &plan, &lower[..4], higher.as_slice());
-    assert_eq!(rt; stuck.err(), Some(OrderFault::Stuck { site: 1, placed: 1 }));
+    same(&rt, &stuck.err(), &Some(OrderFault::Stuck { site: 1, placed: 1 }));
 }
 
 #[test]
 fn line_of_what_is_stuck_names_its_site(rt: HostRuntime) -> Result<(), Fail> {
     let stuck = OrderFault::Stuck { site: 3, placed: 7 };
     let line = format!(in rt.alloc(); "{stuck}")?;
-    assert_eq!(rt; line.as_str(), "2 Stuck at site 3, 7 placed");
+    same(&rt, &line.as_str(), &"2 Stuck at site 3, 7 placed");
     Ok(())
 }
 
@@ -122,7 +123,7 @@ fn journals_of_nothing_are_not_closed(rt: HostRuntime) {
     let plan = pair(&rt, alloc);
     let none: [EventKind; 0] = [];
     let open = order_of(&rt, alloc, &plan, none.as_slice(), none.as_slice());
-    assert_eq!(rt; open.err(), Some(OrderFault::NotClosed));
+    same(&rt, &open.err(), &Some(OrderFault::NotClosed));
 }
 
 #[test]
@@ -132,7 +133,7 @@ fn one_journal_for_two_sites_is_refused(rt: HostRuntime) -> Result<(), Fail> {
     let mut journals = Vec::new(alloc);
     journals.push(LOWER.as_slice().to_vec(alloc)?)?;
     let one = order(alloc, &plan, journals.as_slice());
-    assert_eq!(rt; one.err(), Some(OrderFault::CountDiffers));
+    same(&rt, &one.err(), &Some(OrderFault::CountDiffers));
     Ok(())
 }
 
@@ -143,9 +144,9 @@ fn journals_show_which_meal_failed(rt: HostRuntime) -> Result<(), Fail> {
     let plan = read_plan(alloc, RESIGNING).expect(&rt, "a plan");
     let (lower, higher) = (QUITTING.as_slice(), HIGHER.as_slice());
     let events = order_of(&rt, alloc, &plan, lower, higher)?;
-    assert_eq!(rt; events.len(), 22);
+    same(&rt, &events.len(), &22);
     let quits = events.iter().filter(|event| event.kind == EventKind::Quit);
-    assert_eq!(rt; quits.count(), 1);
+    same(&rt, &quits.count(), &1);
     Ok(())
 }
 
@@ -163,7 +164,7 @@ fn stuck_after(rt: &impl Abort, alloc: Global, plan: &Plan, meals: u32, quits: u
     }
     let none: [EventKind; 0] = [];
     let stuck = order_of(rt, alloc, plan, lower.as_slice(), none.as_slice());
-    assert_eq!(rt; stuck.err(), Some(OrderFault::Stuck { site: 0, placed }));
+    same(rt, &stuck.err(), &Some(OrderFault::Stuck { site: 0, placed }));
 }
 
 #[test]

@@ -9,6 +9,7 @@ mod refusals;
 mod star;
 mod unlawful;
 
+use crate::asserts::same;
 use crate::journals::{HIGHER, LOWER};
 use dine_core::SiteCore;
 use dine_core::site::{fresh_forks, fresh_tokens};
@@ -117,8 +118,8 @@ fn one_port<L: Lane>(
 
 // The fork has exactly this log.
 fn has_log(rt: &impl Abort, fork: &Fork, log: &[Entry]) {
-    assert_eq!(rt; fork.len() as usize, log.len());
+    assert!(rt; fork.len() as usize == log.len());
     for i in 0..fork.len() {
-        assert_eq!(rt; fork.entry(i), log[i as usize]);
+        same(rt, &fork.entry(i), &log[i as usize]);
     }
 }

@@ -20,27 +20,18 @@ fn eats_alone<R: Wait + Abort>(
 #[test]
 fn site_alone_eats_all_its_meals(rt: HostRuntime) {
     let end = eats_alone(&rt, rt.alloc(), 0);
-    assert_eq!(rt; (end.site, end.ate, end.failed), (0, 2, 0));
-    assert_eq!(rt;
-        (end.forks.len(), end.tokens.len(), end.ports.len()),
-        (0, 0, 0)
-    );
+    same(&rt, &(end.site, end.ate, end.failed), &(0, 2, 0));
+    same(&rt, &(end.forks.len(), end.tokens.len(), end.ports.len()), &(0, 0, 0));
     assert!(rt; end.stray.is_none() && end.fault.is_none());
-    assert_eq!(rt;
-        end.diner.log.calls(),
-        [Call { k: 1, ok: true }, Call { k: 2, ok: true }].as_slice()
-    );
+    same(&rt, &end.diner.log.calls(), &[Call { k: 1, ok: true }, Call { k: 2, ok: true }].as_slice());
 }
 
 #[test]
 fn failed_job_is_counted_and_the_site_goes_on(rt: HostRuntime) {
     let end = eats_alone(&rt, rt.alloc(), 2);
-    assert_eq!(rt; (end.site, end.ate, end.failed), (0, 2, 1));
+    same(&rt, &(end.site, end.ate, end.failed), &(0, 2, 1));
     assert!(rt; end.stray.is_none() && end.fault.is_none());
-    assert_eq!(rt;
-        end.diner.log.calls(),
-        [Call { k: 1, ok: true }, Call { k: 2, ok: false }].as_slice()
-    );
+    same(&rt, &end.diner.log.calls(), &[Call { k: 1, ok: true }, Call { k: 2, ok: false }].as_slice());
 }
 
 // What is left of the lower site of the pair, where the higher one asked and closed at once: its end, the link to the
@@ -58,9 +49,9 @@ fn early_closed<L: Lane, R: Wait + Abort>(
     let (tx, far_rx) = link_from::<L>(rt, alloc, 0, 0);
     let (mut far_tx, rx) = link_from::<L>(rt, alloc, 0, 1);
     assert!(rt; L::put(rt, &mut far_tx, Letter::Request(Token::open(0))).is_ok());
-    assert_eq!(rt; ringer.ring(rt), Ok(()));
+    same(rt, &ringer.ring(rt), &Ok(()));
     assert!(rt; L::close(rt, far_tx).is_ok());
-    assert_eq!(rt; ringer.ring(rt), Ok(()));
+    same(rt, &ringer.ring(rt), &Ok(()));
     let ports = one_port::<L>(rt, alloc, tx, rx, far_ringer);
     let end = run_alone::<L, R>(rt, alloc, plan, 0, ports, bell, 0);
     (end, far_rx, far_bell)
@@ -84,17 +75,17 @@ fn finds_early_close<L: Lane, R: Wait + Abort>(rt: &R, alloc: Global) {
         fault,
     } = end;
     assert!(rt; journal.as_slice() == &LOWER[..6]);
-    assert_eq!(rt; (site, ate, failed), (0, 1, 0));
-    assert_eq!(rt; (forks.len(), ports.len()), (0, 1));
-    assert_eq!(rt; tokens.len(), 1);
-    assert_eq!(rt; tokens[0].edge(), 0);
-    assert_eq!(rt; fault, Some(SiteFault::Breach(0, Breach::ClosedEarly)));
+    same(rt, &(site, ate, failed), &(0, 1, 0));
+    same(rt, &(forks.len(), ports.len()), &(0, 1));
+    assert!(rt; tokens.len() == 1);
+    same(rt, &tokens[0].edge(), &0);
+    same(rt, &fault, &Some(SiteFault::Breach(0, Breach::ClosedEarly)));
     let Some(stray) = stray else {
         panic!(rt; "no stray");
     };
-    assert_eq!(rt; (stray.link, stray.letter.kind()), (0, Kind4::Close));
+    same(rt, &(stray.link, stray.letter.kind()), &(0, Kind4::Close));
     for _ in 0..3 {
-        assert_eq!(rt; bell.wait(rt), Ok(0));
+        same(rt, &bell.wait(rt), &Ok(0));
     }
 }
 
@@ -151,8 +142,8 @@ fn higher_eats<L: Lane, R: Wait + Abort>(rt: &R, alloc: Global) {
         fault,
     } = run_alone::<L, R>(rt, alloc, &plan, 1, ports, bell, 0);
     assert!(rt; journal.as_slice() == HIGHER.as_slice());
-    assert_eq!(rt; (site, ate, failed), (1, 1, 0));
-    assert_eq!(rt; (tokens.len(), ports.len()), (0, 1));
+    same(rt, &(site, ate, failed), &(1, 1, 0));
+    same(rt, &(tokens.len(), ports.len()), &(0, 1));
     assert!(rt; stray.is_none() && fault.is_none());
     let Some(fork) = forks.pop() else {
         panic!(rt; "no fork");
@@ -202,16 +193,13 @@ fn refused_put_is_a_fault(rt: HostRuntime) {
     let (_far_tx, rx) = link_from::<ChannelLane>(&rt, alloc, 0, 1);
     let ports = one_port::<ChannelLane>(&rt, alloc, tx, rx, ringer);
     let end = run_alone::<ChannelLane, HostRuntime>(&rt, alloc, &plan, 0, ports, bell, 0);
-    assert_eq!(rt;
-        (end.ate, end.failed, end.forks.len(), end.ports.len()),
-        (1, 0, 1, 1)
-    );
-    assert_eq!(rt; end.fault, Some(SiteFault::Lost(0)));
+    same(&rt, &(end.ate, end.failed, end.forks.len(), end.ports.len()), &(1, 0, 1, 1));
+    same(&rt, &end.fault, &Some(SiteFault::Lost(0)));
     assert!(rt; end.journal.as_slice() == &LOWER[..4]);
     let Some(stray) = &end.stray else {
         panic!(rt; "no stray");
     };
-    assert_eq!(rt; (stray.link, stray.letter.kind()), (0, Kind4::Done));
+    same(&rt, &(stray.link, stray.letter.kind()), &(0, Kind4::Done));
 }
 
 #[test]
@@ -225,11 +213,8 @@ fn bell_that_nobody_rings_is_a_fault(rt: HostRuntime) {
     let (_far_tx, rx) = link_from::<ChannelLane>(&rt, alloc, 0, 0);
     let ports = one_port::<ChannelLane>(&rt, alloc, tx, rx, ringer);
     let end = run_alone::<ChannelLane, HostRuntime>(&rt, alloc, &plan, 1, ports, bell, 0);
-    assert_eq!(rt;
-        (end.ate, end.failed, end.tokens.len(), end.ports.len()),
-        (0, 0, 0, 1)
-    );
-    assert_eq!(rt; end.fault, Some(SiteFault::Lost(1)));
+    same(&rt, &(end.ate, end.failed, end.tokens.len(), end.ports.len()), &(0, 0, 0, 1));
+    same(&rt, &end.fault, &Some(SiteFault::Lost(1)));
     assert!(rt; end.stray.is_none());
     let Ok(Letter::Request(_)) = ChannelLane::take(&rt, &mut far_rx) else {
         panic!(rt; "no request");
@@ -263,6 +248,6 @@ fn answers_of_a_marked_diner_fit_its_marks(rt: HostRuntime) {
         bell,
         diner,
     );
-    assert_eq!(rt; (end.ate, end.failed), (2, 2));
+    same(&rt, &(end.ate, end.failed), &(2, 2));
     assert!(rt; !end.diner.goes_well && end.fault.is_none());
 }

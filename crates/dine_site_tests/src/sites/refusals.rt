@@ -42,7 +42,7 @@ fn lower_is_refused<R: Wait + Abort>(
     let (tx, far_rx) = link_from::<ChannelLane>(rt, alloc, 0, 0);
     let ports = one_port::<ChannelLane>(rt, alloc, tx, rx, ringer);
     let end = run_alone::<ChannelLane, R>(rt, alloc, &plan, 0, ports, bell, 0);
-    assert_eq!(rt; (end.ate, end.failed, end.ports.len()), (1, 0, 1));
+    same(rt, &(end.ate, end.failed, end.ports.len()), &(1, 0, 1));
     assert!(rt; end.journal.as_slice() == &LOWER[..4]);
     assert!(rt; end.stray.is_none());
     (end, far_rx)
@@ -67,9 +67,9 @@ fn refused_take_is_a_fault(rt: HostRuntime) {
     let (far_ringer, _far_bell) = one_ringer(&rt, rt.alloc());
     let (far_tx, rx) = link_from::<ChannelLane>(&rt, rt.alloc(), 0, 1);
     drop(far_tx);
-    assert_eq!(rt; ringer.ring(&rt), Ok(()));
+    same(&rt, &ringer.ring(&rt), &Ok(()));
     let (end, far_rx) = lower_is_refused(&rt, rt.alloc(), bell, rx, far_ringer);
-    assert_eq!(rt; end.fault, Some(SiteFault::Lost(0)));
+    same(&rt, &end.fault, &Some(SiteFault::Lost(0)));
     finds_done_and_close::<ChannelLane, HostRuntime>(&rt, far_rx)
 }
 
@@ -80,7 +80,7 @@ fn refused_ring_is_a_fault(rt: HostRuntime) {
     drop(far_bell);
     let (_far_tx, rx) = link_from::<ChannelLane>(&rt, rt.alloc(), 0, 1);
     let (end, far_rx) = lower_is_refused(&rt, rt.alloc(), bell, rx, far_ringer);
-    assert_eq!(rt; end.fault, Some(SiteFault::Lost(1)));
+    same(&rt, &end.fault, &Some(SiteFault::Lost(1)));
     finds_done_and_close::<ChannelLane, HostRuntime>(&rt, far_rx)
 }
 
@@ -122,7 +122,7 @@ fn refused_close_is_a_fault(rt: HostRuntime) {
     let end = run_alone::<ChannelLane, HostRuntime>(&rt, alloc, &plan, 0, ports, bell, 0);
     assert!(rt; neighbour.join(&rt).is_some());
     assert!(rt; end.journal.as_slice() == DONE_AND_CLOSE.as_slice());
-    assert_eq!(rt; (end.ate, end.forks.len(), end.tokens.len()), (1, 1, 0));
-    assert_eq!(rt; end.fault, Some(SiteFault::Lost(0)));
+    same(&rt, &(end.ate, end.forks.len(), end.tokens.len()), &(1, 1, 0));
+    same(&rt, &end.fault, &Some(SiteFault::Lost(0)));
     assert!(rt; end.stray.is_none());
 }

@@ -71,7 +71,7 @@ fn runs<R: Wait + Abort>(
         let Some(ringer) = ringers.get_mut(*i as usize) else {
             panic!(rt; "no ringer");
         };
-        assert_eq!(rt; ringer.ring(rt), Ok(()));
+        same(rt, &ringer.ring(rt), &Ok(()));
     }
     let (of_a, _bell_of_a) = one_ringer(rt, alloc);
     let (of_b, _bell_of_b) = one_ringer(rt, alloc);
@@ -125,11 +125,8 @@ fn letters_of_three_links_are_taken_as_the_bell_rang(rt: HostRuntime) {
         whole(&rt, alloc, 2),
     );
     let Left { end, _outs } = runs(&rt, alloc, ins, &[2, 2, 0, 1, 0, 1, 2, 0, 1]);
-    assert_eq!(rt; (end.site, end.ate, end.failed), (3, 1, 0));
-    assert_eq!(rt;
-        (end.tokens.len(), end.ports.len(), end.forks.len()),
-        (0, 3, 3)
-    );
+    same(&rt, &(end.site, end.ate, end.failed), &(3, 1, 0));
+    same(&rt, &(end.tokens.len(), end.ports.len(), end.forks.len()), &(0, 3, 3));
     assert!(rt; end.stray.is_none() && end.fault.is_none());
     for fork in &end.forks {
         has_log(
@@ -168,12 +165,12 @@ fn breaks<R: Wait + Abort>(rt: &R, alloc: Global, b: ChannelRx, order: &[u32], b
     let (_tx_a, a) = link_from::<ChannelLane>(rt, alloc, 0, 0);
     let (_tx_c, c) = link_from::<ChannelLane>(rt, alloc, 2, 2);
     let Left { end, _outs } = runs(rt, alloc, (a, b, c), order);
-    assert_eq!(rt; (end.site, end.ate), (3, 0));
-    assert_eq!(rt; end.fault, Some(SiteFault::Breach(1, breach)));
+    same(rt, &(end.site, end.ate), &(3, 0));
+    same(rt, &end.fault, &Some(SiteFault::Breach(1, breach)));
     let Some(stray) = &end.stray else {
         panic!(rt; "no stray");
     };
-    assert_eq!(rt; stray.link, 1);
+    same(rt, &stray.link, &1);
 }
 
 // Each breach but that of a letter behind Close: a place where Close was taken is passed over.

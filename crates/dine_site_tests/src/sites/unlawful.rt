@@ -26,11 +26,11 @@ fn met<L: Lane, R: Wait + Abort>(rt: &R, alloc: Global, site: u32, rx: L::Rx, be
 
 // The site told this breach of the letter of this kind, and ate so often.
 fn tells<L: Lane>(rt: &impl Abort, end: &SiteEnd<L, Fixed>, ate: u32, breach: Breach, kind: Kind4) {
-    assert_eq!(rt; (end.ate, end.failed), (ate, 0));
-    assert_eq!(rt; end.fault, Some(SiteFault::Breach(0, breach)));
+    same(rt, &(end.ate, end.failed), &(ate, 0));
+    same(rt, &end.fault, &Some(SiteFault::Breach(0, breach)));
     match &end.stray {
         Some(stray) => {
-            assert_eq!(rt; (stray.link, stray.letter.kind()), (0, kind));
+            same(rt, &(stray.link, stray.letter.kind()), &(0, kind));
         }
         None => panic!(rt; "no stray"),
     }
@@ -38,8 +38,9 @@ fn tells<L: Lane>(rt: &impl Abort, end: &SiteEnd<L, Fixed>, ate: u32, breach: Br
 
 // The lower site has its own fork, with its meal in the log, and no token.
 fn has_own_fork<L: Lane>(rt: &impl Abort, end: &SiteEnd<L, Fixed>) {
-    assert_eq!(rt; (end.forks.len(), end.tokens.len()), (1, 0));
-    assert_eq!(rt; end.forks[0].edge(), 0);
+    assert!(rt; end.forks.len() == 1);
+    assert!(rt; end.tokens.is_empty());
+    same(rt, &end.forks[0].edge(), &0);
     has_log(rt, &end.forks[0], &[Entry::Meal { site: 0, k: 1 }]);
 }
 
@@ -76,13 +77,14 @@ fn request_twice<L: Lane, R: Wait + Abort>(rt: &R, alloc: Global) {
     let (mut ringer, bell) = one_ringer(rt, alloc);
     let (mut far_tx, rx) = link_from::<L>(rt, alloc, 0, 1);
     assert!(rt; L::put(rt, &mut far_tx, Letter::Request(Token::open(0))).is_ok());
-    assert_eq!(rt; ringer.ring(rt), Ok(()));
+    same(rt, &ringer.ring(rt), &Ok(()));
     assert!(rt; L::put(rt, &mut far_tx, Letter::Request(Token::open(0))).is_ok());
-    assert_eq!(rt; ringer.ring(rt), Ok(()));
+    same(rt, &ringer.ring(rt), &Ok(()));
     let (end, put) = met::<L, R>(rt, alloc, 0, rx, bell);
     tells(rt, &end, 1, Breach::RequestOutOfTurn, Kind4::Request);
-    assert_eq!(rt; (end.forks.len(), end.tokens.len()), (0, 1));
-    assert_eq!(rt; end.tokens[0].edge(), 0);
+    assert!(rt; end.forks.is_empty());
+    assert!(rt; end.tokens.len() == 1);
+    same(rt, &end.tokens[0].edge(), &0);
     finds_done_fork_close::<L, R>(rt, put)
 }
 
@@ -97,7 +99,7 @@ fn fork_too_many<L: Lane, R: Wait + Abort>(rt: &R, alloc: Global) {
     let (mut far_tx, rx) = link_from::<L>(rt, alloc, 0, 1);
     let fork = Fork::open(alloc, 0, 0, 1, 1, 1, 0).expect(rt, "memory");
     assert!(rt; L::put(rt, &mut far_tx, Letter::Fork(fork)).is_ok());
-    assert_eq!(rt; ringer.ring(rt), Ok(()));
+    same(rt, &ringer.ring(rt), &Ok(()));
     let (end, put) = met::<L, R>(rt, alloc, 0, rx, bell);
     tells(rt, &end, 1, Breach::ForkOutOfTurn, Kind4::Fork);
     has_own_fork(rt, &end);
@@ -115,10 +117,10 @@ fn fork_of_another_edge<L: Lane, R: Wait + Abort>(rt: &R, alloc: Global) {
     let (mut far_tx, rx) = link_from::<L>(rt, alloc, 0, 0);
     let fork = Fork::open(alloc, 7, 0, 1, 1, 1, 0).expect(rt, "memory");
     assert!(rt; L::put(rt, &mut far_tx, Letter::Fork(fork)).is_ok());
-    assert_eq!(rt; ringer.ring(rt), Ok(()));
+    same(rt, &ringer.ring(rt), &Ok(()));
     let (end, put) = met::<L, R>(rt, alloc, 1, rx, bell);
     tells(rt, &end, 0, Breach::StrangeFork, Kind4::Fork);
-    assert_eq!(rt; (end.forks.len(), end.tokens.len()), (0, 0));
+    same(rt, &(end.forks.len(), end.tokens.len()), &(0, 0));
     finds_request_and_close::<L, R>(rt, put)
 }
 
@@ -132,7 +134,7 @@ fn done_at_once<L: Lane, R: Wait + Abort>(rt: &R, alloc: Global) {
     let (mut ringer, bell) = one_ringer(rt, alloc);
     let (mut far_tx, rx) = link_from::<L>(rt, alloc, 0, 1);
     assert!(rt; L::put(rt, &mut far_tx, Letter::Done).is_ok());
-    assert_eq!(rt; ringer.ring(rt), Ok(()));
+    same(rt, &ringer.ring(rt), &Ok(()));
     let (end, put) = met::<L, R>(rt, alloc, 0, rx, bell);
     tells(rt, &end, 1, Breach::DoneOutOfTurn, Kind4::Done);
     has_own_fork(rt, &end);
@@ -149,7 +151,7 @@ fn close_at_once<L: Lane, R: Wait + Abort>(rt: &R, alloc: Global) {
     let (mut ringer, bell) = one_ringer(rt, alloc);
     let (far_tx, rx) = link_from::<L>(rt, alloc, 0, 1);
     assert!(rt; L::close(rt, far_tx).is_ok());
-    assert_eq!(rt; ringer.ring(rt), Ok(()));
+    same(rt, &ringer.ring(rt), &Ok(()));
     let (end, put) = met::<L, R>(rt, alloc, 0, rx, bell);
     tells(rt, &end, 1, Breach::ClosedEarly, Kind4::Close);
     has_own_fork(rt, &end);
@@ -168,10 +170,10 @@ fn take_that_its_end_refuses_is_a_fault(rt: HostRuntime) {
     let (mut ringer, bell) = one_ringer(&rt, alloc);
     let (mut far_tx, rx) = link_from::<ChannelLane>(&rt, alloc, 0, 1);
     assert!(rt; ChannelLane::put(&rt, &mut far_tx, Letter::Request(Token::open(0))).is_ok());
-    assert_eq!(rt; ringer.ring(&rt), Ok(()));
+    same(&rt, &ringer.ring(&rt), &Ok(()));
     let rx = fault_rx(rx, Some(0));
     let (end, put) = met::<FaultLane, HostRuntime>(&rt, alloc, 0, rx, bell);
-    assert_eq!(rt; (end.ate, end.fault), (1, Some(SiteFault::Lost(0))));
+    same(&rt, &(end.ate, end.fault), &(1, Some(SiteFault::Lost(0))));
     assert!(rt; end.stray.is_none());
     has_own_fork(&rt, &end);
     finds_done_and_close::<FaultLane, HostRuntime>(&rt, put)
@@ -193,12 +195,12 @@ fn put_that_its_end_refuses_is_a_fault(rt: HostRuntime) {
         far_ringer,
     );
     let end = run_alone::<FaultLane, HostRuntime>(&rt, alloc, &plan, 0, ports, bell, 0);
-    assert_eq!(rt; (end.ate, end.fault), (1, Some(SiteFault::Lost(0))));
+    same(&rt, &(end.ate, end.fault), &(1, Some(SiteFault::Lost(0))));
     let Some(stray) = &end.stray else {
         panic!(rt; "no stray");
     };
-    assert_eq!(rt; (stray.link, stray.letter.kind()), (0, Kind4::Done));
-    assert_eq!(rt; end.ports.len(), 1);
+    same(&rt, &(stray.link, stray.letter.kind()), &(0, Kind4::Done));
+    assert!(rt; end.ports.len() == 1);
     assert!(rt; matches!(end.ports[0].tx, TxEnd::Live(_)));
     has_own_fork(&rt, &end);
     // Nothing was put: with the site's end gone, the link has no letter to take.
