@@ -1,4 +1,5 @@
 // What an answer of `run` that gathers nothing, or not all, says.
+use crate::asserts::same;
 use crate::diners::Taster;
 use dine_run::{Breach, CallLog, Joined, RunFault, SiteFault, SiteOut};
 use std::alloc::{AllocError, Global};
@@ -39,7 +40,7 @@ fn broken(alloc: Global, fault: SiteFault) -> Result<RunFault<Taster>, AllocErro
 }
 
 fn says<R: Abort>(rt: &R, alloc: Global, fault: RunFault<Taster>, words: &str) -> Result<(), Fail> {
-    assert_eq!(rt; fault.to_string(alloc)?.as_str(), words);
+    same(rt, &fault.to_string(alloc)?.as_str(), &words);
     Ok(())
 }
 

@@ -80,10 +80,8 @@ fn each_job_is_done_once_and_noted(rt: HostRuntime) -> Result<(), Fail> {
 
 // The fault is told in its words.
 fn is_told<R: Abort>(rt: &R, alloc: Global, fault: &SeatFault<Counter>) -> Result<(), Fail> {
-    assert_eq!(rt;
-        fault.to_string(alloc)?.as_str(),
-        "run refused: jobs differ"
-    );
+    let words = fault.to_string(alloc)?;
+    same(rt, &words.as_str(), &"run refused: jobs differ");
     Ok(())
 }
 
@@ -107,7 +105,7 @@ fn jobs_that_are_not_as_many_as_sites_are_handed_back(rt: HostRuntime) -> Result
         };
         is_told(&rt, alloc, &fault)?;
         let back = handed_back(fault);
-        assert_eq!(rt; back, Some(count as usize));
+        same(&rt, &back, &Some(count as usize));
     }
     Ok(())
 }

@@ -1,4 +1,5 @@
 // Whole runs on graphs of many kinds.
+use crate::asserts::same;
 use crate::diners::{Taster, outcomes_of, tasters};
 use crate::graphs::*;
 use dine_core::{EventKind, World};
@@ -37,11 +38,7 @@ where
     holds_sites(rt, graph, fails_each, sites.as_slice());
     holds_forks(rt, graph, fails_each, forks.as_slice());
     holds_links(rt, graph, forks.as_slice(), links.as_slice());
-    let mut journals = Vec::with_capacity(alloc, sites.len())?;
-    for out in sites {
-        let SiteOut { journal, .. } = out;
-        journals.push(journal)?;
-    }
+    let journals = journals_of(alloc, sites)?;
     let fails = outcomes_of(alloc, plan, fails_each)?;
     let world = World::open_with(alloc, plan, fails.as_slice())?;
     holds_order(
@@ -52,6 +49,19 @@ where
         world,
         forks.as_slice(),
     )
+}
+
+// The journals of the sites, in order.
+fn journals_of(
+    alloc: Global,
+    sites: Vec<SiteOut<Taster>>,
+) -> Result<Vec<Vec<EventKind>>, AllocError> {
+    let mut journals = Vec::with_capacity(alloc, sites.len())?;
+    for out in sites {
+        let SiteOut { journal, .. } = out;
+        journals.push(journal)?;
+    }
+    Ok(journals)
 }
 
 // The journals have an order, and the world, where the same jobs fail, that is stepped through it has the logs that
@@ -70,19 +80,24 @@ fn holds_order(
         return Err(Fail::new("no order"));
     };
     for event in events.iter() {
-        assert_eq!(rt; world.step(*event), Ok(()));
+        same(rt, &world.step(*event), &Ok(()));
     }
-    assert_eq!(rt; world.count(), 0);
+    same(rt, &world.count(), &0);
     let stepped = world.into_forks();
-    assert_eq!(rt; stepped.len(), forks.len());
+    same(rt, &stepped.len(), &forks.len());
     for (gathered, fork) in forks.iter().zip(stepped.iter()) {
-        assert_eq!(rt; gathered.periods(), fork.periods());
-        for i in 0..gathered.periods() {
-            assert!(rt; i < gathered.periods() && i < fork.periods());
-            assert_eq!(rt; gathered.period(i), fork.period(i));
-        }
+        same_log(rt, gathered, fork);
     }
     Ok(())
+}
+
+// The two forks have the same log.
+fn same_log(rt: &impl Abort, one: &Fork, other: &Fork) {
+    same(rt, &one.periods(), &other.periods());
+    for i in 0..one.periods() {
+        assert!(rt; i < one.periods() && i < other.periods());
+        same(rt, &one.period(i), &other.period(i));
+    }
 }
 
 // The plan of the graph runs once over links of a lane.

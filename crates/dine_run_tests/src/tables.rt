@@ -2,6 +2,7 @@
 ghost use Rattle.std.specs.Prelude.{◌≡◌, IfOk};
 ghost use Rattle.dine_run.specs.Tables.{IsGatheredOf};
 
+use crate::asserts::same;
 use crate::diners::Taster;
 use dine_plan::{Plan, read_plan};
 use dine_run::{CallLog, EdgeRow, Gathered, SiteOut, SiteRow, edge_table, site_table};
@@ -127,7 +128,7 @@ fn row_of_an_edge_has_the_meals_in_its_log(rt: HostRuntime) -> Result<(), Fail> 
         hi_meals: 0,
         value: 1_000_000,
     };
-    assert_eq!(rt; rows.as_slice(), [first, second].as_slice());
+    same(&rt, &rows.as_slice(), &[first, second].as_slice());
     Ok(())
 }
 
@@ -142,9 +143,7 @@ fn row_of_a_site_has_its_meals_and_failed_jobs(rt: HostRuntime) -> Result<(), Fa
         meals,
         failed,
     };
-    assert_eq!(rt;
-        rows.as_slice(),
-        [row(0, 2, 1), row(1, 1, 0), row(2, 0, 0)].as_slice()
-    );
+    let wanted = [row(0, 2, 1), row(1, 1, 0), row(2, 0, 0)];
+    same(&rt, &rows.as_slice(), &wanted.as_slice());
     Ok(())
 }

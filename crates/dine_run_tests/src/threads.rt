@@ -1,10 +1,11 @@
 // Runs with real threads.
+use crate::asserts::same;
 use crate::diners::{Taster, Waiter, waiters};
 use crate::graphs::{apart, plan_text};
 use dine_link::{ChannelLane, Lane, RingLane};
 use dine_plan::read_plan;
-use dine_run::{CallLog, Jobs, RunFault, run, run_within};
-use std::alloc::Global;
+use dine_run::{CallLog, Jobs, RunFault, SiteOut, run, run_within};
+use std::alloc::{AllocError, Global};
 use std::process::Abort;
 use std::sync::atomic::{AtomicU32, Ordering};
 use std::sync::{Arc, Wait};
@@ -25,6 +26,13 @@ const PATH: &str = "version = 1\n\
     [[site]]\nname = \"a\"\njobs = [{ name = \"x\" }]\n[[site]]\nname = \"b\"\njobs = [{ name = \"x\" }]\n\
     [[site]]\nname = \"c\"\njobs = [{ name = \"x\" }]\n\
     [[edge]]\nends = [\"a\", \"b\"]\n[[edge]]\nends = [\"b\", \"c\"]\n";
+
+// Each of the sites had one meal, whose job went well.
+fn ate_once(rt: &impl Abort, sites: &[SiteOut<Jobs<Waiter>>]) {
+    for site in sites {
+        same(rt, &(site.ate, site.failed), &(1, 0));
+    }
+}
 
 // Runs with waiting diners, none of which fails, over links of a lane.
 fn meet_over<L: Lane + 'static, R: Threads + Wait + Abort + Copy + Send + 'static>(
@@ -47,10 +55,8 @@ where
     let Ok(gathered) = run::<L, Jobs<Waiter>, R>(rt, alloc, &plan, diners) else {
         return Err(Fail::new("no run"));
     };
-    assert_eq!(rt; gathered.sites.len(), plan.sites() as usize);
-    for site in gathered.sites.as_slice() {
-        assert_eq!(rt; (site.ate, site.failed), (1, 0));
-    }
+    same(rt, &gathered.sites.len(), &(plan.sites() as usize));
+    ate_once(rt, gathered.sites.as_slice());
     Ok(())
 }
 
@@ -75,14 +81,8 @@ fn ends_of_a_path_eat_at_the_same_time(rt: HostRuntime) -> Result<(), Fail> {
     meet(&rt, rt.alloc(), PATH, 2)
 }
 
-// Two sites are not run with so many diners, at most 3 and not 2. They come back in order, and none was called.
-fn handed_back<R: Threads + Wait + Abort + Copy + Send + 'static>(
-    rt: &R,
-    alloc: Global,
-    count: usize,
-) -> Result<(), Fail> {
-    let text = plan_text(alloc, &apart(alloc, 2, 1)?)?;
-    let plan = read_plan(alloc, text.as_str()).expect(rt, "a plan");
+// So many diners, at most 3.
+fn diners_for_one(alloc: Global, count: usize) -> Result<Vec<Taster>, AllocError> {
     let mut diners = Vec::new(alloc);
     for each in 1..4u32 {
         if diners.len() < count {
@@ -93,16 +93,33 @@ fn handed_back<R: Threads + Wait + Abort + Copy + Send + 'static>(
             })?;
         }
     }
+    Ok(diners)
+}
+
+// These are the first of them, and none was called.
+fn were_not_called(rt: &impl Abort, diners: &[Taster]) {
+    for (each, diner) in (1..4u32).zip(diners) {
+        same(rt, &(diner.fails_each, diner.log.calls().len()), &(each, 0));
+    }
+}
+
+// Two sites are not run with so many diners, at most 3 and not 2. They come back in order, and none was called.
+fn handed_back<R: Threads + Wait + Abort + Copy + Send + 'static>(
+    rt: &R,
+    alloc: Global,
+    count: usize,
+) -> Result<(), Fail> {
+    let text = plan_text(alloc, &apart(alloc, 2, 1)?)?;
+    let plan = read_plan(alloc, text.as_str()).expect(rt, "a plan");
+    let diners = diners_for_one(alloc, count)?;
     assert!(rt; diners.len() != plan.sites() as usize);
     let Err(RunFault::DinersDiffer { given, diners }) = run::<ChannelLane, Taster, R>(
         rt, alloc, &plan, diners,
     ) else {
         return Err(Fail::new("a run"));
     };
-    assert_eq!(rt; (given, diners.len()), (count, count));
-    for (each, diner) in (1..4u32).zip(diners.as_slice()) {
-        assert_eq!(rt; (diner.fails_each, diner.log.calls().len()), (each, 0));
-    }
+    same(rt, &(given, diners.len()), &(count, count));
+    were_not_called(rt, diners.as_slice());
     Ok(())
 }
 
@@ -132,9 +149,9 @@ where
     };
     let ended = run_within::<L, Jobs<Waiter>, R>(rt, alloc, &plan, diners, threads);
     assert!(rt; matches!(ended, Err(RunFault::Thread(site)) if site == threads));
-    assert_eq!(rt; entered.load(Ordering::SeqCst), 0);
+    same(rt, &entered.load(Ordering::SeqCst), &0);
     // Each diner held it, so the threads that were started have ended.
-    assert_eq!(rt; Arc::strong_count(&entered), 1);
+    same(rt, &Arc::strong_count(&entered), &1);
     Ok(())
 }
 
