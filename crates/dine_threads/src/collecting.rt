@@ -1,5 +1,5 @@
 // What the sites left is brought together: their link ends by edge, their forks by edge, and the rest by site.
-ghost use Rattle.std.specs.Prelude.{◌≡◌, ◌<◌, ◌≤◌, ◌*◌, All, IfOk, Some, None, is_some, length, map, position, replicate, slice_get, vec_len, vec_capacity};
+ghost use Rattle.std.specs.Prelude.{◌≡◌, ◌<◌, ◌≤◌, ◌*◌, ◌^◌, All, IfOk, Some, None, is_some, length, map, position, replicate, slice_get, vec_len, vec_capacity};
 ghost use Rattle.dine_graph.specs.Plan.{edge_count, edges_of, site_count};
 ghost use Rattle.dine_threads.specs.private.Collecting.{AreForksOf, AreJoined, AreLinksLeft, AreWholeEnds, IsRoomFor, IsTakenToClose, forks_left, found, laid, links_left, out_of, rows_left};
 ghost use Rattle.dine_threads.specs.Gathered.{IsTakenInOrder};
@@ -50,19 +50,37 @@ fn empty_slots<P: Drop>(alloc: Global, plan: &Plan) -> Result<Vec<Option<P>>, Al
     Ok(slots)
 }
 
+// Room for the ports, the links and the forks of each edge. Whatever is refused here leaves little to drop.
+fn edge_lists<P: Drop>(
+    alloc: Global,
+    edges: usize,
+) -> Result<(Vec<Both<P>>, Vec<LinkEnd>, Vec<Fork>), AllocError>
+    requires { edges < 2 ^ 16 }
+    ensures pairs { IfOk result (λ lists. edges ≤ vec_capacity lists.0) }
+    ensures no_pair { IfOk result (λ lists. vec_len lists.0 ≡ 0) }
+    ensures links { IfOk result (λ lists. 2 * edges ≤ vec_capacity lists.1) }
+    ensures no_link { IfOk result (λ lists. vec_len lists.1 ≡ 0) }
+    ensures forks { IfOk result (λ lists. edges ≤ vec_capacity lists.2) }
+    ensures no_fork { IfOk result (λ lists. vec_len lists.2 ≡ 0) }
+{
+    let pairs = Vec::with_capacity(alloc, edges)?;
+    let links = Vec::with_capacity(alloc, 2 * edges)?;
+    let forks = Vec::with_capacity(alloc, edges)?;
+    Ok((pairs, links, forks))
+}
+
 pub fn make_room<L: Lane, D: Diner>(alloc: Global, plan: &Plan) -> Result<Room<L, D>, AllocError>
     ensures { IfOk result (IsRoomFor plan.now) }
 {
-    let edges = plan.edges() as usize;
-    let sites = plan.sites() as usize;
+    let (pairs, links, forks) = edge_lists(alloc, plan.edges() as usize)?;
     Ok(Room {
-        sites: Vec::with_capacity(alloc, sites)?,
+        sites: Vec::with_capacity(alloc, plan.sites() as usize)?,
         empty: empty_rows(alloc, plan)?,
-        rows: Vec::with_capacity(alloc, sites)?,
-        pairs: Vec::with_capacity(alloc, edges)?,
-        links: Vec::with_capacity(alloc, 2 * edges)?,
+        rows: Vec::with_capacity(alloc, plan.sites() as usize)?,
+        pairs,
+        links,
         slots: empty_slots(alloc, plan)?,
-        forks: Vec::with_capacity(alloc, edges)?,
+        forks,
     })
 }
 

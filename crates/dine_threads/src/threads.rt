@@ -1,7 +1,8 @@
 //! All sites of a plan, each on its thread, from the start to what is gathered.
-ghost use Rattle.std.specs.Prelude.{◌≡◌, ◌<◌, ◌≤◌, All, IfErr, IfOk, Some, map, slice_get, vec_len};
+ghost use Rattle.std.specs.Prelude.{◌≡◌, ◌<◌, ◌≤◌, All, IfErr, IfOk, Some, map, slice_get, vec_capacity, vec_len};
 ghost use Rattle.dine_graph.specs.Plan.{job_count, site_count};
 ghost use Rattle.dine_threads.specs.Gathered.{AreFinishedOuts, AreOutsOf, IsClosedWhole};
+ghost use Rattle.dine_threads.specs.private.Collecting.{IsRoomFor};
 ghost use Rattle.dine_threads.specs.private.Setups.{IsSetUp};
 ghost use Rattle.dine_threads.specs.Journals.{AreJournals};
 ghost use Rattle.dine_threads.specs.Headline.{AllJoined, AreTokensOf, FallsShort, FaultIs, IsHeadline};
@@ -31,6 +32,24 @@ struct Setup<L: Lane, D: Diner> {
     room: Room<L, D>,
 }
 
+// Room for the threads, for what each of them leaves, and for what is gathered of that. Whatever is refused here leaves
+// little to drop, so it stands apart from the rest.
+fn make_lists<L: Lane, D: Diner>(
+    alloc: Global,
+    plan: &Plan,
+) -> Result<(Vec<Child<L, D>>, Vec<SiteEnd<L, D>>, Room<L, D>), AllocError>
+    ensures children { IfOk result (λ lists. site_count plan.now ≤ vec_capacity lists.0) }
+    ensures no_child { IfOk result (λ lists. vec_len lists.0 ≡ 0) }
+    ensures ends { IfOk result (λ lists. site_count plan.now ≤ vec_capacity lists.1) }
+    ensures no_end { IfOk result (λ lists. vec_len lists.1 ≡ 0) }
+    ensures room { IfOk result (λ lists. IsRoomFor plan.now lists.2) }
+{
+    let children = Vec::with_capacity(alloc, plan.sites() as usize)?;
+    let ends = Vec::with_capacity(alloc, plan.sites() as usize)?;
+    let room = make_room(alloc, plan)?;
+    Ok((children, ends, room))
+}
+
 fn set_up<L: Lane, D: Diner>(
     alloc: Global,
     plan: &Plan,
@@ -40,14 +59,11 @@ fn set_up<L: Lane, D: Diner>(
     requires rooms { (s : _) (diner : _) → slice_get diners.items s ≡ Some diner → job_count plan.now s ≤ D.room_left diner }
     ensures { IfOk result (IsSetUp L.seen_tx L.seen_closed L.seen_rx D.room_left plan.now diners.items) }
 {
-    let sites = plan.sites() as usize;
     let gate = Arc::new(alloc, Gate::new())?;
+    let mut seats = Vec::with_capacity(alloc, plan.sites() as usize)?;
     let stands = open_all::<L>(alloc, plan)?;
-    let mut seats = Vec::with_capacity(alloc, sites)?;
-    let children = Vec::with_capacity(alloc, sites)?;
-    let ends = Vec::with_capacity(alloc, sites)?;
-    let room = make_room(alloc, plan)?;
     seat_all(alloc, plan, stands, diners, &gate, &mut seats)?;
+    let (children, ends, room) = make_lists(alloc, plan)?;
     Ok(Setup {
         gate,
         seats,

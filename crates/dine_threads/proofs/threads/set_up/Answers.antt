@@ -19,11 +19,11 @@ returns g c =
       rung = subst (λ bells. AreRung c.args.plan.now bells (rows_of_seats g.L.Lane.seen_tx g.L.Lane.seen_closed g.L.Lane.seen_rx (vec_items c.seat_all.new.seats))) (sym c.in_ok-seat_all.ensures.bells)
           (subst (AreRung c.args.plan.now (bells_of (vec_items c.in_ok-stands.stands))) (sym rows) c.in_ok-stands.ensures.rung);
       wired = subst (AreWired c.args.plan.now) (sym rows) c.in_ok-stands.ensures.wired;
-      children = omega (arith, c.in_ok-children.ensures.capacity, c.sites-sites.ensures.count);
-      no_child = c.in_ok-children.ensures.len;
-      ends = omega (arith, c.in_ok-ends.ensures.capacity, c.sites-sites.ensures.count);
-      no_end = c.in_ok-ends.ensures.len;
-      gathered = c.in_ok-room.ensures;
+      children = c.in_ok-children.ensures.children;
+      no_child = c.in_ok-children.ensures.no_child;
+      ends = c.in_ok-children.ensures.ends;
+      no_end = c.in_ok-children.ensures.no_end;
+      gathered = c.in_ok-children.ensures.room;
     }
 
 pub seat_all-requires-clause-stands : goal.seat_all-requires-clause-stands
@@ -39,7 +39,7 @@ pub seat_all-requires-clause-rooms : goal.seat_all-requires-clause-rooms
 seat_all-requires-clause-rooms g c κs ls = c.requires.rooms
 
 pub seat_all-requires-clause-capacity : goal.seat_all-requires-clause-capacity
-seat_all-requires-clause-capacity g c κs ls = omega (arith, c.in_ok-seats.ensures.capacity, c.sites-sites.ensures.count)
+seat_all-requires-clause-capacity g c κs ls = omega (arith, c.in_ok-seats.ensures.capacity, c.sites.ensures.count)
 
 pub seat_all-requires-clause-none : goal.seat_all-requires-clause-none
 seat_all-requires-clause-none g c κs ls = c.in_ok-seats.ensures.len
