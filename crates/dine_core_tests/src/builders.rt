@@ -1,5 +1,6 @@
 // Plans made by a program, beside what is read of the text that says the same.
 use crate::plans::{in_short, second_in_short};
+use dine_asserts::same;
 use dine_plan::{Plan, PlanBuilder, PlanFault, read_plan};
 use dine_token::Act;
 use std::alloc::{AllocError, Global};
@@ -50,12 +51,12 @@ fn builds_what_is_read(rt: HostRuntime) -> Result<(), Fail> {
     let built = three(alloc)?;
     let want = "a 1/0/false 2/0/true 3/100/false;b 1/0/false;c; 0-1 1-2 2: a! +0 +10 +0 b =7 c 5 0";
     let found = answer(alloc, built.finish())?;
-    assert_eq!(rt; found.as_str(), want);
+    same(&rt, &found.as_str(), &want);
     let read = answer(alloc, read_plan(alloc, THREE))?;
-    assert_eq!(rt; read.as_str(), want);
+    same(&rt, &read.as_str(), &want);
     let text = built.text()?;
     let read = answer(alloc, read_plan(alloc, text.as_str()))?;
-    assert_eq!(rt; read.as_str(), want);
+    same(&rt, &read.as_str(), &want);
     Ok(())
 }
 
@@ -63,29 +64,29 @@ fn builds_what_is_read(rt: HostRuntime) -> Result<(), Fail> {
 fn numbers_what_is_told(rt: HostRuntime) -> Result<(), Fail> {
     let mut plan = PlanBuilder::open(rt.alloc());
     let sites = (plan.site("a", 2)?, plan.site("b", 0)?, plan.site("c", 1)?);
-    assert_eq!(rt; sites, (0, 1, 2));
+    same(&rt, &sites, &(0, 1, 2));
     let edges = (plan.edge(0, 1)?, plan.edge(1, 2)?);
-    assert_eq!(rt; edges, (0, 1));
+    same(&rt, &edges, &(0, 1));
     let jobs = (
         plan.fails(0, 0),
         plan.fails(0, 1),
         plan.fails(0, 2),
         plan.fails(0, 3),
     );
-    assert_eq!(rt; jobs, (false, true, true, false));
+    same(&rt, &jobs, &(false, true, true, false));
     let others = (
         plan.turns(1, 1, 5),
         plan.act(3, 1, Act::Set(1)),
         plan.act(2, 1, Act::Set(1)),
     );
-    assert_eq!(rt; others, (false, false, true));
+    same(&rt, &others, &(false, false, true));
     let rest = (
         plan.resign(2),
         plan.resign(3),
         plan.value(1, 9),
         plan.value(2, 9),
     );
-    assert_eq!(rt; rest, (true, false, true, false));
+    same(&rt, &rest, &(true, false, true, false));
     Ok(())
 }
 
@@ -104,22 +105,26 @@ fn told(alloc: Global, plan: &PlanBuilder) -> Result<String, AllocError> {
 fn refuses_names_and_sites(rt: HostRuntime) -> Result<(), Fail> {
     let alloc = rt.alloc();
     let mut plan = PlanBuilder::open(alloc);
-    assert_eq!(rt; told(alloc, &plan)?.as_str(), "8 NoSite");
+    same(&rt, &told(alloc, &plan)?.as_str(), &"8 NoSite");
     plan.site("a", 1_000)?;
     plan.site("b", 1_001)?;
-    assert_eq!(rt; told(alloc, &plan)?.as_str(), "10 TooManyJobs at site 1");
+    same(
+        &rt,
+        &told(alloc, &plan)?.as_str(),
+        &"10 TooManyJobs at site 1",
+    );
     plan.site("a", u32::MAX)?;
-    assert_eq!(rt; told(alloc, &plan)?.as_str(), "7 SiteTwice at site 2");
+    same(&rt, &told(alloc, &plan)?.as_str(), &"7 SiteTwice at site 2");
     for name in ["", "a b", "\" }]\nversion = 1 #", "\u{e9}"] {
         let mut plan = three(alloc)?;
         plan.site(name, 0)?;
-        assert_eq!(rt; told(alloc, &plan)?.as_str(), "6 BadName at site 3");
+        same(&rt, &told(alloc, &plan)?.as_str(), &"6 BadName at site 3");
     }
     let mut plan = PlanBuilder::open(alloc);
     for site in 0..65 {
         plan.site(format!(in alloc; "s{site}")?.as_str(), 1)?;
     }
-    assert_eq!(rt; told(alloc, &plan)?.as_str(), "9 TooManySites");
+    same(&rt, &told(alloc, &plan)?.as_str(), &"9 TooManySites");
     Ok(())
 }
 
@@ -128,13 +133,21 @@ fn refuses_edges(rt: HostRuntime) -> Result<(), Fail> {
     let alloc = rt.alloc();
     let mut plan = three(alloc)?;
     plan.edge(0, 1)?;
-    assert_eq!(rt; told(alloc, &plan)?.as_str(), "14 EdgeTwice at edge 2");
+    same(
+        &rt,
+        &told(alloc, &plan)?.as_str(),
+        &"14 EdgeTwice at edge 2",
+    );
     plan.edge(2, 2)?;
-    assert_eq!(rt; told(alloc, &plan)?.as_str(), "13 Loop at edge 3");
+    same(&rt, &told(alloc, &plan)?.as_str(), &"13 Loop at edge 3");
     plan.edge(3, 0)?;
-    assert_eq!(rt; told(alloc, &plan)?.as_str(), "12 UnknownEnd at edge 4");
+    same(
+        &rt,
+        &told(alloc, &plan)?.as_str(),
+        &"12 UnknownEnd at edge 4",
+    );
     plan.site("d", 0)?;
-    assert_eq!(rt; told(alloc, &plan)?.as_str(), "13 Loop at edge 3");
+    same(&rt, &told(alloc, &plan)?.as_str(), &"13 Loop at edge 3");
     let mut plan = PlanBuilder::open(alloc);
     for site in 0..33u32 {
         plan.site(format!(in alloc; "s{site}")?.as_str(), 1)?;
@@ -142,7 +155,7 @@ fn refuses_edges(rt: HostRuntime) -> Result<(), Fail> {
             plan.edge(lower, site)?;
         }
     }
-    assert_eq!(rt; told(alloc, &plan)?.as_str(), "15 TooManyEdges");
+    same(&rt, &told(alloc, &plan)?.as_str(), &"15 TooManyEdges");
     Ok(())
 }
 
@@ -151,20 +164,36 @@ fn refuses_numbers(rt: HostRuntime) -> Result<(), Fail> {
     let alloc = rt.alloc();
     let mut plan = three(alloc)?;
     plan.value(1, u64::MAX);
-    assert_eq!(rt; told(alloc, &plan)?.as_str(), "19 ValueTooLarge at edge 1");
+    same(
+        &rt,
+        &told(alloc, &plan)?.as_str(),
+        &"19 ValueTooLarge at edge 1",
+    );
     plan.act(1, 1, Act::Set(1_000_001));
-    assert_eq!(rt; told(alloc, &plan)?.as_str(), "18 ActTooLarge at site 1");
+    same(
+        &rt,
+        &told(alloc, &plan)?.as_str(),
+        &"18 ActTooLarge at site 1",
+    );
     plan.act(0, 1, Act::Add(u64::MAX));
-    assert_eq!(rt; told(alloc, &plan)?.as_str(), "18 ActTooLarge at site 0");
+    same(
+        &rt,
+        &told(alloc, &plan)?.as_str(),
+        &"18 ActTooLarge at site 0",
+    );
     plan.turns(1, 1, u32::MAX);
-    assert_eq!(rt; told(alloc, &plan)?.as_str(), "11 TurnsTooLarge at site 1");
+    same(
+        &rt,
+        &told(alloc, &plan)?.as_str(),
+        &"11 TurnsTooLarge at site 1",
+    );
     plan.turns(1, 1, 1_000_000);
     plan.act(0, 1, Act::Add(1_000_000));
     plan.act(1, 1, Act::Set(1_000_000));
     plan.value(1, 1_000_000);
     let want =
         "a 1/0/false 2/0/true 3/100/false;b 1/1000000/false;c; 0-1 1-2 2: a! +1000000 +10 +0 b =1000000 c 5 1000000";
-    assert_eq!(rt; told(alloc, &plan)?.as_str(), want);
+    same(&rt, &told(alloc, &plan)?.as_str(), &want);
     Ok(())
 }
 
@@ -175,7 +204,7 @@ fn builds_the_plan_or_answers_memory(rt: HostRuntime) -> Result<(), Fail> {
     let told = plan.site("a", 2).is_ok();
     let fault = match plan.finish() {
         Ok(found) => {
-            assert_eq!(rt; (told, found.sites(), found.jobs(0)), (true, 1, 2));
+            same(&rt, &(told, found.sites(), found.jobs(0)), &(true, 1, 2));
             return Ok(());
         }
         Err(fault) => fault,

@@ -3,6 +3,7 @@
 ghost use Rattle.std.specs.Prelude.{◌<◌};
 ghost use Rattle.dine_graph.specs.Plan.{site_count};
 
+use dine_asserts::same;
 use dine_plan::{Plan, PlanFault, read_plan};
 use dine_token::Act;
 use std::alloc::{AllocError, Global};
@@ -68,24 +69,29 @@ fn reads_the_whole_plan(rt: HostRuntime) -> Result<(), Fail> {
     let alloc = rt.alloc();
     let plan = read_plan(alloc, WHOLE)?;
     let short = in_short(alloc, &plan)?;
-    assert_eq!(rt;
-        short.as_str(),
-        "a x/0/false y/5/true;b;c z/1000000/false; 1-2 0-2"
+    same(
+        &rt,
+        &short.as_str(),
+        &"a x/0/false y/5/true;b;c z/1000000/false; 1-2 0-2",
     );
-    assert_eq!(rt; plan.sites(), 3);
-    assert_eq!(rt; plan.edges(), 2);
-    assert_eq!(rt; (plan.name(0), plan.name(1), plan.name(2)), ("a", "b", "c"));
-    assert_eq!(rt; (plan.jobs(0), plan.jobs(1), plan.jobs(2)), (2, 0, 1));
-    assert_eq!(rt; plan.edges_of(0), [1].as_slice());
-    assert_eq!(rt; plan.edges_of(1), [0].as_slice());
-    assert_eq!(rt; plan.edges_of(2), [0, 1].as_slice());
+    assert!(rt; plan.sites() == 3);
+    assert!(rt; plan.edges() == 2);
+    same(
+        &rt,
+        &(plan.name(0), plan.name(1), plan.name(2)),
+        &("a", "b", "c"),
+    );
+    same(&rt, &(plan.jobs(0), plan.jobs(1), plan.jobs(2)), &(2, 0, 1));
+    same(&rt, &plan.edges_of(0), &[1].as_slice());
+    same(&rt, &plan.edges_of(1), &[0].as_slice());
+    same(&rt, &plan.edges_of(2), &[0, 1].as_slice());
     for edge in 0..plan.edges() {
         let (lo, hi) = plan.ends(edge);
-        assert_eq!(rt; (lo, hi), if edge == 0 { (1, 2) } else { (0, 2) });
-        assert_eq!(rt; plan.other(edge, lo), hi);
-        assert_eq!(rt; plan.other(edge, hi), lo);
-        assert_eq!(rt; plan.place(edge, lo), 0);
-        assert_eq!(rt; plan.place(edge, hi), edge);
+        same(&rt, &(lo, hi), &(if edge == 0 { (1, 2) } else { (0, 2) }));
+        same(&rt, &plan.other(edge, lo), &hi);
+        same(&rt, &plan.other(edge, hi), &lo);
+        same(&rt, &plan.place(edge, lo), &0);
+        same(&rt, &plan.place(edge, hi), &edge);
     }
     Ok(())
 }
@@ -130,8 +136,8 @@ fn prints_each_fault_by_its_number(rt: HostRuntime) -> Result<(), Fail> {
     let alloc = rt.alloc();
     for (fault, number, text) in FAULTS {
         let printed = format!(in alloc; "{fault}")?;
-        assert_eq!(rt; printed.as_str(), text);
-        assert_eq!(rt; fault.number(), number);
+        same(&rt, &printed.as_str(), &text);
+        same(&rt, &fault.number(), &number);
     }
     Ok(())
 }
@@ -182,7 +188,7 @@ fn reads_values_acts_and_policies(rt: HostRuntime) -> Result<(), Fail> {
     let alloc = rt.alloc();
     let plan = read_plan(alloc, SECOND)?;
     let found = second_in_short(alloc, &plan)?;
-    assert_eq!(rt; found.as_str(), "2: a! +10 =0 +0 b 1000000");
+    same(&rt, &found.as_str(), &"2: a! +10 =0 +0 b 1000000");
     Ok(())
 }
 
@@ -190,8 +196,8 @@ fn reads_values_acts_and_policies(rt: HostRuntime) -> Result<(), Fail> {
 #[test]
 fn answers_the_plan_or_memory(rt: HostRuntime) -> Result<(), Fail> {
     match read_plan(rt.alloc(), WHOLE) {
-        Ok(plan) => assert_eq!(rt; (plan.sites(), plan.edges()), (3, 2)),
-        Err(fault) => assert_eq!(rt; fault, PlanFault::Memory),
+        Ok(plan) => same(&rt, &(plan.sites(), plan.edges()), &(3, 2)),
+        Err(fault) => same(&rt, &fault, &PlanFault::Memory),
     }
     Ok(())
 }

@@ -2,6 +2,7 @@
 
 mod breaches;
 
+use dine_asserts::same;
 use dine_core::site::{fresh_forks, fresh_tokens};
 use dine_core::{Breach, EventKind, Kind4, Letter, Packed, Parts, Phase, SiteCore};
 use dine_plan::{Plan, read_plan};
@@ -139,9 +140,9 @@ fn refuse(rt: &impl Abort, core: &mut SiteCore, letter: Letter, cause: Breach) -
         assert!(rt; false);
         return Letter::Close;
     };
-    assert_eq!(rt; breach, cause);
-    assert_eq!(rt; back.kind(), kind);
-    assert_eq!(rt; told_of(rt, core, 0), before);
+    same(rt, &breach, &cause);
+    same(rt, &back.kind(), &kind);
+    same(rt, &told_of(rt, core, 0), &before);
     back
 }
 
@@ -162,7 +163,7 @@ fn spend(rt: &impl Abort, core: SiteCore) -> Parts {
 
 // What the one fork of the parts has written.
 fn entry_at(rt: &impl Abort, parts: &Parts, i: u32) -> Entry {
-    assert_eq!(rt; parts.forks.len(), 1);
+    assert!(rt; parts.forks.len() == 1);
     let fork = &parts.forks[0];
     assert!(rt; i < fork.len());
     fork.entry(i)
@@ -191,34 +192,42 @@ fn two_sites_eat_one_after_the_other(rt: HostRuntime) {
     take(&rt, &mut a, letter);
     assert!(rt; a.is_finished() && b.is_finished());
     assert!(rt; a.is_closed() && b.is_closed());
-    assert_eq!(rt; (a.ate(), b.ate()), (1, 1));
+    same(&rt, &(a.ate(), b.ate()), &(1, 1));
     let of_a = spend(&rt, a);
     let of_b = spend(&rt, b);
-    assert_eq!(rt; (of_a.forks.len(), of_a.tokens.len()), (0, 1));
-    assert_eq!(rt; (of_b.forks.len(), of_b.tokens.len()), (1, 0));
-    assert_eq!(rt; entry_at(&rt, &of_b, 0), Entry::Meal { site: 0, k: 1 });
-    assert_eq!(rt; entry_at(&rt, &of_b, 1), Entry::Move { to: 1 });
-    assert_eq!(rt; entry_at(&rt, &of_b, 2), Entry::Meal { site: 1, k: 1 });
+    same(&rt, &(of_a.forks.len(), of_a.tokens.len()), &(0, 1));
+    same(&rt, &(of_b.forks.len(), of_b.tokens.len()), &(1, 0));
+    same(
+        &rt,
+        &entry_at(&rt, &of_b, 0),
+        &Entry::Meal { site: 0, k: 1 },
+    );
+    same(&rt, &entry_at(&rt, &of_b, 1), &Entry::Move { to: 1 });
+    same(
+        &rt,
+        &entry_at(&rt, &of_b, 2),
+        &Entry::Meal { site: 1, k: 1 },
+    );
 }
 
 #[test]
 fn events_come_in_the_fixed_order(rt: HostRuntime) {
     let plan = read_plan(rt.alloc(), ROW).expect(&rt, "a plan");
     let mut b = core_of(&rt, rt.alloc(), &plan, 1);
-    assert_eq!(rt; b.next_event(), Some(EventKind::Done(0)));
+    same(&rt, &b.next_event(), &Some(EventKind::Done(0)));
     take_at(&rt, &mut b, 1, Letter::Request(Token::open(1)));
-    assert_eq!(rt; b.next_event(), Some(EventKind::Give(1)));
+    same(&rt, &b.next_event(), &Some(EventKind::Give(1)));
     let _done = say_done(&rt, &mut b);
     take(&rt, &mut b, Letter::Done);
-    assert_eq!(rt; b.next_event(), Some(EventKind::Give(1)));
+    same(&rt, &b.next_event(), &Some(EventKind::Give(1)));
     let _fork = give_at(&rt, &mut b, 1);
-    assert_eq!(rt; b.next_event(), Some(EventKind::Done(1)));
+    same(&rt, &b.next_event(), &Some(EventKind::Done(1)));
     let _done = say_done_at(&rt, &mut b, 1);
-    assert_eq!(rt; b.next_event(), Some(EventKind::Close(0)));
+    same(&rt, &b.next_event(), &Some(EventKind::Close(0)));
     let _close = close(&rt, &mut b);
-    assert_eq!(rt; b.next_event(), None);
+    same(&rt, &b.next_event(), &None);
     let parts = spend(&rt, b);
-    assert_eq!(rt; (parts.forks.len(), parts.tokens.len()), (0, 2));
+    same(&rt, &(parts.forks.len(), parts.tokens.len()), &(0, 2));
 }
 
 #[test]
@@ -226,27 +235,27 @@ fn events_follow_the_phase(rt: HostRuntime) {
     let plan = plan_of(&rt, rt.alloc(), JOB, JOB);
     let mut a = core_of(&rt, rt.alloc(), &plan, 0);
     let mut b = core_of(&rt, rt.alloc(), &plan, 1);
-    assert_eq!(rt; a.next_event(), Some(EventKind::Hungry));
+    same(&rt, &a.next_event(), &Some(EventKind::Hungry));
     grow_hungry(&rt, &mut a);
-    assert_eq!(rt; a.next_event(), Some(EventKind::Begin));
+    same(&rt, &a.next_event(), &Some(EventKind::Begin));
     grow_hungry(&rt, &mut b);
-    assert_eq!(rt; b.next_event(), Some(EventKind::Ask(0)));
+    same(&rt, &b.next_event(), &Some(EventKind::Ask(0)));
     let letter = ask(&rt, &mut b);
-    assert_eq!(rt; b.next_event(), None);
+    same(&rt, &b.next_event(), &None);
     take(&rt, &mut a, letter);
-    assert_eq!(rt; a.next_event(), Some(EventKind::Give(0)));
+    same(&rt, &a.next_event(), &Some(EventKind::Give(0)));
     let fork = give(&rt, &mut a);
-    assert_eq!(rt; a.next_event(), Some(EventKind::Ask(0)));
+    same(&rt, &a.next_event(), &Some(EventKind::Ask(0)));
     take(&rt, &mut b, fork);
-    assert_eq!(rt; b.next_event(), Some(EventKind::Begin));
+    same(&rt, &b.next_event(), &Some(EventKind::Begin));
     assert!(rt; b.may_begin());
     let meal = b.begin();
-    assert_eq!(rt; b.next_event(), Some(EventKind::End));
+    same(&rt, &b.next_event(), &Some(EventKind::End));
     b.end(meal, false);
-    assert_eq!(rt; b.next_event(), Some(EventKind::Done(0)));
+    same(&rt, &b.next_event(), &Some(EventKind::Done(0)));
     let left = spend(&rt, a);
     let parts = spend(&rt, b);
-    assert_eq!(rt; (left.forks.len(), parts.forks.len()), (0, 1));
+    same(&rt, &(left.forks.len(), parts.forks.len()), &(0, 1));
 }
 
 // The lower of two sites has three jobs, and its policy is this.
@@ -275,11 +284,11 @@ fn site_that_resigns_quits_after_a_meal_that_failed(rt: HostRuntime) {
     eat_with(&rt, &mut a, true);
     assert!(rt; 0 < a.degree());
     assert!(rt; !a.may_hungry() && !a.may_done(0));
-    assert_eq!(rt; a.next_event(), Some(EventKind::Quit));
+    same(&rt, &a.next_event(), &Some(EventKind::Quit));
     assert!(rt; a.may_quit());
     a.quit();
     assert!(rt; !a.may_quit() && !a.may_hungry());
-    assert_eq!(rt; a.next_event(), Some(EventKind::Done(0)));
+    same(&rt, &a.next_event(), &Some(EventKind::Done(0)));
     let _parts = spend(&rt, a);
 }
 
@@ -293,7 +302,7 @@ fn no_site_quits_without_cause(rt: HostRuntime) {
         eat_with(&rt, &mut a, policy == "go");
         eat_with(&rt, &mut a, true);
         assert!(rt; !a.may_quit());
-        assert_eq!(rt; a.next_event(), Some(EventKind::Done(0)));
+        same(&rt, &a.next_event(), &Some(EventKind::Done(0)));
         let _parts = spend(&rt, a);
     }
 }
@@ -333,33 +342,34 @@ fn what_a_site_waits_for_follows_its_forks(rt: HostRuntime) {
     let mut a = core_of(&rt, rt.alloc(), &plan, 0);
     let mut b = core_of(&rt, rt.alloc(), &plan, 1);
     let mut c = core_of(&rt, rt.alloc(), &plan, 2);
-    assert_eq!(rt;
-        (waits_for(&a), waits_for(&c)),
-        ((Some(0), 1, 0), (None, 0, 1))
+    same(
+        &rt,
+        &(waits_for(&a), waits_for(&c)),
+        &((Some(0), 1, 0), (None, 0, 1)),
     );
-    assert_eq!(rt; waits_for(&b), (Some(1), 1, 1));
+    same(&rt, &waits_for(&b), &(Some(1), 1, 1));
     grow_hungry(&rt, &mut c);
     let letter = ask(&rt, &mut c);
     take_at(&rt, &mut b, 1, letter);
-    assert_eq!(rt; waits_for(&b), (Some(1), 1, 1));
+    same(&rt, &waits_for(&b), &(Some(1), 1, 1));
     let letter = give_at(&rt, &mut b, 1);
-    assert_eq!(rt; waits_for(&b), (None, 0, 2));
+    same(&rt, &waits_for(&b), &(None, 0, 2));
     take(&rt, &mut c, letter);
-    assert_eq!(rt; waits_for(&c), (None, 0, 0));
+    same(&rt, &waits_for(&c), &(None, 0, 0));
     eat(&rt, &mut c);
     grow_hungry(&rt, &mut b);
     let letter = ask(&rt, &mut b);
     take(&rt, &mut a, letter);
     let letter = give(&rt, &mut a);
     take(&rt, &mut b, letter);
-    assert_eq!(rt; waits_for(&b), (None, 0, 1));
+    same(&rt, &waits_for(&b), &(None, 0, 1));
     let letter = ask_at(&rt, &mut b, 1);
     take(&rt, &mut c, letter);
     let letter = give(&rt, &mut c);
     take_at(&rt, &mut b, 1, letter);
-    assert_eq!(rt; waits_for(&b), (None, 0, 0));
+    same(&rt, &waits_for(&b), &(None, 0, 0));
     eat(&rt, &mut b);
-    assert_eq!(rt; waits_for(&b), (Some(0), 2, 0));
+    same(&rt, &waits_for(&b), &(Some(0), 2, 0));
     spend(&rt, a);
     spend(&rt, b);
     spend(&rt, c);
@@ -372,14 +382,14 @@ fn second_break_off_gives_nothing(rt: HostRuntime) {
     assert!(rt; 0 < a.degree());
     assert!(rt; a.phase() != Phase::Eating);
     let first = a.break_off(0).expect(&rt, "Close");
-    assert_eq!(rt; first.kind(), Kind4::Close);
+    same(&rt, &first.kind(), &Kind4::Close);
     let before = told_of(&rt, &a, 0);
     assert!(rt; 0 < a.degree());
     assert!(rt; a.phase() != Phase::Eating);
     assert!(rt; a.break_off(0).is_none());
-    assert_eq!(rt; told_of(&rt, &a, 0), before);
+    same(&rt, &told_of(&rt, &a, 0), &before);
     let parts = spend(&rt, a);
-    assert_eq!(rt; (parts.forks.len(), parts.tokens.len()), (1, 0));
+    same(&rt, &(parts.forks.len(), parts.tokens.len()), &(1, 0));
 }
 
 #[test]
@@ -490,9 +500,13 @@ fn meal_changes_the_value_that_came(rt: HostRuntime) {
         grow_hungry(&rt, &mut b);
         let _request = ask(&rt, &mut b);
         take(&rt, &mut b, foreign(&rt, rt.alloc(), 900));
-        assert_eq!(rt; value_after_meal(&rt, &mut b), value);
+        same(&rt, &value_after_meal(&rt, &mut b), &value);
         let parts = spend(&rt, b);
-        assert_eq!(rt; parts.forks.first().map(|fork| fork.value()), Some(value));
+        same(
+            &rt,
+            &parts.forks.first().map(|fork| fork.value()),
+            &Some(value),
+        );
     }
 }
 
@@ -502,10 +516,10 @@ fn fork_that_is_given_has_the_value_in_hand(rt: HostRuntime) {
     let plan = valued(&rt, rt.alloc(), "set = 7");
     let mut a = core_of(&rt, rt.alloc(), &plan, 0);
     grow_hungry(&rt, &mut a);
-    assert_eq!(rt; value_after_meal(&rt, &mut a), 15);
+    same(&rt, &value_after_meal(&rt, &mut a), &15);
     let Letter::Fork(fork) = fork_from(&rt, &mut a) else {
         panic!(rt; "no fork");
     };
-    assert_eq!(rt; fork.value(), 15);
+    same(&rt, &fork.value(), &15);
     let _parts = spend(&rt, a);
 }

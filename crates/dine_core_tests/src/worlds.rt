@@ -6,6 +6,7 @@ mod outcomes;
 mod readers;
 mod side_by_side;
 
+use dine_asserts::same;
 use dine_core::{NotEnabled, World};
 use dine_plan::{Plan, read_plan};
 use dine_rules::{Event, EventKind, Phase};
@@ -108,28 +109,28 @@ fn period_at(rt: &impl Abort, fork: &Fork, i: u32) -> Period {
 // The event is refused, and as many are enabled as before.
 fn refuse(rt: &impl Abort, world: &mut World, site: u32, kind: EventKind) {
     let before = world.count();
-    assert_eq!(rt; world.step(Event { site, kind }), Err(NotEnabled));
-    assert_eq!(rt; world.count(), before);
+    same(rt, &world.step(Event { site, kind }), &Err(NotEnabled));
+    same(rt, &world.count(), &before);
 }
 
 // Each site ate all its jobs and thinks, and nothing is enabled.
 fn is_complete(rt: &impl Abort, plan: &Plan, world: &World) {
-    assert_eq!(rt; world.count(), 0);
-    assert_eq!(rt; world.enabled(0), None);
+    same(rt, &world.count(), &0);
+    same(rt, &world.enabled(0), &None);
     for site in 0..plan.sites() {
-        assert_eq!(rt; world.ate(site), Some(plan.jobs(site)));
-        assert_eq!(rt; world.phase(site), Some(Phase::Thinking));
+        same(rt, &world.ate(site), &Some(plan.jobs(site)));
+        same(rt, &world.phase(site), &Some(Phase::Thinking));
     }
 }
 
 // The forks that come out are those of all edges, in edge order.
 fn spend(rt: &impl Abort, plan: &Plan, world: World) -> Vec<Fork> {
     let forks = world.into_forks();
-    assert_eq!(rt; forks.len(), plan.edges() as usize);
+    same(rt, &forks.len(), &(plan.edges() as usize));
     for edge in 0..plan.edges() {
         let fork = forks.get(edge as usize).expect(rt, "a fork");
-        assert_eq!(rt; fork.edge(), edge);
-        assert_eq!(rt; fork.ends(), plan.ends(edge));
+        same(rt, &fork.edge(), &edge);
+        same(rt, &fork.ends(), &plan.ends(edge));
     }
     forks
 }
@@ -139,8 +140,8 @@ fn has_all_meals(rt: &impl Abort, plan: &Plan, forks: &[Fork]) {
     for fork in forks {
         let (lower, higher) = fork.ends();
         assert!(rt; lower < plan.sites() && higher < plan.sites());
-        assert_eq!(rt; fork.meals_of(lower), plan.jobs(lower));
-        assert_eq!(rt; fork.meals_of(higher), plan.jobs(higher));
+        same(rt, &fork.meals_of(lower), &plan.jobs(lower));
+        same(rt, &fork.meals_of(higher), &plan.jobs(higher));
     }
 }
 
@@ -151,7 +152,7 @@ fn is_safe(rt: &impl Abort, plan: &Plan, world: &World) {
         let (lower, higher) = plan.ends(edge);
         assert!(rt; world.phase(lower) != eating || world.phase(higher) != eating);
         let fork = world.fork(edge).expect(rt, "a fork");
-        assert_eq!(rt; fork.edge(), edge);
+        same(rt, &fork.edge(), &edge);
     }
     assert!(rt; world.fork(plan.edges()).is_none());
 }
@@ -162,7 +163,7 @@ fn count_is_exact(rt: &impl Abort, world: &World) -> u32 {
     for n in 0..count {
         assert!(rt; world.enabled(n).is_some());
     }
-    assert_eq!(rt; world.enabled(count), None);
+    same(rt, &world.enabled(count), &None);
     count
 }
 
@@ -177,7 +178,7 @@ fn wander(rt: &impl Abort, plan: &Plan, world: &mut World, seed: u32, limit: u64
         }
         draw = draw.wrapping_mul(1_664_525).wrapping_add(1_013_904_223);
         let event = world.enabled((draw >> 16) % count).expect(rt, "an event");
-        assert_eq!(rt; world.step(event), Ok(()));
+        same(rt, &world.step(event), &Ok(()));
     }
     limit
 }
@@ -201,20 +202,21 @@ fn pair_opens_with_two_events(rt: HostRuntime) {
     let plan = pair(&rt, rt.alloc());
     let mut world = opened(&rt, rt.alloc(), &plan);
     let kind = EventKind::Hungry;
-    assert_eq!(rt; world.count(), 2);
-    assert_eq!(rt; world.enabled(0), Some(Event { site: 0, kind }));
-    assert_eq!(rt; world.enabled(1), Some(Event { site: 1, kind }));
-    assert_eq!(rt; world.enabled(2), None);
+    same(&rt, &world.count(), &2);
+    same(&rt, &world.enabled(0), &Some(Event { site: 0, kind }));
+    same(&rt, &world.enabled(1), &Some(Event { site: 1, kind }));
+    same(&rt, &world.enabled(2), &None);
     refuse(&rt, &mut world, 1, EventKind::Take(0));
     refuse(&rt, &mut world, 1, EventKind::Take(1));
     refuse(&rt, &mut world, 0, EventKind::Begin);
     refuse(&rt, &mut world, 2, kind);
-    assert_eq!(rt; world.count(), 2);
-    assert_eq!(rt;
-        (world.phase(1), world.phase(2)),
-        (Some(Phase::Thinking), None)
+    same(&rt, &world.count(), &2);
+    same(
+        &rt,
+        &(world.phase(1), world.phase(2)),
+        &(Some(Phase::Thinking), None),
     );
-    assert_eq!(rt; (world.ate(1), world.ate(2)), (Some(0), None));
+    same(&rt, &(world.ate(1), world.ate(2)), &(Some(0), None));
     assert!(rt; world.fork(0).is_some() && world.fork(1).is_none());
     let _forks = spend(&rt, &plan, world);
 }
@@ -223,18 +225,18 @@ fn pair_opens_with_two_events(rt: HostRuntime) {
 fn pair_finishes(rt: HostRuntime) {
     let plan = pair(&rt, rt.alloc());
     let mut world = opened(&rt, rt.alloc(), &plan);
-    assert_eq!(rt; world.finish(), 18);
+    same(&rt, &world.finish(), &18);
     is_complete(&rt, &plan, &world);
-    assert_eq!(rt; world.finish(), 0);
-    assert_eq!(rt; (world.ate(0), world.ate(1)), (Some(1), Some(1)));
-    assert_eq!(rt; world.bound(), 22);
+    same(&rt, &world.finish(), &0);
+    same(&rt, &(world.ate(0), world.ate(1)), &(Some(1), Some(1)));
+    same(&rt, &world.bound(), &22);
     let fork = world.fork(0).expect(&rt, "a fork");
-    assert_eq!(rt; fork.len(), 3);
-    assert_eq!(rt; entry_at(&rt, fork, 0), Entry::Meal { site: 0, k: 1 });
-    assert_eq!(rt; entry_at(&rt, fork, 1), Entry::Move { to: 1 });
-    assert_eq!(rt; entry_at(&rt, fork, 2), Entry::Meal { site: 1, k: 1 });
+    same(&rt, &fork.len(), &3);
+    same(&rt, &entry_at(&rt, fork, 0), &Entry::Meal { site: 0, k: 1 });
+    same(&rt, &entry_at(&rt, fork, 1), &Entry::Move { to: 1 });
+    same(&rt, &entry_at(&rt, fork, 2), &Entry::Meal { site: 1, k: 1 });
     let forks = spend(&rt, &plan, world);
-    assert_eq!(rt; forks.len(), 1);
+    same(&rt, &forks.len(), &1);
     has_all_meals(&rt, &plan, forks.as_slice());
 }
 
@@ -269,11 +271,11 @@ fn higher_ate_first(rt: &impl Abort, plan: &Plan, world: World) {
     is_complete(rt, plan, &world);
     let forks = spend(rt, plan, world);
     let fork = forks.get(0).expect(rt, "a fork");
-    assert_eq!(rt; fork.len(), 4);
-    assert_eq!(rt; entry_at(rt, fork, 0), Entry::Move { to: 1 });
-    assert_eq!(rt; entry_at(rt, fork, 1), Entry::Meal { site: 1, k: 1 });
-    assert_eq!(rt; entry_at(rt, fork, 2), Entry::Move { to: 0 });
-    assert_eq!(rt; entry_at(rt, fork, 3), Entry::Meal { site: 0, k: 1 });
+    same(rt, &fork.len(), &4);
+    same(rt, &entry_at(rt, fork, 0), &Entry::Move { to: 1 });
+    same(rt, &entry_at(rt, fork, 1), &Entry::Meal { site: 1, k: 1 });
+    same(rt, &entry_at(rt, fork, 2), &Entry::Move { to: 0 });
+    same(rt, &entry_at(rt, fork, 3), &Entry::Meal { site: 0, k: 1 });
 }
 
 #[test]
@@ -282,8 +284,8 @@ fn higher_site_asks_first(rt: HostRuntime) {
     let mut world = opened(&rt, rt.alloc(), &plan);
     for (choice, site, kind) in HIGHER_FIRST {
         let event = Event { site, kind };
-        assert_eq!(rt; world.enabled(choice), Some(event));
-        assert_eq!(rt; world.step(event), Ok(()));
+        same(&rt, &world.enabled(choice), &Some(event));
+        same(&rt, &world.step(event), &Ok(()));
         is_safe(&rt, &plan, &world);
     }
     higher_ate_first(&rt, &plan, world);
@@ -293,9 +295,9 @@ fn higher_site_asks_first(rt: HostRuntime) {
 fn choices_are_replayed(rt: HostRuntime) {
     let plan = pair(&rt, rt.alloc());
     let mut world = opened(&rt, rt.alloc(), &plan);
-    assert_eq!(rt; world.replay([].as_slice()), 0);
-    assert_eq!(rt; world.replay([1, 1, 0, 0].as_slice()), 4);
-    assert_eq!(rt; world.finish(), 18);
+    same(&rt, &world.replay([].as_slice()), &0);
+    same(&rt, &world.replay([1, 1, 0, 0].as_slice()), &4);
+    same(&rt, &world.finish(), &18);
     higher_ate_first(&rt, &plan, world);
 }
 
@@ -303,10 +305,10 @@ fn choices_are_replayed(rt: HostRuntime) {
 fn choices_of_no_event_are_passed_over(rt: HostRuntime) {
     let plan = pair(&rt, rt.alloc());
     let mut world = opened(&rt, rt.alloc(), &plan);
-    assert_eq!(rt; world.replay([9, 2].as_slice()), 0);
-    assert_eq!(rt; world.count(), 2);
-    assert_eq!(rt; world.replay([1, 1, 2, 0, 0].as_slice()), 4);
-    assert_eq!(rt; world.finish(), 18);
+    same(&rt, &world.replay([9, 2].as_slice()), &0);
+    same(&rt, &world.count(), &2);
+    same(&rt, &world.replay([1, 1, 2, 0, 0].as_slice()), &4);
+    same(&rt, &world.finish(), &18);
     higher_ate_first(&rt, &plan, world);
 }
 
@@ -324,10 +326,10 @@ fn has_periods(
     let _ = world.replay(choices);
     let _ = world.finish();
     let fork = world.fork(0).expect(rt, "a fork");
-    assert_eq!(rt; fork.periods() as usize, periods.len());
+    same(rt, &(fork.periods() as usize), &periods.len());
     for (i, period) in (0..periods.len() as u32).zip(periods) {
         let Period { site, first, count } = period_at(rt, fork, i);
-        assert_eq!(rt; (site, first, count), *period);
+        same(rt, &(site, first, count), period);
     }
     let _forks = spend(rt, &plan, world);
 }
@@ -350,14 +352,14 @@ fn forks_of_pairs_have_these_periods(rt: HostRuntime) {
 fn site_alone_eats_all_its_jobs(rt: HostRuntime) {
     let plan = plan_of(&rt, rt.alloc(), 1, 2, [].as_slice());
     let mut world = opened(&rt, rt.alloc(), &plan);
-    assert_eq!(rt; world.count(), 1);
-    assert_eq!(rt; world.bound(), 6);
-    assert_eq!(rt; world.finish(), 6);
-    assert_eq!(rt; world.ate(0), Some(2));
+    same(&rt, &world.count(), &1);
+    same(&rt, &world.bound(), &6);
+    same(&rt, &world.finish(), &6);
+    same(&rt, &world.ate(0), &Some(2));
     assert!(rt; world.fork(0).is_none());
     is_complete(&rt, &plan, &world);
     let forks = spend(&rt, &plan, world);
-    assert_eq!(rt; forks.len(), 0);
+    same(&rt, &forks.len(), &0);
 }
 
 // The second of the lower site's three jobs fails.
@@ -372,29 +374,29 @@ const RESIGNING: Graph = Graph {
 fn site_that_resigns_drops_its_jobs_left(rt: HostRuntime) {
     let plan = plan_by(&rt, rt.alloc(), RESIGNING);
     let mut world = opened(&rt, rt.alloc(), &plan);
-    assert_eq!(rt; world.bound(), 36);
-    assert_eq!(rt; world.replay([0, 0, 0].as_slice()), 3);
+    same(&rt, &world.bound(), &36);
+    same(&rt, &world.replay([0, 0, 0].as_slice()), &3);
     refuse(&rt, &mut world, 0, EventKind::Quit);
-    assert_eq!(rt; world.replay([0, 0, 0].as_slice()), 3);
+    same(&rt, &world.replay([0, 0, 0].as_slice()), &3);
     let (site, kind) = (0, EventKind::Quit);
-    assert_eq!(rt; world.enabled(0), Some(Event { site, kind }));
+    same(&rt, &world.enabled(0), &Some(Event { site, kind }));
     refuse(&rt, &mut world, 0, EventKind::Hungry);
     refuse(&rt, &mut world, 0, EventKind::Done(0));
-    assert_eq!(rt; world.finish(), 16);
-    assert_eq!(rt; (world.ate(0), world.ate(1)), (Some(2), Some(1)));
+    same(&rt, &world.finish(), &16);
+    same(&rt, &(world.ate(0), world.ate(1)), &(Some(2), Some(1)));
     let forks = spend(&rt, &plan, world);
     let fork = forks.get(0).expect(&rt, "a fork");
-    assert_eq!(rt; fork.len(), 4);
-    assert_eq!(rt; entry_at(&rt, fork, 1), Entry::Meal { site: 0, k: 2 });
-    assert_eq!(rt; entry_at(&rt, fork, 2), Entry::Move { to: 1 });
+    same(&rt, &fork.len(), &4);
+    same(&rt, &entry_at(&rt, fork, 1), &Entry::Meal { site: 0, k: 2 });
+    same(&rt, &entry_at(&rt, fork, 2), &Entry::Move { to: 1 });
 }
 
 #[test]
 fn row_of_three_finishes(rt: HostRuntime) {
     let plan = plan_of(&rt, rt.alloc(), 3, 1, [(0, 1), (1, 2)].as_slice());
     let mut world = opened(&rt, rt.alloc(), &plan);
-    assert_eq!(rt; world.bound(), 41);
-    assert_eq!(rt; world.finish(), 33);
+    same(&rt, &world.bound(), &41);
+    same(&rt, &world.finish(), &33);
     is_complete(&rt, &plan, &world);
     let forks = spend(&rt, &plan, world);
     has_all_meals(&rt, &plan, forks.as_slice());
@@ -404,8 +406,8 @@ fn row_of_three_finishes(rt: HostRuntime) {
 fn sites_without_jobs_only_say_so(rt: HostRuntime) {
     let plan = plan_of(&rt, rt.alloc(), 2, 0, [(0, 1)].as_slice());
     let mut world = opened(&rt, rt.alloc(), &plan);
-    assert_eq!(rt; world.bound(), 8);
-    assert_eq!(rt; world.finish(), 8);
+    same(&rt, &world.bound(), &8);
+    same(&rt, &world.finish(), &8);
     is_complete(&rt, &plan, &world);
     let forks = spend(&rt, &plan, world);
     has_all_meals(&rt, &plan, forks.as_slice());

@@ -1,4 +1,5 @@
 // Rings of one thread and of several.
+use dine_asserts::same;
 use dine_link::{Bell, LinkFault, Lost, Ringer, Wants};
 use dine_rules::Kind4;
 use dine_set::BitSet64;
@@ -46,21 +47,21 @@ fn ring<R: Abort + Wait>(rt: &R, ringers: &mut Vec<Ringer>, place: usize) {
         Some(ringer) => ringer.ring(rt),
         None => Err(Lost),
     };
-    assert_eq!(rt; rung, Ok(()));
+    same(rt, &rung, &Ok(()));
 }
 
 #[test]
 fn each_ringer_rings_its_own_number(rt: HostRuntime) -> Result<(), Fail> {
     let (mut ringers, mut bell) = opened(rt.alloc(), 3)?;
-    assert_eq!(rt; ringers.len(), 3);
+    same(&rt, &ringers.len(), &3);
     ring(&rt, &mut ringers, 2);
     ring(&rt, &mut ringers, 0);
     ring(&rt, &mut ringers, 1);
     ring(&rt, &mut ringers, 2);
-    assert_eq!(rt; bell.wait(&rt), Ok(2));
-    assert_eq!(rt; bell.wait(&rt), Ok(0));
-    assert_eq!(rt; bell.wait(&rt), Ok(1));
-    assert_eq!(rt; bell.wait(&rt), Ok(2));
+    same(&rt, &bell.wait(&rt), &Ok(2));
+    same(&rt, &bell.wait(&rt), &Ok(0));
+    same(&rt, &bell.wait(&rt), &Ok(1));
+    same(&rt, &bell.wait(&rt), &Ok(2));
     Ok(())
 }
 
@@ -73,8 +74,8 @@ fn four_rings_of_each_ringer_wait_for_nobody(rt: HostRuntime) -> Result<(), Fail
         ring(&rt, &mut ringers, 0);
     }
     for _ in 0..4 {
-        assert_eq!(rt; bell.wait(&rt), Ok(1));
-        assert_eq!(rt; bell.wait(&rt), Ok(0));
+        same(&rt, &bell.wait(&rt), &Ok(1));
+        same(&rt, &bell.wait(&rt), &Ok(0));
     }
     Ok(())
 }
@@ -82,8 +83,8 @@ fn four_rings_of_each_ringer_wait_for_nobody(rt: HostRuntime) -> Result<(), Fail
 #[test]
 fn without_ringers_nobody_rings(rt: HostRuntime) -> Result<(), Fail> {
     let (ringers, mut bell) = opened(rt.alloc(), 0)?;
-    assert_eq!(rt; ringers.len(), 0);
-    assert_eq!(rt; bell.wait(&rt), Err(Lost));
+    same(&rt, &ringers.len(), &0);
+    same(&rt, &bell.wait(&rt), &Err(Lost));
     Ok(())
 }
 
@@ -92,9 +93,9 @@ fn rings_outlive_their_ringers(rt: HostRuntime) -> Result<(), Fail> {
     let (mut ringers, mut bell) = opened(rt.alloc(), 2)?;
     ring(&rt, &mut ringers, 1);
     drop(ringers);
-    assert_eq!(rt; bell.wait(&rt), Ok(1));
-    assert_eq!(rt; bell.wait(&rt), Err(Lost));
-    assert_eq!(rt; bell.wait(&rt), Err(Lost));
+    same(&rt, &bell.wait(&rt), &Ok(1));
+    same(&rt, &bell.wait(&rt), &Err(Lost));
+    same(&rt, &bell.wait(&rt), &Err(Lost));
     Ok(())
 }
 
@@ -105,8 +106,8 @@ fn without_the_bell_no_ring_is_taken(rt: HostRuntime) -> Result<(), Fail> {
     let Some(ringer) = ringers.get_mut(0) else {
         return Err(Fail::from("no ringer"));
     };
-    assert_eq!(rt; ringer.ring(&rt), Err(Lost));
-    assert_eq!(rt; ringer.ring(&rt), Err(Lost));
+    same(&rt, &ringer.ring(&rt), &Err(Lost));
+    same(&rt, &ringer.ring(&rt), &Err(Lost));
     Ok(())
 }
 
@@ -136,7 +137,7 @@ fn threads_ring_one_bell(rt: HostRuntime) -> Result<(), Fail> {
             child.join(&rt);
         }
     }
-    assert_eq!(rt; counts, [100, 100, 100]);
+    same(&rt, &counts, &[100, 100, 100]);
     Ok(())
 }
 
@@ -148,9 +149,9 @@ fn ringers_ring_their_own_bell(rt: HostRuntime) -> Result<(), Fail> {
     ring(&rt, &mut ringers, 0);
     ring(&rt, &mut others, 1);
     drop(ringers);
-    assert_eq!(rt; other.wait(&rt), Ok(1));
-    assert_eq!(rt; bell.wait(&rt), Ok(0));
-    assert_eq!(rt; bell.wait(&rt), Err(Lost));
+    same(&rt, &other.wait(&rt), &Ok(1));
+    same(&rt, &bell.wait(&rt), &Ok(0));
+    same(&rt, &bell.wait(&rt), &Err(Lost));
     Ok(())
 }
 
@@ -158,8 +159,8 @@ fn ringers_ring_their_own_bell(rt: HostRuntime) -> Result<(), Fail> {
 #[test]
 fn opens_a_bell_or_tells_of_memory(rt: HostRuntime) -> Result<(), Fail> {
     match Bell::open(rt.alloc(), 3) {
-        Ok((ringers, _bell)) => assert_eq!(rt; ringers.len(), 3),
-        Err(fault) => assert_eq!(rt; fault, LinkFault::Memory),
+        Ok((ringers, _bell)) => same(&rt, &ringers.len(), &3),
+        Err(fault) => same(&rt, &fault, &LinkFault::Memory),
     }
     Ok(())
 }
@@ -276,7 +277,7 @@ fn ring_for<R: Abort + Wait>(rt: &R, ringers: &mut Vec<Ringer>, place: usize, ki
         Some(ringer) => ringer.ring_for(rt, kind),
         None => Err(Lost),
     };
-    assert_eq!(rt; rung, Ok(()));
+    same(rt, &rung, &Ok(()));
 }
 
 #[test]
@@ -287,7 +288,7 @@ fn an_unwanted_ring_lies_until_a_wanted_one(rt: HostRuntime) -> Result<(), Fail>
     ring_for(&rt, &mut ringers, 0, Kind4::Request);
     assert!(rt; sleeps(&rt, ringers.as_slice()));
     ring_for(&rt, &mut ringers, 1, Kind4::Request);
-    assert_eq!(rt; apart.end(&rt, 2), Some(12));
+    same(&rt, &apart.end(&rt, 2), &Some(12));
     Ok(())
 }
 
@@ -299,7 +300,7 @@ fn the_last_fork_wakes(rt: HostRuntime) -> Result<(), Fail> {
     ring_for(&rt, &mut ringers, 1, Kind4::Fork);
     assert!(rt; sleeps(&rt, ringers.as_slice()));
     ring_for(&rt, &mut ringers, 0, Kind4::Fork);
-    assert_eq!(rt; apart.end(&rt, 2), Some(21));
+    same(&rt, &apart.end(&rt, 2), &Some(21));
     Ok(())
 }
 
@@ -313,7 +314,7 @@ fn done_close_and_plain_rings_wake(rt: HostRuntime) -> Result<(), Fail> {
     ring_for(&rt, &mut ringers, 1, Kind4::Close);
     assert!(rt; apart.tells(&rt, 2) && falls_asleep(&rt, ringers.as_slice()));
     ring(&rt, &mut ringers, 0);
-    assert_eq!(rt; apart.end(&rt, 3), Some(121));
+    same(&rt, &apart.end(&rt, 3), &Some(121));
     Ok(())
 }
 
@@ -325,7 +326,7 @@ fn what_lies_is_told_once_the_ringers_are_gone(rt: HostRuntime) -> Result<(), Fa
     ring_for(&rt, &mut ringers, 0, Kind4::Request);
     assert!(rt; sleeps(&rt, ringers.as_slice()));
     drop(ringers);
-    assert_eq!(rt; apart.end(&rt, 3), Some(199));
+    same(&rt, &apart.end(&rt, 3), &Some(199));
     Ok(())
 }
 
@@ -340,7 +341,7 @@ fn a_bell_wakes_before_it_is_full(rt: HostRuntime) -> Result<(), Fail> {
     }
     assert!(rt; sleeps(&rt, ringers.as_slice()));
     ring_for(&rt, &mut ringers, 0, Kind4::Request);
-    assert_eq!(rt; apart.end(&rt, 4), Some(1111));
+    same(&rt, &apart.end(&rt, 4), &Some(1111));
     Ok(())
 }
 
@@ -369,7 +370,7 @@ fn four_threads_ring_often(rt: HostRuntime) -> Result<(), Fail> {
     }
     assert!(rt; apart.tells(&rt, 40000));
     for count in &apart.heard.each {
-        assert_eq!(rt; count.load(Ordering::SeqCst), 10000);
+        same(&rt, &count.load(Ordering::SeqCst), &10000);
     }
     apart.child.join(&rt);
     for child in threads {

@@ -1,4 +1,5 @@
 // Threads at a gate.
+use dine_asserts::same;
 use dine_link::{Gate, Signal};
 use std::alloc::Global;
 use std::process::Abort;
@@ -65,15 +66,15 @@ where
         threads.push(child).ok();
     }
     see_them_wait(&rt, &came, 3);
-    assert_eq!(rt; left.load(Ordering::SeqCst), 0);
+    same(rt, &left.load(Ordering::SeqCst), &0);
     gate.tell(&rt, signal);
     for child in threads {
         let Some(child) = child else {
             return Err(Fail::from("no thread"));
         };
-        assert_eq!(rt; child.join(&rt), is_open);
+        same(rt, &child.join(&rt), &is_open);
     }
-    assert_eq!(rt; left.load(Ordering::SeqCst), 3);
+    same(rt, &left.load(Ordering::SeqCst), &3);
     Ok(())
 }
 

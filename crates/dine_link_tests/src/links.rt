@@ -6,6 +6,7 @@ mod refusals;
 mod slowly;
 mod waits;
 
+use dine_asserts::same;
 use dine_link::{ChannelLane, FaultLane, Lane, LinkFault, RingLane, TxEnd};
 use dine_rules::{Kind4, Letter};
 use dine_token::{Act, Fork, Held, Meal, Token};
@@ -26,18 +27,18 @@ fn done_and_close<L: Lane, R: Wait + Abort>(rt: &R, alloc: Global) -> Result<(),
     let Ok(first) = L::take(rt, &mut rx) else {
         panic!(rt; "the first take was refused");
     };
-    assert_eq!(rt; first.kind(), Kind4::Done);
+    same(rt, &first.kind(), &Kind4::Done);
     if L::is_closed(&rx) {
         panic!(rt; "closed by {:?}", first.kind());
     }
     let Ok(second) = L::take(rt, &mut rx) else {
         panic!(rt; "the second take was refused");
     };
-    assert_eq!(rt; second.kind(), Kind4::Close);
+    same(rt, &second.kind(), &Kind4::Close);
     assert!(rt; L::is_closed(&rx));
     let end = L::reconcile(TxEnd::Shut(closed), rx);
-    assert_eq!(rt; (end.edge(), end.from()), (5, 2));
-    assert_eq!(rt; (end.put(), end.taken(), end.shut()), (2, 2, true));
+    same(rt, &(end.edge(), end.from()), &(5, 2));
+    same(rt, &(end.put(), end.taken(), end.shut()), &(2, 2, true));
     Ok(())
 }
 
@@ -71,14 +72,18 @@ where
 {
     let letters = requests(alloc, 2000)?;
     let (end, taken) = exchange::<L, R>(rt, alloc, letters, false, 2000)?;
-    assert_eq!(rt; taken.len(), 2000);
+    same(rt, &taken.len(), &2000);
     for (edge, letter) in (0..2000).zip(taken) {
         let Letter::Request(token) = letter else {
             panic!(rt; "no request at {edge}");
         };
-        assert_eq!(rt; token.edge(), edge);
+        same(rt, &token.edge(), &edge);
     }
-    assert_eq!(rt; (end.put(), end.taken(), end.shut()), (2000, 2000, false));
+    same(
+        rt,
+        &(end.put(), end.taken(), end.shut()),
+        &(2000, 2000, false),
+    );
     Ok(())
 }
 
@@ -127,15 +132,19 @@ where
 {
     let letters = sent_forks(alloc, 200)?;
     let (end, taken) = exchange::<L, R>(rt, alloc, letters, false, 200)?;
-    assert_eq!(rt; taken.len(), 200);
+    same(rt, &taken.len(), &200);
     for (edge, letter) in (0..200).zip(taken) {
         let Letter::Fork(fork) = letter else {
             panic!(rt; "no fork at {edge}");
         };
-        assert_eq!(rt; (fork.edge(), fork.at(), fork.is_dirty()), (edge, 1, false));
-        assert_eq!(rt; fork.len(), 2 - edge % 2);
+        same(
+            rt,
+            &(fork.edge(), fork.at(), fork.is_dirty()),
+            &(edge, 1, false),
+        );
+        same(rt, &fork.len(), &(2 - edge % 2));
     }
-    assert_eq!(rt; (end.put(), end.taken()), (200, 200));
+    same(rt, &(end.put(), end.taken()), &(200, 200));
     Ok(())
 }
 
@@ -158,12 +167,13 @@ where
 {
     let (end, taken) = exchange::<L, R>(rt, alloc, requests(alloc, 20)?, true, 21)?;
     let last = taken.last().map(|letter| letter.kind());
-    assert_eq!(rt; last, Some(Kind4::Close));
-    assert_eq!(rt; (end.put(), end.taken(), end.shut()), (21, 21, true));
+    same(rt, &last, &Some(Kind4::Close));
+    same(rt, &(end.put(), end.taken(), end.shut()), &(21, 21, true));
     let (end, taken) = exchange::<L, R>(rt, alloc, requests(alloc, 3)?, false, 1)?;
-    assert_eq!(rt;
-        (taken.len(), end.put(), end.taken(), end.shut()),
-        (1, 3, 1, false)
+    same(
+        rt,
+        &(taken.len(), end.put(), end.taken(), end.shut()),
+        &(1, 3, 1, false),
     );
     Ok(())
 }
@@ -190,10 +200,10 @@ fn keeps_its_name<L: Lane, R: Wait + Abort>(
     let Letter::Request(token) = letter else {
         panic!(rt; "no request came");
     };
-    assert_eq!(rt; token.edge(), edge);
+    same(rt, &token.edge(), &edge);
     let end = L::reconcile(TxEnd::Live(tx), rx);
-    assert_eq!(rt; (end.edge(), end.from()), (edge, from));
-    assert_eq!(rt; (end.put(), end.taken()), (1, 1));
+    same(rt, &(end.edge(), end.from()), &(edge, from));
+    same(rt, &(end.put(), end.taken()), &(1, 1));
     Ok(())
 }
 

@@ -1,7 +1,7 @@
 // Graphs, the plans of them, and what is left of a run on one: it is held against the graph, and each fork's log
 // against the rules, entry by entry.
-use crate::asserts::same;
 use crate::diners::Taster;
+use dine_asserts::same;
 use dine_core::EventKind;
 use dine_link::LinkEnd;
 use dine_run::{Call, SiteOut};
@@ -237,7 +237,11 @@ fn holds_fork(rt: &impl Abort, graph: &Graph, fails_each: u32, edge: u32, fork: 
     let told = told_by(rt, fork, lower, higher);
     for end in [told.here, told.there] {
         let ate = (edge, end.site, Some(end.meals));
-        same(rt, &(edge, end.site, graph.meals(end.site, fails_each)), &ate);
+        same(
+            rt,
+            &(edge, end.site, graph.meals(end.site, fails_each)),
+            &ate,
+        );
     }
     let at_end = (told.here.site, told.is_used, told.moves);
     same(rt, &(fork.at(), fork.is_dirty(), fork.moves()), &at_end);
@@ -292,12 +296,22 @@ fn holds_journal(rt: &impl Abort, journal: &[EventKind], has_quit: bool) {
 }
 
 // The site ate all its jobs, or those up to the first that failed.
-fn holds_site(rt: &impl Abort, graph: &Graph, fails_each: u32, number: u32, site: &SiteOut<Taster>) {
+fn holds_site(
+    rt: &impl Abort,
+    graph: &Graph,
+    fails_each: u32,
+    number: u32,
+    site: &SiteOut<Taster>,
+) {
     let Some(meals) = graph.meals(number, fails_each) else {
         panic!(rt; "no site {number}");
     };
     let failed = meals.checked_div(fails_each).unwrap_or(0);
-    same(rt, &(site.site, site.ate, site.failed), &(number, meals, failed));
+    same(
+        rt,
+        &(site.site, site.ate, site.failed),
+        &(number, meals, failed),
+    );
     assert!(rt; site.stray.is_none() && site.fault.is_none());
     holds_calls(rt, &site.diner, meals);
     let jobs = graph.jobs.get(number as usize).copied();

@@ -1,5 +1,5 @@
 // One order of the journals of two sites.
-use crate::asserts::same;
+use dine_asserts::same;
 use dine_core::{Event, EventKind, World};
 use dine_plan::{Plan, read_plan};
 use dine_run::{OrderFault, order};
@@ -106,7 +106,11 @@ fn events_that_wait_for_ever_are_stuck(rt: HostRuntime) {
     let higher = [EventKind::Take(0), EventKind::Take(0)];
     let lower = LOWER.as_slice();
     let stuck = order_of(&rt, alloc, &plan, &lower[..4], higher.as_slice());
-    same(&rt, &stuck.err(), &Some(OrderFault::Stuck { site: 1, placed: 1 }));
+    same(
+        &rt,
+        &stuck.err(),
+        &Some(OrderFault::Stuck { site: 1, placed: 1 }),
+    );
 }
 
 #[test]
@@ -164,7 +168,11 @@ fn stuck_after(rt: &impl Abort, alloc: Global, plan: &Plan, meals: u32, quits: u
     }
     let none: [EventKind; 0] = [];
     let stuck = order_of(rt, alloc, plan, lower.as_slice(), none.as_slice());
-    same(rt, &stuck.err(), &Some(OrderFault::Stuck { site: 0, placed }));
+    same(
+        rt,
+        &stuck.err(),
+        &Some(OrderFault::Stuck { site: 0, placed }),
+    );
 }
 
 #[test]

@@ -1,5 +1,6 @@
 // The words of the process.
 use dine::{Fault, words_of};
+use dine_asserts::same;
 use std::env::FillError;
 use std::rt::Env;
 use std::test::Fail;
@@ -38,9 +39,9 @@ fn the_words_of_the_process_are_listed_in_order(rt: HostRuntime) -> Result<(), F
         words: &[b"dine", b"replay", b"--choices", b"1,1", b""],
     };
     let words = words_of(rt.alloc(), env::args(&(&started, rt.alloc()))).map_err(|_| "refused")?;
-    assert_eq!(rt; words.len(), started.words.len());
+    same(&rt, &words.len(), &started.words.len());
     for (word, given) in words.iter().zip(started.words) {
-        assert_eq!(rt; word.as_bytes(), *given);
+        same(&rt, &word.as_bytes(), given);
     }
     Ok(())
 }
@@ -55,7 +56,7 @@ fn words_that_are_no_utf_8_are_a_fault_of_usage(rt: HostRuntime) {
     for words in cases {
         let started = StartedWith { words };
         let given = env::args(&(&started, rt.alloc()));
-        assert_eq!(rt; words_of(rt.alloc(), given).err(), Some(Fault::Usage));
+        same(&rt, &words_of(rt.alloc(), given).err(), &Some(Fault::Usage));
     }
 }
 
@@ -67,6 +68,10 @@ fn an_error_of_the_process_is_told_by_its_kind(rt: HostRuntime) {
         (io::ErrorKind::OutOfMemory, Fault::OutOfMemory),
     ];
     for (kind, fault) in cases {
-        assert_eq!(rt; words_of(rt.alloc(), Err(kind.into())).err(), Some(fault));
+        same(
+            &rt,
+            &words_of(rt.alloc(), Err(kind.into())).err(),
+            &Some(fault),
+        );
     }
 }

@@ -2,6 +2,7 @@
 use super::input::stutters;
 use super::output::takes_pieces;
 use dine::run_cmd;
+use dine_asserts::same;
 use std::alloc::{AllocError, Global};
 use std::io;
 use std::io::{Read, Write};
@@ -82,7 +83,11 @@ fn a_run_reads_and_writes_as_the_other_commands(rt: HostRuntime) -> Result<(), F
         let mut faults = Vec::new(rt.alloc());
         let status = run_into(&rt, line, &mut input, &mut output, &mut faults)?;
         assert_eq!(rt; output.held.len(), 0, "at {line}");
-        assert_eq!(rt; faults.as_slice(), b"dine: writing failed\n".as_slice());
+        same(
+            &rt,
+            &faults.as_slice(),
+            &b"dine: writing failed\n".as_slice(),
+        );
         assert_eq!(rt; status, 6, "at {line}");
     }
     Ok(())

@@ -1,5 +1,6 @@
 // What ends a command, its line and its status.
 use dine::{Fault, Status, exit_of};
+use dine_asserts::same;
 use dine_plan::PlanFault;
 use dine_rules::Breach;
 use dine_run::{RunCause, SiteFault};
@@ -41,8 +42,8 @@ fn ends<R: Abort>(
         held: Vec::new(alloc),
         flushes: 0,
     };
-    assert_eq!(rt; fault.end(&mut faults), status);
-    assert_eq!(rt; std::str::from_utf8(faults.held.as_slice())?, line);
+    same(rt, &fault.end(&mut faults), &status);
+    same(rt, &std::str::from_utf8(faults.held.as_slice())?, &line);
     assert_eq!(rt; faults.flushes, 1, "at {line}");
     Ok(())
 }
@@ -166,7 +167,7 @@ fn each_status_has_its_number(rt: HostRuntime) {
         (Status::InputOutput, 6),
     ];
     for (status, number) in numbers {
-        assert_eq!(rt; status.number(), number);
+        same(&rt, &status.number(), &number);
         assert!(rt; exit_of(status) == ExitCode::from(number));
     }
 }

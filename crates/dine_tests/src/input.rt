@@ -1,5 +1,6 @@
 // How an input is read: in pieces of any size, to its end or to the first byte past the limit.
 use super::commands::{PAIR, leaves};
+use dine_asserts::same;
 use std::io;
 use std::io::Read;
 use std::process::Abort;
@@ -78,7 +79,7 @@ fn an_input_is_read_to_its_end(rt: HostRuntime) -> Result<(), Fail> {
     for step in [1, 7, 8192] {
         let mut input = stutters(PAIR.as_bytes(), step, 0, io::ErrorKind::Other);
         leaves(&rt, "dine check", &mut input, 0, TAKEN, "")?;
-        assert_eq!(rt; input.bytes.len(), 0);
+        same(&rt, &input.bytes.len(), &0);
     }
     Ok(())
 }
@@ -97,7 +98,7 @@ fn a_failed_read_ends_it(rt: HostRuntime) -> Result<(), Fail> {
                 "",
                 "dine: reading failed\n",
             )?;
-            assert_eq!(rt; input.reads, bad_read);
+            same(&rt, &input.reads, &bad_read);
         }
     }
     Ok(())
@@ -108,7 +109,7 @@ fn an_interrupted_read_is_tried_again(rt: HostRuntime) -> Result<(), Fail> {
     for bad_read in 1..=3 {
         let mut input = stutters(PAIR.as_bytes(), 1, bad_read, io::ErrorKind::Interrupted);
         leaves(&rt, "dine check", &mut input, 0, TAKEN, "")?;
-        assert_eq!(rt; input.reads, PAIR.len() + 2);
+        same(&rt, &input.reads, &(PAIR.len() + 2));
     }
     Ok(())
 }
@@ -123,7 +124,7 @@ fn feeds_leave<H: Threads + Wait + AllocGlobal + Abort + Copy + Send + 'static>(
 ) -> Result<usize, Fail> {
     let mut input = line_feeds(feeds.0, feeds.1);
     leaves(rt, "dine check", &mut input, refusal.0, "", refusal.1)?;
-    assert_eq!(rt; input.left, unread);
+    same(rt, &input.left, &unread);
     Ok(input.reads)
 }
 
@@ -148,6 +149,6 @@ fn one_byte_more_than_the_limit_is_too_long(rt: HostRuntime) -> Result<(), Fail>
 #[test]
 fn an_endless_input_is_left_after_as_many_reads(rt: HostRuntime) -> Result<(), Fail> {
     let reads = feeds_leave(&rt, (usize::MAX, 1), TOO_LONG, usize::MAX - 8_388_609)?;
-    assert_eq!(rt; reads, 8_388_609);
+    same(&rt, &reads, &8_388_609);
     Ok(())
 }

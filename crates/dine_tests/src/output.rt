@@ -1,5 +1,6 @@
 // How a text and a fault's line are written: in pieces of any size, to their end or to the first write that fails.
 use super::commands::{PAIR, run_into};
+use dine_asserts::same;
 use std::alloc::Global;
 use std::io;
 use std::io::Write;
@@ -71,8 +72,8 @@ fn the_whole_text_is_written_and_flushed(rt: HostRuntime) -> Result<(), Fail> {
     for step in [1, 3, 100] {
         let mut output = takes_pieces(rt.alloc(), step);
         let (status, told) = checks_into(&rt, &mut output)?;
-        assert_eq!(rt; (status, told.len(), output.flushes), (0, 0, 1));
-        assert_eq!(rt; output.held.as_slice(), TAKEN);
+        same(&rt, &(status, told.len(), output.flushes), &(0, 0, 1));
+        same(&rt, &output.held.as_slice(), &TAKEN);
     }
     Ok(())
 }
@@ -92,12 +93,13 @@ fn an_output_that_fails_is_told(rt: HostRuntime) -> Result<(), Fail> {
         output.bad_write = bad_write;
         output.bad_flush = bad_flush;
         let (status, told) = checks_into(&rt, &mut output)?;
-        assert_eq!(rt;
-            (status, output.writes, output.held.len()),
-            (6, writes, gone)
+        same(
+            &rt,
+            &(status, output.writes, output.held.len()),
+            &(6, writes, gone),
         );
         assert!(rt; TAKEN.starts_with(output.held.as_slice()));
-        assert_eq!(rt; told.as_slice(), WRITING_FAILED);
+        same(&rt, &told.as_slice(), &WRITING_FAILED);
     }
     Ok(())
 }
@@ -109,9 +111,9 @@ fn what_went_out_before_a_failed_write_is_the_beginning(rt: HostRuntime) -> Resu
     let mut told = Vec::new(rt.alloc());
     let mut input = PAIR.as_bytes();
     let status = run_into(&rt, "dine replay", &mut input, &mut output, &mut told)?;
-    assert_eq!(rt; status, 6);
-    assert_eq!(rt; output.held.as_slice(), b"edge 0 a b".as_slice());
-    assert_eq!(rt; told.as_slice(), WRITING_FAILED);
+    same(&rt, &status, &6);
+    same(&rt, &output.held.as_slice(), &b"edge 0 a b".as_slice());
+    same(&rt, &told.as_slice(), &WRITING_FAILED);
     Ok(())
 }
 
@@ -122,8 +124,8 @@ fn an_interrupted_write_is_tried_again(rt: HostRuntime) -> Result<(), Fail> {
         output.bad_write = bad_write;
         output.kind = io::ErrorKind::Interrupted;
         let (status, told) = checks_into(&rt, &mut output)?;
-        assert_eq!(rt; (status, told.len(), output.writes), (0, 0, 4));
-        assert_eq!(rt; output.held.as_slice(), TAKEN);
+        same(&rt, &(status, told.len(), output.writes), &(0, 0, 4));
+        same(&rt, &output.held.as_slice(), &TAKEN);
     }
     Ok(())
 }
@@ -134,8 +136,8 @@ fn a_fault_is_told_in_a_line_and_flushed(rt: HostRuntime) -> Result<(), Fail> {
     let mut told = takes_pieces(rt.alloc(), 100);
     let mut input = PAIR.as_bytes();
     let status = run_into(&rt, "dine check", &mut input, &mut output, &mut told)?;
-    assert_eq!(rt; (status, told.writes, told.flushes), (6, 2, 1));
-    assert_eq!(rt; told.held.as_slice(), WRITING_FAILED);
+    same(&rt, &(status, told.writes, told.flushes), &(6, 2, 1));
+    same(&rt, &told.held.as_slice(), &WRITING_FAILED);
     Ok(())
 }
 

@@ -2,6 +2,7 @@
 ghost use Rattle.std.specs.Prelude.{◌≡◌, ◌+◌, ◌<◌, IfOk};
 
 use dine::PlanDiner;
+use dine_asserts::same;
 use dine_plan::read_plan;
 use dine_run::{Call, Diner};
 use dine_token::{Act, Meal};
@@ -45,19 +46,20 @@ fn eats(diner: &mut PlanDiner, alloc: Global, k: u32) -> bool
 fn middle_job_fails(rt: HostRuntime) -> Result<(), Fail> {
     let alloc = rt.alloc();
     let mut diner = diner_of(&rt, alloc, 0, 3)?;
-    assert_eq!(rt; diner.calls(), [].as_slice());
+    same(&rt, &diner.calls(), &[].as_slice());
     assert!(rt; eats(&mut diner, alloc, 1));
     assert!(rt; !eats(&mut diner, alloc, 2));
     assert!(rt; eats(&mut diner, alloc, 3));
-    assert_eq!(rt; diner.room(), 0);
-    assert_eq!(rt;
-        diner.calls(),
-        [
+    same(&rt, &diner.room(), &0);
+    same(
+        &rt,
+        &diner.calls(),
+        &[
             Call { k: 1, ok: true },
             Call { k: 2, ok: false },
             Call { k: 3, ok: true },
         ]
-        .as_slice()
+        .as_slice(),
     );
     Ok(())
 }
@@ -76,13 +78,13 @@ fn each_turn_of_a_job_is_taken(rt: HostRuntime) -> Result<(), Fail> {
     let alloc = rt.alloc();
     let mut few = diner_of(&rt, alloc, 0, 3)?;
     assert!(rt; eats(&mut few, alloc, 1));
-    assert_eq!(rt; few.word(), 2463534242);
+    same(&rt, &few.word(), &2463534242);
     assert!(rt; eats(&mut few, alloc, 3));
-    assert_eq!(rt; few.word(), 723471715);
+    same(&rt, &few.word(), &723471715);
     assert!(rt; eats(&mut few, alloc, 3));
-    assert_eq!(rt; few.word(), 2497366906);
+    same(&rt, &few.word(), &2497366906);
     let mut many = diner_of(&rt, alloc, 1, 1)?;
     assert!(rt; eats(&mut many, alloc, 1));
-    assert_eq!(rt; many.word(), 2318261108);
+    same(&rt, &many.word(), &2318261108);
     Ok(())
 }

@@ -3,6 +3,7 @@ ghost use Rattle.std.specs.Prelude.{◌≡◌, IfOk};
 ghost use Rattle.dine_graph.specs.Plan.{edge_count, site_count};
 
 use dine::{write_edges, write_sites};
+use dine_asserts::same;
 use dine_plan::{Plan, read_plan};
 use dine_run::{EdgeRow, SiteRow};
 use std::alloc::Global;
@@ -57,9 +58,10 @@ const ROWS: [EdgeRow; 2] = [
 fn edges_are_told_by_the_names_of_their_ends(rt: HostRuntime) -> Result<(), Fail> {
     let plan = path(&rt, rt.alloc(), 1);
     let table = write_edges(rt.alloc(), &plan, &ROWS)?;
-    assert_eq!(rt;
-        table.as_slice(),
-        b"edge,lo,hi,lo_meals,hi_meals\n0,a,B-2_,0,1000\n1,B-2_,c,12,4294967295\n".as_slice()
+    same(
+        &rt,
+        &table.as_slice(),
+        &b"edge,lo,hi,lo_meals,hi_meals\n0,a,B-2_,0,1000\n1,B-2_,c,12,4294967295\n".as_slice(),
     );
     Ok(())
 }
@@ -68,9 +70,10 @@ fn edges_are_told_by_the_names_of_their_ends(rt: HostRuntime) -> Result<(), Fail
 fn edges_of_version_two_have_a_value(rt: HostRuntime) -> Result<(), Fail> {
     let plan = path(&rt, rt.alloc(), 2);
     let table = write_edges(rt.alloc(), &plan, &ROWS)?;
-    assert_eq!(rt;
-        table.as_slice(),
-        b"edge,lo,hi,lo_meals,hi_meals,value\n0,a,B-2_,0,1000,0\n1,B-2_,c,12,4294967295,18446744073709551615\n".as_slice()
+    same(
+        &rt,
+        &table.as_slice(),
+        &b"edge,lo,hi,lo_meals,hi_meals,value\n0,a,B-2_,0,1000,0\n1,B-2_,c,12,4294967295,18446744073709551615\n".as_slice(),
     );
     Ok(())
 }
@@ -96,9 +99,10 @@ fn sites_are_told_by_name(rt: HostRuntime) -> Result<(), Fail> {
         },
     ];
     let table = write_sites(rt.alloc(), &plan, &rows)?;
-    assert_eq!(rt;
-        table.as_slice(),
-        b"site,meals,failed\na,3,1\nB-2_,1000,0\nc,0,0\n".as_slice()
+    same(
+        &rt,
+        &table.as_slice(),
+        &b"site,meals,failed\na,3,1\nB-2_,1000,0\nc,0,0\n".as_slice(),
     );
     Ok(())
 }
@@ -107,11 +111,12 @@ fn sites_are_told_by_name(rt: HostRuntime) -> Result<(), Fail> {
 fn tables_without_rows_are_their_headers(rt: HostRuntime) -> Result<(), Fail> {
     let plan = path(&rt, rt.alloc(), 1);
     let edges = write_edges(rt.alloc(), &plan, &[])?;
-    assert_eq!(rt;
-        edges.as_slice(),
-        b"edge,lo,hi,lo_meals,hi_meals\n".as_slice()
+    same(
+        &rt,
+        &edges.as_slice(),
+        &b"edge,lo,hi,lo_meals,hi_meals\n".as_slice(),
     );
     let sites = write_sites(rt.alloc(), &plan, &[])?;
-    assert_eq!(rt; sites.as_slice(), b"site,meals,failed\n".as_slice());
+    same(&rt, &sites.as_slice(), &b"site,meals,failed\n".as_slice());
     Ok(())
 }

@@ -3,6 +3,7 @@ use super::{
     JOB, ROW, THREE_JOBS, TWO_JOBS, ask, close, core_of, eat, fork_from, give, grow_hungry,
     plan_of, refuse, request, say_done, spend, take, take_at,
 };
+use dine_asserts::same;
 use dine_core::{Breach, Kind4, Letter, SiteCore};
 use dine_plan::read_plan;
 use dine_token::{Fork, Token};
@@ -31,7 +32,7 @@ fn second_request_is_refused(rt: HostRuntime) {
     take(&rt, &mut a, request());
     refuse(&rt, &mut a, request(), Breach::RequestOutOfTurn);
     let fork = give(&rt, &mut a);
-    assert_eq!(rt; fork.kind(), Kind4::Fork);
+    same(&rt, &fork.kind(), &Kind4::Fork);
     refuse(&rt, &mut a, request(), Breach::RequestOutOfTurn);
     take(&rt, &mut a, Letter::Done);
     let _parts = spend(&rt, a);
@@ -277,10 +278,10 @@ fn nothing_comes_after_close(rt: HostRuntime) -> Result<(), Fail> {
     let fork = Fork::open(rt.alloc(), 0, 0, 1, 3, 0, 0)?;
     let mut b = core_of(&rt, rt.alloc(), &plan, 1);
     let done = say_done(&rt, &mut b);
-    assert_eq!(rt; done.kind(), Kind4::Done);
+    same(&rt, &done.kind(), &Kind4::Done);
     take(&rt, &mut b, Letter::Done);
     let last = close(&rt, &mut b);
-    assert_eq!(rt; last.kind(), Kind4::Close);
+    same(&rt, &last.kind(), &Kind4::Close);
     take(&rt, &mut b, Letter::Close);
     refuse(&rt, &mut b, Letter::Close, Breach::AfterClose);
     refuse(&rt, &mut b, Letter::Done, Breach::AfterClose);
@@ -289,7 +290,7 @@ fn nothing_comes_after_close(rt: HostRuntime) -> Result<(), Fail> {
     assert!(rt; b.is_finished());
     assert!(rt; b.is_closed());
     let parts = spend(&rt, b);
-    assert_eq!(rt; (parts.forks.len(), parts.tokens.len()), (0, 1));
+    same(&rt, &(parts.forks.len(), parts.tokens.len()), &(0, 1));
     Ok(())
 }
 
@@ -305,7 +306,7 @@ fn letters_come_at_a_place_that_is_not_closed(rt: HostRuntime) {
     take_at(&rt, &mut b, 1, Letter::Request(Token::open(1)));
     assert!(rt; !b.is_closed());
     let parts = spend(&rt, b);
-    assert_eq!(rt; (parts.forks.len(), parts.tokens.len()), (1, 2));
+    same(&rt, &(parts.forks.len(), parts.tokens.len()), &(1, 2));
 }
 
 #[test]

@@ -4,6 +4,7 @@ ghost use Rattle.dine_core.specs.Worlds.{AreOutcomesFor, lists_of};
 
 use super::graph::Graph;
 use super::{RESIGNING, entry_at, opened, plan_by, spend};
+use dine_asserts::same;
 use dine_core::World;
 use dine_plan::Plan;
 use dine_token::Entry;
@@ -55,8 +56,8 @@ fn outcomes_are_given_in_place_of_the_plans(rt: HostRuntime) {
         ..RESIGNING
     };
     let mut world = opened_with(&rt, rt.alloc(), &plan, none);
-    assert_eq!(rt; world.finish(), 24);
-    assert_eq!(rt; (world.ate(0), world.ate(1)), (Some(3), Some(1)));
+    same(&rt, &world.finish(), &24);
+    same(&rt, &(world.ate(0), world.ate(1)), &(Some(3), Some(1)));
     let _forks = spend(&rt, &plan, world);
     let first = Graph {
         failing: &[1, 0],
@@ -64,7 +65,7 @@ fn outcomes_are_given_in_place_of_the_plans(rt: HostRuntime) {
     };
     let mut world = opened_with(&rt, rt.alloc(), &plan, first);
     let _events = world.finish();
-    assert_eq!(rt; (world.ate(0), world.ate(1)), (Some(1), Some(1)));
+    same(&rt, &(world.ate(0), world.ate(1)), &(Some(1), Some(1)));
     let _forks = spend(&rt, &plan, world);
 }
 
@@ -74,10 +75,10 @@ fn outcomes_of_the_plan_may_be_given(rt: HostRuntime) {
     let plan = plan_by(&rt, rt.alloc(), RESIGNING);
     let mut own = opened(&rt, rt.alloc(), &plan);
     let mut given = opened_with(&rt, rt.alloc(), &plan, RESIGNING);
-    assert_eq!(rt; (own.finish(), given.finish()), (22, 22));
+    same(&rt, &(own.finish(), given.finish()), &(22, 22));
     let _forks = spend(&rt, &plan, own);
     let forks = spend(&rt, &plan, given);
     let fork = forks.get(0).expect(&rt, "a fork");
-    assert_eq!(rt; fork.len(), 4);
-    assert_eq!(rt; entry_at(&rt, fork, 3), Entry::Meal { site: 1, k: 1 });
+    same(&rt, &fork.len(), &4);
+    same(&rt, &entry_at(&rt, fork, 3), &Entry::Meal { site: 1, k: 1 });
 }

@@ -2,24 +2,25 @@
 
 use super::model::Model;
 use super::{opened, pair, spend};
+use dine_asserts::same;
 use dine_core::{Said, Whereabouts, World};
 use dine_rules::Kind4;
 use std::process::Abort;
 
 // There is no such site or place.
 fn tells_nothing(rt: &impl Abort, world: &World, site: u32, place: u32) {
-    assert_eq!(rt; world.letters_to(site, place), None);
-    assert_eq!(rt; world.letter_to(site, place, 0), None);
-    assert_eq!(rt; world.said(site, place), None);
+    same(rt, &world.letters_to(site, place), &None);
+    same(rt, &world.letter_to(site, place, 0), &None);
+    same(rt, &world.said(site, place), &None);
 }
 
 // The letters in the link to the site at the place are these.
 fn has_letters(rt: &impl Abort, world: &World, site: u32, place: u32, kinds: &[Kind4]) {
     let count = world.letters_to(site, place).expect(rt, "a place");
-    assert_eq!(rt; count as usize, kinds.len());
+    same(rt, &(count as usize), &kinds.len());
     for n in 0..=count {
         let kind = kinds.get(n as usize).copied();
-        assert_eq!(rt; world.letter_to(site, place, n), kind);
+        same(rt, &world.letter_to(site, place, n), &kind);
     }
 }
 
@@ -27,28 +28,31 @@ fn has_letters(rt: &impl Abort, world: &World, site: u32, place: u32, kinds: &[K
 pub(super) fn same_readers<R: Abort>(rt: &R, model: &Model<R>, world: &World) {
     let edges = model.graph.edge_count();
     for edge in 0..edges {
-        assert_eq!(rt;
-            world.where_is_fork(edge),
-            model.where_is(edge, Kind4::Fork)
+        same(
+            rt,
+            &world.where_is_fork(edge),
+            &model.where_is(edge, Kind4::Fork),
         );
-        assert_eq!(rt;
-            world.where_is_token(edge),
-            model.where_is(edge, Kind4::Request)
+        same(
+            rt,
+            &world.where_is_token(edge),
+            &model.where_is(edge, Kind4::Request),
         );
-        assert_eq!(rt; world.is_fork_dirty(edge), model.is_fork_dirty(edge));
+        same(rt, &world.is_fork_dirty(edge), &model.is_fork_dirty(edge));
     }
-    assert_eq!(rt;
-        (world.where_is_fork(edges), world.where_is_token(edges)),
-        (None, None)
+    same(
+        rt,
+        &(world.where_is_fork(edges), world.where_is_token(edges)),
+        &(None, None),
     );
-    assert_eq!(rt; world.is_fork_dirty(edges), None);
+    same(rt, &world.is_fork_dirty(edges), &None);
     let sites = model.graph.sites();
     for site in 0..sites {
         let places = model.graph.degree(site);
         for place in 0..places {
             let kinds = model.kinds_in_link(site, place);
             has_letters(rt, world, site, place, kinds.as_slice());
-            assert_eq!(rt; world.said(site, place), Some(model.said(site, place)));
+            same(rt, &world.said(site, place), &Some(model.said(site, place)));
         }
         tells_nothing(rt, world, site, places);
     }
@@ -57,9 +61,10 @@ pub(super) fn same_readers<R: Abort>(rt: &R, model: &Model<R>, world: &World) {
 
 // What each end of the pair has said, where both said the same of the other.
 fn have_said(rt: &impl Abort, world: &World, said: Said) {
-    assert_eq!(rt;
-        (world.said(0, 0), world.said(1, 0)),
-        (Some(said), Some(said))
+    same(
+        rt,
+        &(world.said(0, 0), world.said(1, 0)),
+        &(Some(said), Some(said)),
     );
 }
 
@@ -78,47 +83,53 @@ fn readers_follow_a_pair(rt: HostRuntime) {
     let mut world = opened(&rt, rt.alloc(), &plan);
     let (at_lower, to_lower) = (Some(Whereabouts::At(0)), Some(Whereabouts::To(0)));
     let (at_higher, to_higher) = (Some(Whereabouts::At(1)), Some(Whereabouts::To(1)));
-    assert_eq!(rt;
-        (world.where_is_fork(0), world.where_is_token(0)),
-        (at_lower, at_higher)
+    same(
+        &rt,
+        &(world.where_is_fork(0), world.where_is_token(0)),
+        &(at_lower, at_higher),
     );
-    assert_eq!(rt; world.is_fork_dirty(0), Some(true));
+    same(&rt, &world.is_fork_dirty(0), &Some(true));
     have_said(&rt, &world, all_or_none(false));
     // The higher end grew hungry and asked.
     let _ = world.replay([1, 1].as_slice());
-    assert_eq!(rt;
-        (world.where_is_fork(0), world.where_is_token(0)),
-        (at_lower, to_lower)
+    same(
+        &rt,
+        &(world.where_is_fork(0), world.where_is_token(0)),
+        &(at_lower, to_lower),
     );
     has_letters(&rt, &world, 0, 0, [Kind4::Request].as_slice());
     has_letters(&rt, &world, 1, 0, [].as_slice());
     // The lower end took the request, gave the fork, grew hungry and asked for it again.
     let _ = world.replay([0, 0, 0, 0].as_slice());
-    assert_eq!(rt;
-        (world.where_is_fork(0), world.where_is_token(0)),
-        (to_higher, to_higher)
+    same(
+        &rt,
+        &(world.where_is_fork(0), world.where_is_token(0)),
+        &(to_higher, to_higher),
     );
     has_letters(&rt, &world, 0, 0, [].as_slice());
     has_letters(&rt, &world, 1, 0, [Kind4::Fork, Kind4::Request].as_slice());
-    assert_eq!(rt; world.is_fork_dirty(0), Some(false));
+    same(&rt, &world.is_fork_dirty(0), &Some(false));
     // The higher end took the fork.
     let _ = world.replay([0].as_slice());
-    assert_eq!(rt;
-        (world.where_is_fork(0), world.is_fork_dirty(0)),
-        (at_higher, Some(false))
+    same(
+        &rt,
+        &(world.where_is_fork(0), world.is_fork_dirty(0)),
+        &(at_higher, Some(false)),
     );
     let _ = world.finish();
-    assert_eq!(rt;
-        (world.where_is_fork(0), world.where_is_token(0)),
-        (at_lower, at_higher)
+    same(
+        &rt,
+        &(world.where_is_fork(0), world.where_is_token(0)),
+        &(at_lower, at_higher),
     );
-    assert_eq!(rt; world.is_fork_dirty(0), Some(true));
+    same(&rt, &world.is_fork_dirty(0), &Some(true));
     have_said(&rt, &world, all_or_none(true));
-    assert_eq!(rt;
-        (world.where_is_fork(1), world.where_is_token(1)),
-        (None, None)
+    same(
+        &rt,
+        &(world.where_is_fork(1), world.where_is_token(1)),
+        &(None, None),
     );
-    assert_eq!(rt; world.is_fork_dirty(1), None);
+    same(&rt, &world.is_fork_dirty(1), &None);
     tells_nothing(&rt, &world, 0, 1);
     tells_nothing(&rt, &world, 2, 0);
     let _forks = spend(&rt, &plan, world);

@@ -6,6 +6,7 @@ use super::model::{Model, events_at};
 use super::outcomes::opened_with;
 use super::readers::same_readers;
 use super::{act_of, entry_at, first_value, opened, period_at, plan_by};
+use dine_asserts::same;
 use dine_core::{NotEnabled, World};
 use dine_plan::Plan;
 use dine_rules::{Event, EventKind, Kind4};
@@ -16,26 +17,26 @@ use std::process::Abort;
 // The same events are enabled, in the same order, and no others.
 fn same_events(rt: &impl Abort, enabled: &[Event], world: &World) {
     let count = world.count();
-    assert_eq!(rt; count as usize, enabled.len());
+    same(rt, &(count as usize), &enabled.len());
     for n in 0..=count {
-        assert_eq!(rt; world.enabled(n), enabled.get(n as usize).copied());
+        same(rt, &world.enabled(n), &(enabled.get(n as usize).copied()));
     }
 }
 
 fn same_sites<R: Abort>(rt: &R, model: &Model<R>, world: &World) {
     let sites = model.graph.sites();
     for site in 0..sites {
-        assert_eq!(rt; world.phase(site), Some(model.phase(site)));
-        assert_eq!(rt; world.ate(site), Some(model.ate(site)));
+        same(rt, &world.phase(site), &Some(model.phase(site)));
+        same(rt, &world.ate(site), &Some(model.ate(site)));
     }
-    assert_eq!(rt; (world.phase(sites), world.ate(sites)), (None, None));
+    same(rt, &(world.phase(sites), world.ate(sites)), &(None, None));
 }
 
 fn same_periods(rt: &impl Abort, periods: &[Period], fork: &Fork) {
-    assert_eq!(rt; fork.periods() as usize, periods.len());
+    same(rt, &(fork.periods() as usize), &periods.len());
     for i in 0..fork.periods() {
         let period = periods.get(i as usize).copied();
-        assert_eq!(rt; Some(period_at(rt, fork, i)), period);
+        same(rt, &Some(period_at(rt, fork, i)), &period);
     }
 }
 
@@ -56,15 +57,15 @@ fn value_by(edge: u32, log: &[Entry]) -> u64 {
 fn same_fork<R: Abort>(rt: &R, model: &Model<R>, edge: u32, fork: &Fork) {
     let (lower, higher) = model.graph.ends(edge);
     let log = model.fork_log(edge);
-    assert_eq!(rt; fork.edge(), edge);
-    assert_eq!(rt; fork.ends(), (lower, higher));
-    assert_eq!(rt; fork.is_dirty(), is_dirty(log.as_slice()));
-    assert_eq!(rt; fork.at(), location_of(lower, log.as_slice()));
-    assert_eq!(rt; fork.len() as usize, log.len());
-    assert_eq!(rt; fork.value(), value_by(edge, log.as_slice()));
+    same(rt, &fork.edge(), &edge);
+    same(rt, &fork.ends(), &(lower, higher));
+    same(rt, &fork.is_dirty(), &is_dirty(log.as_slice()));
+    same(rt, &fork.at(), &location_of(lower, log.as_slice()));
+    same(rt, &(fork.len() as usize), &log.len());
+    same(rt, &fork.value(), &value_by(edge, log.as_slice()));
     for i in 0..fork.len() {
         let entry = log.get(i as usize).copied();
-        assert_eq!(rt; Some(entry_at(rt, fork, i)), entry);
+        same(rt, &Some(entry_at(rt, fork, i)), &entry);
     }
     let periods = model.periods_of(lower, log.as_slice());
     same_periods(rt, periods.as_slice(), fork);
@@ -88,8 +89,8 @@ fn agree<R: Abort>(rt: &R, model: &Model<R>, enabled: &[Event], world: &World, e
     if events % 3 == 0 {
         same_readers(rt, model, world);
     }
-    assert_eq!(rt; world.bound(), model.graph.bound());
-    assert_eq!(rt; model.effects(), events);
+    same(rt, &world.bound(), &model.graph.bound());
+    same(rt, &model.effects(), &events);
 }
 
 // The same, where the enabled events are not at hand.
@@ -114,23 +115,23 @@ fn all_events(rt: &impl Abort, alloc: Global, graph: Graph) -> Vec<Event> {
 fn refuse_others(rt: &impl Abort, all: &[Event], enabled: &[Event], world: &mut World) {
     for event in all {
         if !enabled.contains(event) {
-            assert_eq!(rt; world.step(*event), Err(NotEnabled));
+            same(rt, &world.step(*event), &Err(NotEnabled));
         }
     }
 }
 
 fn step_both<R: Abort>(rt: &R, model: &mut Model<R>, world: &mut World, event: Event) {
-    assert_eq!(rt; world.step(event), Ok(()));
+    same(rt, &world.step(event), &Ok(()));
     model.step(event);
 }
 
 // The run is over, and the forks come out with the model's logs, in edge order.
 fn end_both<R: Abort>(rt: &R, model: &Model<R>, world: World) {
-    assert_eq!(rt; world.count(), 0);
-    assert_eq!(rt; world.enabled(u32::MAX), None);
+    same(rt, &world.count(), &0);
+    same(rt, &world.enabled(u32::MAX), &None);
     assert!(rt; model.is_complete());
     let forks = world.into_forks();
-    assert_eq!(rt; forks.len(), model.graph.edges.len());
+    same(rt, &forks.len(), &model.graph.edges.len());
     for edge in 0..model.graph.edge_count() {
         let fork = forks.get(edge as usize).expect(rt, "a fork");
         same_fork(rt, model, edge, fork);
@@ -230,7 +231,7 @@ fn run_far(rt: &impl Abort, trial: &Trial, seed: u32) {
         let Some(event) = enabled.get(choice as usize).copied() else {
             break;
         };
-        assert_eq!(rt; world.replay([choice].as_slice()), 1);
+        same(rt, &world.replay([choice].as_slice()), &1);
         model.step(event);
     }
     end_both(rt, &model, world);
@@ -253,10 +254,10 @@ fn draw_choices(rt: &impl Abort, trial: &Trial, seed: u32) -> Vec<u32> {
 fn replay_alike(rt: &impl Abort, trial: &Trial, choices: &[u32]) {
     let (mut model, mut world) = (model_of(rt, trial), world_of(rt, trial));
     let replayed = model.replay(choices);
-    assert_eq!(rt; world.replay(choices), replayed);
+    same(rt, &world.replay(choices), &replayed);
     agree_anew(rt, &model, &world, replayed);
     let finished = model.finish();
-    assert_eq!(rt; world.finish(), finished);
+    same(rt, &world.finish(), &finished);
     agree_anew(rt, &model, &world, replayed.wrapping_add(finished));
     end_both(rt, &model, world);
 }
@@ -378,21 +379,21 @@ fn run_pair(rt: &impl Abort, alloc: Global, first: &[Event]) -> u32 {
 #[test]
 fn pair_runs_alike_where_the_lower_is_first(rt: HostRuntime) {
     let runs = run_pair(&rt, rt.alloc(), [LOWER_HUNGRY].as_slice());
-    assert_eq!(rt; runs, 4_023);
+    same(&rt, &runs, &4_023);
 }
 
 #[test]
 fn pair_runs_alike_where_the_lower_is_second(rt: HostRuntime) {
     let first = [HIGHER_HUNGRY, LOWER_HUNGRY].as_slice();
-    assert_eq!(rt; run_pair(&rt, rt.alloc(), first), 3_033);
+    same(&rt, &run_pair(&rt, rt.alloc(), first), &3_033);
     let first = [HIGHER_HUNGRY, HIGHER_ASKS, LOWER_HUNGRY].as_slice();
-    assert_eq!(rt; run_pair(&rt, rt.alloc(), first), 2_349);
+    same(&rt, &run_pair(&rt, rt.alloc(), first), &2_349);
 }
 
 #[test]
 fn pair_runs_alike_where_the_lower_is_asked(rt: HostRuntime) {
     let first = [HIGHER_HUNGRY, HIGHER_ASKS, LOWER_IS_ASKED].as_slice();
-    assert_eq!(rt; run_pair(&rt, rt.alloc(), first), 6_147);
+    same(&rt, &run_pair(&rt, rt.alloc(), first), &6_147);
 }
 
 #[test]
@@ -400,15 +401,15 @@ fn smallest_plans_run_alike_in_all_ways(rt: HostRuntime) {
     let alloc = rt.alloc();
     let edges = [(0, 1)].as_slice();
     let runs = run_whole(&rt, alloc, [2].as_slice(), [].as_slice());
-    assert_eq!(rt; runs, 1);
+    same(&rt, &runs, &1);
     let runs = run_whole(&rt, alloc, [1, 2].as_slice(), [].as_slice());
-    assert_eq!(rt; runs, 84);
+    same(&rt, &runs, &84);
     let runs = run_whole(&rt, alloc, [0, 0].as_slice(), edges);
-    assert_eq!(rt; runs, 54);
+    same(&rt, &runs, &54);
     let runs = run_whole(&rt, alloc, [0, 1].as_slice(), edges);
-    assert_eq!(rt; runs, 306);
+    same(&rt, &runs, &306);
     let runs = run_whole(&rt, alloc, [3, 0].as_slice(), edges);
-    assert_eq!(rt; runs, 702);
+    same(&rt, &runs, &702);
 }
 
 #[test]
@@ -524,7 +525,7 @@ fn resigning_sites_run_alike_in_all_ways(rt: HostRuntime) {
         resigning: &[true],
     };
     let trial = trial_by(&rt, alloc, alone);
-    assert_eq!(rt; run_all(&rt, &trial, Vec::new(alloc)), 1);
+    same(&rt, &run_all(&rt, &trial, Vec::new(alloc)), &1);
     let pair = Graph {
         jobs: &[2, 0],
         edges: &[(0, 1)],
@@ -581,11 +582,15 @@ fn fork_and_request_lie_in_one_link(rt: HostRuntime) {
     let plan = plan_by(&rt, rt.alloc(), graph);
     let mut model = Model::open(&rt, rt.alloc(), graph);
     let mut world = opened(&rt, rt.alloc(), &plan);
-    assert_eq!(rt; model.replay([1, 1, 0, 0, 0, 0].as_slice()), 6);
-    assert_eq!(rt; world.replay([1, 1, 0, 0, 0, 0].as_slice()), 6);
+    same(&rt, &model.replay([1, 1, 0, 0, 0, 0].as_slice()), &6);
+    same(&rt, &world.replay([1, 1, 0, 0, 0, 0].as_slice()), &6);
     agree_anew(&rt, &model, &world, 6);
     let kinds = model.kinds_in_link(1, 0);
-    assert_eq!(rt; kinds.as_slice(), [Kind4::Fork, Kind4::Request].as_slice());
+    same(
+        &rt,
+        &kinds.as_slice(),
+        &[Kind4::Fork, Kind4::Request].as_slice(),
+    );
     let site = 1;
     let kind = EventKind::Take(0);
     let take = Event { site, kind };
@@ -599,6 +604,6 @@ fn fork_and_request_lie_in_one_link(rt: HostRuntime) {
     agree_anew(&rt, &model, &world, 8);
     assert!(rt; !offers(&world, take) && offers(&world, begin));
     let finished = (model.finish(), world.finish());
-    assert_eq!(rt; finished, (14, 14));
+    same(&rt, &finished, &(14, 14));
     end_both(&rt, &model, world);
 }

@@ -1,4 +1,5 @@
 // Steps where the other end is gone, and what is told of refusals.
+use dine_asserts::same;
 use dine_link::{
     ChannelLane, FaultLane, Lane, LinkFault, Lost, RingLane, TxEnd, fault_rx, fault_tx,
 };
@@ -19,7 +20,7 @@ fn nobody_takes<L: Lane, R: Wait + Abort>(rt: &R, alloc: Global) -> Result<(), L
     let Letter::Request(token) = letter else {
         panic!(rt; "another letter came back");
     };
-    assert_eq!(rt; token.edge(), 9);
+    same(rt, &token.edge(), &9);
     let Err((mut tx, Lost)) = L::close(rt, tx) else {
         panic!(rt; "closed with no other end");
     };
@@ -29,7 +30,7 @@ fn nobody_takes<L: Lane, R: Wait + Abort>(rt: &R, alloc: Global) -> Result<(), L
     let Letter::Request(token) = letter else {
         panic!(rt; "another letter came back");
     };
-    assert_eq!(rt; token.edge(), 9);
+    same(rt, &token.edge(), &9);
     let Err((_tx, Lost)) = L::close(rt, tx) else {
         panic!(rt; "closed with no other end");
     };
@@ -44,7 +45,7 @@ fn nobody_puts<L: Lane, R: Wait + Abort>(rt: &R, alloc: Global) -> Result<(), Li
     let Ok(letter) = L::take(rt, &mut rx) else {
         panic!(rt; "a letter was lost");
     };
-    assert_eq!(rt; letter.kind(), Kind4::Done);
+    same(rt, &letter.kind(), &Kind4::Done);
     if L::is_closed(&rx) {
         panic!(rt; "closed by {:?}", letter.kind());
     }
@@ -71,7 +72,7 @@ fn refuses_after_one_step<R: Wait + Abort>(rt: &R, alloc: Global) -> Result<(), 
     let Err((letter, Lost)) = FaultLane::put(rt, &mut tx, Letter::Request(Token::open(4))) else {
         panic!(rt; "a put too many");
     };
-    assert_eq!(rt; letter.kind(), Kind4::Request);
+    same(rt, &letter.kind(), &Kind4::Request);
     let Err((tx, Lost)) = FaultLane::close(rt, tx) else {
         panic!(rt; "a close too many");
     };
@@ -81,11 +82,11 @@ fn refuses_after_one_step<R: Wait + Abort>(rt: &R, alloc: Global) -> Result<(), 
     let Ok(letter) = FaultLane::take(rt, &mut rx) else {
         panic!(rt; "the first take was refused");
     };
-    assert_eq!(rt; letter.kind(), Kind4::Done);
+    same(rt, &letter.kind(), &Kind4::Done);
     assert!(rt; FaultLane::take(rt, &mut rx).is_err());
     let end = FaultLane::reconcile(TxEnd::Live(tx), rx);
-    assert_eq!(rt; (end.put(), end.taken(), end.shut()), (1, 1, false));
-    assert_eq!(rt; (end.put_refused(), end.take_refused()), (true, true));
+    same(rt, &(end.put(), end.taken(), end.shut()), &(1, 1, false));
+    same(rt, &(end.put_refused(), end.take_refused()), &(true, true));
     Ok(())
 }
 
@@ -100,13 +101,17 @@ fn tells_refusals<L: Lane, R: Wait + Abort>(rt: &R, alloc: Global) -> Result<(),
     let (mut tx, rx) = L::pair(alloc, 3, 1)?;
     assert!(rt; L::put(rt, &mut tx, Letter::Done).is_ok());
     let end = L::reconcile(TxEnd::Live(tx), rx);
-    assert_eq!(rt; (end.put_refused(), end.take_refused()), (false, false));
+    same(
+        rt,
+        &(end.put_refused(), end.take_refused()),
+        &(false, false),
+    );
     let end = end.and_refused(true, false);
-    assert_eq!(rt; (end.put_refused(), end.take_refused()), (true, false));
+    same(rt, &(end.put_refused(), end.take_refused()), &(true, false));
     let end = end.and_refused(false, true);
-    assert_eq!(rt; (end.put_refused(), end.take_refused()), (true, true));
-    assert_eq!(rt; (end.edge(), end.from()), (3, 1));
-    assert_eq!(rt; (end.put(), end.taken(), end.shut()), (1, 0, false));
+    same(rt, &(end.put_refused(), end.take_refused()), &(true, true));
+    same(rt, &(end.edge(), end.from()), &(3, 1));
+    same(rt, &(end.put(), end.taken(), end.shut()), &(1, 0, false));
     Ok(())
 }
 

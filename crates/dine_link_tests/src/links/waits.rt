@@ -1,6 +1,7 @@
 // A full link makes the one who puts wait.
 ghost use Rattle.std.specs.Prelude.{◌≡◌, []};
 
+use dine_asserts::same;
 use dine_link::{ChannelLane, Lane, RingLane};
 use dine_rules::Letter;
 use dine_token::Token;
@@ -50,10 +51,10 @@ where
     for _ in 0..1000 {
         thread::yield_now();
     }
-    assert_eq!(rt; count.load(Ordering::SeqCst), 4);
+    same(rt, &count.load(Ordering::SeqCst), &4);
     assert!(rt; L::take(&rt, &mut rx).is_ok());
     child.join(&rt);
-    assert_eq!(rt; count.load(Ordering::SeqCst), 5);
+    same(rt, &count.load(Ordering::SeqCst), &5);
     Ok(())
 }
 

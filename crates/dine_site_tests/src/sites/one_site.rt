@@ -21,9 +21,17 @@ fn eats_alone<R: Wait + Abort>(
 fn site_alone_eats_all_its_meals(rt: HostRuntime) {
     let end = eats_alone(&rt, rt.alloc(), 0);
     same(&rt, &(end.site, end.ate, end.failed), &(0, 2, 0));
-    same(&rt, &(end.forks.len(), end.tokens.len(), end.ports.len()), &(0, 0, 0));
+    same(
+        &rt,
+        &(end.forks.len(), end.tokens.len(), end.ports.len()),
+        &(0, 0, 0),
+    );
     assert!(rt; end.stray.is_none() && end.fault.is_none());
-    same(&rt, &end.diner.log.calls(), &[Call { k: 1, ok: true }, Call { k: 2, ok: true }].as_slice());
+    same(
+        &rt,
+        &end.diner.log.calls(),
+        &[Call { k: 1, ok: true }, Call { k: 2, ok: true }].as_slice(),
+    );
 }
 
 #[test]
@@ -31,7 +39,11 @@ fn failed_job_is_counted_and_the_site_goes_on(rt: HostRuntime) {
     let end = eats_alone(&rt, rt.alloc(), 2);
     same(&rt, &(end.site, end.ate, end.failed), &(0, 2, 1));
     assert!(rt; end.stray.is_none() && end.fault.is_none());
-    same(&rt, &end.diner.log.calls(), &[Call { k: 1, ok: true }, Call { k: 2, ok: false }].as_slice());
+    same(
+        &rt,
+        &end.diner.log.calls(),
+        &[Call { k: 1, ok: true }, Call { k: 2, ok: false }].as_slice(),
+    );
 }
 
 // What is left of the lower site of the pair, where the higher one asked and closed at once: its end, the link to the
@@ -193,7 +205,11 @@ fn refused_put_is_a_fault(rt: HostRuntime) {
     let (_far_tx, rx) = link_from::<ChannelLane>(&rt, alloc, 0, 1);
     let ports = one_port::<ChannelLane>(&rt, alloc, tx, rx, ringer);
     let end = run_alone::<ChannelLane, HostRuntime>(&rt, alloc, &plan, 0, ports, bell, 0);
-    same(&rt, &(end.ate, end.failed, end.forks.len(), end.ports.len()), &(1, 0, 1, 1));
+    same(
+        &rt,
+        &(end.ate, end.failed, end.forks.len(), end.ports.len()),
+        &(1, 0, 1, 1),
+    );
     same(&rt, &end.fault, &Some(SiteFault::Lost(0)));
     assert!(rt; end.journal.as_slice() == &LOWER[..4]);
     let Some(stray) = &end.stray else {
@@ -213,7 +229,11 @@ fn bell_that_nobody_rings_is_a_fault(rt: HostRuntime) {
     let (_far_tx, rx) = link_from::<ChannelLane>(&rt, alloc, 0, 0);
     let ports = one_port::<ChannelLane>(&rt, alloc, tx, rx, ringer);
     let end = run_alone::<ChannelLane, HostRuntime>(&rt, alloc, &plan, 1, ports, bell, 0);
-    same(&rt, &(end.ate, end.failed, end.tokens.len(), end.ports.len()), &(0, 0, 0, 1));
+    same(
+        &rt,
+        &(end.ate, end.failed, end.tokens.len(), end.ports.len()),
+        &(0, 0, 0, 1),
+    );
     same(&rt, &end.fault, &Some(SiteFault::Lost(1)));
     assert!(rt; end.stray.is_none());
     let Ok(Letter::Request(_)) = ChannelLane::take(&rt, &mut far_rx) else {

@@ -122,7 +122,11 @@ fn refused_close_is_a_fault(rt: HostRuntime) {
     let end = run_alone::<ChannelLane, HostRuntime>(&rt, alloc, &plan, 0, ports, bell, 0);
     assert!(rt; neighbour.join(&rt).is_some());
     assert!(rt; end.journal.as_slice() == DONE_AND_CLOSE.as_slice());
-    same(&rt, &(end.ate, end.forks.len(), end.tokens.len()), &(1, 1, 0));
+    same(
+        &rt,
+        &(end.ate, end.forks.len(), end.tokens.len()),
+        &(1, 1, 0),
+    );
     same(&rt, &end.fault, &Some(SiteFault::Lost(0)));
     assert!(rt; end.stray.is_none());
 }

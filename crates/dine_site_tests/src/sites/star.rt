@@ -126,7 +126,11 @@ fn letters_of_three_links_are_taken_as_the_bell_rang(rt: HostRuntime) {
     );
     let Left { end, _outs } = runs(&rt, alloc, ins, &[2, 2, 0, 1, 0, 1, 2, 0, 1]);
     same(&rt, &(end.site, end.ate, end.failed), &(3, 1, 0));
-    same(&rt, &(end.tokens.len(), end.ports.len(), end.forks.len()), &(0, 3, 3));
+    same(
+        &rt,
+        &(end.tokens.len(), end.ports.len(), end.forks.len()),
+        &(0, 3, 3),
+    );
     assert!(rt; end.stray.is_none() && end.fault.is_none());
     for fork in &end.forks {
         has_log(

@@ -1,0 +1,11 @@
+//! What the tests of several crates assert.
+#![tactic(auto)]
+
+use std::fmt::Debug;
+use std::process::Abort;
+
+/// As `assert_eq!`. Its steps are proved here once, and not once more wherever two values are compared. It promises
+/// nothing of them to its caller, so what has to be known afterwards is asserted by `assert!`.
+pub fn same<T: PartialEq + Debug>(rt: &impl Abort, left: &T, right: &T) {
+    assert_eq!(rt; *left, *right);
+}

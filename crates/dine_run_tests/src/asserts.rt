@@ -1,8 +1,0 @@
-// What tests assert.
-use std::fmt::Debug;
-use std::process::Abort;
-
-// As `assert_eq!`, whose steps are proved here once, and not once more wherever two values are compared.
-pub fn same<T: PartialEq + Debug>(rt: &impl Abort, left: &T, right: &T) {
-    assert_eq!(rt; *left, *right);
-}
