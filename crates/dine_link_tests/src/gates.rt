@@ -66,15 +66,15 @@ where
         threads.push(child).ok();
     }
     see_them_wait(&rt, &came, 3);
-    same(rt, &left.load(Ordering::SeqCst), &0);
+    same(&rt, &left.load(Ordering::SeqCst), &0);
     gate.tell(&rt, signal);
     for child in threads {
         let Some(child) = child else {
             return Err(Fail::from("no thread"));
         };
-        same(rt, &child.join(&rt), &is_open);
+        same(&rt, &child.join(&rt), &is_open);
     }
-    same(rt, &left.load(Ordering::SeqCst), &3);
+    same(&rt, &left.load(Ordering::SeqCst), &3);
     Ok(())
 }
 

@@ -72,15 +72,15 @@ where
 {
     let letters = requests(alloc, 2000)?;
     let (end, taken) = exchange::<L, R>(rt, alloc, letters, false, 2000)?;
-    same(rt, &taken.len(), &2000);
+    same(&rt, &taken.len(), &2000);
     for (edge, letter) in (0..2000).zip(taken) {
         let Letter::Request(token) = letter else {
             panic!(rt; "no request at {edge}");
         };
-        same(rt, &token.edge(), &edge);
+        same(&rt, &token.edge(), &edge);
     }
     same(
-        rt,
+        &rt,
         &(end.put(), end.taken(), end.shut()),
         &(2000, 2000, false),
     );
@@ -132,19 +132,19 @@ where
 {
     let letters = sent_forks(alloc, 200)?;
     let (end, taken) = exchange::<L, R>(rt, alloc, letters, false, 200)?;
-    same(rt, &taken.len(), &200);
+    same(&rt, &taken.len(), &200);
     for (edge, letter) in (0..200).zip(taken) {
         let Letter::Fork(fork) = letter else {
             panic!(rt; "no fork at {edge}");
         };
         same(
-            rt,
+            &rt,
             &(fork.edge(), fork.at(), fork.is_dirty()),
             &(edge, 1, false),
         );
-        same(rt, &fork.len(), &(2 - edge % 2));
+        same(&rt, &fork.len(), &(2 - edge % 2));
     }
-    same(rt, &(end.put(), end.taken()), &(200, 200));
+    same(&rt, &(end.put(), end.taken()), &(200, 200));
     Ok(())
 }
 
@@ -167,11 +167,11 @@ where
 {
     let (end, taken) = exchange::<L, R>(rt, alloc, requests(alloc, 20)?, true, 21)?;
     let last = taken.last().map(|letter| letter.kind());
-    same(rt, &last, &Some(Kind4::Close));
-    same(rt, &(end.put(), end.taken(), end.shut()), &(21, 21, true));
+    same(&rt, &last, &Some(Kind4::Close));
+    same(&rt, &(end.put(), end.taken(), end.shut()), &(21, 21, true));
     let (end, taken) = exchange::<L, R>(rt, alloc, requests(alloc, 3)?, false, 1)?;
     same(
-        rt,
+        &rt,
         &(taken.len(), end.put(), end.taken(), end.shut()),
         &(1, 3, 1, false),
     );

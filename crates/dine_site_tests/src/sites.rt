@@ -123,3 +123,24 @@ fn has_log(rt: &impl Abort, fork: &Fork, log: &[Entry]) {
         same(rt, &fork.entry(i), &log[i as usize]);
     }
 }
+
+// A letter of this kind was handed back at the first place.
+fn has_stray<L: Lane>(rt: &impl Abort, end: &SiteEnd<L, Fixed>, kind: Kind4) {
+    match &end.stray {
+        Some(stray) => same(rt, &(stray.link, stray.letter.kind()), &(0, kind)),
+        None => panic!(rt; "no stray"),
+    }
+}
+
+// The higher site put a Request and Close.
+fn finds_request_and_close<L: Lane, R: Wait + Abort>(rt: &R, far_rx: L::Rx)
+    requires { IsUnused (L.seen_rx far_rx) }
+{
+    let mut far_rx = far_rx;
+    let Ok(Letter::Request(_)) = L::take(rt, &mut far_rx) else {
+        panic!(rt; "no Request");
+    };
+    let Ok(Letter::Close) = L::take(rt, &mut far_rx) else {
+        panic!(rt; "no Close");
+    };
+}

@@ -51,10 +51,10 @@ where
     for _ in 0..1000 {
         thread::yield_now();
     }
-    same(rt, &count.load(Ordering::SeqCst), &4);
+    same(&rt, &count.load(Ordering::SeqCst), &4);
     assert!(rt; L::take(&rt, &mut rx).is_ok());
     child.join(&rt);
-    same(rt, &count.load(Ordering::SeqCst), &5);
+    same(&rt, &count.load(Ordering::SeqCst), &5);
     Ok(())
 }
 

@@ -70,32 +70,22 @@ fn early_closed<L: Lane, R: Wait + Abort>(
 }
 
 // The lower site eats, says Done, gives its fork, finds the early Close, and closes.
+fn tells_early_close<L: Lane>(rt: &impl Abort, end: &SiteEnd<L, Fixed>) {
+    assert!(rt; end.journal.as_slice() == &LOWER[..6]);
+    same(rt, &(end.site, end.ate, end.failed), &(0, 1, 0));
+    same(rt, &(end.forks.len(), end.ports.len()), &(0, 1));
+    assert!(rt; end.tokens.len() == 1);
+    same(rt, &end.tokens[0].edge(), &0);
+    let early = SiteFault::Breach(0, Breach::ClosedEarly);
+    same(rt, &end.fault, &Some(early));
+    has_stray(rt, end, Kind4::Close);
+}
+
+// Its neighbour's bell rings for each letter.
 fn finds_early_close<L: Lane, R: Wait + Abort>(rt: &R, alloc: Global) {
     let plan = read_plan(alloc, PAIR).expect(rt, "a plan");
     let (end, _rx, mut bell) = early_closed::<L, R>(rt, alloc, &plan);
-    let SiteEnd {
-        site,
-        ate,
-        failed,
-        diner: _,
-        forks,
-        tokens,
-        journal,
-        ports,
-        bell: _,
-        stray,
-        fault,
-    } = end;
-    assert!(rt; journal.as_slice() == &LOWER[..6]);
-    same(rt, &(site, ate, failed), &(0, 1, 0));
-    same(rt, &(forks.len(), ports.len()), &(0, 1));
-    assert!(rt; tokens.len() == 1);
-    same(rt, &tokens[0].edge(), &0);
-    same(rt, &fault, &Some(SiteFault::Breach(0, Breach::ClosedEarly)));
-    let Some(stray) = stray else {
-        panic!(rt; "no stray");
-    };
-    same(rt, &(stray.link, stray.letter.kind()), &(0, Kind4::Close));
+    tells_early_close(rt, &end);
     for _ in 0..3 {
         same(rt, &bell.wait(rt), &Ok(0));
     }
@@ -133,43 +123,26 @@ fn site_of_an_early_close_puts_done_fork_close(rt: HostRuntime) {
     puts_done_fork_close::<RingLane, HostRuntime>(&rt, rt.alloc())
 }
 
-// The higher site, over the link that the lower one left after the early Close.
-fn higher_eats<L: Lane, R: Wait + Abort>(rt: &R, alloc: Global) {
-    let plan = read_plan(alloc, PAIR).expect(rt, "a plan");
-    let (_end, rx, bell) = early_closed::<L, R>(rt, alloc, &plan);
-    let (tx, mut far_rx) = link_from::<L>(rt, alloc, 0, 1);
-    let (ringer, _far_bell) = one_ringer(rt, alloc);
-    let ports = one_port::<L>(rt, alloc, tx, rx, ringer);
-    let SiteEnd {
-        site,
-        ate,
-        failed,
-        diner: _,
-        mut forks,
-        tokens,
-        journal,
-        ports,
-        bell: _,
-        stray,
-        fault,
-    } = run_alone::<L, R>(rt, alloc, &plan, 1, ports, bell, 0);
-    assert!(rt; journal.as_slice() == HIGHER.as_slice());
-    same(rt, &(site, ate, failed), &(1, 1, 0));
-    same(rt, &(tokens.len(), ports.len()), &(0, 1));
-    assert!(rt; stray.is_none() && fault.is_none());
-    let Some(fork) = forks.pop() else {
-        panic!(rt; "no fork");
-    };
-    assert!(rt; forks.is_empty());
-    has_log(
-        rt,
-        &fork,
-        &[
-            Entry::Meal { site: 0, k: 1 },
-            Entry::Move { to: 1 },
-            Entry::Meal { site: 1, k: 1 },
-        ],
-    );
+// The higher site did all, with the fork that came with its log.
+fn ate_with_the_fork<L: Lane>(rt: &impl Abort, end: &SiteEnd<L, Fixed>) {
+    assert!(rt; end.journal.as_slice() == HIGHER.as_slice());
+    same(rt, &(end.site, end.ate, end.failed), &(1, 1, 0));
+    same(rt, &(end.tokens.len(), end.ports.len()), &(0, 1));
+    assert!(rt; end.stray.is_none() && end.fault.is_none());
+    assert!(rt; end.forks.len() == 1);
+    let log = [
+        Entry::Meal { site: 0, k: 1 },
+        Entry::Move { to: 1 },
+        Entry::Meal { site: 1, k: 1 },
+    ];
+    has_log(rt, &end.forks[0], &log);
+}
+
+// The higher site put a Request, Done and Close.
+fn finds_request_done_close<L: Lane, R: Wait + Abort>(rt: &R, far_rx: L::Rx)
+    requires { IsUnused (L.seen_rx far_rx) }
+{
+    let mut far_rx = far_rx;
     let Ok(Letter::Request(_)) = L::take(rt, &mut far_rx) else {
         panic!(rt; "no request");
     };
@@ -179,6 +152,18 @@ fn higher_eats<L: Lane, R: Wait + Abort>(rt: &R, alloc: Global) {
     let Ok(Letter::Close) = L::take(rt, &mut far_rx) else {
         panic!(rt; "no Close");
     };
+}
+
+// The higher site, over the link that the lower one left after the early Close.
+fn higher_eats<L: Lane, R: Wait + Abort>(rt: &R, alloc: Global) {
+    let plan = read_plan(alloc, PAIR).expect(rt, "a plan");
+    let (_end, rx, bell) = early_closed::<L, R>(rt, alloc, &plan);
+    let (tx, far_rx) = link_from::<L>(rt, alloc, 0, 1);
+    let (ringer, _far_bell) = one_ringer(rt, alloc);
+    let ports = one_port::<L>(rt, alloc, tx, rx, ringer);
+    let end = run_alone::<L, R>(rt, alloc, &plan, 1, ports, bell, 0);
+    ate_with_the_fork(rt, &end);
+    finds_request_done_close::<L, R>(rt, far_rx)
 }
 
 #[test]
@@ -212,10 +197,7 @@ fn refused_put_is_a_fault(rt: HostRuntime) {
     );
     same(&rt, &end.fault, &Some(SiteFault::Lost(0)));
     assert!(rt; end.journal.as_slice() == &LOWER[..4]);
-    let Some(stray) = &end.stray else {
-        panic!(rt; "no stray");
-    };
-    same(&rt, &(stray.link, stray.letter.kind()), &(0, Kind4::Done));
+    has_stray(&rt, &end, Kind4::Done);
 }
 
 #[test]
@@ -225,7 +207,7 @@ fn bell_that_nobody_rings_is_a_fault(rt: HostRuntime) {
     let (ringers, bell) = bell_of(&rt, alloc, 1);
     drop(ringers);
     let (ringer, _far_bell) = one_ringer(&rt, alloc);
-    let (tx, mut far_rx) = link_from::<ChannelLane>(&rt, alloc, 0, 1);
+    let (tx, far_rx) = link_from::<ChannelLane>(&rt, alloc, 0, 1);
     let (_far_tx, rx) = link_from::<ChannelLane>(&rt, alloc, 0, 0);
     let ports = one_port::<ChannelLane>(&rt, alloc, tx, rx, ringer);
     let end = run_alone::<ChannelLane, HostRuntime>(&rt, alloc, &plan, 1, ports, bell, 0);
@@ -236,12 +218,7 @@ fn bell_that_nobody_rings_is_a_fault(rt: HostRuntime) {
     );
     same(&rt, &end.fault, &Some(SiteFault::Lost(1)));
     assert!(rt; end.stray.is_none());
-    let Ok(Letter::Request(_)) = ChannelLane::take(&rt, &mut far_rx) else {
-        panic!(rt; "no request");
-    };
-    let Ok(Letter::Close) = ChannelLane::take(&rt, &mut far_rx) else {
-        panic!(rt; "no Close");
-    };
+    finds_request_and_close::<ChannelLane, HostRuntime>(&rt, far_rx)
 }
 
 #[test]

@@ -28,12 +28,7 @@ fn met<L: Lane, R: Wait + Abort>(rt: &R, alloc: Global, site: u32, rx: L::Rx, be
 fn tells<L: Lane>(rt: &impl Abort, end: &SiteEnd<L, Fixed>, ate: u32, breach: Breach, kind: Kind4) {
     same(rt, &(end.ate, end.failed), &(ate, 0));
     same(rt, &end.fault, &Some(SiteFault::Breach(0, breach)));
-    match &end.stray {
-        Some(stray) => {
-            same(rt, &(stray.link, stray.letter.kind()), &(0, kind));
-        }
-        None => panic!(rt; "no stray"),
-    }
+    has_stray(rt, end, kind);
 }
 
 // The lower site has its own fork, with its meal in the log, and no token.
@@ -54,19 +49,6 @@ fn finds_done_fork_close<L: Lane, R: Wait + Abort>(rt: &R, far_rx: L::Rx)
     };
     let Ok(Letter::Fork(_)) = L::take(rt, &mut far_rx) else {
         panic!(rt; "no fork");
-    };
-    let Ok(Letter::Close) = L::take(rt, &mut far_rx) else {
-        panic!(rt; "no Close");
-    };
-}
-
-// The higher site put a Request and Close.
-fn finds_request_and_close<L: Lane, R: Wait + Abort>(rt: &R, far_rx: L::Rx)
-    requires { IsUnused (L.seen_rx far_rx) }
-{
-    let mut far_rx = far_rx;
-    let Ok(Letter::Request(_)) = L::take(rt, &mut far_rx) else {
-        panic!(rt; "no Request");
     };
     let Ok(Letter::Close) = L::take(rt, &mut far_rx) else {
         panic!(rt; "no Close");
@@ -196,10 +178,7 @@ fn put_that_its_end_refuses_is_a_fault(rt: HostRuntime) {
     );
     let end = run_alone::<FaultLane, HostRuntime>(&rt, alloc, &plan, 0, ports, bell, 0);
     same(&rt, &(end.ate, end.fault), &(1, Some(SiteFault::Lost(0))));
-    let Some(stray) = &end.stray else {
-        panic!(rt; "no stray");
-    };
-    same(&rt, &(stray.link, stray.letter.kind()), &(0, Kind4::Done));
+    has_stray(&rt, &end, Kind4::Done);
     assert!(rt; end.ports.len() == 1);
     assert!(rt; matches!(end.ports[0].tx, TxEnd::Live(_)));
     has_own_fork(&rt, &end);
