@@ -1,6 +1,6 @@
 // Plans made by a program, beside what is read of the text that says the same.
+use crate::asserts::same;
 use crate::plans::{in_short, second_in_short};
-use dine_asserts::same;
 use dine_plan::{Plan, PlanBuilder, PlanFault, read_plan};
 use dine_token::Act;
 use std::alloc::{AllocError, Global};

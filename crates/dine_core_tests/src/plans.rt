@@ -3,7 +3,7 @@
 ghost use Rattle.std.specs.Prelude.{◌<◌};
 ghost use Rattle.dine_graph.specs.Plan.{site_count};
 
-use dine_asserts::same;
+use crate::asserts::same;
 use dine_plan::{Plan, PlanFault, read_plan};
 use dine_token::Act;
 use std::alloc::{AllocError, Global};

@@ -2,7 +2,7 @@
 
 mod breaches;
 
-use dine_asserts::same;
+use crate::asserts::same;
 use dine_core::site::{fresh_forks, fresh_tokens};
 use dine_core::{Breach, EventKind, Kind4, Letter, Packed, Parts, Phase, SiteCore};
 use dine_plan::{Plan, read_plan};
@@ -398,15 +398,13 @@ fn fresh_forks_are_those_of_the_lower_end(rt: HostRuntime) -> Result<(), Fail> {
     let plan = read_plan(alloc, ROW).expect(&rt, "a plan");
     assert!(&rt; 1 < plan.sites());
     let forks = fresh_forks(alloc, &plan, 1)?;
-    assert_eq!(&rt; forks.len(), 1);
+    assert!(&rt; forks.len() == 1);
     let fork = &forks[0];
-    assert_eq!(&rt; fork.edge(), 1);
-    assert_eq!(&rt; fork.ends(), (1, 2));
-    assert_eq!(&rt; fork.due_of(1), 0);
-    assert_eq!(&rt; fork.due_of(2), 1);
-    assert_eq!(&rt; fork.len(), 0);
+    same(&rt, &(fork.edge(), fork.len()), &(1, 0));
+    assert!(&rt; fork.ends() == (1, 2));
+    same(&rt, &(fork.due_of(1), fork.due_of(2)), &(0, 1));
     assert!(&rt; 2 < plan.sites());
-    assert_eq!(&rt; fresh_forks(alloc, &plan, 2)?.len(), 0);
+    same(&rt, &fresh_forks(alloc, &plan, 2)?.len(), &0);
     Ok(())
 }
 
@@ -416,9 +414,9 @@ fn fresh_tokens_are_those_of_the_higher_end(rt: HostRuntime) -> Result<(), Fail>
     let plan = read_plan(alloc, ROW).expect(&rt, "a plan");
     assert!(&rt; 1 < plan.sites());
     let tokens = fresh_tokens(alloc, &plan, 1)?;
-    assert_eq!(&rt; tokens.len(), 1);
-    assert_eq!(&rt; tokens[0].edge(), 0);
-    assert_eq!(&rt; fresh_tokens(alloc, &plan, 0)?.len(), 0);
+    assert!(&rt; tokens.len() == 1);
+    same(&rt, &tokens[0].edge(), &0);
+    same(&rt, &fresh_tokens(alloc, &plan, 0)?.len(), &0);
     Ok(())
 }
 
@@ -437,14 +435,14 @@ fn packed_core_comes_back_as_it_was(rt: HostRuntime) {
     let alloc = rt.alloc();
     let plan = plan_of(&rt, alloc, JOB, TWO_JOBS);
     let mut core = packed_site(&rt, alloc, &plan, 0).unpack();
-    assert_eq!(&rt; (core.site(), core.degree(), core.ate()), (0, 1, 0));
+    same(&rt, &(core.site(), core.degree(), core.ate()), &(0, 1, 0));
     assert!(&rt; 0 < core.degree());
     assert!(&rt; core.has_fork(0));
     assert!(&rt; !core.has_token(0));
     grow_hungry(&rt, &mut core);
     eat(&rt, &mut core);
-    assert_eq!(&rt; core.ate(), 1);
-    assert_eq!(&rt; spend(&rt, core).forks.len(), 1);
+    same(&rt, &core.ate(), &1);
+    same(&rt, &spend(&rt, core).forks.len(), &1);
 }
 
 #[test]

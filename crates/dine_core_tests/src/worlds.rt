@@ -6,7 +6,7 @@ mod outcomes;
 mod readers;
 mod side_by_side;
 
-use dine_asserts::same;
+use crate::asserts::same;
 use dine_core::{NotEnabled, World};
 use dine_plan::{Plan, read_plan};
 use dine_rules::{Event, EventKind, Phase};

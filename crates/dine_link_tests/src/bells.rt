@@ -1,5 +1,5 @@
 // Rings of one thread and of several.
-use dine_asserts::same;
+use crate::asserts::same;
 use dine_link::{Bell, LinkFault, Lost, Ringer, Wants};
 use dine_rules::Kind4;
 use dine_set::BitSet64;

@@ -1,5 +1,5 @@
 // Threads at a gate.
-use dine_asserts::same;
+use crate::asserts::same;
 use dine_link::{Gate, Signal};
 use std::alloc::Global;
 use std::process::Abort;

@@ -6,7 +6,7 @@ mod refusals;
 mod slowly;
 mod waits;
 
-use dine_asserts::same;
+use crate::asserts::same;
 use dine_link::{ChannelLane, FaultLane, Lane, LinkFault, RingLane, TxEnd};
 use dine_rules::{Kind4, Letter};
 use dine_token::{Act, Fork, Held, Meal, Token};

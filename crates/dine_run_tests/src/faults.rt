@@ -1,6 +1,6 @@
 // What an answer of `run` that gathers nothing, or not all, says.
+use crate::asserts::same;
 use crate::diners::Taster;
-use dine_asserts::same;
 use dine_run::{Breach, CallLog, Joined, RunFault, SiteFault, SiteOut};
 use std::alloc::{AllocError, Global};
 use std::process::Abort;

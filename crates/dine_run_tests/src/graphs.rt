@@ -1,7 +1,7 @@
 // Graphs, the plans of them, and what is left of a run on one: it is held against the graph, and each fork's log
 // against the rules, entry by entry.
+use crate::asserts::same;
 use crate::diners::Taster;
-use dine_asserts::same;
 use dine_core::EventKind;
 use dine_link::LinkEnd;
 use dine_run::{Call, SiteOut};

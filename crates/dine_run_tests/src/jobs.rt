@@ -1,6 +1,6 @@
 // Runs of jobs of which nothing is proved.
+use crate::asserts::same;
 use crate::graphs::{plan_text, resigning_pair};
-use dine_asserts::same;
 use dine_run::{Gathered, Job, JobFault, Jobs, Plan, RingLane, SeatFault, SiteOut, read_plan, run};
 use std::alloc::{AllocError, Global};
 use std::process::Abort;

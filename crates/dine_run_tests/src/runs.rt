@@ -1,7 +1,7 @@
 // Whole runs on graphs of many kinds.
+use crate::asserts::same;
 use crate::diners::{Taster, outcomes_of, tasters};
 use crate::graphs::*;
-use dine_asserts::same;
 use dine_core::{EventKind, World};
 use dine_link::{ChannelLane, Lane, RingLane};
 use dine_plan::{Plan, read_plan};

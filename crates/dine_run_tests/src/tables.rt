@@ -2,8 +2,8 @@
 ghost use Rattle.std.specs.Prelude.{◌≡◌, IfOk};
 ghost use Rattle.dine_run.specs.Tables.{IsGatheredOf};
 
+use crate::asserts::same;
 use crate::diners::Taster;
-use dine_asserts::same;
 use dine_plan::{Plan, read_plan};
 use dine_run::{CallLog, EdgeRow, Gathered, SiteOut, SiteRow, edge_table, site_table};
 use dine_token::{Act, Fork, Held, Meal};

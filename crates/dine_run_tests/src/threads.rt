@@ -1,7 +1,7 @@
 // Runs with real threads.
+use crate::asserts::same;
 use crate::diners::{Taster, Waiter, waiters};
 use crate::graphs::{apart, plan_text};
-use dine_asserts::same;
 use dine_link::{ChannelLane, Lane, RingLane};
 use dine_plan::read_plan;
 use dine_run::{CallLog, Jobs, RunFault, SiteOut, run, run_within};

@@ -1,5 +1,5 @@
 // One order of the journals of two sites.
-use dine_asserts::same;
+use crate::asserts::same;
 use dine_core::{Event, EventKind, World};
 use dine_plan::{Plan, read_plan};
 use dine_run::{OrderFault, order};

@@ -9,8 +9,8 @@ mod refusals;
 mod star;
 mod unlawful;
 
+use crate::asserts::same;
 use crate::journals::{HIGHER, LOWER};
-use dine_asserts::same;
 use dine_core::SiteCore;
 use dine_core::site::{fresh_forks, fresh_tokens};
 use dine_link::{Bell, ChannelLane, Lane, RingLane, Ringer, TxEnd};

@@ -1,6 +1,6 @@
 // The words of the process.
+use crate::asserts::same;
 use dine::{Fault, words_of};
-use dine_asserts::same;
 use std::env::FillError;
 use std::rt::Env;
 use std::test::Fail;

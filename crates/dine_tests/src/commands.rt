@@ -1,8 +1,8 @@
 // Whole runs, from words and input to what is printed and told.
 use super::input::stutters;
 use super::output::takes_pieces;
+use crate::asserts::same;
 use dine::run_cmd;
-use dine_asserts::same;
 use std::alloc::{AllocError, Global};
 use std::io;
 use std::io::{Read, Write};

@@ -1,6 +1,6 @@
 // What ends a command, its line and its status.
+use crate::asserts::same;
 use dine::{Fault, Status, exit_of};
-use dine_asserts::same;
 use dine_plan::PlanFault;
 use dine_rules::Breach;
 use dine_run::{RunCause, SiteFault};

@@ -1,6 +1,6 @@
 // How an input is read: in pieces of any size, to its end or to the first byte past the limit.
 use super::commands::{PAIR, leaves};
-use dine_asserts::same;
+use crate::asserts::same;
 use std::io;
 use std::io::Read;
 use std::process::Abort;

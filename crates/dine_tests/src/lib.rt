@@ -6,6 +6,8 @@
 #[cfg(test)]
 mod arguments;
 #[cfg(test)]
+mod asserts;
+#[cfg(test)]
 mod commands;
 #[cfg(test)]
 mod fault_lines;

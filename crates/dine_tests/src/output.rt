@@ -1,6 +1,6 @@
 // How a text and a fault's line are written: in pieces of any size, to their end or to the first write that fails.
 use super::commands::{PAIR, run_into};
-use dine_asserts::same;
+use crate::asserts::same;
 use std::alloc::Global;
 use std::io;
 use std::io::Write;

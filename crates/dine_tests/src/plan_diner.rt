@@ -1,8 +1,8 @@
 // The diner of a plan does its jobs.
 ghost use Rattle.std.specs.Prelude.{◌≡◌, ◌+◌, ◌<◌, IfOk};
 
+use crate::asserts::same;
 use dine::PlanDiner;
-use dine_asserts::same;
 use dine_plan::read_plan;
 use dine_run::{Call, Diner};
 use dine_token::{Act, Meal};

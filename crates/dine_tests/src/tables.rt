@@ -2,8 +2,8 @@
 ghost use Rattle.std.specs.Prelude.{◌≡◌, IfOk};
 ghost use Rattle.dine_graph.specs.Plan.{edge_count, site_count};
 
+use crate::asserts::same;
 use dine::{write_edges, write_sites};
-use dine_asserts::same;
 use dine_plan::{Plan, read_plan};
 use dine_run::{EdgeRow, SiteRow};
 use std::alloc::Global;

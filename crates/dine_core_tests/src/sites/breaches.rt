@@ -3,7 +3,7 @@ use super::{
     JOB, ROW, THREE_JOBS, TWO_JOBS, ask, close, core_of, eat, fork_from, give, grow_hungry,
     plan_of, refuse, request, say_done, spend, take, take_at,
 };
-use dine_asserts::same;
+use crate::asserts::same;
 use dine_core::{Breach, Kind4, Letter, SiteCore};
 use dine_plan::read_plan;
 use dine_token::{Fork, Token};
@@ -311,10 +311,10 @@ fn letters_come_at_a_place_that_is_not_closed(rt: HostRuntime) {
 
 #[test]
 fn breaches_have_the_numbers_one_to_six(rt: HostRuntime) {
-    assert_eq!(&rt; Breach::AfterClose.number(), 1);
-    assert_eq!(&rt; Breach::RequestOutOfTurn.number(), 2);
-    assert_eq!(&rt; Breach::ForkOutOfTurn.number(), 3);
-    assert_eq!(&rt; Breach::StrangeFork.number(), 4);
-    assert_eq!(&rt; Breach::DoneOutOfTurn.number(), 5);
-    assert_eq!(&rt; Breach::ClosedEarly.number(), 6);
+    same(&rt, &Breach::AfterClose.number(), &1);
+    same(&rt, &Breach::RequestOutOfTurn.number(), &2);
+    same(&rt, &Breach::ForkOutOfTurn.number(), &3);
+    same(&rt, &Breach::StrangeFork.number(), &4);
+    same(&rt, &Breach::DoneOutOfTurn.number(), &5);
+    same(&rt, &Breach::ClosedEarly.number(), &6);
 }

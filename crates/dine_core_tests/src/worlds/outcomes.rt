@@ -4,7 +4,7 @@ ghost use Rattle.dine_core.specs.Worlds.{AreOutcomesFor, lists_of};
 
 use super::graph::Graph;
 use super::{RESIGNING, entry_at, opened, plan_by, spend};
-use dine_asserts::same;
+use crate::asserts::same;
 use dine_core::World;
 use dine_plan::Plan;
 use dine_token::Entry;

@@ -2,7 +2,7 @@
 
 use super::model::Model;
 use super::{opened, pair, spend};
-use dine_asserts::same;
+use crate::asserts::same;
 use dine_core::{Said, Whereabouts, World};
 use dine_rules::Kind4;
 use std::process::Abort;

@@ -6,7 +6,7 @@ use super::model::{Model, events_at};
 use super::outcomes::opened_with;
 use super::readers::same_readers;
 use super::{act_of, entry_at, first_value, opened, period_at, plan_by};
-use dine_asserts::same;
+use crate::asserts::same;
 use dine_core::{NotEnabled, World};
 use dine_plan::Plan;
 use dine_rules::{Event, EventKind, Kind4};

@@ -1,5 +1,5 @@
 // Steps where the other end is gone, and what is told of refusals.
-use dine_asserts::same;
+use crate::asserts::same;
 use dine_link::{
     ChannelLane, FaultLane, Lane, LinkFault, Lost, RingLane, TxEnd, fault_rx, fault_tx,
 };

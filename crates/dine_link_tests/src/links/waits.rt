@@ -1,7 +1,7 @@
 // A full link makes the one who puts wait.
 ghost use Rattle.std.specs.Prelude.{◌≡◌, []};
 
-use dine_asserts::same;
+use crate::asserts::same;
 use dine_link::{ChannelLane, Lane, RingLane};
 use dine_rules::Letter;
 use dine_token::Token;
