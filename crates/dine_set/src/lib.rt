@@ -2,7 +2,5 @@
 #![tactic(auto)]
 
 mod bit_set;
-#[cfg(test)]
-mod tests;
 
 pub use bit_set::BitSet64;

@@ -9,8 +9,6 @@ pub mod laws;
 mod log_entry;
 mod log_period;
 mod meal;
-#[cfg(test)]
-mod tests;
 mod token;
 
 pub use act::Act;

@@ -1,4 +1,6 @@
-use super::*;
+// Forks with the logs of some ways that they may go, meals and tokens.
+use crate::asserts::same;
+use dine_token::{Act, Entry, Fork, Held, Meal, Period, Token};
 use std::test::Fail;
 
 fn meal(site: u32, k: u32) -> Entry {
@@ -17,25 +19,30 @@ fn period(site: u32, first: u32, count: u32) -> Period {
 #[test]
 fn fork_goes_from_one_end_to_the_other(rt: HostRuntime) -> Result<(), Fail> {
     let fork = Fork::open(rt.alloc(), 7, 2, 5, 1, 1, 0)?;
-    assert_eq!(rt; fork.edge(), 7);
-    assert_eq!(rt; fork.ends(), (2, 5));
-    assert_eq!(rt; (fork.due_of(2), fork.due_of(5)), (1, 1));
-    assert_eq!(rt;
-        (fork.at(), fork.is_dirty(), fork.len(), fork.moves()),
-        (2, true, 0, 0)
+    same(&rt, &fork.edge(), &7);
+    same(&rt, &fork.ends(), &(2, 5));
+    same(&rt, &(fork.due_of(2), fork.due_of(5)), &(1, 1));
+    same(
+        &rt,
+        &(fork.at(), fork.is_dirty(), fork.len(), fork.moves()),
+        &(2, true, 0, 0),
     );
     let mut hands = Vec::with_capacity(rt.alloc(), 1)?;
     hands.push_reserved(Held::take(fork));
     let first = Meal::begin(2, 1, Act::Add(0), hands);
-    assert_eq!(rt; (first.site(), first.k(), first.len()), (2, 1, 1));
-    assert_eq!(rt; first.fork(0).meals_of(2), 1);
+    same(&rt, &(first.site(), first.k(), first.len()), &(2, 1, 1));
+    same(&rt, &first.fork(0).meals_of(2), &1);
     let mut hands = first.end();
     let Some(held) = hands.pop() else {
         unreachable!();
     };
-    assert_eq!(rt; held.fork().len(), 1);
+    same(&rt, &held.fork().len(), &1);
     let fork = held.give(5);
-    assert_eq!(rt; (fork.at(), fork.is_dirty(), fork.moves()), (5, false, 1));
+    same(
+        &rt,
+        &(fork.at(), fork.is_dirty(), fork.moves()),
+        &(5, false, 1),
+    );
     hands.push_reserved(Held::take(fork));
     let mut hands = Meal::begin(5, 1, Act::Add(0), hands).end();
     let Some(held) = hands.pop() else {
@@ -43,19 +50,22 @@ fn fork_goes_from_one_end_to_the_other(rt: HostRuntime) -> Result<(), Fail> {
     };
     hands.destroy_empty();
     let fork = held.keep();
-    assert_eq!(rt; fork.len(), 3);
-    assert_eq!(rt;
-        (fork.entry(0), fork.entry(1), fork.entry(2)),
-        (meal(2, 1), to(5), meal(5, 1))
+    assert!(rt; fork.len() == 3);
+    same(
+        &rt,
+        &(fork.entry(0), fork.entry(1), fork.entry(2)),
+        &(meal(2, 1), to(5), meal(5, 1)),
     );
-    assert_eq!(rt;
-        (fork.meals_of(2), fork.meals_of(5), fork.is_dirty()),
-        (1, 1, true)
+    same(
+        &rt,
+        &(fork.meals_of(2), fork.meals_of(5), fork.is_dirty()),
+        &(1, 1, true),
     );
-    assert_eq!(rt; fork.periods(), 2);
-    assert_eq!(rt;
-        (fork.period(0), fork.period(1)),
-        (period(2, 1, 1), period(5, 1, 1))
+    assert!(rt; fork.periods() == 2);
+    same(
+        &rt,
+        &(fork.period(0), fork.period(1)),
+        &(period(2, 1, 1), period(5, 1, 1)),
     );
     Ok(())
 }
@@ -64,7 +74,11 @@ fn fork_goes_from_one_end_to_the_other(rt: HostRuntime) -> Result<(), Fail> {
 #[test]
 fn fork_that_goes_first_has_an_empty_period(rt: HostRuntime) -> Result<(), Fail> {
     let fork = Fork::open(rt.alloc(), 0, 0, 1, 1, 1, 0)?;
-    assert_eq!(rt; (fork.periods(), fork.period(0)), (1, period(0, 1, 0)));
+    same(
+        &rt,
+        &(fork.periods(), fork.period(0)),
+        &(1, period(0, 1, 0)),
+    );
     let fork = Held::take(fork).give(1);
     let mut hands = Vec::with_capacity(rt.alloc(), 1)?;
     hands.push_reserved(Held::take(fork));
@@ -74,25 +88,27 @@ fn fork_that_goes_first_has_an_empty_period(rt: HostRuntime) -> Result<(), Fail>
     };
     hands.destroy_empty();
     let fork = held.keep();
-    assert_eq!(rt; (fork.len(), fork.moves(), fork.periods()), (2, 1, 2));
-    assert_eq!(rt;
-        (fork.period(0), fork.period(1)),
-        (period(0, 1, 0), period(1, 1, 1))
+    assert!(rt; fork.len() == 2 && fork.periods() == 2);
+    same(&rt, &fork.moves(), &1);
+    same(
+        &rt,
+        &(fork.period(0), fork.period(1)),
+        &(period(0, 1, 0), period(1, 1, 1)),
     );
-    assert_eq!(rt; (fork.entry(0), fork.entry(1)), (to(1), meal(1, 1)));
+    same(&rt, &(fork.entry(0), fork.entry(1)), &(to(1), meal(1, 1)));
     Ok(())
 }
 
 #[test]
 fn meal_without_forks_has_its_number(rt: HostRuntime) {
     let meal = Meal::begin(3, 4, Act::Add(0), Vec::new(rt.alloc()));
-    assert_eq!(rt; (meal.site(), meal.k(), meal.len()), (3, 4, 0));
+    same(&rt, &(meal.site(), meal.k(), meal.len()), &(3, 4, 0));
     meal.end().destroy_empty();
 }
 
 #[test]
 fn token_names_its_edge(rt: HostRuntime) {
-    assert_eq!(rt; Token::open(511).edge(), 511);
+    same(&rt, &Token::open(511).edge(), &511);
 }
 
 // A value goes with the fork: each meal does its act to it, of every fork in hand, and a Move leaves it.
@@ -100,17 +116,22 @@ fn token_names_its_edge(rt: HostRuntime) {
 fn value_is_changed_by_each_meal(rt: HostRuntime) -> Result<(), Fail> {
     let one = Fork::open(rt.alloc(), 0, 0, 1, 2, 1, 5)?;
     let other = Fork::open(rt.alloc(), 1, 0, 2, 2, 0, 1_000_000)?;
-    assert_eq!(rt; (one.value(), other.value()), (5, 1_000_000));
+    same(&rt, &(one.value(), other.value()), &(5, 1_000_000));
     let mut hands = Vec::with_capacity(rt.alloc(), 2)?;
     hands.push_reserved(Held::take(one));
     hands.push_reserved(Held::take(other));
     let first = Meal::begin(0, 1, Act::Add(10), hands);
-    assert_eq!(rt;
-        (first.fork(0).value(), first.fork(1).value()),
-        (15, 1_000_010)
+    same(
+        &rt,
+        &(first.fork(0).value(), first.fork(1).value()),
+        &(15, 1_000_010),
     );
     let second = Meal::begin(0, 2, Act::Set(7), first.end());
-    assert_eq!(rt; (second.fork(0).value(), second.fork(1).value()), (7, 7));
+    same(
+        &rt,
+        &(second.fork(0).value(), second.fork(1).value()),
+        &(7, 7),
+    );
     let mut hands = second.end();
     let Some(other) = hands.pop() else {
         unreachable!();
@@ -120,10 +141,10 @@ fn value_is_changed_by_each_meal(rt: HostRuntime) -> Result<(), Fail> {
         unreachable!();
     };
     let one = one.give(1);
-    assert_eq!(rt; one.value(), 7);
+    same(&rt, &one.value(), &7);
     hands.push_reserved(Held::take(one));
     let last = Meal::begin(1, 1, Act::Add(3), hands);
-    assert_eq!(rt; last.fork(0).value(), 10);
+    same(&rt, &last.fork(0).value(), &10);
     let mut hands = last.end();
     let Some(one) = hands.pop() else {
         unreachable!();
