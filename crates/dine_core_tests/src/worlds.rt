@@ -326,7 +326,7 @@ fn has_periods(
     let _ = world.replay(choices);
     let _ = world.finish();
     let fork = world.fork(0).expect(rt, "a fork");
-    same(rt, &(fork.periods() as usize), &periods.len());
+    assert!(rt; fork.periods() as usize == periods.len());
     for (i, period) in (0..periods.len() as u32).zip(periods) {
         let Period { site, first, count } = period_at(rt, fork, i);
         same(rt, &(site, first, count), period);
