@@ -4,6 +4,7 @@ use crate::plans::{in_short, second_in_short};
 use dine_plan::{Plan, PlanBuilder, PlanFault, read_plan};
 use dine_token::Act;
 use std::alloc::{AllocError, Global};
+use std::process::Abort;
 use std::test::Fail;
 
 const THREE: &str = r#"
@@ -45,18 +46,27 @@ fn answer(alloc: Global, plan: Result<Plan, PlanFault>) -> Result<String, AllocE
     }
 }
 
+// This is told of a plan, or is its fault as it is printed.
+fn is_told<R: Abort>(
+    rt: &R,
+    alloc: Global,
+    plan: Result<Plan, PlanFault>,
+    want: &str,
+) -> Result<(), AllocError> {
+    let told = answer(alloc, plan)?;
+    same(rt, &told.as_str(), &want);
+    Ok(())
+}
+
 #[test]
 fn builds_what_is_read(rt: HostRuntime) -> Result<(), Fail> {
     let alloc = rt.alloc();
     let built = three(alloc)?;
     let want = "a 1/0/false 2/0/true 3/100/false;b 1/0/false;c; 0-1 1-2 2: a! +0 +10 +0 b =7 c 5 0";
-    let found = answer(alloc, built.finish())?;
-    same(&rt, &found.as_str(), &want);
-    let read = answer(alloc, read_plan(alloc, THREE))?;
-    same(&rt, &read.as_str(), &want);
+    is_told(&rt, alloc, built.finish(), want)?;
+    is_told(&rt, alloc, read_plan(alloc, THREE), want)?;
     let text = built.text()?;
-    let read = answer(alloc, read_plan(alloc, text.as_str()))?;
-    same(&rt, &read.as_str(), &want);
+    is_told(&rt, alloc, read_plan(alloc, text.as_str()), want)?;
     Ok(())
 }
 
@@ -101,30 +111,38 @@ fn told(alloc: Global, plan: &PlanBuilder) -> Result<String, AllocError> {
     format!(in alloc; "built {built}, read {read}")
 }
 
+// That answer is this one.
+fn tells<R: Abort>(
+    rt: &R,
+    alloc: Global,
+    plan: &PlanBuilder,
+    want: &str,
+) -> Result<(), AllocError> {
+    let told = told(alloc, plan)?;
+    same(rt, &told.as_str(), &want);
+    Ok(())
+}
+
 #[test]
 fn refuses_names_and_sites(rt: HostRuntime) -> Result<(), Fail> {
     let alloc = rt.alloc();
     let mut plan = PlanBuilder::open(alloc);
-    same(&rt, &told(alloc, &plan)?.as_str(), &"8 NoSite");
+    tells(&rt, alloc, &plan, "8 NoSite")?;
     plan.site("a", 1_000)?;
     plan.site("b", 1_001)?;
-    same(
-        &rt,
-        &told(alloc, &plan)?.as_str(),
-        &"10 TooManyJobs at site 1",
-    );
+    tells(&rt, alloc, &plan, "10 TooManyJobs at site 1")?;
     plan.site("a", u32::MAX)?;
-    same(&rt, &told(alloc, &plan)?.as_str(), &"7 SiteTwice at site 2");
+    tells(&rt, alloc, &plan, "7 SiteTwice at site 2")?;
     for name in ["", "a b", "\" }]\nversion = 1 #", "\u{e9}"] {
         let mut plan = three(alloc)?;
         plan.site(name, 0)?;
-        same(&rt, &told(alloc, &plan)?.as_str(), &"6 BadName at site 3");
+        tells(&rt, alloc, &plan, "6 BadName at site 3")?;
     }
     let mut plan = PlanBuilder::open(alloc);
     for site in 0..65 {
         plan.site(format!(in alloc; "s{site}")?.as_str(), 1)?;
     }
-    same(&rt, &told(alloc, &plan)?.as_str(), &"9 TooManySites");
+    tells(&rt, alloc, &plan, "9 TooManySites")?;
     Ok(())
 }
 
@@ -133,21 +151,13 @@ fn refuses_edges(rt: HostRuntime) -> Result<(), Fail> {
     let alloc = rt.alloc();
     let mut plan = three(alloc)?;
     plan.edge(0, 1)?;
-    same(
-        &rt,
-        &told(alloc, &plan)?.as_str(),
-        &"14 EdgeTwice at edge 2",
-    );
+    tells(&rt, alloc, &plan, "14 EdgeTwice at edge 2")?;
     plan.edge(2, 2)?;
-    same(&rt, &told(alloc, &plan)?.as_str(), &"13 Loop at edge 3");
+    tells(&rt, alloc, &plan, "13 Loop at edge 3")?;
     plan.edge(3, 0)?;
-    same(
-        &rt,
-        &told(alloc, &plan)?.as_str(),
-        &"12 UnknownEnd at edge 4",
-    );
+    tells(&rt, alloc, &plan, "12 UnknownEnd at edge 4")?;
     plan.site("d", 0)?;
-    same(&rt, &told(alloc, &plan)?.as_str(), &"13 Loop at edge 3");
+    tells(&rt, alloc, &plan, "13 Loop at edge 3")?;
     let mut plan = PlanBuilder::open(alloc);
     for site in 0..33u32 {
         plan.site(format!(in alloc; "s{site}")?.as_str(), 1)?;
@@ -155,7 +165,7 @@ fn refuses_edges(rt: HostRuntime) -> Result<(), Fail> {
             plan.edge(lower, site)?;
         }
     }
-    same(&rt, &told(alloc, &plan)?.as_str(), &"15 TooManyEdges");
+    tells(&rt, alloc, &plan, "15 TooManyEdges")?;
     Ok(())
 }
 
@@ -164,36 +174,20 @@ fn refuses_numbers(rt: HostRuntime) -> Result<(), Fail> {
     let alloc = rt.alloc();
     let mut plan = three(alloc)?;
     plan.value(1, u64::MAX);
-    same(
-        &rt,
-        &told(alloc, &plan)?.as_str(),
-        &"19 ValueTooLarge at edge 1",
-    );
+    tells(&rt, alloc, &plan, "19 ValueTooLarge at edge 1")?;
     plan.act(1, 1, Act::Set(1_000_001));
-    same(
-        &rt,
-        &told(alloc, &plan)?.as_str(),
-        &"18 ActTooLarge at site 1",
-    );
+    tells(&rt, alloc, &plan, "18 ActTooLarge at site 1")?;
     plan.act(0, 1, Act::Add(u64::MAX));
-    same(
-        &rt,
-        &told(alloc, &plan)?.as_str(),
-        &"18 ActTooLarge at site 0",
-    );
+    tells(&rt, alloc, &plan, "18 ActTooLarge at site 0")?;
     plan.turns(1, 1, u32::MAX);
-    same(
-        &rt,
-        &told(alloc, &plan)?.as_str(),
-        &"11 TurnsTooLarge at site 1",
-    );
+    tells(&rt, alloc, &plan, "11 TurnsTooLarge at site 1")?;
     plan.turns(1, 1, 1_000_000);
     plan.act(0, 1, Act::Add(1_000_000));
     plan.act(1, 1, Act::Set(1_000_000));
     plan.value(1, 1_000_000);
     let want =
         "a 1/0/false 2/0/true 3/100/false;b 1/1000000/false;c; 0-1 1-2 2: a! +1000000 +10 +0 b =1000000 c 5 1000000";
-    same(&rt, &told(alloc, &plan)?.as_str(), &want);
+    tells(&rt, alloc, &plan, want)?;
     Ok(())
 }
 

@@ -47,6 +47,11 @@ fn core_of(rt: &impl Abort, alloc: Global, plan: &Plan, site: u32) -> SiteCore {
     SiteCore::open(alloc, plan, site, forks, tokens).expect(rt, "memory")
 }
 
+// What the site does next of itself.
+fn next_is(rt: &impl Abort, core: &SiteCore, kind: Option<EventKind>) {
+    same(rt, &core.next_event(), &kind);
+}
+
 fn grow_hungry(rt: &impl Abort, core: &mut SiteCore) {
     assert!(rt; core.may_hungry());
     core.hungry();
@@ -161,12 +166,45 @@ fn spend(rt: &impl Abort, core: SiteCore) -> Parts {
     core.into_parts()
 }
 
-// What the one fork of the parts has written.
-fn entry_at(rt: &impl Abort, parts: &Parts, i: u32) -> Entry {
+// The one fork of the parts has exactly this log.
+fn has_log(rt: &impl Abort, parts: &Parts, log: &[Entry]) {
     assert!(rt; parts.forks.len() == 1);
     let fork = &parts.forks[0];
-    assert!(rt; i < fork.len());
-    fork.entry(i)
+    assert!(rt; fork.len() as usize == log.len());
+    for (i, entry) in (0..fork.len()).zip(log) {
+        assert!(rt; i < fork.len());
+        same(rt, &fork.entry(i), entry);
+    }
+}
+
+// A site asks for the fork of its place, and the other takes the Request at its own.
+fn asks(rt: &impl Abort, from: &mut SiteCore, i: u32, to: &mut SiteCore, j: u32) {
+    let letter = ask_at(rt, from, i);
+    take_at(rt, to, j, letter);
+}
+
+// A site gives the fork of its place, and the other takes it at its own.
+fn gives(rt: &impl Abort, from: &mut SiteCore, i: u32, to: &mut SiteCore, j: u32) {
+    let letter = give_at(rt, from, i);
+    take_at(rt, to, j, letter);
+}
+
+// The first place of a site: it says Done, and the other takes that.
+fn says_done(rt: &impl Abort, from: &mut SiteCore, to: &mut SiteCore) {
+    let letter = say_done(rt, from);
+    take(rt, to, letter);
+}
+
+// The same with Close.
+fn closes(rt: &impl Abort, from: &mut SiteCore, to: &mut SiteCore) {
+    let letter = close(rt, from);
+    take(rt, to, letter);
+}
+
+// What the parts have: so many forks and tokens.
+fn are_left(rt: &impl Abort, parts: &Parts, forks: usize, tokens: usize) {
+    let left = (parts.forks.len(), parts.tokens.len());
+    same(rt, &left, &(forks, tokens));
 }
 
 #[test]
@@ -177,57 +215,46 @@ fn two_sites_eat_one_after_the_other(rt: HostRuntime) {
     grow_hungry(&rt, &mut a);
     eat(&rt, &mut a);
     grow_hungry(&rt, &mut b);
-    let letter = ask(&rt, &mut b);
-    take(&rt, &mut a, letter);
-    let letter = give(&rt, &mut a);
-    take(&rt, &mut b, letter);
-    let letter = say_done(&rt, &mut a);
-    take(&rt, &mut b, letter);
+    asks(&rt, &mut b, 0, &mut a, 0);
+    gives(&rt, &mut a, 0, &mut b, 0);
+    says_done(&rt, &mut a, &mut b);
     eat(&rt, &mut b);
-    let letter = say_done(&rt, &mut b);
-    take(&rt, &mut a, letter);
-    let letter = close(&rt, &mut a);
-    take(&rt, &mut b, letter);
-    let letter = close(&rt, &mut b);
-    take(&rt, &mut a, letter);
+    says_done(&rt, &mut b, &mut a);
+    closes(&rt, &mut a, &mut b);
+    closes(&rt, &mut b, &mut a);
     assert!(rt; a.is_finished() && b.is_finished());
     assert!(rt; a.is_closed() && b.is_closed());
     same(&rt, &(a.ate(), b.ate()), &(1, 1));
     let of_a = spend(&rt, a);
     let of_b = spend(&rt, b);
-    same(&rt, &(of_a.forks.len(), of_a.tokens.len()), &(0, 1));
-    same(&rt, &(of_b.forks.len(), of_b.tokens.len()), &(1, 0));
-    same(
-        &rt,
-        &entry_at(&rt, &of_b, 0),
-        &Entry::Meal { site: 0, k: 1 },
-    );
-    same(&rt, &entry_at(&rt, &of_b, 1), &Entry::Move { to: 1 });
-    same(
-        &rt,
-        &entry_at(&rt, &of_b, 2),
-        &Entry::Meal { site: 1, k: 1 },
-    );
+    are_left(&rt, &of_a, 0, 1);
+    are_left(&rt, &of_b, 1, 0);
+    let log = [
+        Entry::Meal { site: 0, k: 1 },
+        Entry::Move { to: 1 },
+        Entry::Meal { site: 1, k: 1 },
+    ];
+    has_log(&rt, &of_b, &log);
 }
 
 #[test]
 fn events_come_in_the_fixed_order(rt: HostRuntime) {
     let plan = read_plan(rt.alloc(), ROW).expect(&rt, "a plan");
     let mut b = core_of(&rt, rt.alloc(), &plan, 1);
-    same(&rt, &b.next_event(), &Some(EventKind::Done(0)));
+    next_is(&rt, &b, Some(EventKind::Done(0)));
     take_at(&rt, &mut b, 1, Letter::Request(Token::open(1)));
-    same(&rt, &b.next_event(), &Some(EventKind::Give(1)));
+    next_is(&rt, &b, Some(EventKind::Give(1)));
     let _done = say_done(&rt, &mut b);
     take(&rt, &mut b, Letter::Done);
-    same(&rt, &b.next_event(), &Some(EventKind::Give(1)));
+    next_is(&rt, &b, Some(EventKind::Give(1)));
     let _fork = give_at(&rt, &mut b, 1);
-    same(&rt, &b.next_event(), &Some(EventKind::Done(1)));
+    next_is(&rt, &b, Some(EventKind::Done(1)));
     let _done = say_done_at(&rt, &mut b, 1);
-    same(&rt, &b.next_event(), &Some(EventKind::Close(0)));
+    next_is(&rt, &b, Some(EventKind::Close(0)));
     let _close = close(&rt, &mut b);
-    same(&rt, &b.next_event(), &None);
+    next_is(&rt, &b, None);
     let parts = spend(&rt, b);
-    same(&rt, &(parts.forks.len(), parts.tokens.len()), &(0, 2));
+    are_left(&rt, &parts, 0, 2);
 }
 
 #[test]
@@ -235,24 +262,22 @@ fn events_follow_the_phase(rt: HostRuntime) {
     let plan = plan_of(&rt, rt.alloc(), JOB, JOB);
     let mut a = core_of(&rt, rt.alloc(), &plan, 0);
     let mut b = core_of(&rt, rt.alloc(), &plan, 1);
-    same(&rt, &a.next_event(), &Some(EventKind::Hungry));
+    next_is(&rt, &a, Some(EventKind::Hungry));
     grow_hungry(&rt, &mut a);
-    same(&rt, &a.next_event(), &Some(EventKind::Begin));
+    next_is(&rt, &a, Some(EventKind::Begin));
     grow_hungry(&rt, &mut b);
-    same(&rt, &b.next_event(), &Some(EventKind::Ask(0)));
-    let letter = ask(&rt, &mut b);
-    same(&rt, &b.next_event(), &None);
-    take(&rt, &mut a, letter);
-    same(&rt, &a.next_event(), &Some(EventKind::Give(0)));
-    let fork = give(&rt, &mut a);
-    same(&rt, &a.next_event(), &Some(EventKind::Ask(0)));
-    take(&rt, &mut b, fork);
-    same(&rt, &b.next_event(), &Some(EventKind::Begin));
+    next_is(&rt, &b, Some(EventKind::Ask(0)));
+    asks(&rt, &mut b, 0, &mut a, 0);
+    next_is(&rt, &b, None);
+    next_is(&rt, &a, Some(EventKind::Give(0)));
+    gives(&rt, &mut a, 0, &mut b, 0);
+    next_is(&rt, &a, Some(EventKind::Ask(0)));
+    next_is(&rt, &b, Some(EventKind::Begin));
     assert!(rt; b.may_begin());
     let meal = b.begin();
-    same(&rt, &b.next_event(), &Some(EventKind::End));
+    next_is(&rt, &b, Some(EventKind::End));
     b.end(meal, false);
-    same(&rt, &b.next_event(), &Some(EventKind::Done(0)));
+    next_is(&rt, &b, Some(EventKind::Done(0)));
     let left = spend(&rt, a);
     let parts = spend(&rt, b);
     same(&rt, &(left.forks.len(), parts.forks.len()), &(0, 1));
@@ -284,11 +309,11 @@ fn site_that_resigns_quits_after_a_meal_that_failed(rt: HostRuntime) {
     eat_with(&rt, &mut a, true);
     assert!(rt; 0 < a.degree());
     assert!(rt; !a.may_hungry() && !a.may_done(0));
-    same(&rt, &a.next_event(), &Some(EventKind::Quit));
+    next_is(&rt, &a, Some(EventKind::Quit));
     assert!(rt; a.may_quit());
     a.quit();
     assert!(rt; !a.may_quit() && !a.may_hungry());
-    same(&rt, &a.next_event(), &Some(EventKind::Done(0)));
+    next_is(&rt, &a, Some(EventKind::Done(0)));
     let _parts = spend(&rt, a);
 }
 
@@ -302,7 +327,7 @@ fn no_site_quits_without_cause(rt: HostRuntime) {
         eat_with(&rt, &mut a, policy == "go");
         eat_with(&rt, &mut a, true);
         assert!(rt; !a.may_quit());
-        same(&rt, &a.next_event(), &Some(EventKind::Done(0)));
+        next_is(&rt, &a, Some(EventKind::Done(0)));
         let _parts = spend(&rt, a);
     }
 }
@@ -315,11 +340,9 @@ fn done_comes_before_all_meals_of_a_site_that_resigns(rt: HostRuntime) {
         let mut a = core_of(&rt, rt.alloc(), &plan, 0);
         let mut b = core_of(&rt, rt.alloc(), &plan, 1);
         grow_hungry(&rt, &mut b);
-        let request = ask(&rt, &mut b);
         eat_with(&rt, &mut a, false);
-        take(&rt, &mut a, request);
-        let fork = give(&rt, &mut a);
-        take(&rt, &mut b, fork);
+        asks(&rt, &mut b, 0, &mut a, 0);
+        gives(&rt, &mut a, 0, &mut b, 0);
         if policy == "resign" {
             take(&rt, &mut b, Letter::Done);
         } else {
@@ -331,9 +354,10 @@ fn done_comes_before_all_meals_of_a_site_that_resigns(rt: HostRuntime) {
 }
 
 // The first place where the fork is in hand and dirty, how many such places there are, and how many forks are missing.
-fn waits_for(core: &SiteCore) -> (Option<u32>, u32, u32) {
+fn waits(rt: &impl Abort, core: &SiteCore, wanted: (Option<u32>, u32, u32)) {
     let dirty = core.dirty_places();
-    (dirty.first(), dirty.len(), core.missing_forks())
+    let told = (dirty.first(), dirty.len(), core.missing_forks());
+    same(rt, &told, &wanted);
 }
 
 #[test]
@@ -342,34 +366,26 @@ fn what_a_site_waits_for_follows_its_forks(rt: HostRuntime) {
     let mut a = core_of(&rt, rt.alloc(), &plan, 0);
     let mut b = core_of(&rt, rt.alloc(), &plan, 1);
     let mut c = core_of(&rt, rt.alloc(), &plan, 2);
-    same(
-        &rt,
-        &(waits_for(&a), waits_for(&c)),
-        &((Some(0), 1, 0), (None, 0, 1)),
-    );
-    same(&rt, &waits_for(&b), &(Some(1), 1, 1));
+    waits(&rt, &a, (Some(0), 1, 0));
+    waits(&rt, &c, (None, 0, 1));
+    waits(&rt, &b, (Some(1), 1, 1));
     grow_hungry(&rt, &mut c);
-    let letter = ask(&rt, &mut c);
-    take_at(&rt, &mut b, 1, letter);
-    same(&rt, &waits_for(&b), &(Some(1), 1, 1));
+    asks(&rt, &mut c, 0, &mut b, 1);
+    waits(&rt, &b, (Some(1), 1, 1));
     let letter = give_at(&rt, &mut b, 1);
-    same(&rt, &waits_for(&b), &(None, 0, 2));
+    waits(&rt, &b, (None, 0, 2));
     take(&rt, &mut c, letter);
-    same(&rt, &waits_for(&c), &(None, 0, 0));
+    waits(&rt, &c, (None, 0, 0));
     eat(&rt, &mut c);
     grow_hungry(&rt, &mut b);
-    let letter = ask(&rt, &mut b);
-    take(&rt, &mut a, letter);
-    let letter = give(&rt, &mut a);
-    take(&rt, &mut b, letter);
-    same(&rt, &waits_for(&b), &(None, 0, 1));
-    let letter = ask_at(&rt, &mut b, 1);
-    take(&rt, &mut c, letter);
-    let letter = give(&rt, &mut c);
-    take_at(&rt, &mut b, 1, letter);
-    same(&rt, &waits_for(&b), &(None, 0, 0));
+    asks(&rt, &mut b, 0, &mut a, 0);
+    gives(&rt, &mut a, 0, &mut b, 0);
+    waits(&rt, &b, (None, 0, 1));
+    asks(&rt, &mut b, 1, &mut c, 0);
+    gives(&rt, &mut c, 0, &mut b, 1);
+    waits(&rt, &b, (None, 0, 0));
     eat(&rt, &mut b);
-    same(&rt, &waits_for(&b), &(Some(0), 2, 0));
+    waits(&rt, &b, (Some(0), 2, 0));
     spend(&rt, a);
     spend(&rt, b);
     spend(&rt, c);
@@ -389,7 +405,7 @@ fn second_break_off_gives_nothing(rt: HostRuntime) {
     assert!(rt; a.break_off(0).is_none());
     same(&rt, &told_of(&rt, &a, 0), &before);
     let parts = spend(&rt, a);
-    same(&rt, &(parts.forks.len(), parts.tokens.len()), &(1, 0));
+    are_left(&rt, &parts, 1, 0);
 }
 
 #[test]

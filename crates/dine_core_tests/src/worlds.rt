@@ -101,6 +101,37 @@ fn entry_at(rt: &impl Abort, fork: &Fork, i: u32) -> Entry {
     fork.entry(i)
 }
 
+// The fork has exactly this log.
+fn has_log(rt: &impl Abort, fork: &Fork, log: &[Entry]) {
+    assert!(rt; fork.len() as usize == log.len());
+    for (i, entry) in (0..fork.len()).zip(log) {
+        same(rt, &entry_at(rt, fork, i), entry);
+    }
+}
+
+// The rest of the world has so many events.
+fn finishes(rt: &impl Abort, world: &mut World, events: u64) {
+    same(rt, &world.finish(), &events);
+}
+
+// Two sites ate so many meals each.
+fn ate(rt: &impl Abort, world: &World, meals: (u32, u32)) {
+    let (lower, higher) = meals;
+    let wanted = (Some(lower), Some(higher));
+    same(rt, &(world.ate(0), world.ate(1)), &wanted);
+}
+
+// So many of these choices have an event.
+fn replays(rt: &impl Abort, world: &mut World, choices: &[u32], events: u64) {
+    same(rt, &world.replay(choices), &events);
+}
+
+// The forks that come out have all meals of both their ends.
+fn ends_whole(rt: &impl Abort, plan: &Plan, world: World) {
+    let forks = spend(rt, plan, world);
+    has_all_meals(rt, plan, forks.as_slice());
+}
+
 fn period_at(rt: &impl Abort, fork: &Fork, i: u32) -> Period {
     assert!(rt; i < fork.periods());
     fork.period(i)
@@ -197,27 +228,35 @@ fn wander_to_the_end(rt: &impl Abort, alloc: Global, plan: &Plan) {
     }
 }
 
+// Of two sites either may grow hungry, and there is no other event.
+fn both_may_hunger(rt: &impl Abort, world: &World) {
+    let kind = EventKind::Hungry;
+    same(rt, &world.count(), &2);
+    for site in 0..2u32 {
+        same(rt, &world.enabled(site), &Some(Event { site, kind }));
+    }
+    same(rt, &world.enabled(2), &None);
+}
+
+// There is a second site, which thinks and ate nothing, and a first edge, but no third site and no second edge.
+fn has_no_third(rt: &impl Abort, world: &World) {
+    let phases = (world.phase(1), world.phase(2));
+    same(rt, &phases, &(Some(Phase::Thinking), None));
+    same(rt, &(world.ate(1), world.ate(2)), &(Some(0), None));
+    assert!(rt; world.fork(0).is_some() && world.fork(1).is_none());
+}
+
 #[test]
 fn pair_opens_with_two_events(rt: HostRuntime) {
     let plan = pair(&rt, rt.alloc());
     let mut world = opened(&rt, rt.alloc(), &plan);
-    let kind = EventKind::Hungry;
-    same(&rt, &world.count(), &2);
-    same(&rt, &world.enabled(0), &Some(Event { site: 0, kind }));
-    same(&rt, &world.enabled(1), &Some(Event { site: 1, kind }));
-    same(&rt, &world.enabled(2), &None);
+    both_may_hunger(&rt, &world);
     refuse(&rt, &mut world, 1, EventKind::Take(0));
     refuse(&rt, &mut world, 1, EventKind::Take(1));
     refuse(&rt, &mut world, 0, EventKind::Begin);
-    refuse(&rt, &mut world, 2, kind);
-    same(&rt, &world.count(), &2);
-    same(
-        &rt,
-        &(world.phase(1), world.phase(2)),
-        &(Some(Phase::Thinking), None),
-    );
-    same(&rt, &(world.ate(1), world.ate(2)), &(Some(0), None));
-    assert!(rt; world.fork(0).is_some() && world.fork(1).is_none());
+    refuse(&rt, &mut world, 2, EventKind::Hungry);
+    both_may_hunger(&rt, &world);
+    has_no_third(&rt, &world);
     let _forks = spend(&rt, &plan, world);
 }
 
@@ -225,19 +264,18 @@ fn pair_opens_with_two_events(rt: HostRuntime) {
 fn pair_finishes(rt: HostRuntime) {
     let plan = pair(&rt, rt.alloc());
     let mut world = opened(&rt, rt.alloc(), &plan);
-    same(&rt, &world.finish(), &18);
+    finishes(&rt, &mut world, 18);
     is_complete(&rt, &plan, &world);
-    same(&rt, &world.finish(), &0);
-    same(&rt, &(world.ate(0), world.ate(1)), &(Some(1), Some(1)));
+    finishes(&rt, &mut world, 0);
+    ate(&rt, &world, (1, 1));
     same(&rt, &world.bound(), &22);
-    let fork = world.fork(0).expect(&rt, "a fork");
-    same(&rt, &fork.len(), &3);
-    same(&rt, &entry_at(&rt, fork, 0), &Entry::Meal { site: 0, k: 1 });
-    same(&rt, &entry_at(&rt, fork, 1), &Entry::Move { to: 1 });
-    same(&rt, &entry_at(&rt, fork, 2), &Entry::Meal { site: 1, k: 1 });
-    let forks = spend(&rt, &plan, world);
-    same(&rt, &forks.len(), &1);
-    has_all_meals(&rt, &plan, forks.as_slice());
+    let log = [
+        Entry::Meal { site: 0, k: 1 },
+        Entry::Move { to: 1 },
+        Entry::Meal { site: 1, k: 1 },
+    ];
+    has_log(&rt, world.fork(0).expect(&rt, "a fork"), &log);
+    ends_whole(&rt, &plan, world);
 }
 
 // The choices, each with the site and the kind of its event, where the higher site asks first.
@@ -271,11 +309,13 @@ fn higher_ate_first(rt: &impl Abort, plan: &Plan, world: World) {
     is_complete(rt, plan, &world);
     let forks = spend(rt, plan, world);
     let fork = forks.get(0).expect(rt, "a fork");
-    same(rt, &fork.len(), &4);
-    same(rt, &entry_at(rt, fork, 0), &Entry::Move { to: 1 });
-    same(rt, &entry_at(rt, fork, 1), &Entry::Meal { site: 1, k: 1 });
-    same(rt, &entry_at(rt, fork, 2), &Entry::Move { to: 0 });
-    same(rt, &entry_at(rt, fork, 3), &Entry::Meal { site: 0, k: 1 });
+    let log = [
+        Entry::Move { to: 1 },
+        Entry::Meal { site: 1, k: 1 },
+        Entry::Move { to: 0 },
+        Entry::Meal { site: 0, k: 1 },
+    ];
+    has_log(rt, fork, &log);
 }
 
 #[test]
@@ -295,9 +335,9 @@ fn higher_site_asks_first(rt: HostRuntime) {
 fn choices_are_replayed(rt: HostRuntime) {
     let plan = pair(&rt, rt.alloc());
     let mut world = opened(&rt, rt.alloc(), &plan);
-    same(&rt, &world.replay([].as_slice()), &0);
-    same(&rt, &world.replay([1, 1, 0, 0].as_slice()), &4);
-    same(&rt, &world.finish(), &18);
+    replays(&rt, &mut world, &[], 0);
+    replays(&rt, &mut world, &[1, 1, 0, 0], 4);
+    finishes(&rt, &mut world, 18);
     higher_ate_first(&rt, &plan, world);
 }
 
@@ -305,10 +345,10 @@ fn choices_are_replayed(rt: HostRuntime) {
 fn choices_of_no_event_are_passed_over(rt: HostRuntime) {
     let plan = pair(&rt, rt.alloc());
     let mut world = opened(&rt, rt.alloc(), &plan);
-    same(&rt, &world.replay([9, 2].as_slice()), &0);
+    replays(&rt, &mut world, &[9, 2], 0);
     same(&rt, &world.count(), &2);
-    same(&rt, &world.replay([1, 1, 2, 0, 0].as_slice()), &4);
-    same(&rt, &world.finish(), &18);
+    replays(&rt, &mut world, &[1, 1, 2, 0, 0], 4);
+    finishes(&rt, &mut world, 18);
     higher_ate_first(&rt, &plan, world);
 }
 
@@ -354,7 +394,7 @@ fn site_alone_eats_all_its_jobs(rt: HostRuntime) {
     let mut world = opened(&rt, rt.alloc(), &plan);
     same(&rt, &world.count(), &1);
     same(&rt, &world.bound(), &6);
-    same(&rt, &world.finish(), &6);
+    finishes(&rt, &mut world, 6);
     same(&rt, &world.ate(0), &Some(2));
     assert!(rt; world.fork(0).is_none());
     is_complete(&rt, &plan, &world);
@@ -370,25 +410,33 @@ const RESIGNING: Graph = Graph {
     resigning: &[true, false],
 };
 
+// The lower site may quit, and can do nothing else of its own.
+fn only_quit_is_next(rt: &impl Abort, world: &mut World) {
+    let (site, kind) = (0, EventKind::Quit);
+    same(rt, &world.enabled(0), &Some(Event { site, kind }));
+    refuse(rt, world, 0, EventKind::Hungry);
+    refuse(rt, world, 0, EventKind::Done(0));
+}
+
 #[test]
 fn site_that_resigns_drops_its_jobs_left(rt: HostRuntime) {
     let plan = plan_by(&rt, rt.alloc(), RESIGNING);
     let mut world = opened(&rt, rt.alloc(), &plan);
     same(&rt, &world.bound(), &36);
-    same(&rt, &world.replay([0, 0, 0].as_slice()), &3);
+    replays(&rt, &mut world, &[0, 0, 0], 3);
     refuse(&rt, &mut world, 0, EventKind::Quit);
-    same(&rt, &world.replay([0, 0, 0].as_slice()), &3);
-    let (site, kind) = (0, EventKind::Quit);
-    same(&rt, &world.enabled(0), &Some(Event { site, kind }));
-    refuse(&rt, &mut world, 0, EventKind::Hungry);
-    refuse(&rt, &mut world, 0, EventKind::Done(0));
-    same(&rt, &world.finish(), &16);
-    same(&rt, &(world.ate(0), world.ate(1)), &(Some(2), Some(1)));
-    let forks = spend(&rt, &plan, world);
-    let fork = forks.get(0).expect(&rt, "a fork");
-    same(&rt, &fork.len(), &4);
-    same(&rt, &entry_at(&rt, fork, 1), &Entry::Meal { site: 0, k: 2 });
-    same(&rt, &entry_at(&rt, fork, 2), &Entry::Move { to: 1 });
+    replays(&rt, &mut world, &[0, 0, 0], 3);
+    only_quit_is_next(&rt, &mut world);
+    finishes(&rt, &mut world, 16);
+    ate(&rt, &world, (2, 1));
+    let log = [
+        Entry::Meal { site: 0, k: 1 },
+        Entry::Meal { site: 0, k: 2 },
+        Entry::Move { to: 1 },
+        Entry::Meal { site: 1, k: 1 },
+    ];
+    has_log(&rt, world.fork(0).expect(&rt, "a fork"), &log);
+    let _forks = spend(&rt, &plan, world);
 }
 
 #[test]
@@ -396,10 +444,9 @@ fn row_of_three_finishes(rt: HostRuntime) {
     let plan = plan_of(&rt, rt.alloc(), 3, 1, [(0, 1), (1, 2)].as_slice());
     let mut world = opened(&rt, rt.alloc(), &plan);
     same(&rt, &world.bound(), &41);
-    same(&rt, &world.finish(), &33);
+    finishes(&rt, &mut world, 33);
     is_complete(&rt, &plan, &world);
-    let forks = spend(&rt, &plan, world);
-    has_all_meals(&rt, &plan, forks.as_slice());
+    ends_whole(&rt, &plan, world);
 }
 
 #[test]
@@ -407,10 +454,9 @@ fn sites_without_jobs_only_say_so(rt: HostRuntime) {
     let plan = plan_of(&rt, rt.alloc(), 2, 0, [(0, 1)].as_slice());
     let mut world = opened(&rt, rt.alloc(), &plan);
     same(&rt, &world.bound(), &8);
-    same(&rt, &world.finish(), &8);
+    finishes(&rt, &mut world, 8);
     is_complete(&rt, &plan, &world);
-    let forks = spend(&rt, &plan, world);
-    has_all_meals(&rt, &plan, forks.as_slice());
+    ends_whole(&rt, &plan, world);
 }
 
 // Whatever event is the last, the forks come out of the hands of sites, of meals and of links.

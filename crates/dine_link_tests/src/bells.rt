@@ -50,18 +50,26 @@ fn ring<R: Abort + Wait>(rt: &R, ringers: &mut Vec<Ringer>, place: usize) {
     same(rt, &rung, &Ok(()));
 }
 
+// The ringers at those places ring, one after another.
+fn ring_each<R: Abort + Wait>(rt: &R, ringers: &mut Vec<Ringer>, places: &[usize]) {
+    for place in places {
+        ring(rt, ringers, *place);
+    }
+}
+
+// The bell tells this, one wait after another.
+fn tells<R: Abort + Wait>(rt: &R, bell: &mut Bell, told: &[Result<u32, Lost>]) {
+    for one in told {
+        same(rt, &bell.wait(rt), one);
+    }
+}
+
 #[test]
 fn each_ringer_rings_its_own_number(rt: HostRuntime) -> Result<(), Fail> {
     let (mut ringers, mut bell) = opened(rt.alloc(), 3)?;
     same(&rt, &ringers.len(), &3);
-    ring(&rt, &mut ringers, 2);
-    ring(&rt, &mut ringers, 0);
-    ring(&rt, &mut ringers, 1);
-    ring(&rt, &mut ringers, 2);
-    same(&rt, &bell.wait(&rt), &Ok(2));
-    same(&rt, &bell.wait(&rt), &Ok(0));
-    same(&rt, &bell.wait(&rt), &Ok(1));
-    same(&rt, &bell.wait(&rt), &Ok(2));
+    ring_each(&rt, &mut ringers, &[2, 0, 1, 2]);
+    tells(&rt, &mut bell, &[Ok(2), Ok(0), Ok(1), Ok(2)]);
     Ok(())
 }
 
@@ -70,12 +78,10 @@ fn each_ringer_rings_its_own_number(rt: HostRuntime) -> Result<(), Fail> {
 fn four_rings_of_each_ringer_wait_for_nobody(rt: HostRuntime) -> Result<(), Fail> {
     let (mut ringers, mut bell) = opened(rt.alloc(), 2)?;
     for _ in 0..4 {
-        ring(&rt, &mut ringers, 1);
-        ring(&rt, &mut ringers, 0);
+        ring_each(&rt, &mut ringers, &[1, 0]);
     }
     for _ in 0..4 {
-        same(&rt, &bell.wait(&rt), &Ok(1));
-        same(&rt, &bell.wait(&rt), &Ok(0));
+        tells(&rt, &mut bell, &[Ok(1), Ok(0)]);
     }
     Ok(())
 }
@@ -84,7 +90,7 @@ fn four_rings_of_each_ringer_wait_for_nobody(rt: HostRuntime) -> Result<(), Fail
 fn without_ringers_nobody_rings(rt: HostRuntime) -> Result<(), Fail> {
     let (ringers, mut bell) = opened(rt.alloc(), 0)?;
     same(&rt, &ringers.len(), &0);
-    same(&rt, &bell.wait(&rt), &Err(Lost));
+    tells(&rt, &mut bell, &[Err(Lost)]);
     Ok(())
 }
 
@@ -93,9 +99,7 @@ fn rings_outlive_their_ringers(rt: HostRuntime) -> Result<(), Fail> {
     let (mut ringers, mut bell) = opened(rt.alloc(), 2)?;
     ring(&rt, &mut ringers, 1);
     drop(ringers);
-    same(&rt, &bell.wait(&rt), &Ok(1));
-    same(&rt, &bell.wait(&rt), &Err(Lost));
-    same(&rt, &bell.wait(&rt), &Err(Lost));
+    tells(&rt, &mut bell, &[Ok(1), Err(Lost), Err(Lost)]);
     Ok(())
 }
 
@@ -149,9 +153,8 @@ fn ringers_ring_their_own_bell(rt: HostRuntime) -> Result<(), Fail> {
     ring(&rt, &mut ringers, 0);
     ring(&rt, &mut others, 1);
     drop(ringers);
-    same(&rt, &other.wait(&rt), &Ok(1));
-    same(&rt, &bell.wait(&rt), &Ok(0));
-    same(&rt, &bell.wait(&rt), &Err(Lost));
+    tells(&rt, &mut other, &[Ok(1)]);
+    tells(&rt, &mut bell, &[Ok(0), Err(Lost)]);
     Ok(())
 }
 

@@ -1,7 +1,7 @@
 // What a core refuses, and a letter just within each rule that it takes.
 use super::{
-    JOB, ROW, THREE_JOBS, TWO_JOBS, ask, close, core_of, eat, fork_from, give, grow_hungry,
-    plan_of, refuse, request, say_done, spend, take, take_at,
+    JOB, ROW, THREE_JOBS, TWO_JOBS, are_left, ask, close, core_of, eat, fork_from, give,
+    grow_hungry, plan_of, refuse, request, say_done, spend, take, take_at,
 };
 use crate::asserts::same;
 use dine_core::{Breach, Kind4, Letter, SiteCore};
@@ -290,7 +290,7 @@ fn nothing_comes_after_close(rt: HostRuntime) -> Result<(), Fail> {
     assert!(rt; b.is_finished());
     assert!(rt; b.is_closed());
     let parts = spend(&rt, b);
-    same(&rt, &(parts.forks.len(), parts.tokens.len()), &(0, 1));
+    are_left(&rt, &parts, 0, 1);
     Ok(())
 }
 
@@ -306,7 +306,7 @@ fn letters_come_at_a_place_that_is_not_closed(rt: HostRuntime) {
     take_at(&rt, &mut b, 1, Letter::Request(Token::open(1)));
     assert!(rt; !b.is_closed());
     let parts = spend(&rt, b);
-    same(&rt, &(parts.forks.len(), parts.tokens.len()), &(1, 2));
+    are_left(&rt, &parts, 1, 2);
 }
 
 #[test]

@@ -206,15 +206,11 @@ impl<'a, R: Abort> Model<'a, R> {
     /// The log of the edge's fork, which is in one hand or on its way to one end.
     pub(super) fn fork_log(&self, edge: u32) -> Vec<Entry> {
         let (lower, higher) = self.graph.ends(edge);
-        let at_lower = self.log_near(lower, self.graph.place_of(lower, edge));
-        let at_higher = self.log_near(higher, self.graph.place_of(higher, edge));
-        match (at_lower, at_higher) {
-            (Some(log), None) | (None, Some(log)) => log,
-            _ => {
-                assert!(self.rt; false, "one fork for each edge");
-                Vec::new(self.alloc)
-            }
-        }
+        let at_lower = self.is_near(lower, self.graph.place_of(lower, edge));
+        let at_higher = self.is_near(higher, self.graph.place_of(higher, edge));
+        assert!(self.rt; at_lower != at_higher, "one fork for each edge");
+        let site = if at_lower { lower } else { higher };
+        self.log_near(site, self.graph.place_of(site, edge))
     }
 
     /// The periods of a log: one from the start, at the lower end, and one from each Move. A meal is one more of the
@@ -395,16 +391,20 @@ impl<'a, R: Abort> Model<'a, R> {
         copy
     }
 
-    // The log of the fork at the site, in its hand or on the way to it. None where it is not there.
-    fn log_near(&self, site: u32, place: u32) -> Option<Vec<Entry>> {
+    // Whether the fork is at the site, in its hand or on the way to it.
+    fn is_near(&self, site: u32, place: u32) -> bool {
         let put = self.put_to(site, place);
         let taken = self.traffic(site, place).taken.as_slice();
+        self.forks_held(site, place) == 1
+            || count_of(Kind4::Fork, taken) < count_of(Kind4::Fork, put)
+    }
+
+    // The log of the fork that is there.
+    fn log_near(&self, site: u32, place: u32) -> Vec<Entry> {
         if self.forks_held(site, place) == 1 {
-            Some(self.hand(site, place))
-        } else if count_of(Kind4::Fork, taken) < count_of(Kind4::Fork, put) {
-            Some(self.copy_of(last_log(put)))
+            self.hand(site, place)
         } else {
-            None
+            self.copy_of(last_log(self.put_to(site, place)))
         }
     }
 

@@ -24,21 +24,20 @@ fn has_letters(rt: &impl Abort, world: &World, site: u32, place: u32, kinds: &[K
     }
 }
 
+// The world tells of the edge's fork and token what the model does.
+fn same_fork_and_token<R: Abort>(rt: &R, model: &Model<R>, world: &World, edge: u32) {
+    let fork = model.where_is(edge, Kind4::Fork);
+    same(rt, &world.where_is_fork(edge), &fork);
+    let token = model.where_is(edge, Kind4::Request);
+    same(rt, &world.where_is_token(edge), &token);
+    same(rt, &world.is_fork_dirty(edge), &model.is_fork_dirty(edge));
+}
+
 /// The world tells what the model says of each edge, and of each place of each site.
 pub(super) fn same_readers<R: Abort>(rt: &R, model: &Model<R>, world: &World) {
     let edges = model.graph.edge_count();
     for edge in 0..edges {
-        same(
-            rt,
-            &world.where_is_fork(edge),
-            &model.where_is(edge, Kind4::Fork),
-        );
-        same(
-            rt,
-            &world.where_is_token(edge),
-            &model.where_is(edge, Kind4::Request),
-        );
-        same(rt, &world.is_fork_dirty(edge), &model.is_fork_dirty(edge));
+        same_fork_and_token(rt, model, world, edge);
     }
     same(
         rt,
