@@ -1,12 +1,14 @@
 // The core of one site: what it may do, what it takes and what it tells.
 
 mod breaches;
+mod script;
 
 use crate::asserts::same;
 use dine_core::site::{fresh_forks, fresh_tokens};
 use dine_core::{Breach, EventKind, Kind4, Letter, Packed, Parts, Phase, SiteCore};
 use dine_plan::{Plan, read_plan};
 use dine_token::{Act, Entry, Fork, Held, Meal, Token};
+use script::{A, B, C, Step, leave, play, plays, seated};
 use std::alloc::{AllocError, Global};
 use std::process::Abort;
 use std::test::Fail;
@@ -57,18 +59,10 @@ fn grow_hungry(rt: &impl Abort, core: &mut SiteCore) {
     core.hungry();
 }
 
-fn ask(rt: &impl Abort, core: &mut SiteCore) -> Letter {
-    ask_at(rt, core, 0)
-}
-
 fn ask_at(rt: &impl Abort, core: &mut SiteCore, i: u32) -> Letter {
     assert!(rt; i < core.degree());
     assert!(rt; core.may_ask(i));
     core.ask(i)
-}
-
-fn give(rt: &impl Abort, core: &mut SiteCore) -> Letter {
-    give_at(rt, core, 0)
 }
 
 fn give_at(rt: &impl Abort, core: &mut SiteCore, i: u32) -> Letter {
@@ -82,10 +76,6 @@ fn eat(rt: &impl Abort, core: &mut SiteCore) {
     assert!(rt; !core.may_end());
     let meal = core.begin();
     core.end(meal, false);
-}
-
-fn say_done(rt: &impl Abort, core: &mut SiteCore) -> Letter {
-    say_done_at(rt, core, 0)
 }
 
 fn say_done_at(rt: &impl Abort, core: &mut SiteCore, i: u32) -> Letter {
@@ -158,7 +148,7 @@ fn request() -> Letter {
 // The fork that the lower site gives, when it is asked for it.
 fn fork_from(rt: &impl Abort, a: &mut SiteCore) -> Letter {
     take(rt, a, request());
-    give(rt, a)
+    give_at(rt, a, 0)
 }
 
 fn spend(rt: &impl Abort, core: SiteCore) -> Parts {
@@ -166,10 +156,20 @@ fn spend(rt: &impl Abort, core: SiteCore) -> Parts {
     core.into_parts()
 }
 
-// The one fork of the parts has exactly this log.
-fn has_log(rt: &impl Abort, parts: &Parts, log: &[Entry]) {
-    assert!(rt; parts.forks.len() == 1);
-    let fork = &parts.forks[0];
+// What a site of a script left: so many forks and tokens.
+fn are_left(rt: &impl Abort, left: &Vec<Parts>, n: usize, forks: usize, tokens: usize) {
+    let parts = left.get(n).expect(rt, "a site");
+    same(
+        rt,
+        &(parts.forks.len(), parts.tokens.len()),
+        &(forks, tokens),
+    );
+}
+
+// The first fork that a site of a script left has exactly this log.
+fn has_log(rt: &impl Abort, left: &Vec<Parts>, n: usize, log: &[Entry]) {
+    let parts = left.get(n).expect(rt, "a site");
+    let fork = parts.forks.first().expect(rt, "a fork");
     assert!(rt; fork.len() as usize == log.len());
     for (i, entry) in (0..fork.len()).zip(log) {
         assert!(rt; i < fork.len());
@@ -177,110 +177,97 @@ fn has_log(rt: &impl Abort, parts: &Parts, log: &[Entry]) {
     }
 }
 
-// A site asks for the fork of its place, and the other takes the Request at its own.
-fn asks(rt: &impl Abort, from: &mut SiteCore, i: u32, to: &mut SiteCore, j: u32) {
-    let letter = ask_at(rt, from, i);
-    take_at(rt, to, j, letter);
-}
-
-// A site gives the fork of its place, and the other takes it at its own.
-fn gives(rt: &impl Abort, from: &mut SiteCore, i: u32, to: &mut SiteCore, j: u32) {
-    let letter = give_at(rt, from, i);
-    take_at(rt, to, j, letter);
-}
-
-// The first place of a site: it says Done, and the other takes that.
-fn says_done(rt: &impl Abort, from: &mut SiteCore, to: &mut SiteCore) {
-    let letter = say_done(rt, from);
-    take(rt, to, letter);
-}
-
-// The same with Close.
-fn closes(rt: &impl Abort, from: &mut SiteCore, to: &mut SiteCore) {
-    let letter = close(rt, from);
-    take(rt, to, letter);
-}
-
-// What the parts have: so many forks and tokens.
-fn are_left(rt: &impl Abort, parts: &Parts, forks: usize, tokens: usize) {
-    let left = (parts.forks.len(), parts.tokens.len());
-    same(rt, &left, &(forks, tokens));
-}
-
 #[test]
 fn two_sites_eat_one_after_the_other(rt: HostRuntime) {
     let plan = plan_of(&rt, rt.alloc(), JOB, JOB);
-    let mut a = core_of(&rt, rt.alloc(), &plan, 0);
-    let mut b = core_of(&rt, rt.alloc(), &plan, 1);
-    grow_hungry(&rt, &mut a);
-    eat(&rt, &mut a);
-    grow_hungry(&rt, &mut b);
-    asks(&rt, &mut b, 0, &mut a, 0);
-    gives(&rt, &mut a, 0, &mut b, 0);
-    says_done(&rt, &mut a, &mut b);
-    eat(&rt, &mut b);
-    says_done(&rt, &mut b, &mut a);
-    closes(&rt, &mut a, &mut b);
-    closes(&rt, &mut b, &mut a);
-    assert!(rt; a.is_finished() && b.is_finished());
-    assert!(rt; a.is_closed() && b.is_closed());
-    same(&rt, &(a.ate(), b.ate()), &(1, 1));
-    let of_a = spend(&rt, a);
-    let of_b = spend(&rt, b);
-    are_left(&rt, &of_a, 0, 1);
-    are_left(&rt, &of_b, 1, 0);
+    let steps = [
+        Step::Hungry(A),
+        Step::Eat(A),
+        Step::Hungry(B),
+        Step::Ask(B, 0),
+        Step::Take(A, 0),
+        Step::Give(A, 0),
+        Step::Take(B, 0),
+        Step::SayDone(A, 0),
+        Step::Take(B, 0),
+        Step::Eat(B),
+        Step::SayDone(B, 0),
+        Step::Take(A, 0),
+        Step::Close(A),
+        Step::Take(B, 0),
+        Step::Close(B),
+        Step::Take(A, 0),
+        Step::Finished(A),
+        Step::Finished(B),
+        Step::Closed(A, true),
+        Step::Closed(B, true),
+        Step::Ate(A, 1),
+        Step::Ate(B, 1),
+    ];
+    let left = plays(&rt, rt.alloc(), &plan, &[0, 1], &steps);
+    are_left(&rt, &left, A, 0, 1);
+    are_left(&rt, &left, B, 1, 0);
     let log = [
         Entry::Meal { site: 0, k: 1 },
         Entry::Move { to: 1 },
         Entry::Meal { site: 1, k: 1 },
     ];
-    has_log(&rt, &of_b, &log);
+    has_log(&rt, &left, B, &log);
 }
 
+// The one site of the script is the middle one.
 #[test]
 fn events_come_in_the_fixed_order(rt: HostRuntime) {
     let plan = read_plan(rt.alloc(), ROW).expect(&rt, "a plan");
-    let mut b = core_of(&rt, rt.alloc(), &plan, 1);
-    next_is(&rt, &b, Some(EventKind::Done(0)));
-    take_at(&rt, &mut b, 1, Letter::Request(Token::open(1)));
-    next_is(&rt, &b, Some(EventKind::Give(1)));
-    let _done = say_done(&rt, &mut b);
-    take(&rt, &mut b, Letter::Done);
-    next_is(&rt, &b, Some(EventKind::Give(1)));
-    let _fork = give_at(&rt, &mut b, 1);
-    next_is(&rt, &b, Some(EventKind::Done(1)));
-    let _done = say_done_at(&rt, &mut b, 1);
-    next_is(&rt, &b, Some(EventKind::Close(0)));
-    let _close = close(&rt, &mut b);
-    next_is(&rt, &b, None);
-    let parts = spend(&rt, b);
-    are_left(&rt, &parts, 0, 2);
+    let steps = [
+        Step::Next(A, Some(EventKind::Done(0))),
+        Step::Request(1),
+        Step::Take(A, 1),
+        Step::Next(A, Some(EventKind::Give(1))),
+        Step::SayDone(A, 0),
+        Step::Done,
+        Step::Take(A, 0),
+        Step::Next(A, Some(EventKind::Give(1))),
+        Step::Give(A, 1),
+        Step::Next(A, Some(EventKind::Done(1))),
+        Step::SayDone(A, 1),
+        Step::Next(A, Some(EventKind::Close(0))),
+        Step::Close(A),
+        Step::Next(A, None),
+    ];
+    let left = plays(&rt, rt.alloc(), &plan, &[1], &steps);
+    are_left(&rt, &left, A, 0, 2);
 }
 
 #[test]
 fn events_follow_the_phase(rt: HostRuntime) {
     let plan = plan_of(&rt, rt.alloc(), JOB, JOB);
-    let mut a = core_of(&rt, rt.alloc(), &plan, 0);
-    let mut b = core_of(&rt, rt.alloc(), &plan, 1);
-    next_is(&rt, &a, Some(EventKind::Hungry));
-    grow_hungry(&rt, &mut a);
-    next_is(&rt, &a, Some(EventKind::Begin));
-    grow_hungry(&rt, &mut b);
-    next_is(&rt, &b, Some(EventKind::Ask(0)));
-    asks(&rt, &mut b, 0, &mut a, 0);
-    next_is(&rt, &b, None);
-    next_is(&rt, &a, Some(EventKind::Give(0)));
-    gives(&rt, &mut a, 0, &mut b, 0);
-    next_is(&rt, &a, Some(EventKind::Ask(0)));
-    next_is(&rt, &b, Some(EventKind::Begin));
+    let mut cores = seated(&rt, rt.alloc(), &plan, &[0, 1]);
+    let steps = [
+        Step::Next(A, Some(EventKind::Hungry)),
+        Step::Hungry(A),
+        Step::Next(A, Some(EventKind::Begin)),
+        Step::Hungry(B),
+        Step::Next(B, Some(EventKind::Ask(0))),
+        Step::Ask(B, 0),
+        Step::Take(A, 0),
+        Step::Next(B, None),
+        Step::Next(A, Some(EventKind::Give(0))),
+        Step::Give(A, 0),
+        Step::Take(B, 0),
+        Step::Next(A, Some(EventKind::Ask(0))),
+        Step::Next(B, Some(EventKind::Begin)),
+    ];
+    play(&rt, rt.alloc(), &mut cores, &steps);
+    let mut b = cores.pop().expect(&rt, "a site");
     assert!(rt; b.may_begin());
     let meal = b.begin();
     next_is(&rt, &b, Some(EventKind::End));
     b.end(meal, false);
     next_is(&rt, &b, Some(EventKind::Done(0)));
-    let left = spend(&rt, a);
-    let parts = spend(&rt, b);
-    same(&rt, &(left.forks.len(), parts.forks.len()), &(0, 1));
+    same(&rt, &spend(&rt, b).forks.len(), &1);
+    let left = leave(&rt, rt.alloc(), cores);
+    are_left(&rt, &left, A, 0, 1);
 }
 
 // The lower of two sites has three jobs, and its policy is this.
@@ -335,21 +322,21 @@ fn no_site_quits_without_cause(rt: HostRuntime) {
 // Where the sender resigns, it may say Done with a fork that lacks some of its meals.
 #[test]
 fn done_comes_before_all_meals_of_a_site_that_resigns(rt: HostRuntime) {
-    for policy in ["resign", "go"] {
+    let refused = Step::Refuse(B, Breach::DoneOutOfTurn);
+    for (policy, last) in [("resign", Step::Take(B, 0)), ("go", refused)] {
         let plan = policy_plan(&rt, rt.alloc(), policy);
-        let mut a = core_of(&rt, rt.alloc(), &plan, 0);
-        let mut b = core_of(&rt, rt.alloc(), &plan, 1);
-        grow_hungry(&rt, &mut b);
-        eat_with(&rt, &mut a, false);
-        asks(&rt, &mut b, 0, &mut a, 0);
-        gives(&rt, &mut a, 0, &mut b, 0);
-        if policy == "resign" {
-            take(&rt, &mut b, Letter::Done);
-        } else {
-            refuse(&rt, &mut b, Letter::Done, Breach::DoneOutOfTurn);
-        }
-        let _parts = spend(&rt, a);
-        let _parts = spend(&rt, b);
+        let steps = [
+            Step::Hungry(B),
+            Step::Hungry(A),
+            Step::Eat(A),
+            Step::Ask(B, 0),
+            Step::Take(A, 0),
+            Step::Give(A, 0),
+            Step::Take(B, 0),
+            Step::Done,
+            last,
+        ];
+        plays(&rt, rt.alloc(), &plan, &[0, 1], &steps);
     }
 }
 
@@ -363,32 +350,34 @@ fn waits(rt: &impl Abort, core: &SiteCore, wanted: (Option<u32>, u32, u32)) {
 #[test]
 fn what_a_site_waits_for_follows_its_forks(rt: HostRuntime) {
     let plan = read_plan(rt.alloc(), BUSY_ROW).expect(&rt, "a plan");
-    let mut a = core_of(&rt, rt.alloc(), &plan, 0);
-    let mut b = core_of(&rt, rt.alloc(), &plan, 1);
-    let mut c = core_of(&rt, rt.alloc(), &plan, 2);
-    waits(&rt, &a, (Some(0), 1, 0));
-    waits(&rt, &c, (None, 0, 1));
-    waits(&rt, &b, (Some(1), 1, 1));
-    grow_hungry(&rt, &mut c);
-    asks(&rt, &mut c, 0, &mut b, 1);
-    waits(&rt, &b, (Some(1), 1, 1));
-    let letter = give_at(&rt, &mut b, 1);
-    waits(&rt, &b, (None, 0, 2));
-    take(&rt, &mut c, letter);
-    waits(&rt, &c, (None, 0, 0));
-    eat(&rt, &mut c);
-    grow_hungry(&rt, &mut b);
-    asks(&rt, &mut b, 0, &mut a, 0);
-    gives(&rt, &mut a, 0, &mut b, 0);
-    waits(&rt, &b, (None, 0, 1));
-    asks(&rt, &mut b, 1, &mut c, 0);
-    gives(&rt, &mut c, 0, &mut b, 1);
-    waits(&rt, &b, (None, 0, 0));
-    eat(&rt, &mut b);
-    waits(&rt, &b, (Some(0), 2, 0));
-    spend(&rt, a);
-    spend(&rt, b);
-    spend(&rt, c);
+    let steps = [
+        Step::Waits(A, (Some(0), 1, 0)),
+        Step::Waits(C, (None, 0, 1)),
+        Step::Waits(B, (Some(1), 1, 1)),
+        Step::Hungry(C),
+        Step::Ask(C, 0),
+        Step::Take(B, 1),
+        Step::Waits(B, (Some(1), 1, 1)),
+        Step::Give(B, 1),
+        Step::Waits(B, (None, 0, 2)),
+        Step::Take(C, 0),
+        Step::Waits(C, (None, 0, 0)),
+        Step::Eat(C),
+        Step::Hungry(B),
+        Step::Ask(B, 0),
+        Step::Take(A, 0),
+        Step::Give(A, 0),
+        Step::Take(B, 0),
+        Step::Waits(B, (None, 0, 1)),
+        Step::Ask(B, 1),
+        Step::Take(C, 0),
+        Step::Give(C, 0),
+        Step::Take(B, 1),
+        Step::Waits(B, (None, 0, 0)),
+        Step::Eat(B),
+        Step::Waits(B, (Some(0), 2, 0)),
+    ];
+    plays(&rt, rt.alloc(), &plan, &[0, 1, 2], &steps);
 }
 
 #[test]
@@ -405,7 +394,7 @@ fn second_break_off_gives_nothing(rt: HostRuntime) {
     assert!(rt; a.break_off(0).is_none());
     same(&rt, &told_of(&rt, &a, 0), &before);
     let parts = spend(&rt, a);
-    are_left(&rt, &parts, 1, 0);
+    same(&rt, &(parts.forks.len(), parts.tokens.len()), &(1, 0));
 }
 
 #[test]
@@ -512,7 +501,7 @@ fn meal_changes_the_value_that_came(rt: HostRuntime) {
         let plan = valued(&rt, rt.alloc(), act);
         let mut b = core_of(&rt, rt.alloc(), &plan, 1);
         grow_hungry(&rt, &mut b);
-        let _request = ask(&rt, &mut b);
+        let _request = ask_at(&rt, &mut b, 0);
         take(&rt, &mut b, foreign(&rt, rt.alloc(), 900));
         same(&rt, &value_after_meal(&rt, &mut b), &value);
         let parts = spend(&rt, b);

@@ -1,0 +1,192 @@
+// Scripts: what some sites do one after another, and the letters that go between them. A test is a list of steps, which
+// one function goes through, so that each call is proved once and not once more in each test.
+use super::{
+    ask_at, close, core_of, eat, give_at, grow_hungry, next_is, refuse, say_done_at, spend,
+    take_at, waits,
+};
+use crate::asserts::same;
+use dine_core::{Breach, EventKind, Kind4, Letter, Parts, SiteCore};
+use dine_plan::Plan;
+use dine_token::{Fork, Token};
+use std::alloc::Global;
+use std::process::Abort;
+
+// The first three sites of a script.
+pub const A: usize = 0;
+
+pub const B: usize = 1;
+
+pub const C: usize = 2;
+
+// A step of the site with this number in the script. Letters lie on a pile: what is put comes on top, and what is taken
+// is the topmost.
+#[derive(Clone, Copy)]
+pub enum Step {
+    Hungry(usize),
+    // It eats a meal that goes well.
+    Eat(usize),
+    // It does this at a place, which puts a letter.
+    Ask(usize, u32),
+    Give(usize, u32),
+    SayDone(usize, u32),
+    // It closes its first place.
+    Close(usize),
+    // It takes the topmost letter at a place.
+    Take(usize, u32),
+    // It refuses the topmost letter at its first place, for this cause, and the letter is back on top.
+    Refuse(usize, Breach),
+    // This is what it does next of itself.
+    Next(usize, Option<EventKind>),
+    // It waits for this: as `waits` says.
+    Waits(usize, (Option<u32>, u32, u32)),
+    // Whether Close went both ways at each of its places.
+    Closed(usize, bool),
+    // It ate so many meals.
+    Ate(usize, u32),
+    // It has nothing left to do.
+    Finished(usize),
+    // The topmost letter is of this kind.
+    Lies(Kind4),
+    // The topmost letter is gone.
+    Lose,
+    // A letter that no site of the script wrote: the Request of an edge, and Done and Close.
+    Request(u32),
+    Done,
+    CloseLetter,
+    // A fork as it is opened, between site 0 and this higher end.
+    Fork {
+        edge: u32,
+        higher: u32,
+        due: (u32, u32),
+    },
+}
+
+fn core_at<'a>(rt: &impl Abort, cores: &'a mut Vec<SiteCore>, n: usize) -> &'a mut SiteCore {
+    cores.get_mut(n).expect(rt, "a site")
+}
+
+fn top(rt: &impl Abort, pile: &mut Vec<Letter>) -> Letter {
+    pile.pop().expect(rt, "a letter")
+}
+
+fn opened_fork(rt: &impl Abort, alloc: Global, edge: u32, higher: u32, due: (u32, u32)) -> Letter {
+    assert!(rt; 0 < higher);
+    assert!(rt; due.0 <= 1000);
+    assert!(rt; due.1 <= 1000);
+    let fork = Fork::open(alloc, edge, 0, higher, due.0, due.1, 0).expect(rt, "memory");
+    Letter::Fork(fork)
+}
+
+// The letter that comes on top by this step, if one does.
+fn letter_put(
+    rt: &impl Abort,
+    alloc: Global,
+    cores: &mut Vec<SiteCore>,
+    step: Step,
+) -> Option<Letter> {
+    match step {
+        Step::Ask(n, i) => Some(ask_at(rt, core_at(rt, cores, n), i)),
+        Step::Give(n, i) => Some(give_at(rt, core_at(rt, cores, n), i)),
+        Step::SayDone(n, i) => Some(say_done_at(rt, core_at(rt, cores, n), i)),
+        Step::Close(n) => Some(close(rt, core_at(rt, cores, n))),
+        Step::Request(edge) => Some(Letter::Request(Token::open(edge))),
+        Step::Done => Some(Letter::Done),
+        Step::CloseLetter => Some(Letter::Close),
+        Step::Fork { edge, higher, due } => Some(opened_fork(rt, alloc, edge, higher, due)),
+        _ => None,
+    }
+}
+
+// A step that moves no letter.
+fn goes_on(rt: &impl Abort, cores: &mut Vec<SiteCore>, step: Step) {
+    match step {
+        Step::Hungry(n) => grow_hungry(rt, core_at(rt, cores, n)),
+        Step::Eat(n) => eat(rt, core_at(rt, cores, n)),
+        Step::Next(n, kind) => next_is(rt, core_at(rt, cores, n), kind),
+        Step::Waits(n, wanted) => waits(rt, core_at(rt, cores, n), wanted),
+        Step::Closed(n, is_closed) => {
+            let core = core_at(rt, cores, n);
+            same(rt, &core.is_closed(), &is_closed);
+        }
+        Step::Ate(n, k) => same(rt, &core_at(rt, cores, n).ate(), &k),
+        Step::Finished(n) => assert!(rt; core_at(rt, cores, n).is_finished()),
+        _ => {}
+    }
+}
+
+// A step by which a letter leaves the pile, or comes back to it.
+fn lands(rt: &impl Abort, cores: &mut Vec<SiteCore>, pile: &mut Vec<Letter>, step: Step) {
+    match step {
+        Step::Take(n, i) => {
+            let letter = top(rt, pile);
+            take_at(rt, core_at(rt, cores, n), i, letter);
+        }
+        Step::Refuse(n, cause) => {
+            let letter = top(rt, pile);
+            let back = refuse(rt, core_at(rt, cores, n), letter, cause);
+            pile.push(back).expect(rt, "memory");
+        }
+        Step::Lies(kind) => {
+            let letter = top(rt, pile);
+            same(rt, &letter.kind(), &kind);
+            pile.push(letter).expect(rt, "memory");
+        }
+        Step::Lose => {
+            let _letter = top(rt, pile);
+        }
+        _ => {}
+    }
+}
+
+// Another site joins the script.
+pub fn seat(rt: &impl Abort, cores: &mut Vec<SiteCore>, core: SiteCore) {
+    assert!(rt; cores.len() < cores.capacity());
+    cores.push_reserved(core);
+}
+
+// The cores of these sites of a plan, as they are at the start, with room for four in all.
+pub fn seated(rt: &impl Abort, alloc: Global, plan: &Plan, sites: &[u32]) -> Vec<SiteCore> {
+    let mut cores = Vec::with_capacity(alloc, 4).expect(rt, "memory");
+    for site in sites {
+        seat(rt, &mut cores, core_of(rt, alloc, plan, *site));
+    }
+    cores
+}
+
+// Does the steps, one after another.
+pub fn play(rt: &impl Abort, alloc: Global, cores: &mut Vec<SiteCore>, steps: &[Step]) {
+    let mut pile = Vec::new(alloc);
+    for step in steps {
+        goes_on(rt, cores, *step);
+        lands(rt, cores, &mut pile, *step);
+        if let Some(letter) = letter_put(rt, alloc, cores, *step) {
+            pile.push(letter).expect(rt, "memory");
+        }
+    }
+}
+
+// What is left of the sites, in their order.
+pub fn leave(rt: &impl Abort, alloc: Global, mut cores: Vec<SiteCore>) -> Vec<Parts> {
+    let mut left = Vec::new(alloc);
+    for _ in 0..cores.len() {
+        let core = cores.pop().expect(rt, "a site");
+        left.push(spend(rt, core)).expect(rt, "memory");
+    }
+    assert!(rt; cores.is_empty());
+    cores.destroy_empty();
+    left.as_mut_slice().reverse();
+    left
+}
+
+// These sites of the plan do these steps, and this is left of them.
+pub fn plays(
+    rt: &impl Abort,
+    alloc: Global,
+    plan: &Plan,
+    sites: &[u32],
+    steps: &[Step],
+) -> Vec<Parts> {
+    let mut cores = seated(rt, alloc, plan, sites);
+    play(rt, alloc, &mut cores, steps);
+    leave(rt, alloc, cores)
+}
