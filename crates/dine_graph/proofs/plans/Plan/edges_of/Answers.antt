@@ -1,3 +1,4 @@
+use borrow.Author.Rules.{get_or_read}
 use Rattle.std.proofs.Common.{◌≡◌, ◌<◌, true, sym, subst, rules}
 use Rattle.std.specs.List.{All}
 use Rattle.std.specs.List.Sorted.{IsStrictlyIncreasing}
@@ -19,3 +20,9 @@ pub returns-clause-within : goal.returns-clause-within
 returns-clause-within c =
     let list : c.as_slice.result.now ≡ edges_of c.args.self.now c.args.site = search rules in
     subst (All (λ e. e < edge_count c.args.self.now)) (sym list) (positions_within c.args.self.now.edges c.args.site)
+
+pub returns-clause-edges : goal.returns-clause-edges
+returns-clause-edges c = search (rules, get_or_read)
+
+pub returns-clause-plan : goal.returns-clause-plan
+returns-clause-plan c = search (rules, get_or_read)

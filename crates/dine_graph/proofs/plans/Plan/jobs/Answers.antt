@@ -1,3 +1,5 @@
+use borrow.Author.Rules.{get_or_read}
+use Rattle.std.proofs.lemmas.Grind.{elements}
 use Rattle.std.proofs.Common.{◌≡◌, ◌<◌, ◌≤◌, length, map, sym, ap, subst, ◌∙◌, arith, rules}
 use Rattle.std.proofs.lemmas.List.{get_or-map, length-map}
 use Rattle.dine_graph.specs.Plan.{SeenSite, SeenPlan, no_site}
@@ -16,3 +18,9 @@ overflow_cast-result c =
     let long : length (map seen_job site.jobs.items) ≡ length site.jobs.items = length-map site.jobs.items seen_job in
     let small : c.len.result ≤ 1000 = omega (arith, site.jobs.ok.0) in
     search rules
+
+pub returns-clause-count : goal.returns-clause-count
+returns-clause-count c = grind (arith, elements)
+
+pub returns-clause-plan : goal.returns-clause-plan
+returns-clause-plan c = search (rules, get_or_read)

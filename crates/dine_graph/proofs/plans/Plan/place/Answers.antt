@@ -1,4 +1,5 @@
-use Rattle.std.proofs.Common.{◌≡◌, Some, arith}
+use borrow.Author.Rules.{get_or_read}
+use Rattle.std.proofs.Common.{◌≡◌, Some, arith, rules}
 use Rattle.std.specs.List.{slice_get}
 use Rattle.std.proofs.lemmas.Grind.{common_steps}
 use Rattle.std.proofs.lemmas.Option.{slice_get_within}
@@ -25,3 +26,15 @@ pub returns-else-lo-site-clause-within : goal.returns-else-lo-site-clause-within
 returns-else-lo-site-clause-within c =
     let here : slice_get (edges_of c.args.self.now c.args.site) c.index.result.now.1 ≡ Some c.args.edge = grind (arith, common_steps) in
     slice_get_within _ _ c.args.edge here
+
+pub returns-then-lo-site-clause-place : goal.returns-then-lo-site-clause-place
+returns-then-lo-site-clause-place c = search (rules, get_or_read)
+
+pub returns-then-lo-site-clause-plan : goal.returns-then-lo-site-clause-plan
+returns-then-lo-site-clause-plan c = search (rules, get_or_read)
+
+pub returns-else-lo-site-clause-place : goal.returns-else-lo-site-clause-place
+returns-else-lo-site-clause-place c = search (rules, get_or_read)
+
+pub returns-else-lo-site-clause-plan : goal.returns-else-lo-site-clause-plan
+returns-else-lo-site-clause-plan c = search (rules, get_or_read)

@@ -1,4 +1,4 @@
-use Rattle.std.proofs.Common.{refl, ◌≡◌, ◌∙◌, sym, ap, suc, ◌-◌, false, set, arith}
+use Rattle.std.proofs.Common.{refl, ◌≡◌, ◌∙◌, sym, ap, suc, ◌-◌, false, set, arith, rules}
 use Rattle.dine_set.specs.Marks.{nth_position}
 use Rattle.dine_set.proofs.NthPosition.{nth_position-zero, nth_position-none, nth_position-None, nth_position-suc, position-Some}
 use Rattle.dine_set.proofs.bit_set.BitSet64.nth.Goals as goal
@@ -19,3 +19,6 @@ returns-clause-value c = sym (c.loop-i.invariant ∙ nth_position-none (λ b. b)
 
 pub returns-clause-none : goal.returns-clause-none
 returns-clause-none c = nth_position-None (λ b. b) c.args.n c.args.self.now (sym (returns-clause-value c))
+
+pub loop-i-init : goal.loop-i-init
+loop-i-init c = search rules

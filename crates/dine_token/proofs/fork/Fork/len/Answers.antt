@@ -1,4 +1,5 @@
-use Rattle.std.proofs.Common.{length, ap, arith}
+use borrow.Author.Rules.{get_or_read}
+use Rattle.std.proofs.Common.{length, ap, arith, rules}
 use Rattle.dine_token.specs.declared.fork.Kept.{Kept}
 use Rattle.dine_token.specs.Fork.{SeenFork}
 use Rattle.dine_token.specs.Log.{moves_of}
@@ -18,3 +19,6 @@ returns-clause-len c =
     let kept = c.self.invariant in
     let fork = seen c.self.inside in
     omega (arith, ap (λ (k : Kept). k.lower_meals) c.deref-kept.ensures, ap (λ (k : Kept). k.higher_meals) c.deref-kept.ensures, kept.lower_meals, kept.higher_meals, c.moves.ensures, ap (λ (f : SeenFork). moves_of f.log) c.self.view_is, ap (λ (f : SeenFork). length f.log) c.self.view_is, (counted_lawful fork.ends fork.due kept.proper.ordered fork.log kept.proper.lawful).all)
+
+pub returns-clause-proper : goal.returns-clause-proper
+returns-clause-proper c = search (rules, get_or_read)

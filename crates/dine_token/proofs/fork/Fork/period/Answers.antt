@@ -1,3 +1,4 @@
+use Rattle.std.proofs.lemmas.Grind.{elements}
 use Rattle.std.proofs.Common.{◌≡◌, ◌+◌, ◌<◌, ◌≤◌, List, length, Some, slice_get, sym, ◌∙◌, ap, subst, arith}
 use Rattle.std.specs.List.{All}
 use Rattle.std.proofs.lemmas.List.Elements.{All-get_or}
@@ -33,3 +34,6 @@ returns-clause-used c some more =
     let kept = c.self.inside.kept.value.periods.items in
     let there = subst (λ (l : List Period). slice_get l c.args.i ≡ Some c.index.result.now) same got in
     used_between fork.ends fork.due kept c.args.i c.index.result.now c.self.invariant.proper.lawful there some (omega (arith, asked, size, ap length same))
+
+pub returns-clause-period : goal.returns-clause-period
+returns-clause-period c = grind (arith, elements)

@@ -1,4 +1,5 @@
-use Rattle.std.proofs.Common.{ap, arith, length}
+use borrow.Author.Rules.{get_or_read}
+use Rattle.std.proofs.Common.{ap, arith, length, rules}
 use Rattle.dine_token.specs.declared.fork.Kept.{Kept}
 use Rattle.dine_token.specs.private.Fields.{seen}
 use Rattle.dine_token.proofs.Periods.{length-periods_of}
@@ -10,3 +11,15 @@ overflow_cast-result c =
     let kept = c.self.invariant in
     let fork = seen c.self.inside in
     omega (arith, c.len.ensures, c.deref.result.now.periods.ok.0, ap (λ (k : Kept). length k.periods.items) c.deref.ensures, ap length kept.periods, length-periods_of fork.ends.0 fork.log, moves-fork fork kept.proper)
+
+pub returns-clause-count : goal.returns-clause-count
+returns-clause-count c = search (rules, get_or_read)
+
+pub returns-clause-some : goal.returns-clause-some
+returns-clause-some c = search (rules, get_or_read)
+
+pub returns-clause-whole : goal.returns-clause-whole
+returns-clause-whole c = search (rules, get_or_read)
+
+pub returns-clause-proper : goal.returns-clause-proper
+returns-clause-proper c = search (rules, get_or_read)

@@ -1,4 +1,4 @@
-use Rattle.std.proofs.Common.{◌≡◌, ◌<◌, ◌-◌, ◌++◌, ℕ, length, map, take, drop, set, get_or, ◌≤◌, sym, ◌∙◌, ap, subst, arith, List, append-nil}
+use Rattle.std.proofs.Common.{◌≡◌, ◌<◌, ◌-◌, ◌++◌, ℕ, length, map, take, drop, set, get_or, ◌≤◌, sym, ◌∙◌, ap, subst, arith, List, append-nil, rules}
 use Rattle.std.proofs.lemmas.List.{get_or-append_right, get_or-drop, length-take-le, length-map, take_all, drop_all}
 use Rattle.std.proofs.lemmas.List.Edits.{map_over_more}
 use Rattle.std.proofs.lemmas.List.Elements.{All-map}
@@ -52,3 +52,9 @@ invariant_of-result c =
       few = c.requires.countable;
       dirty = subst (All IsDirty) (sym whole) (All-map IsDirty f xs (λ i past within. is_dirty-push_meal (get_or xs i past).log c.args.site c.args.k));
     }
+
+pub returns-clause-site : goal.returns-clause-site
+returns-clause-site c = search (rules, c.well_formed, c.ranges)
+
+pub returns-clause-k : goal.returns-clause-k
+returns-clause-k c = search (rules, c.well_formed, c.ranges)

@@ -1,0 +1,9 @@
+use borrow.Author.Rules.{get_or_read}
+use Rattle.std.proofs.Common.{rules}
+use Rattle.dine_token.proofs.fork.Fork.value.Goals as goal
+
+pub returns-clause-value : goal.returns-clause-value
+returns-clause-value c = search (rules, get_or_read)
+
+pub returns-clause-proper : goal.returns-clause-proper
+returns-clause-proper c = search (rules, get_or_read)
