@@ -17,21 +17,29 @@ site = [
 ]
 "#;
 
+fn add_site(rt: &impl Abort, plan: &mut PlanBuilder, name: &str, jobs: u32) -> u32 {
+    plan.site(name, jobs).expect(rt, "memory")
+}
+
+fn add_edge(rt: &impl Abort, plan: &mut PlanBuilder, one: u32, other: u32) -> u32 {
+    plan.edge(one, other).expect(rt, "memory")
+}
+
 // What the text `THREE` says, told by a program.
-fn three(alloc: Global) -> Result<PlanBuilder, AllocError> {
+fn three(rt: &impl Abort, alloc: Global) -> PlanBuilder {
     let mut plan = PlanBuilder::open(alloc);
-    let a = plan.site("a", 3)?;
-    let b = plan.site("b", 1)?;
-    let first = plan.edge(b, a)?;
-    let _second = plan.edge(b, 2)?;
-    let _c = plan.site("c", 0)?;
+    let a = add_site(rt, &mut plan, "a", 3);
+    let b = add_site(rt, &mut plan, "b", 1);
+    let first = add_edge(rt, &mut plan, b, a);
+    let _second = add_edge(rt, &mut plan, b, 2);
+    let _c = add_site(rt, &mut plan, "c", 0);
     plan.act(a, 2, Act::Add(10));
     plan.fails(a, 2);
     plan.turns(a, 3, 100);
     plan.resign(a);
     plan.act(b, 1, Act::Set(7));
     plan.value(first, 5);
-    Ok(plan)
+    plan
 }
 
 // All that is told of a plan, in short, or its fault as it is printed.
@@ -47,27 +55,20 @@ fn answer(alloc: Global, plan: Result<Plan, PlanFault>) -> Result<String, AllocE
 }
 
 // This is told of a plan, or is its fault as it is printed.
-fn is_told<R: Abort>(
-    rt: &R,
-    alloc: Global,
-    plan: Result<Plan, PlanFault>,
-    want: &str,
-) -> Result<(), AllocError> {
-    let told = answer(alloc, plan)?;
+fn is_told(rt: &impl Abort, alloc: Global, plan: Result<Plan, PlanFault>, want: &str) {
+    let told = answer(alloc, plan).expect(rt, "memory");
     same(rt, &told.as_str(), &want);
-    Ok(())
 }
 
 #[test]
-fn builds_what_is_read(rt: HostRuntime) -> Result<(), Fail> {
+fn builds_what_is_read(rt: HostRuntime) {
     let alloc = rt.alloc();
-    let built = three(alloc)?;
+    let built = three(&rt, alloc);
     let want = "a 1/0/false 2/0/true 3/100/false;b 1/0/false;c; 0-1 1-2 2: a! +0 +10 +0 b =7 c 5 0";
-    is_told(&rt, alloc, built.finish(), want)?;
-    is_told(&rt, alloc, read_plan(alloc, THREE), want)?;
-    let text = built.text()?;
-    is_told(&rt, alloc, read_plan(alloc, text.as_str()), want)?;
-    Ok(())
+    is_told(&rt, alloc, built.finish(), want);
+    is_told(&rt, alloc, read_plan(alloc, THREE), want);
+    let text = built.text().expect(&rt, "memory");
+    is_told(&rt, alloc, read_plan(alloc, text.as_str()), want);
 }
 
 #[test]
@@ -112,83 +113,76 @@ fn told(alloc: Global, plan: &PlanBuilder) -> Result<String, AllocError> {
 }
 
 // That answer is this one.
-fn tells<R: Abort>(
-    rt: &R,
-    alloc: Global,
-    plan: &PlanBuilder,
-    want: &str,
-) -> Result<(), AllocError> {
-    let told = told(alloc, plan)?;
+fn tells(rt: &impl Abort, alloc: Global, plan: &PlanBuilder, want: &str) {
+    let told = told(alloc, plan).expect(rt, "memory");
     same(rt, &told.as_str(), &want);
-    Ok(())
 }
 
-#[test]
-fn refuses_names_and_sites(rt: HostRuntime) -> Result<(), Fail> {
-    let alloc = rt.alloc();
+// A plan with so many sites of a job each, and with all their edges or with none.
+fn wide(rt: &impl Abort, alloc: Global, sites: u32, has_edges: bool) -> PlanBuilder {
     let mut plan = PlanBuilder::open(alloc);
-    tells(&rt, alloc, &plan, "8 NoSite")?;
-    plan.site("a", 1_000)?;
-    plan.site("b", 1_001)?;
-    tells(&rt, alloc, &plan, "10 TooManyJobs at site 1")?;
-    plan.site("a", u32::MAX)?;
-    tells(&rt, alloc, &plan, "7 SiteTwice at site 2")?;
-    for name in ["", "a b", "\" }]\nversion = 1 #", "\u{e9}"] {
-        let mut plan = three(alloc)?;
-        plan.site(name, 0)?;
-        tells(&rt, alloc, &plan, "6 BadName at site 3")?;
-    }
-    let mut plan = PlanBuilder::open(alloc);
-    for site in 0..65 {
-        plan.site(format!(in alloc; "s{site}")?.as_str(), 1)?;
-    }
-    tells(&rt, alloc, &plan, "9 TooManySites")?;
-    Ok(())
-}
-
-#[test]
-fn refuses_edges(rt: HostRuntime) -> Result<(), Fail> {
-    let alloc = rt.alloc();
-    let mut plan = three(alloc)?;
-    plan.edge(0, 1)?;
-    tells(&rt, alloc, &plan, "14 EdgeTwice at edge 2")?;
-    plan.edge(2, 2)?;
-    tells(&rt, alloc, &plan, "13 Loop at edge 3")?;
-    plan.edge(3, 0)?;
-    tells(&rt, alloc, &plan, "12 UnknownEnd at edge 4")?;
-    plan.site("d", 0)?;
-    tells(&rt, alloc, &plan, "13 Loop at edge 3")?;
-    let mut plan = PlanBuilder::open(alloc);
-    for site in 0..33u32 {
-        plan.site(format!(in alloc; "s{site}")?.as_str(), 1)?;
-        for lower in 0..site {
-            plan.edge(lower, site)?;
+    for site in 0..sites {
+        let name = format!(in alloc; "s{site}").expect(rt, "memory");
+        add_site(rt, &mut plan, name.as_str(), 1);
+        for lower in 0..if has_edges { site } else { 0 } {
+            add_edge(rt, &mut plan, lower, site);
         }
     }
-    tells(&rt, alloc, &plan, "15 TooManyEdges")?;
-    Ok(())
+    plan
 }
 
 #[test]
-fn refuses_numbers(rt: HostRuntime) -> Result<(), Fail> {
+fn refuses_names_and_sites(rt: HostRuntime) {
     let alloc = rt.alloc();
-    let mut plan = three(alloc)?;
+    let mut plan = PlanBuilder::open(alloc);
+    tells(&rt, alloc, &plan, "8 NoSite");
+    add_site(&rt, &mut plan, "a", 1_000);
+    add_site(&rt, &mut plan, "b", 1_001);
+    tells(&rt, alloc, &plan, "10 TooManyJobs at site 1");
+    add_site(&rt, &mut plan, "a", u32::MAX);
+    tells(&rt, alloc, &plan, "7 SiteTwice at site 2");
+    for name in ["", "a b", "\" }]\nversion = 1 #", "\u{e9}"] {
+        let mut plan = three(&rt, alloc);
+        add_site(&rt, &mut plan, name, 0);
+        tells(&rt, alloc, &plan, "6 BadName at site 3");
+    }
+    tells(&rt, alloc, &wide(&rt, alloc, 65, false), "9 TooManySites");
+}
+
+#[test]
+fn refuses_edges(rt: HostRuntime) {
+    let alloc = rt.alloc();
+    let mut plan = three(&rt, alloc);
+    add_edge(&rt, &mut plan, 0, 1);
+    tells(&rt, alloc, &plan, "14 EdgeTwice at edge 2");
+    add_edge(&rt, &mut plan, 2, 2);
+    tells(&rt, alloc, &plan, "13 Loop at edge 3");
+    add_edge(&rt, &mut plan, 3, 0);
+    tells(&rt, alloc, &plan, "12 UnknownEnd at edge 4");
+    add_site(&rt, &mut plan, "d", 0);
+    tells(&rt, alloc, &plan, "13 Loop at edge 3");
+    tells(&rt, alloc, &wide(&rt, alloc, 33, true), "15 TooManyEdges");
+}
+
+#[test]
+fn refuses_numbers(rt: HostRuntime) {
+    let alloc = rt.alloc();
+    let mut plan = three(&rt, alloc);
     plan.value(1, u64::MAX);
-    tells(&rt, alloc, &plan, "19 ValueTooLarge at edge 1")?;
+    tells(&rt, alloc, &plan, "19 ValueTooLarge at edge 1");
     plan.act(1, 1, Act::Set(1_000_001));
-    tells(&rt, alloc, &plan, "18 ActTooLarge at site 1")?;
+    tells(&rt, alloc, &plan, "18 ActTooLarge at site 1");
     plan.act(0, 1, Act::Add(u64::MAX));
-    tells(&rt, alloc, &plan, "18 ActTooLarge at site 0")?;
+    tells(&rt, alloc, &plan, "18 ActTooLarge at site 0");
     plan.turns(1, 1, u32::MAX);
-    tells(&rt, alloc, &plan, "11 TurnsTooLarge at site 1")?;
+    tells(&rt, alloc, &plan, "11 TurnsTooLarge at site 1");
     plan.turns(1, 1, 1_000_000);
     plan.act(0, 1, Act::Add(1_000_000));
     plan.act(1, 1, Act::Set(1_000_000));
     plan.value(1, 1_000_000);
     let want =
         "a 1/0/false 2/0/true 3/100/false;b 1/1000000/false;c; 0-1 1-2 2: a! +1000000 +10 +0 b =1000000 c 5 1000000";
-    tells(&rt, alloc, &plan, want)?;
-    Ok(())
+    tells(&rt, alloc, &plan, want);
 }
 
 // Under `--fail-alloc` each allocation fails in turn: what was told stays, and the answer is then want of memory.

@@ -8,7 +8,7 @@ use dine_core::site::{fresh_forks, fresh_tokens};
 use dine_core::{Breach, EventKind, Kind4, Letter, Packed, Parts, Phase, SiteCore};
 use dine_plan::{Plan, read_plan};
 use dine_token::{Act, Entry, Fork, Held, Meal, Token};
-use script::{A, B, C, Step, leave, play, plays, seated};
+use script::{A, B, C, Step, plays};
 use std::alloc::{AllocError, Global};
 use std::process::Abort;
 use std::test::Fail;
@@ -71,11 +71,42 @@ fn give_at(rt: &impl Abort, core: &mut SiteCore, i: u32) -> Letter {
     core.give(i)
 }
 
-fn eat(rt: &impl Abort, core: &mut SiteCore) {
+// A meal that goes well or fails. There is nothing else to do before it ends.
+fn eat(rt: &impl Abort, core: &mut SiteCore, failed: bool) {
     assert!(rt; core.may_begin());
     assert!(rt; !core.may_end());
     let meal = core.begin();
-    core.end(meal, false);
+    next_is(rt, core, Some(EventKind::End));
+    core.end(meal, failed);
+}
+
+fn quit(rt: &impl Abort, core: &mut SiteCore) {
+    assert!(rt; core.may_quit());
+    core.quit();
+}
+
+// Whether the site may grow hungry, quit, and say Done at its first place.
+fn may_do(rt: &impl Abort, core: &SiteCore, may: (bool, bool, bool)) {
+    assert!(rt; 0 < core.degree());
+    same(
+        rt,
+        &(core.may_hungry(), core.may_quit(), core.may_done(0)),
+        &may,
+    );
+}
+
+// The letter that a site puts by breaking off at its first place.
+fn break_off(rt: &impl Abort, core: &mut SiteCore) -> Option<Letter> {
+    assert!(rt; 0 < core.degree());
+    assert!(rt; core.phase() != Phase::Eating);
+    core.break_off(0)
+}
+
+// The site broke off there before: it puts nothing more, and stays as it is.
+fn is_broken_off(rt: &impl Abort, core: &mut SiteCore) {
+    let before = told_of(rt, core, 0);
+    assert!(rt; break_off(rt, core).is_none());
+    same(rt, &told_of(rt, core, 0), &before);
 }
 
 fn say_done_at(rt: &impl Abort, core: &mut SiteCore, i: u32) -> Letter {
@@ -242,7 +273,6 @@ fn events_come_in_the_fixed_order(rt: HostRuntime) {
 #[test]
 fn events_follow_the_phase(rt: HostRuntime) {
     let plan = plan_of(&rt, rt.alloc(), JOB, JOB);
-    let mut cores = seated(&rt, rt.alloc(), &plan, &[0, 1]);
     let steps = [
         Step::Next(A, Some(EventKind::Hungry)),
         Step::Hungry(A),
@@ -257,17 +287,12 @@ fn events_follow_the_phase(rt: HostRuntime) {
         Step::Take(B, 0),
         Step::Next(A, Some(EventKind::Ask(0))),
         Step::Next(B, Some(EventKind::Begin)),
+        Step::Eat(B),
+        Step::Next(B, Some(EventKind::Done(0))),
     ];
-    play(&rt, rt.alloc(), &mut cores, &steps);
-    let mut b = cores.pop().expect(&rt, "a site");
-    assert!(rt; b.may_begin());
-    let meal = b.begin();
-    next_is(&rt, &b, Some(EventKind::End));
-    b.end(meal, false);
-    next_is(&rt, &b, Some(EventKind::Done(0)));
-    same(&rt, &spend(&rt, b).forks.len(), &1);
-    let left = leave(&rt, rt.alloc(), cores);
+    let left = plays(&rt, rt.alloc(), &plan, &[0, 1], &steps);
     are_left(&rt, &left, A, 0, 1);
+    are_left(&rt, &left, B, 1, 0);
 }
 
 // The lower of two sites has three jobs, and its policy is this.
@@ -278,44 +303,42 @@ fn policy_plan(rt: &impl Abort, alloc: Global, policy: &str) -> Plan {
     read_plan(alloc, text.as_str()).expect(rt, "a plan")
 }
 
-fn eat_with(rt: &impl Abort, core: &mut SiteCore, failed: bool) {
-    grow_hungry(rt, core);
-    assert!(rt; core.may_begin());
-    let meal = core.begin();
-    core.end(meal, failed);
-}
-
 // Only a meal that failed has a site quit, and then it grows hungry no more.
 #[test]
 fn site_that_resigns_quits_after_a_meal_that_failed(rt: HostRuntime) {
     let plan = policy_plan(&rt, rt.alloc(), "resign");
-    let mut a = core_of(&rt, rt.alloc(), &plan, 0);
-    assert!(rt; !a.may_quit());
-    eat_with(&rt, &mut a, false);
-    assert!(rt; !a.may_quit() && a.may_hungry());
-    eat_with(&rt, &mut a, true);
-    assert!(rt; 0 < a.degree());
-    assert!(rt; !a.may_hungry() && !a.may_done(0));
-    next_is(&rt, &a, Some(EventKind::Quit));
-    assert!(rt; a.may_quit());
-    a.quit();
-    assert!(rt; !a.may_quit() && !a.may_hungry());
-    next_is(&rt, &a, Some(EventKind::Done(0)));
-    let _parts = spend(&rt, a);
+    let steps = [
+        Step::May(A, (true, false, false)),
+        Step::Hungry(A),
+        Step::Eat(A),
+        Step::May(A, (true, false, false)),
+        Step::Hungry(A),
+        Step::Fail(A),
+        Step::May(A, (false, true, false)),
+        Step::Next(A, Some(EventKind::Quit)),
+        Step::Quit(A),
+        Step::May(A, (false, false, true)),
+        Step::Next(A, Some(EventKind::Done(0))),
+    ];
+    plays(&rt, rt.alloc(), &plan, &[0], &steps);
 }
 
 // Neither the last meal, nor that of a site that goes on, has the site quit.
 #[test]
 fn no_site_quits_without_cause(rt: HostRuntime) {
-    for policy in ["resign", "go"] {
+    for (policy, meal) in [("resign", Step::Eat(A)), ("go", Step::Fail(A))] {
         let plan = policy_plan(&rt, rt.alloc(), policy);
-        let mut a = core_of(&rt, rt.alloc(), &plan, 0);
-        eat_with(&rt, &mut a, policy == "go");
-        eat_with(&rt, &mut a, policy == "go");
-        eat_with(&rt, &mut a, true);
-        assert!(rt; !a.may_quit());
-        next_is(&rt, &a, Some(EventKind::Done(0)));
-        let _parts = spend(&rt, a);
+        let steps = [
+            Step::Hungry(A),
+            meal,
+            Step::Hungry(A),
+            meal,
+            Step::Hungry(A),
+            Step::Fail(A),
+            Step::May(A, (false, false, true)),
+            Step::Next(A, Some(EventKind::Done(0))),
+        ];
+        plays(&rt, rt.alloc(), &plan, &[0], &steps);
     }
 }
 
@@ -383,18 +406,13 @@ fn what_a_site_waits_for_follows_its_forks(rt: HostRuntime) {
 #[test]
 fn second_break_off_gives_nothing(rt: HostRuntime) {
     let plan = plan_of(&rt, rt.alloc(), JOB, JOB);
-    let mut a = core_of(&rt, rt.alloc(), &plan, 0);
-    assert!(rt; 0 < a.degree());
-    assert!(rt; a.phase() != Phase::Eating);
-    let first = a.break_off(0).expect(&rt, "Close");
-    same(&rt, &first.kind(), &Kind4::Close);
-    let before = told_of(&rt, &a, 0);
-    assert!(rt; 0 < a.degree());
-    assert!(rt; a.phase() != Phase::Eating);
-    assert!(rt; a.break_off(0).is_none());
-    same(&rt, &told_of(&rt, &a, 0), &before);
-    let parts = spend(&rt, a);
-    same(&rt, &(parts.forks.len(), parts.tokens.len()), &(1, 0));
+    let steps = [
+        Step::BreakOff(A),
+        Step::Lies(Kind4::Close),
+        Step::BrokenOff(A),
+    ];
+    let left = plays(&rt, rt.alloc(), &plan, &[0], &steps);
+    are_left(&rt, &left, A, 1, 0);
 }
 
 #[test]
@@ -445,7 +463,7 @@ fn packed_core_comes_back_as_it_was(rt: HostRuntime) {
     assert!(&rt; core.has_fork(0));
     assert!(&rt; !core.has_token(0));
     grow_hungry(&rt, &mut core);
-    eat(&rt, &mut core);
+    eat(&rt, &mut core, false);
     same(&rt, &core.ate(), &1);
     same(&rt, &spend(&rt, core).forks.len(), &1);
 }

@@ -1,8 +1,8 @@
 // Scripts: what some sites do one after another, and the letters that go between them. A test is a list of steps, which
 // one function goes through, so that each call is proved once and not once more in each test.
 use super::{
-    ask_at, close, core_of, eat, give_at, grow_hungry, next_is, refuse, say_done_at, spend,
-    take_at, waits,
+    ask_at, break_off, close, core_of, eat, give_at, grow_hungry, is_broken_off, may_do, next_is,
+    quit, refuse, say_done_at, spend, take_at, waits,
 };
 use crate::asserts::same;
 use dine_core::{Breach, EventKind, Kind4, Letter, Parts, SiteCore};
@@ -23,8 +23,13 @@ pub const C: usize = 2;
 #[derive(Clone, Copy)]
 pub enum Step {
     Hungry(usize),
-    // It eats a meal that goes well.
+    // It eats a meal that goes well, or one that fails, and has nothing else to do before it ends.
     Eat(usize),
+    Fail(usize),
+    Quit(usize),
+    // It breaks off at its first place, which puts Close, or has done so before.
+    BreakOff(usize),
+    BrokenOff(usize),
     // It does this at a place, which puts a letter.
     Ask(usize, u32),
     Give(usize, u32),
@@ -37,6 +42,8 @@ pub enum Step {
     Refuse(usize, Breach),
     // This is what it does next of itself.
     Next(usize, Option<EventKind>),
+    // Whether it may grow hungry, quit, and say Done at its first place.
+    May(usize, (bool, bool, bool)),
     // It waits for this: as `waits` says.
     Waits(usize, (Option<u32>, u32, u32)),
     // Whether Close went both ways at each of its places.
@@ -89,6 +96,7 @@ fn letter_put(
         Step::Give(n, i) => Some(give_at(rt, core_at(rt, cores, n), i)),
         Step::SayDone(n, i) => Some(say_done_at(rt, core_at(rt, cores, n), i)),
         Step::Close(n) => Some(close(rt, core_at(rt, cores, n))),
+        Step::BreakOff(n) => break_off(rt, core_at(rt, cores, n)),
         Step::Request(edge) => Some(Letter::Request(Token::open(edge))),
         Step::Done => Some(Letter::Done),
         Step::CloseLetter => Some(Letter::Close),
@@ -101,7 +109,11 @@ fn letter_put(
 fn goes_on(rt: &impl Abort, cores: &mut Vec<SiteCore>, step: Step) {
     match step {
         Step::Hungry(n) => grow_hungry(rt, core_at(rt, cores, n)),
-        Step::Eat(n) => eat(rt, core_at(rt, cores, n)),
+        Step::Eat(n) => eat(rt, core_at(rt, cores, n), false),
+        Step::Fail(n) => eat(rt, core_at(rt, cores, n), true),
+        Step::Quit(n) => quit(rt, core_at(rt, cores, n)),
+        Step::BrokenOff(n) => is_broken_off(rt, core_at(rt, cores, n)),
+        Step::May(n, may) => may_do(rt, core_at(rt, cores, n), may),
         Step::Next(n, kind) => next_is(rt, core_at(rt, cores, n), kind),
         Step::Waits(n, wanted) => waits(rt, core_at(rt, cores, n), wanted),
         Step::Closed(n, is_closed) => {
