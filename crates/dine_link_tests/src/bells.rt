@@ -7,7 +7,6 @@ use std::alloc::Global;
 use std::process::Abort;
 use std::sync::atomic::{AtomicU64, Ordering};
 use std::sync::{Arc, Wait};
-use std::test::Fail;
 use std::thread;
 use std::thread::{JoinHandle, Parker, Threads};
 use std::time::Duration;
@@ -34,11 +33,11 @@ struct Apart {
 }
 
 // A bell of that degree, and its ringers.
-fn opened(alloc: Global, degree: u32) -> Result<(Vec<Ringer>, Bell), Fail> {
+fn opened(rt: &impl Abort, alloc: Global, degree: u32) -> (Vec<Ringer>, Bell) {
     let Ok(opened) = Bell::open(alloc, degree) else {
-        return Err(Fail::from("no memory for the bell"));
+        panic!(rt; "no memory for the bell");
     };
-    Ok(opened)
+    opened
 }
 
 // The ringer at that place rings.
@@ -65,59 +64,71 @@ fn tells<R: Abort + Wait>(rt: &R, bell: &mut Bell, told: &[Result<u32, Lost>]) {
 }
 
 #[test]
-fn each_ringer_rings_its_own_number(rt: HostRuntime) -> Result<(), Fail> {
-    let (mut ringers, mut bell) = opened(rt.alloc(), 3)?;
+fn each_ringer_rings_its_own_number(rt: HostRuntime) {
+    let (mut ringers, mut bell) = opened(&rt, rt.alloc(), 3);
     same(&rt, &ringers.len(), &3);
     ring_each(&rt, &mut ringers, &[2, 0, 1, 2]);
     tells(&rt, &mut bell, &[Ok(2), Ok(0), Ok(1), Ok(2)]);
-    Ok(())
 }
 
 // One ring more would wait for ever.
 #[test]
-fn four_rings_of_each_ringer_wait_for_nobody(rt: HostRuntime) -> Result<(), Fail> {
-    let (mut ringers, mut bell) = opened(rt.alloc(), 2)?;
-    for _ in 0..4 {
-        ring_each(&rt, &mut ringers, &[1, 0]);
-    }
-    for _ in 0..4 {
-        tells(&rt, &mut bell, &[Ok(1), Ok(0)]);
-    }
-    Ok(())
+fn four_rings_of_each_ringer_wait_for_nobody(rt: HostRuntime) {
+    let (mut ringers, mut bell) = opened(&rt, rt.alloc(), 2);
+    ring_each(&rt, &mut ringers, &[1, 0, 1, 0, 1, 0, 1, 0]);
+    let told = [Ok(1), Ok(0), Ok(1), Ok(0), Ok(1), Ok(0), Ok(1), Ok(0)];
+    tells(&rt, &mut bell, &told);
 }
 
 #[test]
-fn without_ringers_nobody_rings(rt: HostRuntime) -> Result<(), Fail> {
-    let (ringers, mut bell) = opened(rt.alloc(), 0)?;
+fn without_ringers_nobody_rings(rt: HostRuntime) {
+    let (ringers, mut bell) = opened(&rt, rt.alloc(), 0);
     same(&rt, &ringers.len(), &0);
     tells(&rt, &mut bell, &[Err(Lost)]);
-    Ok(())
 }
 
 #[test]
-fn rings_outlive_their_ringers(rt: HostRuntime) -> Result<(), Fail> {
-    let (mut ringers, mut bell) = opened(rt.alloc(), 2)?;
+fn rings_outlive_their_ringers(rt: HostRuntime) {
+    let (mut ringers, mut bell) = opened(&rt, rt.alloc(), 2);
     ring(&rt, &mut ringers, 1);
     drop(ringers);
     tells(&rt, &mut bell, &[Ok(1), Err(Lost), Err(Lost)]);
-    Ok(())
 }
 
 #[test]
-fn without_the_bell_no_ring_is_taken(rt: HostRuntime) -> Result<(), Fail> {
-    let (mut ringers, bell) = opened(rt.alloc(), 1)?;
+fn without_the_bell_no_ring_is_taken(rt: HostRuntime) {
+    let (mut ringers, bell) = opened(&rt, rt.alloc(), 1);
     drop(bell);
     let Some(ringer) = ringers.get_mut(0) else {
-        return Err(Fail::from("no ringer"));
+        panic!(rt; "no ringer");
     };
     same(&rt, &ringer.ring(&rt), &Err(Lost));
     same(&rt, &ringer.ring(&rt), &Err(Lost));
-    Ok(())
+}
+
+// Waits until the threads that started have ended.
+fn join_all<R: Threads + Wait>(rt: &R, threads: Vec<Option<JoinHandle<()>>>) {
+    for child in threads {
+        if let Some(child) = child {
+            child.join(rt);
+        }
+    }
+}
+
+// How often the bell tells each of three numbers, in so many waits.
+fn counted<R: Abort + Wait>(rt: &R, bell: &mut Bell, waits: u32) -> [u32; 3] {
+    let mut counts = [0u32; 3];
+    for _ in 0..waits {
+        let number = bell.wait(rt).expect(rt, "a ring");
+        assert!(rt; number < 3);
+        counts[number as usize] = counts[number as usize].wrapping_add(1);
+    }
+    counts
 }
 
 #[test]
-fn threads_ring_one_bell(rt: HostRuntime) -> Result<(), Fail> {
-    let (ringers, mut bell) = opened(rt.alloc(), 3)?;
+fn threads_ring_one_bell(rt: HostRuntime) {
+    let (ringers, mut bell) = opened(&rt, rt.alloc(), 3);
     let mut threads = Vec::new(rt.alloc());
     for mut ringer in ringers {
         let child = thread::spawn(&rt, move || {
@@ -128,44 +139,29 @@ fn threads_ring_one_bell(rt: HostRuntime) -> Result<(), Fail> {
         .ok();
         threads.push(child).ok();
     }
-    let mut counts = [0u32; 3];
-    for _ in 0..300 {
-        let Ok(number) = bell.wait(&rt) else {
-            return Err(Fail::from("a ring was lost"));
-        };
-        assert!(rt; number < 3);
-        counts[number as usize] = counts[number as usize].wrapping_add(1);
-    }
-    for child in threads {
-        if let Some(child) = child {
-            child.join(&rt);
-        }
-    }
-    same(&rt, &counts, &[100, 100, 100]);
-    Ok(())
+    same(&rt, &counted(&rt, &mut bell, 300), &[100, 100, 100]);
+    join_all(&rt, threads);
 }
 
 // Of two bells each tells the rings of its own ringers.
 #[test]
-fn ringers_ring_their_own_bell(rt: HostRuntime) -> Result<(), Fail> {
-    let (mut ringers, mut bell) = opened(rt.alloc(), 2)?;
-    let (mut others, mut other) = opened(rt.alloc(), 2)?;
+fn ringers_ring_their_own_bell(rt: HostRuntime) {
+    let (mut ringers, mut bell) = opened(&rt, rt.alloc(), 2);
+    let (mut others, mut other) = opened(&rt, rt.alloc(), 2);
     ring(&rt, &mut ringers, 0);
     ring(&rt, &mut others, 1);
     drop(ringers);
     tells(&rt, &mut other, &[Ok(1)]);
     tells(&rt, &mut bell, &[Ok(0), Err(Lost)]);
-    Ok(())
 }
 
 // Under `--fail-alloc` each allocation fails in turn, and the answer is then want of memory.
 #[test]
-fn opens_a_bell_or_tells_of_memory(rt: HostRuntime) -> Result<(), Fail> {
+fn opens_a_bell_or_tells_of_memory(rt: HostRuntime) {
     match Bell::open(rt.alloc(), 3) {
         Ok((ringers, _bell)) => same(&rt, &ringers.len(), &3),
         Err(fault) => same(&rt, &fault, &LinkFault::Memory),
     }
-    Ok(())
 }
 
 // A Request of ringer 1, the second of two Forks, Done and Close.
@@ -217,16 +213,16 @@ fn tell<R: Wait>(rt: &R, mut bell: Bell, heard: Arc<Heard, Global>, count: u32) 
 }
 
 // The same in a thread of its own.
-fn set_apart<R>(rt: R, alloc: Global, bell: Bell, count: u32) -> Result<Apart, Fail>
+fn set_apart<R>(rt: R, alloc: Global, bell: Bell, count: u32) -> Apart
 where
-    R: Threads + Wait + Copy + Send + 'static,
+    R: Abort + Threads + Wait + Copy + Send + 'static,
 {
-    let Ok(heard) = Arc::new(alloc, nothing()) else {
-        return Err(Fail::from("no memory for what is heard"));
+    let heard = Arc::new(alloc, nothing()).expect(&rt, "memory");
+    let theirs = Arc::try_clone(&heard).expect(&rt, "a second hand");
+    let Ok(child) = thread::spawn(&rt, move || tell(&rt, bell, theirs, count)) else {
+        panic!(rt; "no thread");
     };
-    let theirs = Arc::try_clone(&heard)?;
-    let child = thread::spawn(&rt, move || tell(&rt, bell, theirs, count))?;
-    Ok(Apart { child, heard })
+    Apart { child, heard }
 }
 
 fn pause<R: Wait>(rt: &R) {
@@ -283,69 +279,106 @@ fn ring_for<R: Abort + Wait>(rt: &R, ringers: &mut Vec<Ringer>, place: usize, ki
     same(rt, &rung, &Ok(()));
 }
 
-#[test]
-fn an_unwanted_ring_lies_until_a_wanted_one(rt: HostRuntime) -> Result<(), Fail> {
-    let (mut ringers, bell) = opened(rt.alloc(), 2)?;
-    let apart = set_apart(rt, rt.alloc(), bell, 2)?;
-    assert!(rt; falls_asleep(&rt, ringers.as_slice()));
-    ring_for(&rt, &mut ringers, 0, Kind4::Request);
-    assert!(rt; sleeps(&rt, ringers.as_slice()));
-    ring_for(&rt, &mut ringers, 1, Kind4::Request);
-    same(&rt, &apart.end(&rt, 2), &Some(12));
-    Ok(())
+// What ringers do, and what is looked at, while their bell tells in a thread of its own.
+#[derive(Clone, Copy)]
+enum Step {
+    // The ringer at that place rings, or rings for a letter of that kind.
+    Ring(usize),
+    RingFor(usize, Kind4),
+    // The bell sleeps by the end of the looks, or now.
+    FallsAsleep,
+    Sleeps,
+    // It told so many numbers by the end of the looks.
+    Told(u64),
+    // All ringers are gone.
+    Leave,
+}
+
+fn goes_on<R: Abort + Wait>(rt: &R, apart: &Apart, ringers: &mut Vec<Ringer>, step: Step) {
+    match step {
+        Step::Ring(place) => ring(rt, ringers, place),
+        Step::RingFor(place, kind) => ring_for(rt, ringers, place, kind),
+        Step::FallsAsleep => assert!(rt; falls_asleep(rt, ringers.as_slice())),
+        Step::Sleeps => assert!(rt; sleeps(rt, ringers.as_slice())),
+        Step::Told(count) => assert!(rt; apart.tells(rt, count)),
+        Step::Leave => ringers.clear(),
+    }
+}
+
+// A bell of that degree tells so many numbers while its ringers go through the steps, in this order.
+fn hears<R>(rt: R, alloc: Global, degree: u32, steps: &[Step], count: u32, order: u64)
+where
+    R: Abort + Threads + Wait + Copy + Send + 'static,
+{
+    let (mut ringers, bell) = opened(&rt, alloc, degree);
+    let apart = set_apart(rt, alloc, bell, count);
+    for step in steps {
+        goes_on(&rt, &apart, &mut ringers, *step);
+    }
+    same(&rt, &apart.end(&rt, u64::from(count)), &Some(order));
 }
 
 #[test]
-fn the_last_fork_wakes(rt: HostRuntime) -> Result<(), Fail> {
-    let (mut ringers, bell) = opened(rt.alloc(), 2)?;
-    let apart = set_apart(rt, rt.alloc(), bell, 2)?;
-    assert!(rt; falls_asleep(&rt, ringers.as_slice()));
-    ring_for(&rt, &mut ringers, 1, Kind4::Fork);
-    assert!(rt; sleeps(&rt, ringers.as_slice()));
-    ring_for(&rt, &mut ringers, 0, Kind4::Fork);
-    same(&rt, &apart.end(&rt, 2), &Some(21));
-    Ok(())
+fn an_unwanted_ring_lies_until_a_wanted_one(rt: HostRuntime) {
+    let steps = [
+        Step::FallsAsleep,
+        Step::RingFor(0, Kind4::Request),
+        Step::Sleeps,
+        Step::RingFor(1, Kind4::Request),
+    ];
+    hears(rt, rt.alloc(), 2, &steps, 2, 12);
 }
 
 #[test]
-fn done_close_and_plain_rings_wake(rt: HostRuntime) -> Result<(), Fail> {
-    let (mut ringers, bell) = opened(rt.alloc(), 2)?;
-    let apart = set_apart(rt, rt.alloc(), bell, 3)?;
-    assert!(rt; falls_asleep(&rt, ringers.as_slice()));
-    ring_for(&rt, &mut ringers, 0, Kind4::Done);
-    assert!(rt; apart.tells(&rt, 1) && falls_asleep(&rt, ringers.as_slice()));
-    ring_for(&rt, &mut ringers, 1, Kind4::Close);
-    assert!(rt; apart.tells(&rt, 2) && falls_asleep(&rt, ringers.as_slice()));
-    ring(&rt, &mut ringers, 0);
-    same(&rt, &apart.end(&rt, 3), &Some(121));
-    Ok(())
+fn the_last_fork_wakes(rt: HostRuntime) {
+    let steps = [
+        Step::FallsAsleep,
+        Step::RingFor(1, Kind4::Fork),
+        Step::Sleeps,
+        Step::RingFor(0, Kind4::Fork),
+    ];
+    hears(rt, rt.alloc(), 2, &steps, 2, 21);
 }
 
 #[test]
-fn what_lies_is_told_once_the_ringers_are_gone(rt: HostRuntime) -> Result<(), Fail> {
-    let (mut ringers, bell) = opened(rt.alloc(), 2)?;
-    let apart = set_apart(rt, rt.alloc(), bell, 3)?;
-    assert!(rt; falls_asleep(&rt, ringers.as_slice()));
-    ring_for(&rt, &mut ringers, 0, Kind4::Request);
-    assert!(rt; sleeps(&rt, ringers.as_slice()));
-    drop(ringers);
-    same(&rt, &apart.end(&rt, 3), &Some(199));
-    Ok(())
+fn done_close_and_plain_rings_wake(rt: HostRuntime) {
+    let steps = [
+        Step::FallsAsleep,
+        Step::RingFor(0, Kind4::Done),
+        Step::Told(1),
+        Step::FallsAsleep,
+        Step::RingFor(1, Kind4::Close),
+        Step::Told(2),
+        Step::FallsAsleep,
+        Step::Ring(0),
+    ];
+    hears(rt, rt.alloc(), 2, &steps, 3, 121);
+}
+
+#[test]
+fn what_lies_is_told_once_the_ringers_are_gone(rt: HostRuntime) {
+    let steps = [
+        Step::FallsAsleep,
+        Step::RingFor(0, Kind4::Request),
+        Step::Sleeps,
+        Step::Leave,
+    ];
+    hears(rt, rt.alloc(), 2, &steps, 3, 199);
 }
 
 // Three unwanted rings lie, and the fourth takes the last room.
 #[test]
-fn a_bell_wakes_before_it_is_full(rt: HostRuntime) -> Result<(), Fail> {
-    let (mut ringers, bell) = opened(rt.alloc(), 1)?;
-    let apart = set_apart(rt, rt.alloc(), bell, 4)?;
-    assert!(rt; falls_asleep(&rt, ringers.as_slice()));
-    for _ in 0..3 {
-        ring_for(&rt, &mut ringers, 0, Kind4::Request);
-    }
-    assert!(rt; sleeps(&rt, ringers.as_slice()));
-    ring_for(&rt, &mut ringers, 0, Kind4::Request);
-    same(&rt, &apart.end(&rt, 4), &Some(1111));
-    Ok(())
+fn a_bell_wakes_before_it_is_full(rt: HostRuntime) {
+    let unwanted = Step::RingFor(0, Kind4::Request);
+    let steps = [
+        Step::FallsAsleep,
+        unwanted,
+        unwanted,
+        unwanted,
+        Step::Sleeps,
+        unwanted,
+    ];
+    hears(rt, rt.alloc(), 1, &steps, 4, 1111);
 }
 
 // Rings so often, with every third ring wanted, and at last for Done.
@@ -363,9 +396,9 @@ fn ring_often<R: Wait>(rt: &R, ringer: &mut Ringer, times: u32) {
 
 // They ring faster than the bell tells, so that it is full now and then.
 #[test]
-fn four_threads_ring_often(rt: HostRuntime) -> Result<(), Fail> {
-    let (ringers, bell) = opened(rt.alloc(), 4)?;
-    let apart = set_apart(rt, rt.alloc(), bell, 40000)?;
+fn four_threads_ring_often(rt: HostRuntime) {
+    let (ringers, bell) = opened(&rt, rt.alloc(), 4);
+    let apart = set_apart(rt, rt.alloc(), bell, 40000);
     let mut threads = Vec::new(rt.alloc());
     for mut ringer in ringers {
         let child = thread::spawn(&rt, move || ring_often(&rt, &mut ringer, 10000)).ok();
@@ -376,10 +409,5 @@ fn four_threads_ring_often(rt: HostRuntime) -> Result<(), Fail> {
         same(&rt, &count.load(Ordering::SeqCst), &10000);
     }
     apart.child.join(&rt);
-    for child in threads {
-        if let Some(child) = child {
-            child.join(&rt);
-        }
-    }
-    Ok(())
+    join_all(&rt, threads);
 }
