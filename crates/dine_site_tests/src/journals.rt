@@ -5,7 +5,6 @@ use dine_plan::{Plan, read_plan};
 use dine_run::{OrderFault, order};
 use std::alloc::Global;
 use std::process::Abort;
-use std::test::Fail;
 
 const PAIR: &str = "version = 1\n\
     [[site]]\nname = \"a\"\njobs = [{ name = \"x\" }]\n\
@@ -80,23 +79,33 @@ fn order_of(
     order(alloc, plan, journals.as_slice())
 }
 
+// The events are those of these sites, one after another.
+fn are_of(rt: &impl Abort, events: &[Event], sites: &[u32]) {
+    same(rt, &events.len(), &sites.len());
+    for (event, site) in events.iter().zip(sites) {
+        same(rt, &event.site, site);
+    }
+}
+
+// A world of the plan goes through all events to its end.
+fn goes_through(rt: &impl Abort, alloc: Global, plan: &Plan, events: &[Event]) {
+    let mut world = World::open(alloc, plan).expect(rt, "memory");
+    for event in events {
+        same(rt, &world.step(*event), &Ok(()));
+    }
+    same(rt, &world.count(), &0);
+    same(rt, &world.into_forks().len(), &1);
+}
+
 #[test]
-fn each_event_is_that_of_the_lowest_site_that_was_ready(rt: HostRuntime) -> Result<(), Fail> {
+fn each_event_is_that_of_the_lowest_site_that_was_ready(rt: HostRuntime) {
     let alloc = rt.alloc();
     let plan = pair(&rt, alloc);
-    let events = order_of(&rt, alloc, &plan, LOWER.as_slice(), HIGHER.as_slice())?;
+    let events = order_of(&rt, alloc, &plan, LOWER.as_slice(), HIGHER.as_slice());
+    let events = events.expect(&rt, "an order");
     let sites = [0, 0, 0, 0, 1, 1, 0, 0, 1, 1, 1, 1, 1, 0, 0, 1, 0, 1];
-    same(&rt, &events.len(), &sites.len());
-    for (event, site) in events.iter().zip(sites.iter()) {
-        same(&rt, &event.site, site);
-    }
-    let mut world = World::open(alloc, &plan)?;
-    for event in events.iter() {
-        same(&rt, &world.step(*event), &Ok(()));
-    }
-    same(&rt, &world.count(), &0);
-    same(&rt, &world.into_forks().len(), &1);
-    Ok(())
+    are_of(&rt, events.as_slice(), sites.as_slice());
+    goes_through(&rt, alloc, &plan, events.as_slice());
 }
 
 #[test]
@@ -114,11 +123,10 @@ fn events_that_wait_for_ever_are_stuck(rt: HostRuntime) {
 }
 
 #[test]
-fn line_of_what_is_stuck_names_its_site(rt: HostRuntime) -> Result<(), Fail> {
+fn line_of_what_is_stuck_names_its_site(rt: HostRuntime) {
     let stuck = OrderFault::Stuck { site: 3, placed: 7 };
-    let line = format!(in rt.alloc(); "{stuck}")?;
+    let line = format!(in rt.alloc(); "{stuck}").expect(&rt, "memory");
     same(&rt, &line.as_str(), &"2 Stuck at site 3, 7 placed");
-    Ok(())
 }
 
 #[test]
@@ -131,27 +139,26 @@ fn journals_of_nothing_are_not_closed(rt: HostRuntime) {
 }
 
 #[test]
-fn one_journal_for_two_sites_is_refused(rt: HostRuntime) -> Result<(), Fail> {
+fn one_journal_for_two_sites_is_refused(rt: HostRuntime) {
     let alloc = rt.alloc();
     let plan = pair(&rt, alloc);
+    let journal = LOWER.as_slice().to_vec(alloc).expect(&rt, "memory");
     let mut journals = Vec::new(alloc);
-    journals.push(LOWER.as_slice().to_vec(alloc)?)?;
+    journals.push(journal).expect(&rt, "memory");
     let one = order(alloc, &plan, journals.as_slice());
     same(&rt, &one.err(), &Some(OrderFault::CountDiffers));
-    Ok(())
 }
 
 // The world fails the meal that the journal shows to have failed, which the plan does not.
 #[test]
-fn journals_show_which_meal_failed(rt: HostRuntime) -> Result<(), Fail> {
+fn journals_show_which_meal_failed(rt: HostRuntime) {
     let alloc = rt.alloc();
     let plan = read_plan(alloc, RESIGNING).expect(&rt, "a plan");
     let (lower, higher) = (QUITTING.as_slice(), HIGHER.as_slice());
-    let events = order_of(&rt, alloc, &plan, lower, higher)?;
+    let events = order_of(&rt, alloc, &plan, lower, higher).expect(&rt, "an order");
     same(&rt, &events.len(), &22);
     let quits = events.iter().filter(|event| event.kind == EventKind::Quit);
     same(&rt, &quits.count(), &1);
-    Ok(())
 }
 
 // After so many meals of the lower site and so many times Quit of it, with no event of the other, this many were
