@@ -5,34 +5,39 @@ use std::alloc::Global;
 use std::process::Abort;
 use std::sync::atomic::{AtomicU64, Ordering};
 use std::sync::{Arc, Wait};
-use std::test::Fail;
 use std::thread;
-use std::thread::{Parker, Threads};
+use std::thread::{JoinHandle, Parker, Threads};
 use std::time::Duration;
 
 #[test]
-fn open_gate_lets_pass(rt: HostRuntime) -> Result<(), Fail> {
+fn open_gate_lets_pass(rt: HostRuntime) {
     let gate = Gate::new();
     gate.tell(&rt, Signal::Open);
     assert!(rt; gate.pass(&rt));
     assert!(rt; gate.pass(&rt));
-    Ok(())
 }
 
 #[test]
-fn gate_that_is_called_off_lets_nobody_pass(rt: HostRuntime) -> Result<(), Fail> {
+fn gate_that_is_called_off_lets_nobody_pass(rt: HostRuntime) {
     let gate = Gate::new();
     gate.tell(&rt, Signal::CalledOff);
     assert!(rt; !gate.pass(&rt));
     assert!(rt; !gate.pass(&rt));
-    Ok(())
+}
+
+// A gate, and how many threads came to it and left it.
+#[derive(Drop)]
+struct Threshold {
+    gate: Gate,
+    came: AtomicU64,
+    left: AtomicU64,
 }
 
 // Counts itself in front of the gate, and behind it. Answers what the gate told it.
-fn go_through<R: Wait>(rt: &R, gate: &Gate, came: &AtomicU64, left: &AtomicU64) -> bool {
-    came.fetch_add(1, Ordering::SeqCst);
-    let is_open = gate.pass(rt);
-    left.fetch_add(1, Ordering::SeqCst);
+fn go_through<R: Wait>(rt: &R, at: &Threshold) -> bool {
+    at.came.fetch_add(1, Ordering::SeqCst);
+    let is_open = at.gate.pass(rt);
+    at.left.fetch_add(1, Ordering::SeqCst);
     is_open
 }
 
@@ -47,43 +52,46 @@ fn see_them_wait<R: Wait>(rt: &R, came: &AtomicU64, threads: u64) {
     Parker::new().park_timeout(rt, Duration::from_millis(20));
 }
 
-// Three threads wait at a shut gate until it is told the signal, and all are told the same.
-fn three_are_told<R>(rt: R, alloc: Global, signal: Signal, is_open: bool) -> Result<(), Fail>
+// Three threads that go through the gate.
+fn three_go<R>(rt: R, alloc: Global, at: &Arc<Threshold, Global>) -> Vec<JoinHandle<bool>>
 where
     R: Threads + Wait + Abort + Copy + Send + 'static,
 {
-    let gate = Arc::new(alloc, Gate::new())?;
-    let came = Arc::new(alloc, AtomicU64::new(0))?;
-    let left = Arc::new(alloc, AtomicU64::new(0))?;
     let mut threads = Vec::new(alloc);
     for _ in 0..3 {
-        let (gate, came, left) = (
-            Arc::try_clone(&gate)?,
-            Arc::try_clone(&came)?,
-            Arc::try_clone(&left)?,
-        );
-        let child = thread::spawn(&rt, move || go_through(&rt, &gate, &came, &left)).ok();
-        threads.push(child).ok();
-    }
-    see_them_wait(&rt, &came, 3);
-    same(&rt, &left.load(Ordering::SeqCst), &0);
-    gate.tell(&rt, signal);
-    for child in threads {
-        let Some(child) = child else {
-            return Err(Fail::from("no thread"));
+        let theirs = Arc::try_clone(at).expect(&rt, "a second hand");
+        let Ok(child) = thread::spawn(&rt, move || go_through(&rt, &theirs)) else {
+            panic!(rt; "no thread");
         };
+        assert!(rt; threads.push(child).is_ok());
+    }
+    threads
+}
+
+// Three threads wait at a shut gate until it is told the signal, and all are told the same.
+fn three_are_told<R>(rt: R, alloc: Global, signal: Signal, is_open: bool)
+where
+    R: Threads + Wait + Abort + Copy + Send + 'static,
+{
+    let (came, left) = (AtomicU64::new(0), AtomicU64::new(0));
+    let gate = Gate::new();
+    let at = Arc::new(alloc, Threshold { gate, came, left }).expect(&rt, "memory");
+    let threads = three_go(rt, alloc, &at);
+    see_them_wait(&rt, &at.came, 3);
+    same(&rt, &at.left.load(Ordering::SeqCst), &0);
+    at.gate.tell(&rt, signal);
+    for child in threads {
         same(&rt, &child.join(&rt), &is_open);
     }
-    same(&rt, &left.load(Ordering::SeqCst), &3);
-    Ok(())
+    same(&rt, &at.left.load(Ordering::SeqCst), &3);
 }
 
 #[test]
-fn threads_wait_until_the_gate_is_opened(rt: HostRuntime) -> Result<(), Fail> {
+fn threads_wait_until_the_gate_is_opened(rt: HostRuntime) {
     three_are_told(rt, rt.alloc(), Signal::Open, true)
 }
 
 #[test]
-fn threads_wait_until_the_run_is_called_off(rt: HostRuntime) -> Result<(), Fail> {
+fn threads_wait_until_the_run_is_called_off(rt: HostRuntime) {
     three_are_told(rt, rt.alloc(), Signal::CalledOff, false)
 }
