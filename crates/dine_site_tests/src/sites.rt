@@ -124,6 +124,40 @@ fn has_log(rt: &impl Abort, fork: &Fork, log: &[Entry]) {
     }
 }
 
+// What a site leaves: its number, how many meals it ate and how many of these failed, how many forks, tokens and ports
+// it has, and its fault.
+fn leaves<L: Lane>(
+    rt: &impl Abort,
+    end: &SiteEnd<L, Fixed>,
+    site: u32,
+    meals: (u32, u32),
+    left: (usize, usize, usize),
+    fault: Option<SiteFault>,
+) {
+    same(rt, &end.site, &site);
+    same(rt, &(end.ate, end.failed), &meals);
+    let counts = (end.forks.len(), end.tokens.len(), end.ports.len());
+    same(rt, &counts, &left);
+    same(rt, &end.fault, &fault);
+}
+
+// Its first fork has exactly this log.
+fn holds_log<L: Lane>(rt: &impl Abort, end: &SiteEnd<L, Fixed>, log: &[Entry]) {
+    let fork = end.forks.first().expect(rt, "a fork");
+    has_log(rt, fork, log);
+}
+
+// Its first token is that of the edge 0.
+fn holds_token<L: Lane>(rt: &impl Abort, end: &SiteEnd<L, Fixed>) {
+    let token = end.tokens.first().expect(rt, "a token");
+    same(rt, &token.edge(), &0);
+}
+
+// No letter was handed back.
+fn has_no_stray<L: Lane>(rt: &impl Abort, end: &SiteEnd<L, Fixed>) {
+    assert!(rt; end.stray.is_none());
+}
+
 // A letter of this kind was handed back at the first place.
 fn has_stray<L: Lane>(rt: &impl Abort, end: &SiteEnd<L, Fixed>, kind: Kind4) {
     match &end.stray {

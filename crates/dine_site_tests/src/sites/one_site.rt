@@ -17,33 +17,26 @@ fn eats_alone<R: Wait + Abort>(
     run_alone::<ChannelLane, R>(rt, alloc, &plan, 0, ports, bell, fails_at)
 }
 
+// Its two jobs were called in turn, and went so.
+fn called(rt: &impl Abort, end: &SiteEnd<ChannelLane, Fixed>, ok: (bool, bool)) {
+    let calls = [Call { k: 1, ok: ok.0 }, Call { k: 2, ok: ok.1 }];
+    same(rt, &end.diner.log.calls(), &calls.as_slice());
+}
+
 #[test]
 fn site_alone_eats_all_its_meals(rt: HostRuntime) {
     let end = eats_alone(&rt, rt.alloc(), 0);
-    same(&rt, &(end.site, end.ate, end.failed), &(0, 2, 0));
-    same(
-        &rt,
-        &(end.forks.len(), end.tokens.len(), end.ports.len()),
-        &(0, 0, 0),
-    );
-    assert!(rt; end.stray.is_none() && end.fault.is_none());
-    same(
-        &rt,
-        &end.diner.log.calls(),
-        &[Call { k: 1, ok: true }, Call { k: 2, ok: true }].as_slice(),
-    );
+    leaves(&rt, &end, 0, (2, 0), (0, 0, 0), None);
+    has_no_stray(&rt, &end);
+    called(&rt, &end, (true, true));
 }
 
 #[test]
 fn failed_job_is_counted_and_the_site_goes_on(rt: HostRuntime) {
     let end = eats_alone(&rt, rt.alloc(), 2);
-    same(&rt, &(end.site, end.ate, end.failed), &(0, 2, 1));
-    assert!(rt; end.stray.is_none() && end.fault.is_none());
-    same(
-        &rt,
-        &end.diner.log.calls(),
-        &[Call { k: 1, ok: true }, Call { k: 2, ok: false }].as_slice(),
-    );
+    leaves(&rt, &end, 0, (2, 1), (0, 0, 0), None);
+    has_no_stray(&rt, &end);
+    called(&rt, &end, (true, false));
 }
 
 // What is left of the lower site of the pair, where the higher one asked and closed at once: its end, the link to the
@@ -72,12 +65,9 @@ fn early_closed<L: Lane, R: Wait + Abort>(
 // The lower site eats, says Done, gives its fork, finds the early Close, and closes.
 fn tells_early_close<L: Lane>(rt: &impl Abort, end: &SiteEnd<L, Fixed>) {
     assert!(rt; end.journal.as_slice() == &LOWER[..6]);
-    same(rt, &(end.site, end.ate, end.failed), &(0, 1, 0));
-    same(rt, &(end.forks.len(), end.ports.len()), &(0, 1));
-    assert!(rt; end.tokens.len() == 1);
-    same(rt, &end.tokens[0].edge(), &0);
     let early = SiteFault::Breach(0, Breach::ClosedEarly);
-    same(rt, &end.fault, &Some(early));
+    leaves(rt, end, 0, (1, 0), (0, 1, 1), Some(early));
+    holds_token(rt, end);
     has_stray(rt, end, Kind4::Close);
 }
 
@@ -126,16 +116,14 @@ fn site_of_an_early_close_puts_done_fork_close(rt: HostRuntime) {
 // The higher site did all, with the fork that came with its log.
 fn ate_with_the_fork<L: Lane>(rt: &impl Abort, end: &SiteEnd<L, Fixed>) {
     assert!(rt; end.journal.as_slice() == HIGHER.as_slice());
-    same(rt, &(end.site, end.ate, end.failed), &(1, 1, 0));
-    same(rt, &(end.tokens.len(), end.ports.len()), &(0, 1));
-    assert!(rt; end.stray.is_none() && end.fault.is_none());
-    assert!(rt; end.forks.len() == 1);
+    leaves(rt, end, 1, (1, 0), (1, 0, 1), None);
+    has_no_stray(rt, end);
     let log = [
         Entry::Meal { site: 0, k: 1 },
         Entry::Move { to: 1 },
         Entry::Meal { site: 1, k: 1 },
     ];
-    has_log(rt, &end.forks[0], &log);
+    holds_log(rt, end, &log);
 }
 
 // The higher site put a Request, Done and Close.
@@ -190,12 +178,7 @@ fn refused_put_is_a_fault(rt: HostRuntime) {
     let (_far_tx, rx) = link_from::<ChannelLane>(&rt, alloc, 0, 1);
     let ports = one_port::<ChannelLane>(&rt, alloc, tx, rx, ringer);
     let end = run_alone::<ChannelLane, HostRuntime>(&rt, alloc, &plan, 0, ports, bell, 0);
-    same(
-        &rt,
-        &(end.ate, end.failed, end.forks.len(), end.ports.len()),
-        &(1, 0, 1, 1),
-    );
-    same(&rt, &end.fault, &Some(SiteFault::Lost(0)));
+    leaves(&rt, &end, 0, (1, 0), (1, 0, 1), Some(SiteFault::Lost(0)));
     assert!(rt; end.journal.as_slice() == &LOWER[..4]);
     has_stray(&rt, &end, Kind4::Done);
 }
@@ -211,13 +194,8 @@ fn bell_that_nobody_rings_is_a_fault(rt: HostRuntime) {
     let (_far_tx, rx) = link_from::<ChannelLane>(&rt, alloc, 0, 0);
     let ports = one_port::<ChannelLane>(&rt, alloc, tx, rx, ringer);
     let end = run_alone::<ChannelLane, HostRuntime>(&rt, alloc, &plan, 1, ports, bell, 0);
-    same(
-        &rt,
-        &(end.ate, end.failed, end.tokens.len(), end.ports.len()),
-        &(0, 0, 0, 1),
-    );
-    same(&rt, &end.fault, &Some(SiteFault::Lost(1)));
-    assert!(rt; end.stray.is_none());
+    leaves(&rt, &end, 1, (0, 0), (0, 0, 1), Some(SiteFault::Lost(1)));
+    has_no_stray(&rt, &end);
     finds_request_and_close::<ChannelLane, HostRuntime>(&rt, far_rx)
 }
 

@@ -125,13 +125,8 @@ fn letters_of_three_links_are_taken_as_the_bell_rang(rt: HostRuntime) {
         whole(&rt, alloc, 2),
     );
     let Left { end, _outs } = runs(&rt, alloc, ins, &[2, 2, 0, 1, 0, 1, 2, 0, 1]);
-    same(&rt, &(end.site, end.ate, end.failed), &(3, 1, 0));
-    same(
-        &rt,
-        &(end.tokens.len(), end.ports.len(), end.forks.len()),
-        &(0, 3, 3),
-    );
-    assert!(rt; end.stray.is_none() && end.fault.is_none());
+    leaves(&rt, &end, 3, (1, 0), (3, 0, 3), None);
+    has_no_stray(&rt, &end);
     for fork in &end.forks {
         has_log(
             &rt,

@@ -31,12 +31,23 @@ fn tells<L: Lane>(rt: &impl Abort, end: &SiteEnd<L, Fixed>, ate: u32, breach: Br
     has_stray(rt, end, kind);
 }
 
+// It lost its link at the first place, after a meal.
+fn lost<L: Lane>(rt: &impl Abort, end: &SiteEnd<L, Fixed>) {
+    leaves(rt, end, 0, (1, 0), (1, 0, 1), Some(SiteFault::Lost(0)));
+}
+
+// The site's end of its first link is as it was.
+fn is_live<L: Lane>(rt: &impl Abort, end: &SiteEnd<L, Fixed>) {
+    let port = end.ports.first().expect(rt, "a port");
+    assert!(rt; matches!(port.tx, TxEnd::Live(_)));
+}
+
 // The lower site has its own fork, with its meal in the log, and no token.
 fn has_own_fork<L: Lane>(rt: &impl Abort, end: &SiteEnd<L, Fixed>) {
-    assert!(rt; end.forks.len() == 1);
-    assert!(rt; end.tokens.is_empty());
-    same(rt, &end.forks[0].edge(), &0);
-    has_log(rt, &end.forks[0], &[Entry::Meal { site: 0, k: 1 }]);
+    same(rt, &(end.forks.len(), end.tokens.len()), &(1, 0));
+    let edge = end.forks.first().map(|fork| fork.edge());
+    same(rt, &edge, &Some(0));
+    holds_log(rt, end, &[Entry::Meal { site: 0, k: 1 }]);
 }
 
 // The lower site put Done, its fork and Close.
@@ -64,9 +75,8 @@ fn request_twice<L: Lane, R: Wait + Abort>(rt: &R, alloc: Global) {
     same(rt, &ringer.ring(rt), &Ok(()));
     let (end, put) = met::<L, R>(rt, alloc, 0, rx, bell);
     tells(rt, &end, 1, Breach::RequestOutOfTurn, Kind4::Request);
-    assert!(rt; end.forks.is_empty());
-    assert!(rt; end.tokens.len() == 1);
-    same(rt, &end.tokens[0].edge(), &0);
+    same(rt, &(end.forks.len(), end.tokens.len()), &(0, 1));
+    holds_token(rt, &end);
     finds_done_fork_close::<L, R>(rt, put)
 }
 
@@ -155,8 +165,8 @@ fn take_that_its_end_refuses_is_a_fault(rt: HostRuntime) {
     same(&rt, &ringer.ring(&rt), &Ok(()));
     let rx = fault_rx(rx, Some(0));
     let (end, put) = met::<FaultLane, HostRuntime>(&rt, alloc, 0, rx, bell);
-    same(&rt, &(end.ate, end.fault), &(1, Some(SiteFault::Lost(0))));
-    assert!(rt; end.stray.is_none());
+    lost(&rt, &end);
+    has_no_stray(&rt, &end);
     has_own_fork(&rt, &end);
     finds_done_and_close::<FaultLane, HostRuntime>(&rt, put)
 }
@@ -177,10 +187,9 @@ fn put_that_its_end_refuses_is_a_fault(rt: HostRuntime) {
         far_ringer,
     );
     let end = run_alone::<FaultLane, HostRuntime>(&rt, alloc, &plan, 0, ports, bell, 0);
-    same(&rt, &(end.ate, end.fault), &(1, Some(SiteFault::Lost(0))));
+    lost(&rt, &end);
     has_stray(&rt, &end, Kind4::Done);
-    assert!(rt; end.ports.len() == 1);
-    assert!(rt; matches!(end.ports[0].tx, TxEnd::Live(_)));
+    is_live(&rt, &end);
     has_own_fork(&rt, &end);
     // Nothing was put: with the site's end gone, the link has no letter to take.
     drop(end);
