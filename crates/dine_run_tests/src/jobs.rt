@@ -2,10 +2,9 @@
 use crate::asserts::same;
 use crate::graphs::{plan_text, resigning_pair};
 use dine_run::{Gathered, Job, JobFault, Jobs, Plan, RingLane, SeatFault, SiteOut, read_plan, run};
-use std::alloc::{AllocError, Global};
+use std::alloc::Global;
 use std::process::Abort;
 use std::sync::Wait;
-use std::test::Fail;
 use std::thread::Threads;
 
 // Counts its jobs, and one of them fails.
@@ -26,12 +25,20 @@ impl Job for Counter {
     }
 }
 
-fn counters(alloc: Global, count: u32, fails_at: u32) -> Result<Vec<Counter>, AllocError> {
+fn counters(rt: &impl Abort, alloc: Global, count: u32, fails_at: u32) -> Vec<Counter> {
     let mut jobs = Vec::new(alloc);
     for _ in 0..count {
-        jobs.push(Counter { done: 0, fails_at })?;
+        jobs.push(Counter { done: 0, fails_at })
+            .expect(rt, "memory");
     }
-    Ok(jobs)
+    jobs
+}
+
+// The plan of two sites of which the first one resigns.
+fn resigning(rt: &impl Abort, alloc: Global) -> Plan {
+    let graph = resigning_pair(alloc).expect(rt, "memory");
+    let text = plan_text(alloc, &graph).expect(rt, "memory");
+    read_plan(alloc, text.as_str()).expect(rt, "a plan")
 }
 
 // The site ate so often, and its diner did each of these jobs once and noted how it went.
@@ -44,43 +51,39 @@ fn did(rt: &impl Abort, site: &SiteOut<Jobs<Counter>>, ate: u32, fails_at: u32) 
 }
 
 // What is gathered of a run of two sites over the plan, of which the jobs of that number fail.
-fn gathered<R: Threads + Wait + Copy + Send + 'static>(
+fn gathered<R: Threads + Wait + Abort + Copy + Send + 'static>(
     rt: &R,
     alloc: Global,
     plan: &Plan,
     fails_at: u32,
-) -> Result<Gathered<Jobs<Counter>>, Fail> {
-    let Ok(diners) = Jobs::seat(alloc, plan, counters(alloc, 2, fails_at)?) else {
-        return Err(Fail::new("no diners"));
+) -> Gathered<Jobs<Counter>> {
+    let Ok(diners) = Jobs::seat(alloc, plan, counters(rt, alloc, 2, fails_at)) else {
+        panic!(rt; "no diners");
     };
-    match run::<RingLane, Jobs<Counter>, R>(rt, alloc, plan, diners) {
-        Ok(gathered) => Ok(gathered),
-        Err(_) => Err(Fail::new("no run")),
-    }
+    let Ok(gathered) = run::<RingLane, Jobs<Counter>, R>(rt, alloc, plan, diners) else {
+        panic!(rt; "no run");
+    };
+    gathered
 }
 
 #[test]
-fn each_job_is_done_once_and_noted(rt: HostRuntime) -> Result<(), Fail> {
+fn each_job_is_done_once_and_noted(rt: HostRuntime) {
     let alloc = rt.alloc();
-    let graph = resigning_pair(alloc)?;
-    let text = plan_text(alloc, &graph)?;
-    let plan = read_plan(alloc, text.as_str()).expect(&rt, "a plan");
+    let plan = resigning(&rt, alloc);
     for fails_at in 0..3u32 {
-        let gathered = gathered(&rt, alloc, &plan, fails_at)?;
+        let gathered = gathered(&rt, alloc, &plan, fails_at);
         // The first site drops its jobs behind one that failed.
         let meals = if fails_at == 0 { 3 } else { fails_at };
         for (site, ate) in gathered.sites.iter().zip([meals, 1]) {
             did(&rt, site, ate, fails_at);
         }
     }
-    Ok(())
 }
 
 // The fault is told in its words.
-fn is_told<R: Abort>(rt: &R, alloc: Global, fault: &SeatFault<Counter>) -> Result<(), Fail> {
-    let words = fault.to_string(alloc)?;
+fn is_told(rt: &impl Abort, alloc: Global, fault: &SeatFault<Counter>) {
+    let words = fault.to_string(alloc).expect(rt, "memory");
     same(rt, &words.as_str(), &"run refused: jobs differ");
-    Ok(())
 }
 
 // How many jobs the fault hands back, where it does.
@@ -92,18 +95,15 @@ fn handed_back(fault: SeatFault<Counter>) -> Option<usize> {
 }
 
 #[test]
-fn jobs_that_are_not_as_many_as_sites_are_handed_back(rt: HostRuntime) -> Result<(), Fail> {
+fn jobs_that_are_not_as_many_as_sites_are_handed_back(rt: HostRuntime) {
     let alloc = rt.alloc();
-    let graph = resigning_pair(alloc)?;
-    let text = plan_text(alloc, &graph)?;
-    let plan = read_plan(alloc, text.as_str()).expect(&rt, "a plan");
+    let plan = resigning(&rt, alloc);
     for count in [0, 1, 3] {
-        let Err(fault) = Jobs::seat(alloc, &plan, counters(alloc, count, 0)?) else {
-            return Err(Fail::new("jobs were taken"));
+        let Err(fault) = Jobs::seat(alloc, &plan, counters(&rt, alloc, count, 0)) else {
+            panic!(rt; "jobs were taken");
         };
-        is_told(&rt, alloc, &fault)?;
+        is_told(&rt, alloc, &fault);
         let back = handed_back(fault);
         same(&rt, &back, &Some(count as usize));
     }
-    Ok(())
 }

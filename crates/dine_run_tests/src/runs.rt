@@ -10,7 +10,6 @@ use dine_token::Fork;
 use std::alloc::{AllocError, Global};
 use std::process::Abort;
 use std::sync::Wait;
-use std::test::Fail;
 use std::thread::Threads;
 
 // Runs the plan of the graph over links of a lane. All that is left is as it has to be.
@@ -20,15 +19,15 @@ fn runs_over<L: Lane + 'static, R: Threads + Wait + Abort + Copy + Send + 'stati
     graph: &Graph,
     plan: &Plan,
     fails_each: u32,
-) -> Result<(), Fail>
+)
 where
     L::Tx: 'static,
     L::ClosedTx: 'static,
     L::Rx: 'static,
 {
-    let diners = tasters(alloc, plan, fails_each)?;
+    let diners = tasters(alloc, plan, fails_each).expect(rt, "memory");
     let Ok(gathered) = run::<L, Taster, R>(rt, alloc, plan, diners) else {
-        return Err(Fail::new("no run"));
+        panic!(rt; "no run");
     };
     let Gathered {
         forks,
@@ -38,9 +37,8 @@ where
     holds_sites(rt, graph, fails_each, sites.as_slice());
     holds_forks(rt, graph, fails_each, forks.as_slice());
     holds_links(rt, graph, forks.as_slice(), links.as_slice());
-    let journals = journals_of(alloc, sites)?;
-    let fails = outcomes_of(alloc, plan, fails_each)?;
-    let world = World::open_with(alloc, plan, fails.as_slice())?;
+    let journals = journals_of(rt, alloc, sites);
+    let world = world_where(rt, alloc, plan, fails_each);
     holds_order(
         rt,
         alloc,
@@ -51,17 +49,20 @@ where
     )
 }
 
+// A world of the plan in which those jobs fail that fail at such diners.
+fn world_where(rt: &impl Abort, alloc: Global, plan: &Plan, fails_each: u32) -> World {
+    let fails = outcomes_of(alloc, plan, fails_each).expect(rt, "memory");
+    World::open_with(alloc, plan, fails.as_slice()).expect(rt, "memory")
+}
+
 // The journals of the sites, in order.
-fn journals_of(
-    alloc: Global,
-    sites: Vec<SiteOut<Taster>>,
-) -> Result<Vec<Vec<EventKind>>, AllocError> {
-    let mut journals = Vec::with_capacity(alloc, sites.len())?;
+fn journals_of(rt: &impl Abort, alloc: Global, sites: Vec<SiteOut<Taster>>) -> Vec<Vec<EventKind>> {
+    let mut journals = Vec::new(alloc);
     for out in sites {
         let SiteOut { journal, .. } = out;
-        journals.push(journal)?;
+        journals.push(journal).expect(rt, "memory");
     }
-    Ok(journals)
+    journals
 }
 
 // The journals have an order, and the world, where the same jobs fail, that is stepped through it has the logs that
@@ -73,12 +74,9 @@ fn holds_order(
     journals: &[Vec<EventKind>],
     world: World,
     forks: &[Fork],
-) -> Result<(), Fail> {
+) {
     let mut world = world;
-    let Ok(events) = order(alloc, plan, journals) else {
-        world.into_forks();
-        return Err(Fail::new("no order"));
-    };
+    let events = order(alloc, plan, journals).expect(rt, "an order");
     for event in events.iter() {
         same(rt, &world.step(*event), &Ok(()));
     }
@@ -88,7 +86,6 @@ fn holds_order(
     for (gathered, fork) in forks.iter().zip(stepped.iter()) {
         same_log(rt, gathered, fork);
     }
-    Ok(())
 }
 
 // The two forks have the same log.
@@ -106,55 +103,54 @@ fn runs_once<L: Lane + 'static, R: Threads + Wait + Abort + Copy + Send + 'stati
     alloc: Global,
     graph: Result<Graph, AllocError>,
     fails_each: u32,
-) -> Result<(), Fail>
+)
 where
     L::Tx: 'static,
     L::ClosedTx: 'static,
     L::Rx: 'static,
 {
-    let graph = graph?;
-    let text = plan_text(alloc, &graph)?;
+    let graph = graph.expect(rt, "memory");
+    let text = plan_text(alloc, &graph).expect(rt, "memory");
     let plan = read_plan(alloc, text.as_str()).expect(rt, "a plan");
     runs_over::<L, R>(rt, alloc, &graph, &plan, fails_each)
 }
 
 #[test]
-fn rings_eat_all_their_meals(rt: HostRuntime) -> Result<(), Fail> {
+fn rings_eat_all_their_meals(rt: HostRuntime) {
     let alloc = rt.alloc();
-    runs_once::<ChannelLane, HostRuntime>(&rt, alloc, ring(alloc, 5, 1000), 0)?;
-    runs_once::<ChannelLane, HostRuntime>(&rt, alloc, ring(alloc, 64, 1000), 0)
+    runs_once::<ChannelLane, HostRuntime>(&rt, alloc, ring(alloc, 5, 1000), 0);
+    runs_once::<ChannelLane, HostRuntime>(&rt, alloc, ring(alloc, 64, 1000), 0);
 }
 
 #[test]
-fn stars_eat_all_their_meals(rt: HostRuntime) -> Result<(), Fail> {
+fn stars_eat_all_their_meals(rt: HostRuntime) {
     let alloc = rt.alloc();
     runs_once::<ChannelLane, HostRuntime>(&rt, alloc, star(alloc, 64, 1000), 0)
 }
 
 #[test]
-fn sites_that_are_all_neighbours_eat_all_their_meals(rt: HostRuntime) -> Result<(), Fail> {
+fn sites_that_are_all_neighbours_eat_all_their_meals(rt: HostRuntime) {
     let alloc = rt.alloc();
     runs_once::<ChannelLane, HostRuntime>(&rt, alloc, complete(alloc, 1000), 0)
 }
 
 #[test]
-fn grids_eat_all_their_meals(rt: HostRuntime) -> Result<(), Fail> {
+fn grids_eat_all_their_meals(rt: HostRuntime) {
     let alloc = rt.alloc();
     runs_once::<ChannelLane, HostRuntime>(&rt, alloc, grid(alloc, 1000), 7)
 }
 
 #[test]
-fn random_graphs_eat_their_meals(rt: HostRuntime) -> Result<(), Fail> {
+fn random_graphs_eat_their_meals(rt: HostRuntime) {
     let alloc = rt.alloc();
     for seed in 0..30u32 {
-        runs_once::<ChannelLane, HostRuntime>(&rt, alloc, random(alloc, seed), seed % 4)?;
+        runs_once::<ChannelLane, HostRuntime>(&rt, alloc, random(alloc, seed), seed % 4);
     }
-    Ok(())
 }
 
 // The same graphs, with fewer jobs, over links that are rings.
 #[test]
-fn meals_are_eaten_over_rings(rt: HostRuntime) -> Result<(), Fail> {
+fn meals_are_eaten_over_rings(rt: HostRuntime) {
     let alloc = rt.alloc();
     for graph in [
         ring(alloc, 5, 1000),
@@ -163,31 +159,29 @@ fn meals_are_eaten_over_rings(rt: HostRuntime) -> Result<(), Fail> {
         complete(alloc, 100),
         grid(alloc, 100),
     ] {
-        runs_once::<RingLane, HostRuntime>(&rt, alloc, graph, 7)?;
+        runs_once::<RingLane, HostRuntime>(&rt, alloc, graph, 7);
     }
     for seed in 0..30u32 {
-        runs_once::<RingLane, HostRuntime>(&rt, alloc, random(alloc, seed), seed % 4)?;
+        runs_once::<RingLane, HostRuntime>(&rt, alloc, random(alloc, seed), seed % 4);
     }
-    Ok(())
 }
 
 // The first site's second job of three fails, and it resigns.
 #[test]
-fn site_that_resigns_eats_no_more(rt: HostRuntime) -> Result<(), Fail> {
+fn site_that_resigns_eats_no_more(rt: HostRuntime) {
     let alloc = rt.alloc();
-    runs_once::<ChannelLane, HostRuntime>(&rt, alloc, resigning_pair(alloc), 2)?;
+    runs_once::<ChannelLane, HostRuntime>(&rt, alloc, resigning_pair(alloc), 2);
     runs_once::<RingLane, HostRuntime>(&rt, alloc, resigning_pair(alloc), 2)
 }
 
 #[test]
-fn many_small_runs_end(rt: HostRuntime) -> Result<(), Fail> {
+fn many_small_runs_end(rt: HostRuntime) {
     let alloc = rt.alloc();
-    let graph = ring(alloc, 5, 2)?;
-    let text = plan_text(alloc, &graph)?;
+    let graph = ring(alloc, 5, 2).expect(&rt, "memory");
+    let text = plan_text(alloc, &graph).expect(&rt, "memory");
     let plan = read_plan(alloc, text.as_str()).expect(&rt, "a plan");
     for round in 0..200u32 {
-        runs_over::<ChannelLane, HostRuntime>(&rt, alloc, &graph, &plan, round % 3)?;
-        runs_over::<RingLane, HostRuntime>(&rt, alloc, &graph, &plan, round % 3)?;
+        runs_over::<ChannelLane, HostRuntime>(&rt, alloc, &graph, &plan, round % 3);
+        runs_over::<RingLane, HostRuntime>(&rt, alloc, &graph, &plan, round % 3);
     }
-    Ok(())
 }

@@ -1,15 +1,17 @@
 // Runs with real threads.
+ghost use Rattle.std.specs.Prelude.{◌≡◌, ◌≤◌, Some, slice_get};
+ghost use Rattle.dine_graph.specs.Plan.{job_count};
+
 use crate::asserts::same;
 use crate::diners::{Taster, Waiter, waiters};
 use crate::graphs::{apart, plan_text};
 use dine_link::{ChannelLane, Lane, RingLane};
-use dine_plan::read_plan;
+use dine_plan::{Plan, read_plan};
 use dine_run::{CallLog, Jobs, RunFault, SiteOut, run, run_within};
-use std::alloc::{AllocError, Global};
+use std::alloc::Global;
 use std::process::Abort;
 use std::sync::atomic::{AtomicU32, Ordering};
 use std::sync::{Arc, Wait};
-use std::test::Fail;
 use std::thread::Threads;
 
 const SIXTEEN: &str = "version = 1\n\
@@ -34,30 +36,44 @@ fn ate_once(rt: &impl Abort, sites: &[SiteOut<Jobs<Waiter>>]) {
     }
 }
 
+// Waiting diners, as `waiters` says.
+fn seated(
+    rt: &impl Abort,
+    alloc: Global,
+    plan: &Plan,
+    all: u32,
+    everyone: bool,
+    entered: &Arc<AtomicU32, Global>,
+) -> Vec<Jobs<Waiter>>
+    ensures { (s : _) (diner : _) → slice_get result.items s ≡ Some diner → job_count plan.now s ≤ diner.log.room }
+{
+    let jobs = waiters(alloc, plan, all, everyone, entered).expect(rt, "memory");
+    let Ok(diners) = Jobs::seat(alloc, plan, jobs) else {
+        panic!(rt; "no diners");
+    };
+    diners
+}
+
 // Runs with waiting diners, none of which fails, over links of a lane.
 fn meet_over<L: Lane + 'static, R: Threads + Wait + Abort + Copy + Send + 'static>(
     rt: &R,
     alloc: Global,
     text: &str,
     all: u32,
-) -> Result<(), Fail>
+)
 where
     L::Tx: 'static,
     L::ClosedTx: 'static,
     L::Rx: 'static,
 {
     let plan = read_plan(alloc, text).expect(rt, "a plan");
-    let entered = Arc::new(alloc, AtomicU32::new(0))?;
-    let jobs = waiters(alloc, &plan, all, plan.edges() == 0, &entered)?;
-    let Ok(diners) = Jobs::seat(alloc, &plan, jobs) else {
-        return Err(Fail::new("no diners"));
-    };
+    let entered = Arc::new(alloc, AtomicU32::new(0)).expect(rt, "memory");
+    let diners = seated(rt, alloc, &plan, all, plan.edges() == 0, &entered);
     let Ok(gathered) = run::<L, Jobs<Waiter>, R>(rt, alloc, &plan, diners) else {
-        return Err(Fail::new("no run"));
+        panic!(rt; "no run");
     };
     same(rt, &gathered.sites.len(), &(plan.sites() as usize));
     ate_once(rt, gathered.sites.as_slice());
-    Ok(())
 }
 
 // The same over channels and over rings.
@@ -66,34 +82,42 @@ fn meet<R: Threads + Wait + Abort + Copy + Send + 'static>(
     alloc: Global,
     text: &str,
     all: u32,
-) -> Result<(), Fail> {
-    meet_over::<ChannelLane, R>(rt, alloc, text, all)?;
+) {
+    meet_over::<ChannelLane, R>(rt, alloc, text, all);
     meet_over::<RingLane, R>(rt, alloc, text, all)
 }
 
 #[test]
-fn sites_that_share_no_edge_eat_at_the_same_time(rt: HostRuntime) -> Result<(), Fail> {
+fn sites_that_share_no_edge_eat_at_the_same_time(rt: HostRuntime) {
     meet(&rt, rt.alloc(), SIXTEEN, 16)
 }
 
 #[test]
-fn ends_of_a_path_eat_at_the_same_time(rt: HostRuntime) -> Result<(), Fail> {
+fn ends_of_a_path_eat_at_the_same_time(rt: HostRuntime) {
     meet(&rt, rt.alloc(), PATH, 2)
 }
 
 // So many diners, at most 3.
-fn diners_for_one(alloc: Global, count: usize) -> Result<Vec<Taster>, AllocError> {
+fn diners_for_one(rt: &impl Abort, alloc: Global, count: usize) -> Vec<Taster> {
     let mut diners = Vec::new(alloc);
     for each in 1..4u32 {
         if diners.len() < count {
-            let log = CallLog::open(alloc, 1)?;
-            diners.push(Taster {
+            let log = CallLog::open(alloc, 1).expect(rt, "memory");
+            let diner = Taster {
                 log,
                 fails_each: each,
-            })?;
+            };
+            diners.push(diner).expect(rt, "memory");
         }
     }
-    Ok(diners)
+    diners
+}
+
+// The plan of two sites without an edge, with a job each.
+fn two_apart(rt: &impl Abort, alloc: Global) -> Plan {
+    let graph = apart(alloc, 2, 1).expect(rt, "memory");
+    let text = plan_text(alloc, &graph).expect(rt, "memory");
+    read_plan(alloc, text.as_str()).expect(rt, "a plan")
 }
 
 // These are the first of them, and none was called.
@@ -108,25 +132,23 @@ fn handed_back<R: Threads + Wait + Abort + Copy + Send + 'static>(
     rt: &R,
     alloc: Global,
     count: usize,
-) -> Result<(), Fail> {
-    let text = plan_text(alloc, &apart(alloc, 2, 1)?)?;
-    let plan = read_plan(alloc, text.as_str()).expect(rt, "a plan");
-    let diners = diners_for_one(alloc, count)?;
+) {
+    let plan = two_apart(rt, alloc);
+    let diners = diners_for_one(rt, alloc, count);
     assert!(rt; diners.len() != plan.sites() as usize);
     let Err(RunFault::DinersDiffer { given, diners }) = run::<ChannelLane, Taster, R>(
         rt, alloc, &plan, diners,
     ) else {
-        return Err(Fail::new("a run"));
+        panic!(rt; "a run");
     };
     same(rt, &(given, diners.len()), &(count, count));
     were_not_called(rt, diners.as_slice());
-    Ok(())
 }
 
 #[test]
-fn too_few_or_too_many_diners_come_back(rt: HostRuntime) -> Result<(), Fail> {
-    handed_back(&rt, rt.alloc(), 1)?;
-    handed_back(&rt, rt.alloc(), 0)?;
+fn too_few_or_too_many_diners_come_back(rt: HostRuntime) {
+    handed_back(&rt, rt.alloc(), 1);
+    handed_back(&rt, rt.alloc(), 0);
     handed_back(&rt, rt.alloc(), 3)
 }
 
@@ -135,30 +157,26 @@ fn falls_short<L: Lane + 'static, R: Threads + Wait + Abort + Copy + Send + 'sta
     rt: &R,
     alloc: Global,
     threads: u32,
-) -> Result<(), Fail>
+)
 where
     L::Tx: 'static,
     L::ClosedTx: 'static,
     L::Rx: 'static,
 {
     let plan = read_plan(alloc, PATH).expect(rt, "a plan");
-    let entered = Arc::new(alloc, AtomicU32::new(0))?;
-    let jobs = waiters(alloc, &plan, 1, true, &entered)?;
-    let Ok(diners) = Jobs::seat(alloc, &plan, jobs) else {
-        return Err(Fail::new("no diners"));
-    };
+    let entered = Arc::new(alloc, AtomicU32::new(0)).expect(rt, "memory");
+    let diners = seated(rt, alloc, &plan, 1, true, &entered);
     let ended = run_within::<L, Jobs<Waiter>, R>(rt, alloc, &plan, diners, threads);
     assert!(rt; matches!(ended, Err(RunFault::Thread(site)) if site == threads));
     same(rt, &entered.load(Ordering::SeqCst), &0);
     // Each diner held it, so the threads that were started have ended.
     same(rt, &Arc::strong_count(&entered), &1);
-    Ok(())
 }
 
 #[test]
-fn fewer_threads_than_sites_are_told_and_nobody_eats(rt: HostRuntime) -> Result<(), Fail> {
-    falls_short::<ChannelLane, HostRuntime>(&rt, rt.alloc(), 1)?;
-    falls_short::<RingLane, HostRuntime>(&rt, rt.alloc(), 1)?;
-    falls_short::<ChannelLane, HostRuntime>(&rt, rt.alloc(), 0)?;
+fn fewer_threads_than_sites_are_told_and_nobody_eats(rt: HostRuntime) {
+    falls_short::<ChannelLane, HostRuntime>(&rt, rt.alloc(), 1);
+    falls_short::<RingLane, HostRuntime>(&rt, rt.alloc(), 1);
+    falls_short::<ChannelLane, HostRuntime>(&rt, rt.alloc(), 0);
     falls_short::<RingLane, HostRuntime>(&rt, rt.alloc(), 0)
 }
