@@ -30,10 +30,8 @@ impl<D: Diner> From<&RunFault<D>> for RunCause {
             RunFault::Thread(site) => RunCause::Thread(*site),
             RunFault::Broken { site, joined } => {
                 // `run` tells no site as broken that has no fault; that would be one not started.
-                let fault = match joined.sites.get(*site as usize) {
-                    Some(out) => out.fault.unwrap_or(SiteFault::NotStarted),
-                    None => SiteFault::NotStarted,
-                };
+                let told = joined.sites.get(*site as usize).and_then(|out| out.fault);
+                let fault = told.unwrap_or(SiteFault::NotStarted);
                 RunCause::Broken(*site, fault)
             }
         }
