@@ -8,10 +8,10 @@
 
 use anyhow::{Context, Result, bail};
 use dine::{PlanDiner, open_diners};
-use dine_core::World;
 use dine_link::{ChannelLane, Lane, RingLane};
 use dine_plan::{Plan, read_plan};
 use dine_run::run;
+use dine_world::World;
 use std::alloc::Global;
 use std::env;
 use std::io::Read;

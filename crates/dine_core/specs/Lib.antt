@@ -15,11 +15,9 @@ pub use Rattle.dine_rules.specs.Examples
 pub use Rattle.dine_rules.specs.Outcomes
 pub mod Core
 pub mod Places
+pub mod Said
 pub mod LinkNumbers
 pub mod Standing
-pub mod WorldSites
-pub mod Worlds
 pub mod NextEvent
 pub mod Wants
-pub mod Whereabouts
 pub mod private

@@ -17,7 +17,7 @@ ghost use Rattle.dine_core.specs.Places.{place_at, hand_of, is_held, is_away_at,
 ghost use Rattle.dine_core.specs.LinkNumbers.{link_to, link_from};
 ghost use Rattle.dine_core.specs.Standing.{ForEachState, IsFreshFor, TellsMay, CoreStep, CoreSteps, CorePuts, TellsBreach, AreForksInHand, AreTokensInHand, all_places, has_finished, has_closed};
 ghost use Rattle.dine_core.specs.Wants.{wants_by_lists};
-ghost use Rattle.dine_core.specs.private.Told.{said_at};
+ghost use Rattle.dine_core.specs.Said.{said_at};
 
 mod marked;
 mod meals;
@@ -34,7 +34,7 @@ use dine_token::{Act, Fork, Held, Meal, Token};
 use marked::MarkedPlaces;
 pub use opening::{fresh_forks, fresh_tokens};
 pub use packed::Packed;
-use places::ForkSlot;
+pub use places::ForkSlot;
 pub use said::Said;
 use std::alloc::{AllocError, Global};
 use std::marker::Model;
@@ -178,7 +178,7 @@ impl SiteCore {
     }
 
     /// Which of Done and Close the site has put and taken at place `i`.
-    pub(crate) fn said(&self, i: u32) -> Said
+    pub fn said(&self, i: u32) -> Said
         requires { i < length self.now.places }
         ensures { result ≡ said_at (place_at self.now i) }
     {
@@ -239,7 +239,7 @@ impl SiteCore {
     }
 
     /// The number of the link of the world that leads to the site at place `i`.
-    pub(crate) fn link_to(&self, i: u32) -> usize
+    pub fn link_to(&self, i: u32) -> usize
         requires { i < length self.now.places }
         ensures { result ≡ link_to self.now.site (place_at self.now i) }
     {
@@ -248,7 +248,7 @@ impl SiteCore {
     }
 
     /// The number of the link that leads away.
-    pub(crate) fn link_from(&self, i: u32) -> usize
+    pub fn link_from(&self, i: u32) -> usize
         requires { i < length self.now.places }
         ensures { result ≡ link_from self.now.site (place_at self.now i) }
     {
@@ -257,7 +257,7 @@ impl SiteCore {
     }
 
     /// The site at the other end of place `i`.
-    pub(crate) fn neighbour(&self, i: u32) -> u32
+    pub fn neighbour(&self, i: u32) -> u32
         requires { i < length self.now.places }
         ensures { result ≡ neighbour_of self.now.site (place_at self.now i) }
     {
@@ -265,7 +265,7 @@ impl SiteCore {
     }
 
     /// Where the fork of place `i` is.
-    pub(crate) fn slot(&self, i: u32) -> &ForkSlot
+    pub fn slot(&self, i: u32) -> &ForkSlot
         requires { i < length self.now.places }
         ensures { result.now ≡ (place_at self.now i).fork }
     {
@@ -273,7 +273,7 @@ impl SiteCore {
     }
 
     /// Hands out the fork of place `i`, where it is in hand.
-    pub(crate) fn take_fork(&mut self, i: u32) -> Option<Fork>
+    pub fn take_fork(&mut self, i: u32) -> Option<Fork>
         requires place { i < length self.old.places }
         requires not_eating { is_eating self.old.phase ≡ false }
         ensures fork { result ≡ hand_of (place_at self.old i).fork }
@@ -492,7 +492,7 @@ impl SiteCore {
     }
 
     /// Takes a letter at place `i` that is in turn there.
-    pub(crate) fn take_in_turn(&mut self, i: u32, letter: Letter)
+    pub fn take_in_turn(&mut self, i: u32, letter: Letter)
         requires place { i < length self.old.places }
         requires in_turn { breach_at self.old.site self.old.ate (place_at self.old i) letter ≡ None }
         ensures core { self.new ≡ took i letter self.old }

@@ -7,10 +7,10 @@ mod readers;
 mod side_by_side;
 
 use crate::asserts::same;
-use dine_core::{NotEnabled, World};
 use dine_plan::{Plan, read_plan};
 use dine_rules::{Event, EventKind, Phase};
 use dine_token::{Act, Entry, Fork, Period};
+use dine_world::{NotEnabled, World};
 use graph::{Graph, graph_of};
 use std::alloc::{AllocError, Global};
 use std::fmt::Write;

@@ -1,4 +1,2 @@
-pub mod Passes
 pub mod Relays
 pub mod Endings
-pub mod BellSteps

@@ -3,8 +3,9 @@ ghost use Rattle.std.specs.Prelude.{◌≡◌, IfOk};
 ghost use Rattle.dine_log_text.specs.Replay.{replay_text};
 
 use crate::logs::world_text;
-use dine_core::{World, laws};
+use dine_core::laws;
 use dine_graph::Plan;
+use dine_world::World;
 use std::alloc::{AllocError, Global};
 
 /// The text of the plan's world, in which the choices are done one after the other, and then the first enabled event

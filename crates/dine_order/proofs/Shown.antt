@@ -19,7 +19,7 @@ use Rattle.dine_rules.specs.Steps.{Shape, shape_of, fork_by}
 use Rattle.dine_rules.specs.Values.{value_along, value_by}
 use Rattle.dine_rules.specs.World.{WorldState, state_of}
 use Rattle.dine_rules.proofs.journals.OtherOutcomes.{acts-same, fails-are, jobs-same, sites-same}
-use Rattle.dine_core.specs.Worlds.{AreOutcomesFor}
+use Rattle.dine_world.specs.Worlds.{AreOutcomesFor}
 use Rattle.dine_order.specs.Orders.{lists_in, noted, plan_shown, receiver_by, receiver_of, shown_by, shown_in}
 
 -- ---- an event more of a journal

@@ -10,7 +10,7 @@ use Rattle.dine_rules.specs.Steps.{Shape, Takes, Puts, Alone, shape_of}
 use Rattle.dine_rules.specs.World.{WorldState, IsComplete, Reaches, world_after}
 use Rattle.dine_rules.specs.Journals.{IsFrontOf, IsLowestFirst, IsOrderOf, IsPlacedToEnd, IsWholeOrder, is_ready, journal_of, next_of, outcomes_in, part_of}
 use Rattle.dine_rules.specs.Outcomes.{with_outcomes}
-use Rattle.dine_core.specs.Worlds.{IsWorldOf, SeenWorld}
+use Rattle.dine_world.specs.Worlds.{IsWorldOf, SeenWorld}
 use Rattle.dine_order.specs.declared.orders.OrderFault.{OrderFault}
 use Rattle.dine_order.specs.declared.orders.OrderFault.TheVariants.{CountDiffers, Stuck, NotClosed, Memory}
 

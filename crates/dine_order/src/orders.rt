@@ -9,9 +9,10 @@ ghost use Rattle.dine_order.specs.declared.orders.OrderFault.TheVariants.{CountD
 mod outcomes;
 mod placing;
 
-use dine_core::{Event, EventKind, World};
+use dine_core::{Event, EventKind};
 use dine_graph::Plan;
 use dine_rules::laws;
+use dine_world::World;
 use std::alloc::{AllocError, Global};
 use thiserror::Error;
 

@@ -1,14 +1,15 @@
 // Calls that take memory and answer where it is refused.
 ghost use Rattle.std.specs.Prelude.{◌≡◌, IfOk, length};
-ghost use Rattle.dine_core.specs.Worlds.{AreOutcomesFor, lists_of};
+ghost use Rattle.dine_world.specs.Worlds.{AreOutcomesFor, lists_of};
 
 use crate::pair::{PAIR, pair};
 use dine_core::site::{fresh_forks, fresh_tokens};
-use dine_core::{EventKind, SiteCore, World};
+use dine_core::{EventKind, SiteCore};
 use dine_link::{Bell, Lane};
 use dine_plan::{Plan, PlanFault, read_plan};
 use dine_run::{OrderFault, SiteFault, order};
 use dine_token::Fork;
+use dine_world::World;
 use std::alloc::{AllocError, Global};
 
 // What the lower site of the pair does where it eats first, and what the higher one does.

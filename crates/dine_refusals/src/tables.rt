@@ -6,10 +6,10 @@ ghost use Rattle.dine_run.specs.Tables.{IsGatheredOf};
 use crate::calls::Told;
 use crate::pair::pair;
 use dine::{PlanDiner, world_text, write_edges, write_sites};
-use dine_core::World;
 use dine_plan::Plan;
 use dine_run::{EdgeRow, Gathered, SiteOut, SiteRow, edge_table, site_table};
 use dine_token::Fork;
+use dine_world::World;
 use std::alloc::{AllocError, Global};
 
 // What a call answered that fails only where memory is refused.

@@ -17,7 +17,7 @@ use Rattle.dine_rules.specs.Local.{LocalState, Traffic, edge_at, neighbour_at, n
 use Rattle.dine_rules.specs.Precedence.{fork_log}
 use Rattle.dine_rules.specs.Steps.{fork_by}
 use Rattle.dine_rules.specs.World.{LinksAreOrdered, Reaches, WorldState, no_state, place_of, put_to, state_of}
-use Rattle.dine_core.specs.Worlds.{fork_seen, forks_seen}
+use Rattle.dine_world.specs.Worlds.{fork_seen, forks_seen}
 use Rattle.dine_link.specs.Links.{SeenLink}
 use Rattle.dine_threads.specs.Gathered.{high_traffic, link_from_high, link_from_low, low_traffic, no_link, traffic_of}
 use Rattle.dine_threads.specs.Headline as headline_specs

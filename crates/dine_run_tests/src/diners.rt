@@ -1,7 +1,7 @@
 // Diners and jobs for tests.
 ghost use Rattle.std.specs.Prelude.{◌≡◌, ◌≤◌, ◌∷◌, [], Some, true, length, slice_get, IfOk};
 ghost use Rattle.dine_graph.specs.Plan.{job_count};
-ghost use Rattle.dine_core.specs.Worlds.{AreOutcomesFor, lists_of};
+ghost use Rattle.dine_world.specs.Worlds.{AreOutcomesFor, lists_of};
 
 use dine_plan::Plan;
 use dine_run::{CallLog, Diner, Job, JobFault};

@@ -2,11 +2,12 @@
 use crate::asserts::same;
 use crate::diners::{Taster, outcomes_of, tasters};
 use crate::graphs::*;
-use dine_core::{EventKind, World};
+use dine_core::EventKind;
 use dine_link::{ChannelLane, Lane, RingLane};
 use dine_plan::{Plan, read_plan};
 use dine_run::{Gathered, SiteOut, order, run};
 use dine_token::Fork;
+use dine_world::World;
 use std::alloc::{AllocError, Global};
 use std::process::Abort;
 use std::sync::Wait;

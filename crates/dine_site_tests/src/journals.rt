@@ -1,8 +1,9 @@
 // One order of the journals of two sites.
 use crate::asserts::same;
-use dine_core::{Event, EventKind, World};
+use dine_core::{Event, EventKind};
 use dine_plan::{Plan, read_plan};
 use dine_run::{OrderFault, order};
+use dine_world::World;
 use std::alloc::Global;
 use std::process::Abort;
 

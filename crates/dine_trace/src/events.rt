@@ -1,7 +1,8 @@
 //! The events of a world in words.
 
-use dine_core::{Event, EventKind, Kind4, World};
+use dine_core::{Event, EventKind, Kind4};
 use dine_plan::Plan;
+use dine_world::World;
 use std::alloc::AllocError;
 
 /// The name of the site. A number that is no site has none.

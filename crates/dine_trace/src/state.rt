@@ -3,9 +3,10 @@
 use crate::edges::role;
 use crate::events::{ate, edge_at, name_of_kind, place_of, push_event, rule_of};
 use crate::fault_lines::Fault;
-use dine_core::{Event, Kind4, Phase, Said, Whereabouts, World};
+use dine_core::{Event, Kind4, Phase, Said};
 use dine_log_text::edges_text;
 use dine_plan::Plan;
+use dine_world::{Whereabouts, World};
 use serde::Serialize;
 use std::alloc::{AllocError, Global};
 

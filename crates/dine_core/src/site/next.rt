@@ -122,7 +122,7 @@ impl SiteCore {
     }
 
     /// How many events other than Take the site may do now.
-    pub(crate) fn count_own(&self) -> u32
+    pub fn count_own(&self) -> u32
         ensures count { result ≡ length (filter (can_by_itself self.now) (own_kinds (range_with_len 0 (length self.now.places)))) }
         ensures few { result ≤ 2051 }
     {
@@ -133,7 +133,7 @@ impl SiteCore {
     }
 
     /// The `n`-th of them in the fixed order, from 0. None where there are not so many.
-    pub(crate) fn own_event(&self, n: u32) -> Option<EventKind>
+    pub fn own_event(&self, n: u32) -> Option<EventKind>
         ensures { result ≡ slice_get (filter (can_by_itself self.now) (own_kinds (range_with_len 0 (length self.now.places)))) n }
     {
         let gives = self.gives_now();

@@ -11,7 +11,7 @@ use std::mem;
 
 /// Where the fork of a place is, for the site.
 #[derive(Drop)]
-pub(crate) enum ForkSlot {
+pub enum ForkSlot {
     /// At the other end, or on its way.
     Away,
     /// In hand.

@@ -4,9 +4,10 @@ use super::graph::Graph;
 use super::letters::{
     Letter, count_of, has, is_dirty, last_log, location_of, meals_of, period_behind,
 };
-use dine_core::{Said, Whereabouts};
+use dine_core::Said;
 use dine_rules::{Event, EventKind, Kind4, Phase};
 use dine_token::{Entry, Period};
+use dine_world::Whereabouts;
 use std::alloc::Global;
 use std::process::Abort;
 

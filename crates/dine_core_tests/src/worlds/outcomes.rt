@@ -1,13 +1,13 @@
 //! Worlds that are opened with outcomes of their own.
 ghost use Rattle.std.specs.Prelude.{◌≡◌, true};
-ghost use Rattle.dine_core.specs.Worlds.{AreOutcomesFor, lists_of};
+ghost use Rattle.dine_world.specs.Worlds.{AreOutcomesFor, lists_of};
 
 use super::graph::Graph;
 use super::{RESIGNING, entry_at, opened, plan_by, spend};
 use crate::asserts::same;
-use dine_core::World;
 use dine_plan::Plan;
 use dine_token::Entry;
+use dine_world::World;
 use std::alloc::Global;
 use std::process::Abort;
 

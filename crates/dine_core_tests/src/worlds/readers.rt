@@ -3,8 +3,9 @@
 use super::model::Model;
 use super::{opened, pair, spend};
 use crate::asserts::same;
-use dine_core::{Said, Whereabouts, World};
+use dine_core::Said;
 use dine_rules::Kind4;
+use dine_world::{Whereabouts, World};
 use std::process::Abort;
 
 // There is no such site or place.

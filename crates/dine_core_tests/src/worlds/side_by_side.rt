@@ -7,10 +7,10 @@ use super::outcomes::opened_with;
 use super::readers::same_readers;
 use super::{act_of, entry_at, first_value, opened, period_at, plan_by};
 use crate::asserts::same;
-use dine_core::{NotEnabled, World};
 use dine_plan::Plan;
 use dine_rules::{Event, EventKind, Kind4};
 use dine_token::{Act, Entry, Fork, Period};
+use dine_world::{NotEnabled, World};
 use std::alloc::Global;
 use std::process::Abort;
 

@@ -1,7 +1,7 @@
 // The outcomes of meals that journals show.
 ghost use Rattle.std.specs.Prelude.{◌≡◌, IfOk, length};
 ghost use Rattle.dine_graph.specs.Plan.{site_count};
-ghost use Rattle.dine_core.specs.Worlds.{lists_of};
+ghost use Rattle.dine_world.specs.Worlds.{lists_of};
 ghost use Rattle.dine_order.specs.Orders.{lists_in, noted, shown_by, shown_in};
 
 use dine_core::EventKind;

@@ -5,13 +5,14 @@ ghost use Rattle.dine_rules.specs.Steps.{IsPlaceWithin, shape_of};
 ghost use Rattle.dine_rules.specs.World.{start};
 ghost use Rattle.dine_rules.specs.declared.events.Event.{Event};
 ghost use Rattle.dine_rules.specs.declared.events.EventKind.{EventKind};
-ghost use Rattle.dine_core.specs.Worlds.{IsWorldOf, SeenWorld};
+ghost use Rattle.dine_world.specs.Worlds.{IsWorldOf, SeenWorld};
 ghost use Rattle.dine_order.specs.Orders.{FindsNext, IsFound, IsSearched, IsSearching, kind_at, lists_in, plan_shown, receiver_of};
 
-use dine_core::{Event, EventKind, World};
+use dine_core::{Event, EventKind};
 use dine_graph::Plan;
 use dine_rules::laws;
 use dine_set::BitSet64;
+use dine_world::World;
 use std::alloc::{AllocError, Global};
 
 // Places events until no site is ready, and counts those of each site.

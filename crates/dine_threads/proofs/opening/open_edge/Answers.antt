@@ -1,7 +1,7 @@
 use Rattle.std.proofs.Common.{◌≡◌, ℕ, true, refl, ap, ◌∙◌}
 use Rattle.std.proofs.lemmas.Result.{on_ok_weaker}
 use Rattle.dine_threads.specs.private.Openings.{bells_of, rows_of}
-use Rattle.dine_link.specs.Bells.{SeenRinger}
+use Rattle.dine_bell.specs.Bells.{SeenRinger}
 use Rattle.dine_site.specs.Ports.{SeenPort}
 use Rattle.dine_threads.proofs.all_sites.Laying.{AreNewPorts, laid_by, with_port}
 use Rattle.dine_threads.proofs.opening.open_edge.Goals as goal

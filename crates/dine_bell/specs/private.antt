@@ -1,0 +1,3 @@
+-- What no public contract names: how values are kept, and what private functions promise one another.
+pub mod BellFields
+pub mod BellRule

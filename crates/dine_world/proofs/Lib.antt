@@ -1,0 +1,2 @@
+pub mod all_sites
+pub mod enabled_events

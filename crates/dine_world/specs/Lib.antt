@@ -1,0 +1,4 @@
+pub mod WorldSites
+pub mod Worlds
+pub mod Whereabouts
+pub mod private
