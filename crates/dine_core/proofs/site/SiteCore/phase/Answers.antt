@@ -1,6 +1,5 @@
-use Rattle.std.proofs.Common.{ap}
-use Rattle.dine_core.specs.Core.{SeenCore}
+use Rattle.std.proofs.Common.{rules}
 use Rattle.dine_core.proofs.site.SiteCore.phase.Goals as goal
 
 pub returns : goal.returns
-returns c = ap (λ (core : SeenCore). core.phase) c.self.view_is
+returns c = search rules

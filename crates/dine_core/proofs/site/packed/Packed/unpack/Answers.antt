@@ -1,5 +1,4 @@
-use Rattle.std.proofs.Common.{rules}
 use Rattle.dine_core.proofs.site.packed.Packed.unpack.Goals as goal
 
 pub returns : goal.returns
-returns c = search rules
+returns c = c.self.view_is
