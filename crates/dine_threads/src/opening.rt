@@ -74,7 +74,8 @@ fn lay<L: Lane>(stands: &mut Vec<Stand<L>>, site: u32, port: Port<L>) -> Result<
     Ok(stands[site as usize].ports.push(port)?)
 }
 
-// Opens the two links of an edge, and gives the ports of its two ends: each takes what the other puts, and rings its bell.
+// Opens the two links of an edge, and gives the ports of its two ends: each takes what the other puts, and rings its
+// bell.
 fn new_ports<L: Lane>(
     alloc: Global,
     plan: &Plan,
