@@ -20,6 +20,20 @@ pub struct Stand<L: Lane> {
     pub bell: Bell,
 }
 
+// Room for the ports of a site, and for its ringers.
+fn place_lists<P: Drop, Q: Drop>(
+    alloc: Global,
+    degree: usize,
+) -> Result<(Vec<P>, Vec<Q>), AllocError>
+    ensures no_port { IfOk result (λ lists. lists.0.items ≡ []) }
+    ensures room { IfOk result (λ lists. degree ≤ vec_capacity lists.1) }
+    ensures none { IfOk result (λ lists. vec_len lists.1 ≡ 0) }
+{
+    let ports = Vec::with_capacity(alloc, degree)?;
+    let row = Vec::with_capacity(alloc, degree)?;
+    Ok((ports, row))
+}
+
 // Opens the bell of a site, with room for its ports. The ringers stand by place.
 fn open_stand<L: Lane>(
     alloc: Global,
@@ -32,11 +46,10 @@ fn open_stand<L: Lane>(
     ensures ringers { IfOk result (λ opened. (i : ℕ) → i < length (edges_of plan.now site) → slice_index_or opened.1.items i None ≡ Some (new_ringer opened.0.bell.identity i)) }
 {
     let degree = plan.edges_of(site).len();
+    let (ports, mut row) = place_lists(alloc, degree)?;
     let Ok((ringers, bell)) = Bell::open(alloc, degree as u32) else {
         return Err(AllocError);
     };
-    let ports = Vec::with_capacity(alloc, degree)?;
-    let mut row = Vec::with_capacity(alloc, degree)?;
     fill_row(ringers, &mut row);
     Ok((Stand { ports, bell }, row))
 }
@@ -74,8 +87,7 @@ fn lay<L: Lane>(stands: &mut Vec<Stand<L>>, site: u32, port: Port<L>) -> Result<
     Ok(stands[site as usize].ports.push(port)?)
 }
 
-// Opens the two links of an edge, and gives the ports of its two ends: each takes what the other puts, and rings its
-// bell.
+// Opens the two links of an edge: the port of each end takes what the other puts, and rings its bell.
 fn new_ports<L: Lane>(
     alloc: Global,
     plan: &Plan,

@@ -13,7 +13,7 @@ overflow_cast-degree g c = omega (arith, few_edges c.args.plan.now c.args.site c
 pub fill_row-requires-clause-room : goal.fill_row-requires-clause-room
 fill_row-requires-clause-room g c =
     let degree = length c.edges_of-degree.result.now in
-    omega (arith, c.in-Ok.ringers.ok.0, ap length c.in-Ok.ensures.ringers, length-map-range_with_len (new_ringer c.in-Ok.bell.identity) 0 degree, c.in_ok-row.ensures.capacity)
+    omega (arith, c.in-Ok.ringers.ok.0, ap length c.in-Ok.ensures.ringers, length-map-range_with_len (new_ringer c.in-Ok.bell.identity) 0 degree, c.in_ok-ports.ensures.room)
 
 pub returns-clause-full : goal.returns-clause-full
 returns-clause-full g c =
