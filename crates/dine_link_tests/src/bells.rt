@@ -34,25 +34,24 @@ struct Apart {
 
 // A bell of that degree, and its ringers.
 fn opened(rt: &impl Abort, alloc: Global, degree: u32) -> (Vec<Ringer>, Bell) {
-    let Ok(opened) = Bell::open(alloc, degree) else {
-        panic!(rt; "no memory for the bell");
-    };
-    opened
+    Bell::open(alloc, degree).expect(rt, "memory for the bell")
 }
 
-// The ringer at that place rings.
-fn ring<R: Abort + Wait>(rt: &R, ringers: &mut Vec<Ringer>, place: usize) {
-    let rung = match ringers.get_mut(place) {
-        Some(ringer) => ringer.ring(rt),
-        None => Err(Lost),
-    };
-    same(rt, &rung, &Ok(()));
+// The ringer at that place rings, which is taken or not.
+fn ring_is<R: Abort + Wait>(
+    rt: &R,
+    ringers: &mut Vec<Ringer>,
+    place: usize,
+    wanted: Result<(), Lost>,
+) {
+    let ringer = ringers.get_mut(place).expect(rt, "a ringer");
+    same(rt, &ringer.ring(rt), &wanted);
 }
 
 // The ringers at those places ring, one after another.
 fn ring_each<R: Abort + Wait>(rt: &R, ringers: &mut Vec<Ringer>, places: &[usize]) {
     for place in places {
-        ring(rt, ringers, *place);
+        ring_is(rt, ringers, *place, Ok(()));
     }
 }
 
@@ -63,55 +62,96 @@ fn tells<R: Abort + Wait>(rt: &R, bell: &mut Bell, told: &[Result<u32, Lost>]) {
     }
 }
 
+// The ringers of a bell of that degree ring at those places, and are gone where `leave` says so. Then it tells this.
+fn rung<R: Abort + Wait>(
+    rt: &R,
+    alloc: Global,
+    degree: u32,
+    places: &[usize],
+    leave: bool,
+    told: &[Result<u32, Lost>],
+) {
+    let (mut ringers, mut bell) = opened(rt, alloc, degree);
+    same(rt, &ringers.len(), &(degree as usize));
+    ring_each(rt, &mut ringers, places);
+    if leave {
+        ringers.clear();
+    }
+    tells(rt, &mut bell, told);
+}
+
 #[test]
 fn each_ringer_rings_its_own_number(rt: HostRuntime) {
-    let (mut ringers, mut bell) = opened(&rt, rt.alloc(), 3);
-    same(&rt, &ringers.len(), &3);
-    ring_each(&rt, &mut ringers, &[2, 0, 1, 2]);
-    tells(&rt, &mut bell, &[Ok(2), Ok(0), Ok(1), Ok(2)]);
+    let told = [Ok(2), Ok(0), Ok(1), Ok(2)];
+    rung(&rt, rt.alloc(), 3, &[2, 0, 1, 2], false, &told);
 }
 
 // One ring more would wait for ever.
 #[test]
 fn four_rings_of_each_ringer_wait_for_nobody(rt: HostRuntime) {
-    let (mut ringers, mut bell) = opened(&rt, rt.alloc(), 2);
-    ring_each(&rt, &mut ringers, &[1, 0, 1, 0, 1, 0, 1, 0]);
+    let places = [1, 0, 1, 0, 1, 0, 1, 0];
     let told = [Ok(1), Ok(0), Ok(1), Ok(0), Ok(1), Ok(0), Ok(1), Ok(0)];
-    tells(&rt, &mut bell, &told);
+    rung(&rt, rt.alloc(), 2, &places, false, &told);
 }
 
 #[test]
 fn without_ringers_nobody_rings(rt: HostRuntime) {
-    let (ringers, mut bell) = opened(&rt, rt.alloc(), 0);
-    same(&rt, &ringers.len(), &0);
-    tells(&rt, &mut bell, &[Err(Lost)]);
+    rung(&rt, rt.alloc(), 0, &[], false, &[Err(Lost)]);
 }
 
 #[test]
 fn rings_outlive_their_ringers(rt: HostRuntime) {
-    let (mut ringers, mut bell) = opened(&rt, rt.alloc(), 2);
-    ring(&rt, &mut ringers, 1);
-    drop(ringers);
-    tells(&rt, &mut bell, &[Ok(1), Err(Lost), Err(Lost)]);
+    let told = [Ok(1), Err(Lost), Err(Lost)];
+    rung(&rt, rt.alloc(), 2, &[1], true, &told);
 }
 
 #[test]
 fn without_the_bell_no_ring_is_taken(rt: HostRuntime) {
     let (mut ringers, bell) = opened(&rt, rt.alloc(), 1);
     drop(bell);
-    let Some(ringer) = ringers.get_mut(0) else {
-        panic!(rt; "no ringer");
-    };
-    same(&rt, &ringer.ring(&rt), &Err(Lost));
-    same(&rt, &ringer.ring(&rt), &Err(Lost));
+    ring_is(&rt, &mut ringers, 0, Err(Lost));
+    ring_is(&rt, &mut ringers, 0, Err(Lost));
 }
 
-// Waits until the threads that started have ended.
-fn join_all<R: Threads + Wait>(rt: &R, threads: Vec<Option<JoinHandle<()>>>) {
+// Rings so often. Where not all rings are plain, every third ring is wanted, and the last is for Done.
+fn ring_often<R: Wait>(rt: &R, ringer: &mut Ringer, times: u32, is_plain: bool) {
+    for i in 1..=times {
+        let _ = if is_plain {
+            ringer.ring(rt)
+        } else if i == times || i % 3 == 0 {
+            ringer.ring_for(rt, Kind4::Done)
+        } else {
+            ringer.ring_for(rt, Kind4::Request)
+        };
+    }
+}
+
+// Each ringer rings so often in a thread of its own.
+fn ring_apart<R>(
+    rt: R,
+    alloc: Global,
+    ringers: Vec<Ringer>,
+    times: u32,
+    is_plain: bool,
+) -> Vec<JoinHandle<()>>
+where
+    R: Abort + Threads + Wait + Copy + Send + 'static,
+{
+    let mut threads = Vec::new(alloc);
+    for mut ringer in ringers {
+        let started = thread::spawn(&rt, move || ring_often(&rt, &mut ringer, times, is_plain));
+        let Ok(child) = started else {
+            panic!(rt; "no thread");
+        };
+        assert!(rt; threads.push(child).is_ok());
+    }
+    threads
+}
+
+// Waits until the threads have ended.
+fn join_all<R: Threads + Wait>(rt: &R, threads: Vec<JoinHandle<()>>) {
     for child in threads {
-        if let Some(child) = child {
-            child.join(rt);
-        }
+        child.join(rt);
     }
 }
 
@@ -129,16 +169,7 @@ fn counted<R: Abort + Wait>(rt: &R, bell: &mut Bell, waits: u32) -> [u32; 3] {
 #[test]
 fn threads_ring_one_bell(rt: HostRuntime) {
     let (ringers, mut bell) = opened(&rt, rt.alloc(), 3);
-    let mut threads = Vec::new(rt.alloc());
-    for mut ringer in ringers {
-        let child = thread::spawn(&rt, move || {
-            for _ in 0..100 {
-                let _ = ringer.ring(&rt);
-            }
-        })
-        .ok();
-        threads.push(child).ok();
-    }
+    let threads = ring_apart(rt, rt.alloc(), ringers, 100, true);
     same(&rt, &counted(&rt, &mut bell, 300), &[100, 100, 100]);
     join_all(&rt, threads);
 }
@@ -148,8 +179,8 @@ fn threads_ring_one_bell(rt: HostRuntime) {
 fn ringers_ring_their_own_bell(rt: HostRuntime) {
     let (mut ringers, mut bell) = opened(&rt, rt.alloc(), 2);
     let (mut others, mut other) = opened(&rt, rt.alloc(), 2);
-    ring(&rt, &mut ringers, 0);
-    ring(&rt, &mut others, 1);
+    ring_each(&rt, &mut ringers, &[0]);
+    ring_each(&rt, &mut others, &[1]);
     drop(ringers);
     tells(&rt, &mut other, &[Ok(1)]);
     tells(&rt, &mut bell, &[Ok(0), Err(Lost)]);
@@ -272,11 +303,8 @@ fn falls_asleep<R: Wait>(rt: &R, ringers: &[Ringer]) -> bool {
 
 // The ringer at that place rings for a letter of that kind.
 fn ring_for<R: Abort + Wait>(rt: &R, ringers: &mut Vec<Ringer>, place: usize, kind: Kind4) {
-    let rung = match ringers.get_mut(place) {
-        Some(ringer) => ringer.ring_for(rt, kind),
-        None => Err(Lost),
-    };
-    same(rt, &rung, &Ok(()));
+    let ringer = ringers.get_mut(place).expect(rt, "a ringer");
+    same(rt, &ringer.ring_for(rt, kind), &Ok(()));
 }
 
 // What ringers do, and what is looked at, while their bell tells in a thread of its own.
@@ -296,7 +324,7 @@ enum Step {
 
 fn goes_on<R: Abort + Wait>(rt: &R, apart: &Apart, ringers: &mut Vec<Ringer>, step: Step) {
     match step {
-        Step::Ring(place) => ring(rt, ringers, place),
+        Step::Ring(place) => ring_is(rt, ringers, place, Ok(())),
         Step::RingFor(place, kind) => ring_for(rt, ringers, place, kind),
         Step::FallsAsleep => assert!(rt; falls_asleep(rt, ringers.as_slice())),
         Step::Sleeps => assert!(rt; sleeps(rt, ringers.as_slice())),
@@ -381,29 +409,12 @@ fn a_bell_wakes_before_it_is_full(rt: HostRuntime) {
     hears(rt, rt.alloc(), 1, &steps, 4, 1111);
 }
 
-// Rings so often, with every third ring wanted, and at last for Done.
-fn ring_often<R: Wait>(rt: &R, ringer: &mut Ringer, times: u32) {
-    for i in 1..times {
-        let kind = if i % 3 == 0 {
-            Kind4::Done
-        } else {
-            Kind4::Request
-        };
-        let _ = ringer.ring_for(rt, kind);
-    }
-    let _ = ringer.ring_for(rt, Kind4::Done);
-}
-
 // They ring faster than the bell tells, so that it is full now and then.
 #[test]
 fn four_threads_ring_often(rt: HostRuntime) {
     let (ringers, bell) = opened(&rt, rt.alloc(), 4);
     let apart = set_apart(rt, rt.alloc(), bell, 40000);
-    let mut threads = Vec::new(rt.alloc());
-    for mut ringer in ringers {
-        let child = thread::spawn(&rt, move || ring_often(&rt, &mut ringer, 10000)).ok();
-        threads.push(child).ok();
-    }
+    let threads = ring_apart(rt, rt.alloc(), ringers, 10000, false);
     assert!(rt; apart.tells(&rt, 40000));
     for count in &apart.heard.each {
         same(&rt, &count.load(Ordering::SeqCst), &10000);

@@ -9,20 +9,23 @@ use std::thread;
 use std::thread::{JoinHandle, Parker, Threads};
 use std::time::Duration;
 
+// A gate that was told the signal lets pass or not, again and again.
+fn lets_pass<R: Wait + Abort>(rt: &R, signal: Signal, is_open: bool) {
+    let gate = Gate::new();
+    gate.tell(rt, signal);
+    for _ in 0..2 {
+        same(rt, &gate.pass(rt), &is_open);
+    }
+}
+
 #[test]
 fn open_gate_lets_pass(rt: HostRuntime) {
-    let gate = Gate::new();
-    gate.tell(&rt, Signal::Open);
-    assert!(rt; gate.pass(&rt));
-    assert!(rt; gate.pass(&rt));
+    lets_pass(&rt, Signal::Open, true)
 }
 
 #[test]
 fn gate_that_is_called_off_lets_nobody_pass(rt: HostRuntime) {
-    let gate = Gate::new();
-    gate.tell(&rt, Signal::CalledOff);
-    assert!(rt; !gate.pass(&rt));
-    assert!(rt; !gate.pass(&rt));
+    lets_pass(&rt, Signal::CalledOff, false)
 }
 
 // A gate, and how many threads came to it and left it.

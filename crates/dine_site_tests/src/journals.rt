@@ -19,7 +19,7 @@ const RESIGNING: &str = "version = 2\n\
     [[edge]]\nends = [\"a\", \"b\"]\n";
 
 // What the lower site did where it ate first, and what the higher did.
-pub const LOWER: [EventKind; 9] = [
+const LOWER: [EventKind; 9] = [
     EventKind::Hungry,
     EventKind::Begin,
     EventKind::End,

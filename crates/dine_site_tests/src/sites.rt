@@ -1,24 +1,28 @@
-// What tests of sites share: one site on one thread, with its links and its bell, and the log of a fork.
-ghost use Rattle.std.specs.Prelude.{◌≡◌, false, All, vec_len};
+// What tests of sites share: one site on one thread, with its links and its bell, and what it leaves.
+ghost use Rattle.std.specs.Prelude.{◌≡◌, ◌≤◌, false, All, vec_len};
+ghost use Rattle.dine_core.specs.Standing.{IsFreshFor};
 ghost use Rattle.dine_link.specs.Links.{IsUnused};
 ghost use Rattle.dine_run.specs.Ports.{IsFreshPort, seen_ports};
 
 mod diners;
+mod ends;
+mod left;
 mod one_site;
 mod refusals;
 mod star;
 mod unlawful;
 
 use crate::asserts::same;
-use crate::journals::{HIGHER, LOWER};
-use dine_core::SiteCore;
 use dine_core::site::{fresh_forks, fresh_tokens};
+use dine_core::{EventKind, SiteCore};
 use dine_link::{Bell, ChannelLane, Lane, RingLane, Ringer, TxEnd};
 use dine_plan::{Plan, read_plan};
-use dine_rules::{Breach, Kind4, Letter};
-use dine_run::{Call, CallLog, Port, SiteEnd, SiteFault, run_site};
-use dine_token::{Entry, Fork, Token};
+use dine_rules::{Breach, Kind4};
+use dine_run::{Call, CallLog, Port, SiteFault, run_site};
+use dine_token::Entry;
 use diners::Fixed;
+use ends::{Ends, Letters, Put, ends_of, fill, finds, finds_fork, link_from, one_ringer, ring_for};
+use left::{Left, is_left};
 use std::alloc::Global;
 use std::process::Abort;
 use std::sync::Wait;
@@ -28,32 +32,85 @@ const PAIR: &str = "version = 1\n\
     [[site]]\nname = \"a\"\njobs = [{ name = \"x\" }]\n[[site]]\nname = \"b\"\njobs = [{ name = \"x\" }]\n\
     [[edge]]\nends = [\"a\", \"b\"]\n";
 
-// One site without edges, with two jobs.
-const ALONE: &str =
-    "version = 1\n[[site]]\nname = \"a\"\njobs = [{ name = \"x\" }, { name = \"y\" }]\n";
+// The lower site of the pair ate and said Done, and has its fork.
+const LOWER_ATE: Left = Left {
+    site: 0,
+    meals: (1, 0),
+    calls: &[Call { k: 1, ok: true }],
+    forks: &[0],
+    log: &[Entry::Meal { site: 0, k: 1 }],
+    tokens: &[],
+    ports: (0, 1),
+    journal: &[
+        EventKind::Hungry,
+        EventKind::Begin,
+        EventKind::End,
+        EventKind::Done(0),
+    ],
+    stray: None,
+    fault: None,
+};
 
-// A site of the plan runs to its end, with these ports and this bell.
-fn run_alone<L: Lane, R: Wait + Abort>(
+// Then it was asked for the fork, and gave it.
+const LOWER_GAVE: Left = Left {
+    forks: &[],
+    tokens: &[0],
+    journal: &[
+        EventKind::Hungry,
+        EventKind::Begin,
+        EventKind::End,
+        EventKind::Done(0),
+        EventKind::Take(0),
+        EventKind::Give(0),
+    ],
+    ..LOWER_ATE
+};
+
+// The higher site of the pair asked for the fork, which has not come.
+const HIGHER_ASKED: Left = Left {
+    site: 1,
+    meals: (0, 0),
+    calls: &[],
+    forks: &[],
+    log: &[],
+    tokens: &[],
+    ports: (0, 1),
+    journal: &[EventKind::Hungry, EventKind::Ask(0)],
+    stray: None,
+    fault: None,
+};
+
+// The site of that number in the plan runs to its end, with these ports and this bell, and leaves this.
+fn runs_in<L: Lane, R: Wait + Abort>(
     rt: &R,
     alloc: Global,
     plan: &Plan,
-    site: u32,
     ports: Vec<Port<L>>,
     bell: Bell,
     fails_at: u32,
-) -> SiteEnd<L, Fixed>
+    left: &Left,
+)
     requires degree { bell.degree ≡ vec_len ports }
     requires unheard { bell.refused ≡ false }
     requires unused { All IsFreshPort (seen_ports L.seen_tx L.seen_closed L.seen_rx ports.items) }
 {
+    let core = core_of(rt, alloc, plan, left.site);
+    assert!(rt; core.degree() as usize == ports.len());
+    let diner = Fixed::open(alloc, 2, fails_at).expect(rt, "memory");
+    let end = run_site::<R, L, Fixed>(rt, alloc, core, ports, bell, diner);
+    is_left(rt, end, left)
+}
+
+// The core of a site of at most two jobs.
+fn core_of(rt: &impl Abort, alloc: Global, plan: &Plan, site: u32) -> SiteCore
+    ensures fresh { IsFreshFor plan.now result }
+    ensures due { result.due ≤ 2 }
+{
     assert!(rt; site < plan.sites());
     assert!(rt; plan.jobs(site) <= 2);
-    let diner = Fixed::open(alloc, 2, fails_at).expect(rt, "memory");
     let forks = fresh_forks(alloc, plan, site).expect(rt, "memory");
     let tokens = fresh_tokens(alloc, plan, site).expect(rt, "memory");
-    let core = SiteCore::open(alloc, plan, site, forks, tokens).expect(rt, "memory");
-    assert!(rt; core.degree() as usize == ports.len());
-    run_site::<R, L, Fixed>(rt, alloc, core, ports, bell, diner)
+    SiteCore::open(alloc, plan, site, forks, tokens).expect(rt, "memory")
 }
 
 // The bell of a site of that degree, and its ringers.
@@ -65,32 +122,6 @@ fn bell_of(rt: &impl Abort, alloc: Global, degree: u32) -> (Vec<Ringer>, Bell)
         panic!(rt; "no memory for a bell");
     };
     opened
-}
-
-// A ringer that never rang, and its bell.
-fn one_ringer(rt: &impl Abort, alloc: Global) -> (Ringer, Bell)
-    ensures silent { (result.0.rings ≡ 0) × (result.0.refused ≡ false) }
-    ensures degree { result.1.degree ≡ 1 }
-    ensures unheard { result.1.refused ≡ false }
-{
-    let Ok((mut ringers, bell)) = Bell::open(alloc, 1) else {
-        panic!(rt; "no memory for a bell");
-    };
-    match ringers.pop() {
-        Some(ringer) => (ringer, bell),
-        None => panic!(rt; "no ringer"),
-    }
-}
-
-// A link of an edge from that end, in which nothing lies.
-fn link_from<L: Lane>(rt: &impl Abort, alloc: Global, edge: u32, from: u32) -> (L::Tx, L::Rx)
-    ensures put { IsUnused (L.seen_tx result.0) }
-    ensures taken { IsUnused (L.seen_rx result.1) }
-{
-    let Ok(ends) = L::pair(alloc, edge, from) else {
-        panic!(rt; "no memory for a link");
-    };
-    ends
 }
 
 // The one port of a site with one edge.
@@ -116,65 +147,45 @@ fn one_port<L: Lane>(
     ports
 }
 
-// The fork has exactly this log.
-fn has_log(rt: &impl Abort, fork: &Fork, log: &[Entry]) {
-    assert!(rt; fork.len() as usize == log.len());
-    for i in 0..fork.len() {
-        same(rt, &fork.entry(i), &log[i as usize]);
-    }
-}
-
-// What a site leaves: its number, how many meals it ate and how many of these failed, how many forks, tokens and ports
-// it has, and its fault.
-fn leaves<L: Lane>(
-    rt: &impl Abort,
-    end: &SiteEnd<L, Fixed>,
-    site: u32,
-    meals: (u32, u32),
-    left: (usize, usize, usize),
-    fault: Option<SiteFault>,
-) {
-    same(rt, &end.site, &site);
-    same(rt, &(end.ate, end.failed), &meals);
-    let counts = (end.forks.len(), end.tokens.len(), end.ports.len());
-    same(rt, &counts, &left);
-    same(rt, &end.fault, &fault);
-}
-
-// Its first fork has exactly this log.
-fn holds_log<L: Lane>(rt: &impl Abort, end: &SiteEnd<L, Fixed>, log: &[Entry]) {
-    let fork = end.forks.first().expect(rt, "a fork");
-    has_log(rt, fork, log);
-}
-
-// Its first token is that of the edge 0.
-fn holds_token<L: Lane>(rt: &impl Abort, end: &SiteEnd<L, Fixed>) {
-    let token = end.tokens.first().expect(rt, "a token");
-    same(rt, &token.edge(), &0);
-}
-
-// No letter was handed back.
-fn has_no_stray<L: Lane>(rt: &impl Abort, end: &SiteEnd<L, Fixed>) {
-    assert!(rt; end.stray.is_none());
-}
-
-// A letter of this kind was handed back at the first place.
-fn has_stray<L: Lane>(rt: &impl Abort, end: &SiteEnd<L, Fixed>, kind: Kind4) {
-    match &end.stray {
-        Some(stray) => same(rt, &(stray.link, stray.letter.kind()), &(0, kind)),
-        None => panic!(rt; "no stray"),
-    }
-}
-
-// The higher site put a Request and Close.
-fn finds_request_and_close<L: Lane, R: Wait + Abort>(rt: &R, far_rx: L::Rx)
-    requires { IsUnused (L.seen_rx far_rx) }
+// The site with that number in a plan of two runs to its end with these ends, and leaves this.
+fn runs<L: Lane, R: Wait + Abort>(rt: &R, alloc: Global, text: &str, ends: Ends<L>, left: &Left)
+    requires nothing_put { IsUnused (L.seen_tx ends.tx) }
+    requires nothing_taken { IsUnused (L.seen_rx ends.rx) }
+    requires silent { (ends.ringer.rings ≡ 0) × (ends.ringer.refused ≡ false) }
+    requires degree { ends.bell.degree ≡ 1 }
+    requires unheard { ends.bell.refused ≡ false }
 {
-    let mut far_rx = far_rx;
-    let Ok(Letter::Request(_)) = L::take(rt, &mut far_rx) else {
-        panic!(rt; "no Request");
-    };
-    let Ok(Letter::Close) = L::take(rt, &mut far_rx) else {
-        panic!(rt; "no Close");
-    };
+    let plan = read_plan(alloc, text).expect(rt, "a plan");
+    let Ends {
+        tx,
+        rx,
+        ringer,
+        bell,
+    } = ends;
+    let ports = one_port::<L>(rt, alloc, tx, rx, ringer);
+    runs_in::<L, R>(rt, alloc, &plan, ports, bell, 0, left)
+}
+
+// A site of the pair runs to its end over links in which its neighbour put these letters, each with its ring, and
+// leaves this. The neighbour has the link with all that the site put, and the bell that it rang.
+fn meets<L: Lane, R: Wait + Abort>(
+    rt: &R,
+    alloc: Global,
+    letters: Letters,
+    left: &Left,
+) -> (L::Rx, Bell)
+    ensures untaken { IsUnused (L.seen_rx result.0) }
+    ensures bell { (result.1.degree ≡ 1) × (result.1.refused ≡ false) }
+{
+    let (near, far) = ends_of::<L>(rt, alloc, left.site);
+    let Ends {
+        tx,
+        rx,
+        ringer,
+        bell,
+    } = far;
+    let _tx = fill::<L, R>(rt, alloc, tx, letters);
+    let _ringer = ring_for::<R>(rt, ringer, letters);
+    runs::<L, R>(rt, alloc, PAIR, near, left);
+    (rx, bell)
 }

@@ -3,7 +3,6 @@ use crate::asserts::same;
 use dine::{Fault, words_of};
 use std::env::FillError;
 use std::rt::Env;
-use std::test::Fail;
 use std::{env, io};
 
 // A process that was started with these words.
@@ -34,16 +33,15 @@ impl Env for StartedWith {
 }
 
 #[test]
-fn the_words_of_the_process_are_listed_in_order(rt: HostRuntime) -> Result<(), Fail> {
+fn the_words_of_the_process_are_listed_in_order(rt: HostRuntime) {
     let started = StartedWith {
         words: &[b"dine", b"replay", b"--choices", b"1,1", b""],
     };
-    let words = words_of(rt.alloc(), env::args(&(&started, rt.alloc()))).map_err(|_| "refused")?;
+    let words = words_of(rt.alloc(), env::args(&(&started, rt.alloc()))).expect(&rt, "words");
     same(&rt, &words.len(), &started.words.len());
     for (word, given) in words.iter().zip(started.words) {
         same(&rt, &word.as_bytes(), given);
     }
-    Ok(())
 }
 
 #[test]

@@ -1,6 +1,6 @@
 // Whole runs, from words and input to what is printed and told.
-use super::input::stutters;
-use super::output::takes_pieces;
+use super::input::stuttered;
+use super::output::{takes_pieces, writes};
 use crate::asserts::same;
 use dine::run_cmd;
 use std::alloc::{AllocError, Global};
@@ -8,7 +8,6 @@ use std::io;
 use std::io::{Read, Write};
 use std::process::Abort;
 use std::sync::Wait;
-use std::test::Fail;
 use std::thread::Threads;
 
 const USAGE: &str =
@@ -26,18 +25,27 @@ jobs = [{ name = \"y\" }]
 ends = [\"a\", \"b\"]
 ";
 
+// What a run leaves: the number of its status, what it printed, and what it told of a fault.
+pub type Left<'a> = (u8, &'a str, &'a str);
+
 // The number of the status of a run with the words of the line.
 pub fn run_into<
-    H: Threads + Wait + AllocGlobal + Copy + Send + 'static,
+    H: Threads + Wait + AllocGlobal + Abort + Copy + Send + 'static,
     R: Read,
     W: Write,
     F: Write,
->(rt: &H, line: &str, input: &mut R, output: &mut W, faults: &mut F) -> Result<u8, AllocError> {
-    let mut words = Vec::new(rt.alloc());
+>(rt: &H, line: &str, input: &mut R, output: &mut W, faults: &mut F) -> u8 {
+    let words = words_in(rt, rt.alloc(), line);
+    run_cmd(rt, rt.alloc(), words.as_slice(), input, output, faults).number()
+}
+
+fn words_in(rt: &impl Abort, alloc: Global, line: &str) -> Vec<String> {
+    let mut words = Vec::new(alloc);
     for word in line.split_whitespace() {
-        words.push(String::from_str(rt.alloc(), word)?)?;
+        let word = String::from_str(alloc, word).expect(rt, "memory");
+        words.push(word).expect(rt, "memory");
     }
-    Ok(run_cmd(rt, rt.alloc(), words.as_slice(), input, output, faults).number())
+    words
 }
 
 // Runs the words of the line, and compares all that this leaves.
@@ -45,56 +53,46 @@ pub fn leaves<H: Threads + Wait + AllocGlobal + Abort + Copy + Send + 'static, R
     rt: &H,
     line: &str,
     input: &mut R,
-    number: u8,
-    output: &str,
-    faults: &str,
-) -> Result<(), Fail> {
+    wanted: Left,
+) {
     let mut written = Vec::new(rt.alloc());
     let mut told = Vec::new(rt.alloc());
-    let status = run_into(rt, line, input, &mut written, &mut told)?;
-    assert_eq!(rt;
-        std::str::from_utf8(written.as_slice())?,
-        output,
-        "at {line}"
+    let number = run_into(rt, line, input, &mut written, &mut told);
+    let output = std::str::from_utf8(written.as_slice()).ok();
+    let faults = std::str::from_utf8(told.as_slice()).ok();
+    same(
+        rt,
+        &(line, number, output, faults),
+        &(line, wanted.0, Some(wanted.1), Some(wanted.2)),
     );
-    assert_eq!(rt; std::str::from_utf8(told.as_slice())?, faults, "at {line}");
-    assert_eq!(rt; status, number, "at {line}");
-    Ok(())
 }
 
+// The same for a text.
+fn text_leaves<H: Threads + Wait + AllocGlobal + Abort + Copy + Send + 'static>(
+    rt: &H,
+    line: &str,
+    text: &str,
+    wanted: Left,
+) {
+    let mut input = text.as_bytes();
+    leaves(rt, line, &mut input, wanted);
+}
+
+const READING_FAILED: Left<'static> = (6, "", "dine: reading failed\n");
+
 #[test]
-fn a_run_reads_and_writes_as_the_other_commands(rt: HostRuntime) -> Result<(), Fail> {
+fn a_run_reads_and_writes_as_the_other_commands(rt: HostRuntime) {
     for line in ["dine", "dine run", "dine run --links channel"] {
-        let mut failing = stutters(PAIR.as_bytes(), 8192, 1, io::ErrorKind::Other);
-        leaves(&rt, line, &mut failing, 6, "", "dine: reading failed\n")?;
-        let mut failing = stutters(PAIR.as_bytes(), 1, 2, io::ErrorKind::Other);
-        leaves(&rt, line, &mut failing, 6, "", "dine: reading failed\n")?;
-        let mut no_plan = "".as_bytes();
-        leaves(
-            &rt,
-            line,
-            &mut no_plan,
-            3,
-            "",
-            "dine: plan refused: 2 Version\n",
-        )?;
-        let mut input = PAIR.as_bytes();
+        stuttered(&rt, line, (8192, 1, io::ErrorKind::Other), READING_FAILED);
+        stuttered(&rt, line, (1, 2, io::ErrorKind::Other), READING_FAILED);
+        text_leaves(&rt, line, "", (3, "", "dine: plan refused: 2 Version\n"));
         let mut output = takes_pieces(rt.alloc(), 0);
-        let mut faults = Vec::new(rt.alloc());
-        let status = run_into(&rt, line, &mut input, &mut output, &mut faults)?;
-        assert_eq!(rt; output.held.len(), 0, "at {line}");
-        same(
-            &rt,
-            &faults.as_slice(),
-            &b"dine: writing failed\n".as_slice(),
-        );
-        assert_eq!(rt; status, 6, "at {line}");
+        writes(&rt, line, &mut output, (6, "", "dine: writing failed\n"));
     }
-    Ok(())
 }
 
 #[test]
-fn refused_words_leave_the_input_unread(rt: HostRuntime) -> Result<(), Fail> {
+fn refused_words_leave_the_input_unread(rt: HostRuntime) {
     for line in [
         "dine --help",
         "dine eat",
@@ -108,15 +106,13 @@ fn refused_words_leave_the_input_unread(rt: HostRuntime) -> Result<(), Fail> {
         "dine replay --choices 4294967296",
         "dine check --choices 1",
     ] {
-        let mut input = stutters(PAIR.as_bytes(), 8192, 1, io::ErrorKind::Other);
-        leaves(&rt, line, &mut input, 2, "", USAGE)?;
-        assert_eq!(rt; input.reads, 0, "at {line}");
+        let read = stuttered(&rt, line, (8192, 1, io::ErrorKind::Other), (2, "", USAGE));
+        same(&rt, &read, &(0, PAIR.len()));
     }
-    Ok(())
 }
 
 #[test]
-fn each_command_refuses_a_text_that_is_no_plan(rt: HostRuntime) -> Result<(), Fail> {
+fn each_command_refuses_a_text_that_is_no_plan(rt: HostRuntime) {
     let refusals = [
         ("", "dine: plan refused: 2 Version\n"),
         ("version", "dine: plan refused: 1 NotToml\n"),
@@ -128,11 +124,9 @@ fn each_command_refuses_a_text_that_is_no_plan(rt: HostRuntime) -> Result<(), Fa
         "dine check",
     ] {
         for (text, told) in refusals {
-            let mut input = text.as_bytes();
-            leaves(&rt, line, &mut input, 3, "", told)?;
+            text_leaves(&rt, line, text, (3, "", told));
         }
     }
-    Ok(())
 }
 
 // A plan of so many sites with a job each, and no edge.
@@ -147,16 +141,14 @@ fn sites_alone(alloc: Global, sites: u32) -> Result<String, AllocError> {
 }
 
 #[test]
-fn a_check_takes_64_sites_and_no_more(rt: HostRuntime) -> Result<(), Fail> {
-    for (sites, number, output, faults) in [
-        (1, 0, "ok: 1 sites, 0 edges, 1 jobs\n", ""),
-        (63, 0, "ok: 63 sites, 0 edges, 63 jobs\n", ""),
-        (64, 0, "ok: 64 sites, 0 edges, 64 jobs\n", ""),
-        (65, 3, "", "dine: plan refused: 9 TooManySites\n"),
+fn a_check_takes_64_sites_and_no_more(rt: HostRuntime) {
+    for (sites, wanted) in [
+        (1, (0, "ok: 1 sites, 0 edges, 1 jobs\n", "")),
+        (63, (0, "ok: 63 sites, 0 edges, 63 jobs\n", "")),
+        (64, (0, "ok: 64 sites, 0 edges, 64 jobs\n", "")),
+        (65, (3, "", "dine: plan refused: 9 TooManySites\n")),
     ] {
-        let text = sites_alone(rt.alloc(), sites)?;
-        let mut input = text.as_bytes();
-        leaves(&rt, "dine check", &mut input, number, output, faults)?;
+        let text = sites_alone(rt.alloc(), sites).expect(&rt, "memory");
+        text_leaves(&rt, "dine check", text.as_str(), wanted);
     }
-    Ok(())
 }

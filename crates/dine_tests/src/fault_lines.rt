@@ -8,7 +8,6 @@ use std::alloc::Global;
 use std::io;
 use std::io::Write;
 use std::process::{Abort, ExitCode};
-use std::test::Fail;
 
 // Takes all bytes, and counts the flushes behind the last of them.
 #[derive(Drop)]
@@ -31,129 +30,90 @@ impl Write for Flushed {
 }
 
 // The fault ends with this status. Its line went out whole, and was flushed.
-fn ends<R: Abort>(
-    rt: &R,
-    alloc: Global,
-    fault: Fault,
-    status: Status,
-    line: &str,
-) -> Result<(), Fail> {
+fn ends<R: Abort>(rt: &R, alloc: Global, fault: Fault, status: Status, line: &str) {
     let mut faults = Flushed {
         held: Vec::new(alloc),
         flushes: 0,
     };
-    same(rt, &fault.end(&mut faults), &status);
-    same(rt, &std::str::from_utf8(faults.held.as_slice())?, &line);
-    assert_eq!(rt; faults.flushes, 1, "at {line}");
-    Ok(())
+    let ended = fault.end(&mut faults);
+    let told = std::str::from_utf8(faults.held.as_slice()).ok();
+    same(rt, &(ended, told, faults.flushes), &(status, Some(line), 1));
 }
 
 #[test]
-fn each_fault_ends_with_its_status_and_its_line_flushed(rt: HostRuntime) -> Result<(), Fail> {
-    let alloc = rt.alloc();
-    ends(
-        &rt,
-        alloc,
-        Fault::Usage,
-        Status::Usage,
-        "dine: usage: dine [run [--table edges|sites] [--links channel|ring] | replay [--choices LIST] | check]\n",
-    )?;
-    ends(
-        &rt,
-        alloc,
-        Fault::NoPlan(PlanFault::NotToml),
-        Status::PlanRefused,
-        "dine: plan refused: 1 NotToml\n",
-    )?;
-    ends(
-        &rt,
-        alloc,
-        Fault::NoPlan(PlanFault::EdgeTwice(511)),
-        Status::PlanRefused,
-        "dine: plan refused: 14 EdgeTwice at edge 511\n",
-    )?;
-    ends(
-        &rt,
-        alloc,
-        Fault::OutOfMemory,
-        Status::OutOfMemory,
-        "dine: out of memory\n",
-    )?;
-    ends(
-        &rt,
-        alloc,
-        Fault::ReadingFailed,
-        Status::InputOutput,
-        "dine: reading failed\n",
-    )?;
-    ends(
-        &rt,
-        alloc,
-        Fault::InputTooLong,
-        Status::InputOutput,
-        "dine: input too long\n",
-    )?;
-    ends(
-        &rt,
-        alloc,
-        Fault::WritingFailed,
-        Status::InputOutput,
-        "dine: writing failed\n",
-    )
+fn each_fault_ends_with_its_status_and_its_line_flushed(rt: HostRuntime) {
+    let cases = [
+        (
+            Fault::Usage,
+            Status::Usage,
+            "dine: usage: dine [run [--table edges|sites] [--links channel|ring] | replay [--choices LIST] | check]\n",
+        ),
+        (
+            Fault::NoPlan(PlanFault::NotToml),
+            Status::PlanRefused,
+            "dine: plan refused: 1 NotToml\n",
+        ),
+        (
+            Fault::NoPlan(PlanFault::EdgeTwice(511)),
+            Status::PlanRefused,
+            "dine: plan refused: 14 EdgeTwice at edge 511\n",
+        ),
+        (
+            Fault::OutOfMemory,
+            Status::OutOfMemory,
+            "dine: out of memory\n",
+        ),
+        (
+            Fault::ReadingFailed,
+            Status::InputOutput,
+            "dine: reading failed\n",
+        ),
+        (
+            Fault::InputTooLong,
+            Status::InputOutput,
+            "dine: input too long\n",
+        ),
+        (
+            Fault::WritingFailed,
+            Status::InputOutput,
+            "dine: writing failed\n",
+        ),
+    ];
+    for (fault, status, line) in cases {
+        ends(&rt, rt.alloc(), fault, status, line);
+    }
 }
 
 #[test]
-fn each_fault_of_a_run_names_its_site(rt: HostRuntime) -> Result<(), Fail> {
-    let alloc = rt.alloc();
-    ends(
-        &rt,
-        alloc,
-        Fault::RunFailed(RunCause::Thread(0)),
-        Status::RunFailed,
-        "dine: run refused: thread of site 0\n",
-    )?;
-    ends(
-        &rt,
-        alloc,
-        Fault::RunFailed(RunCause::Thread(63)),
-        Status::RunFailed,
-        "dine: run refused: thread of site 63\n",
-    )?;
-    ends(
-        &rt,
-        alloc,
-        Fault::RunFailed(RunCause::DinersDiffer),
-        Status::RunFailed,
-        "dine: run refused: diners differ\n",
-    )?;
-    ends(
-        &rt,
-        alloc,
-        Fault::RunFailed(RunCause::Broken(10, SiteFault::Breach(0, Breach::ClosedEarly))),
-        Status::RunFailed,
-        "dine: run broken at site 10: Breach 6 on link 0\n",
-    )?;
-    ends(
-        &rt,
-        alloc,
-        Fault::RunFailed(RunCause::Broken(7, SiteFault::Lost(4_294_967_295))),
-        Status::RunFailed,
-        "dine: run broken at site 7: Lost on link 4294967295\n",
-    )?;
-    ends(
-        &rt,
-        alloc,
-        Fault::RunFailed(RunCause::Broken(1, SiteFault::NotStarted)),
-        Status::RunFailed,
-        "dine: run broken at site 1: NotStarted\n",
-    )?;
-    ends(
-        &rt,
-        alloc,
-        Fault::RunFailed(RunCause::Broken(63, SiteFault::Memory)),
-        Status::RunFailed,
-        "dine: run broken at site 63: Memory\n",
-    )
+fn each_fault_of_a_run_names_its_site(rt: HostRuntime) {
+    let cases = [
+        (RunCause::Thread(0), "dine: run refused: thread of site 0\n"),
+        (
+            RunCause::Thread(63),
+            "dine: run refused: thread of site 63\n",
+        ),
+        (RunCause::DinersDiffer, "dine: run refused: diners differ\n"),
+        (
+            RunCause::Broken(10, SiteFault::Breach(0, Breach::ClosedEarly)),
+            "dine: run broken at site 10: Breach 6 on link 0\n",
+        ),
+        (
+            RunCause::Broken(7, SiteFault::Lost(4_294_967_295)),
+            "dine: run broken at site 7: Lost on link 4294967295\n",
+        ),
+        (
+            RunCause::Broken(1, SiteFault::NotStarted),
+            "dine: run broken at site 1: NotStarted\n",
+        ),
+        (
+            RunCause::Broken(63, SiteFault::Memory),
+            "dine: run broken at site 63: Memory\n",
+        ),
+    ];
+    for (cause, line) in cases {
+        let fault = Fault::RunFailed(cause);
+        ends(&rt, rt.alloc(), fault, Status::RunFailed, line);
+    }
 }
 
 #[test]

@@ -1,19 +1,18 @@
 // How an input is read: in pieces of any size, to its end or to the first byte past the limit.
-use super::commands::{PAIR, leaves};
+use super::commands::{Left, PAIR, leaves};
 use crate::asserts::same;
 use std::io;
 use std::io::Read;
 use std::process::Abort;
 use std::sync::Wait;
-use std::test::Fail;
 use std::thread::Threads;
 
 // Gives its bytes at most `step` at a time, and fails once, with `kind`, at the read `bad_read`.
 #[derive(Drop)]
-pub struct Stuttering {
+struct Stuttering {
     bytes: &'static [u8],
     step: usize,
-    pub reads: usize,
+    reads: usize,
     bad_read: usize,
     kind: io::ErrorKind,
 }
@@ -31,19 +30,24 @@ impl Read for Stuttering {
     }
 }
 
-pub fn stutters(
-    bytes: &'static [u8],
-    step: usize,
-    bad_read: usize,
-    kind: io::ErrorKind,
-) -> Stuttering {
-    Stuttering {
-        bytes,
+// Runs the words of the line with the plan of two sites, given at most so many bytes at a time, with such a failure at
+// such a read. It leaves this. Answers how many reads there were, and how many bytes are left.
+pub fn stuttered<H: Threads + Wait + AllocGlobal + Abort + Copy + Send + 'static>(
+    rt: &H,
+    line: &str,
+    given: (usize, usize, io::ErrorKind),
+    wanted: Left,
+) -> (usize, usize) {
+    let (step, bad_read, kind) = given;
+    let mut input = Stuttering {
+        bytes: PAIR.as_bytes(),
         step,
         reads: 0,
         bad_read,
         kind,
-    }
+    };
+    leaves(rt, line, &mut input, wanted);
+    (input.reads, input.bytes.len())
 }
 
 // Gives line feeds, at most `step` at a time, until `left` of them have gone.
@@ -64,91 +68,76 @@ impl Read for LineFeeds {
     }
 }
 
-fn line_feeds(left: usize, step: usize) -> LineFeeds {
-    LineFeeds {
-        left,
-        step,
-        reads: 0,
-    }
-}
-
-const TAKEN: &str = "ok: 2 sites, 1 edges, 2 jobs\n";
+const TAKEN: Left<'static> = (0, "ok: 2 sites, 1 edges, 2 jobs\n", "");
 
 #[test]
-fn an_input_is_read_to_its_end(rt: HostRuntime) -> Result<(), Fail> {
+fn an_input_is_read_to_its_end(rt: HostRuntime) {
     for step in [1, 7, 8192] {
-        let mut input = stutters(PAIR.as_bytes(), step, 0, io::ErrorKind::Other);
-        leaves(&rt, "dine check", &mut input, 0, TAKEN, "")?;
-        same(&rt, &input.bytes.len(), &0);
+        let read = stuttered(&rt, "dine check", (step, 0, io::ErrorKind::Other), TAKEN);
+        same(&rt, &read.1, &0);
     }
-    Ok(())
 }
 
 #[test]
-fn a_failed_read_ends_it(rt: HostRuntime) -> Result<(), Fail> {
+fn a_failed_read_ends_it(rt: HostRuntime) {
+    let failed = (6, "", "dine: reading failed\n");
     // A reader that wants memory is a reader that fails.
     for kind in [io::ErrorKind::Other, io::ErrorKind::OutOfMemory] {
         for bad_read in 1..=3 {
-            let mut input = stutters(PAIR.as_bytes(), 1, bad_read, kind);
-            leaves(
-                &rt,
-                "dine replay",
-                &mut input,
-                6,
-                "",
-                "dine: reading failed\n",
-            )?;
-            same(&rt, &input.reads, &bad_read);
+            let read = stuttered(&rt, "dine replay", (1, bad_read, kind), failed);
+            same(&rt, &read.0, &bad_read);
         }
     }
-    Ok(())
 }
 
 #[test]
-fn an_interrupted_read_is_tried_again(rt: HostRuntime) -> Result<(), Fail> {
+fn an_interrupted_read_is_tried_again(rt: HostRuntime) {
     for bad_read in 1..=3 {
-        let mut input = stutters(PAIR.as_bytes(), 1, bad_read, io::ErrorKind::Interrupted);
-        leaves(&rt, "dine check", &mut input, 0, TAKEN, "")?;
-        same(&rt, &input.reads, &(PAIR.len() + 2));
+        let given = (1, bad_read, io::ErrorKind::Interrupted);
+        let read = stuttered(&rt, "dine check", given, TAKEN);
+        same(&rt, &read.0, &(PAIR.len() + 2));
     }
-    Ok(())
 }
 
-// So many line feeds, given at most `step` at a time, are refused with this status and line. So many of them are left
-// unread.
+// So many line feeds, given at most `step` at a time, are refused with this status and line. Answers how many reads
+// there were, and how many of the line feeds are left.
 fn feeds_leave<H: Threads + Wait + AllocGlobal + Abort + Copy + Send + 'static>(
     rt: &H,
     feeds: (usize, usize),
-    refusal: (u8, &str),
-    unread: usize,
-) -> Result<usize, Fail> {
-    let mut input = line_feeds(feeds.0, feeds.1);
-    leaves(rt, "dine check", &mut input, refusal.0, "", refusal.1)?;
-    same(rt, &input.left, &unread);
-    Ok(input.reads)
+    refusal: Left,
+) -> (usize, usize) {
+    let (left, step) = feeds;
+    let mut input = LineFeeds {
+        left,
+        step,
+        reads: 0,
+    };
+    leaves(rt, "dine check", &mut input, refusal);
+    (input.reads, input.left)
 }
 
-const NO_VERSION: (u8, &str) = (3, "dine: plan refused: 2 Version\n");
+const NO_VERSION: Left<'static> = (3, "", "dine: plan refused: 2 Version\n");
 
-const TOO_LONG: (u8, &str) = (6, "dine: input too long\n");
-
-#[test]
-fn an_input_of_the_limit_is_read(rt: HostRuntime) -> Result<(), Fail> {
-    feeds_leave(&rt, (8_388_608, 1000), NO_VERSION, 0)?;
-    feeds_leave(&rt, (8_388_608, 8192), NO_VERSION, 0)?;
-    Ok(())
-}
+const TOO_LONG: Left<'static> = (6, "", "dine: input too long\n");
 
 #[test]
-fn one_byte_more_than_the_limit_is_too_long(rt: HostRuntime) -> Result<(), Fail> {
-    feeds_leave(&rt, (8_388_609, 5000), TOO_LONG, 0)?;
-    feeds_leave(&rt, (8_400_000, 5000), TOO_LONG, 11_391)?;
-    Ok(())
+fn an_input_of_the_limit_is_read(rt: HostRuntime) {
+    for step in [1000, 8192] {
+        let read = feeds_leave(&rt, (8_388_608, step), NO_VERSION);
+        same(&rt, &read.1, &0);
+    }
 }
 
 #[test]
-fn an_endless_input_is_left_after_as_many_reads(rt: HostRuntime) -> Result<(), Fail> {
-    let reads = feeds_leave(&rt, (usize::MAX, 1), TOO_LONG, usize::MAX - 8_388_609)?;
-    same(&rt, &reads, &8_388_609);
-    Ok(())
+fn one_byte_more_than_the_limit_is_too_long(rt: HostRuntime) {
+    for (left, unread) in [(8_388_609, 0), (8_400_000, 11_391)] {
+        let read = feeds_leave(&rt, (left, 5000), TOO_LONG);
+        same(&rt, &read.1, &unread);
+    }
+}
+
+#[test]
+fn an_endless_input_is_left_after_as_many_reads(rt: HostRuntime) {
+    let read = feeds_leave(&rt, (usize::MAX, 1), TOO_LONG);
+    same(&rt, &read, &(8_388_609, usize::MAX - 8_388_609));
 }

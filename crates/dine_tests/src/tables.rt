@@ -8,7 +8,6 @@ use dine_plan::{Plan, read_plan};
 use dine_run::{EdgeRow, SiteRow};
 use std::alloc::Global;
 use std::process::Abort;
-use std::test::Fail;
 
 // A path of three sites. The name of the middle one has each kind of byte that a name may have.
 const PATH: &str = "[[site]]
@@ -54,32 +53,28 @@ const ROWS: [EdgeRow; 2] = [
     },
 ];
 
-#[test]
-fn edges_are_told_by_the_names_of_their_ends(rt: HostRuntime) -> Result<(), Fail> {
-    let plan = path(&rt, rt.alloc(), 1);
-    let table = write_edges(rt.alloc(), &plan, &ROWS)?;
-    same(
-        &rt,
-        &table.as_slice(),
-        &b"edge,lo,hi,lo_meals,hi_meals\n0,a,B-2_,0,1000\n1,B-2_,c,12,4294967295\n".as_slice(),
-    );
-    Ok(())
+// What the rows of the edges are in a plan of that version.
+fn edges_are<R: Abort>(rt: &R, alloc: Global, version: u32, wanted: &str) {
+    let plan = path(rt, alloc, version);
+    let table = write_edges(alloc, &plan, &ROWS).expect(rt, "memory");
+    same(rt, &table.as_slice(), &wanted.as_bytes());
 }
 
 #[test]
-fn edges_of_version_two_have_a_value(rt: HostRuntime) -> Result<(), Fail> {
-    let plan = path(&rt, rt.alloc(), 2);
-    let table = write_edges(rt.alloc(), &plan, &ROWS)?;
-    same(
-        &rt,
-        &table.as_slice(),
-        &b"edge,lo,hi,lo_meals,hi_meals,value\n0,a,B-2_,0,1000,0\n1,B-2_,c,12,4294967295,18446744073709551615\n".as_slice(),
-    );
-    Ok(())
+fn edges_are_told_by_the_names_of_their_ends(rt: HostRuntime) {
+    let wanted = "edge,lo,hi,lo_meals,hi_meals\n0,a,B-2_,0,1000\n1,B-2_,c,12,4294967295\n";
+    edges_are(&rt, rt.alloc(), 1, wanted);
 }
 
 #[test]
-fn sites_are_told_by_name(rt: HostRuntime) -> Result<(), Fail> {
+fn edges_of_version_two_have_a_value(rt: HostRuntime) {
+    let wanted =
+        "edge,lo,hi,lo_meals,hi_meals,value\n0,a,B-2_,0,1000,0\n1,B-2_,c,12,4294967295,18446744073709551615\n";
+    edges_are(&rt, rt.alloc(), 2, wanted);
+}
+
+#[test]
+fn sites_are_told_by_name(rt: HostRuntime) {
     let plan = path(&rt, rt.alloc(), 1);
     let rows = [
         SiteRow {
@@ -98,25 +93,23 @@ fn sites_are_told_by_name(rt: HostRuntime) -> Result<(), Fail> {
             failed: 0,
         },
     ];
-    let table = write_sites(rt.alloc(), &plan, &rows)?;
+    let table = write_sites(rt.alloc(), &plan, &rows).expect(&rt, "memory");
     same(
         &rt,
         &table.as_slice(),
         &b"site,meals,failed\na,3,1\nB-2_,1000,0\nc,0,0\n".as_slice(),
     );
-    Ok(())
 }
 
 #[test]
-fn tables_without_rows_are_their_headers(rt: HostRuntime) -> Result<(), Fail> {
+fn tables_without_rows_are_their_headers(rt: HostRuntime) {
     let plan = path(&rt, rt.alloc(), 1);
-    let edges = write_edges(rt.alloc(), &plan, &[])?;
+    let edges = write_edges(rt.alloc(), &plan, &[]).expect(&rt, "memory");
     same(
         &rt,
         &edges.as_slice(),
         &b"edge,lo,hi,lo_meals,hi_meals\n".as_slice(),
     );
-    let sites = write_sites(rt.alloc(), &plan, &[])?;
+    let sites = write_sites(rt.alloc(), &plan, &[]).expect(&rt, "memory");
     same(&rt, &sites.as_slice(), &b"site,meals,failed\n".as_slice());
-    Ok(())
 }

@@ -13,18 +13,20 @@ use dine_site::{Diner, Port, SiteEnd};
 use dine_token::Fork;
 use std::alloc::{AllocError, Global};
 
-/// Room for all that is gathered, got before any thread starts.
+/// Room for all that is gathered, got before any thread starts: an `S` is what a site left, and a `P` is a port.
 #[derive(Drop)]
-pub struct Room<L: Lane, D: Diner> {
-    pub sites: Vec<SiteOut<D>>,
+pub struct Room<S, P> {
+    pub sites: Vec<S>,
     // An empty row for the ports of each site, and room for the rows that are filled.
-    pub empty: Vec<Vec<Option<Port<L>>>>,
-    pub rows: Vec<Vec<Option<Port<L>>>>,
-    pub pairs: Vec<Both<Port<L>>>,
+    pub empty: Vec<Vec<Option<P>>>,
+    pub rows: Vec<Vec<Option<P>>>,
+    pub pairs: Vec<Both<P>>,
     pub links: Vec<LinkEnd>,
     pub slots: Vec<Option<Fork>>,
     pub forks: Vec<Fork>,
 }
+
+pub type RoomOf<L, D> = Room<SiteOut<D>, Port<L>>;
 
 // An empty row for the ports of each site.
 fn empty_rows<P: Drop>(alloc: Global, plan: &Plan) -> Result<Vec<Vec<Option<P>>>, AllocError>
@@ -69,14 +71,34 @@ fn edge_lists<P: Drop>(
     Ok((pairs, links, forks))
 }
 
-pub fn make_room<L: Lane, D: Diner>(alloc: Global, plan: &Plan) -> Result<Room<L, D>, AllocError>
+// Room for what each site left, an empty row for the ports of each, and room for the rows that are filled.
+fn site_lists<S: Drop, P: Drop>(
+    alloc: Global,
+    plan: &Plan,
+) -> Result<(Vec<S>, Vec<Vec<Option<P>>>, Vec<Vec<Option<P>>>), AllocError>
+    ensures sites { IfOk result (λ lists. site_count plan.now ≤ vec_capacity lists.0) }
+    ensures no_site { IfOk result (λ lists. vec_len lists.0 ≡ 0) }
+    ensures empty_rows { IfOk result (λ lists. vec_len lists.1 ≡ site_count plan.now) }
+    ensures empty_room { IfOk result (λ lists. (s : _) (row : _) → slice_get lists.1.items s ≡ Some row → length (edges_of plan.now s) ≤ vec_capacity row) }
+    ensures no_thing { IfOk result (λ lists. (s : _) (row : _) → slice_get lists.1.items s ≡ Some row → vec_len row ≡ 0) }
+    ensures rows { IfOk result (λ lists. site_count plan.now ≤ vec_capacity lists.2) }
+    ensures no_row { IfOk result (λ lists. vec_len lists.2 ≡ 0) }
+{
+    let sites = Vec::with_capacity(alloc, plan.sites() as usize)?;
+    let rows = Vec::with_capacity(alloc, plan.sites() as usize)?;
+    let empty = empty_rows(alloc, plan)?;
+    Ok((sites, empty, rows))
+}
+
+pub fn make_room<S: Drop, P: Drop>(alloc: Global, plan: &Plan) -> Result<Room<S, P>, AllocError>
     ensures { IfOk result (IsRoomFor plan.now) }
 {
     let (pairs, links, forks) = edge_lists(alloc, plan.edges() as usize)?;
+    let (sites, empty, rows) = site_lists(alloc, plan)?;
     Ok(Room {
-        sites: Vec::with_capacity(alloc, plan.sites() as usize)?,
-        empty: empty_rows(alloc, plan)?,
-        rows: Vec::with_capacity(alloc, plan.sites() as usize)?,
+        sites,
+        empty,
+        rows,
         pairs,
         links,
         slots: empty_slots(alloc, plan)?,
@@ -106,6 +128,46 @@ fn lay_forks(forks: Vec<Fork>, slots: &mut Vec<Option<Fork>>)
     }
 }
 
+// Takes the end of a site apart: its ports into an empty row, its forks into the slots of their edges, and the rest.
+fn take_out<L: Lane, D: Diner>(
+    end: SiteEnd<L, D>,
+    row: &mut Vec<Option<Port<L>>>,
+    slots: &mut Vec<Option<Fork>>,
+) -> SiteOut<D>
+    requires room { vec_len end.ports ≤ vec_capacity row.old }
+    requires none { vec_len row.old ≡ 0 }
+    requires forks { All (λ fork. fork.edge < vec_len slots.old) end.forks.items }
+    ensures out { result ≡ out_of end }
+    ensures row { row.new.items ≡ map Some end.ports.items }
+    ensures slots { slots.new.items ≡ laid end.forks.items slots.old.items }
+{
+    let SiteEnd {
+        site,
+        ate,
+        failed,
+        diner,
+        forks,
+        tokens,
+        journal,
+        ports,
+        bell: _,
+        stray,
+        fault,
+    } = end;
+    fill_row(ports, row);
+    lay_forks(forks, slots);
+    SiteOut {
+        site,
+        ate,
+        failed,
+        diner,
+        tokens,
+        journal,
+        stray,
+        fault,
+    }
+}
+
 /// Takes the ends apart: the ports into rows by site, the forks into slots by edge, and the rest by site.
 fn take_apart<L: Lane, D: Diner>(
     plan: &Plan,
@@ -130,33 +192,9 @@ fn take_apart<L: Lane, D: Diner>(
 {
     let mut empty = empty.into_iter();
     for end in ends {
-        let SiteEnd {
-            site,
-            ate,
-            failed,
-            diner,
-            forks,
-            tokens,
-            journal,
-            ports,
-            bell: _,
-            stray,
-            fault,
-        } = end;
         let mut row = empty.next().unwrap();
-        fill_row(ports, &mut row);
+        sites.push_reserved(take_out(end, &mut row, slots));
         rows.push_reserved(row);
-        lay_forks(forks, slots);
-        sites.push_reserved(SiteOut {
-            site,
-            ate,
-            failed,
-            diner,
-            tokens,
-            journal,
-            stray,
-            fault,
-        });
     }
 }
 
@@ -193,7 +231,7 @@ fn pick_forks(slots: Vec<Option<Fork>>, forks: &mut Vec<Fork>)
 pub fn collect<L: Lane, D: Diner>(
     plan: &Plan,
     ends: Vec<SiteEnd<L, D>>,
-    room: Room<L, D>,
+    room: RoomOf<L, D>,
 ) -> (Vec<Fork>, Vec<SiteOut<D>>, Vec<LinkEnd>)
     requires room { IsRoomFor plan.now room }
     requires whole { AreWholeEnds plan.now ends.items }

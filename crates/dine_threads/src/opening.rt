@@ -1,7 +1,7 @@
 // The links and bells of a run, before any thread starts.
 ghost use Rattle.std.specs.Prelude.{◌≡◌, ℕ, ◌<◌, ◌≤◌, ◌+◌, ◌++◌, [], ◌∷◌, All, IfOk, None, OnOk, Some, length, map, set, slice_get, slice_index_or, vec_len, vec_capacity};
 ghost use Rattle.dine_graph.specs.Plan.{IsPlan, edge_count, edges_of, site_count};
-ghost use Rattle.dine_threads.specs.private.Openings.{AreBare, AreLaid, AreRingersOf, AreStands, IsBareStand, bells_of, rows_of};
+ghost use Rattle.dine_threads.specs.private.Openings.{AreBare, AreLaid, AreNewPorts, AreRingersOf, AreStands, IsBareStand, bells_of, rows_of};
 ghost use Rattle.dine_bell.specs.Bells.{new_ringer};
 ghost use Rattle.dine_site.specs.Ports.{seen_port};
 ghost use Rattle.dine_threads.specs.private.Spots.{AreFull, IsFullRow};
@@ -74,20 +74,16 @@ fn lay<L: Lane>(stands: &mut Vec<Stand<L>>, site: u32, port: Port<L>) -> Result<
     Ok(stands[site as usize].ports.push(port)?)
 }
 
-// Opens the two links of an edge, and lays their ends at the two sites: each takes what the other puts, and rings its
+// Opens the two links of an edge, and gives the ports of its two ends: each takes what the other puts, and rings its
 // bell.
-fn open_edge<L: Lane>(
+fn new_ports<L: Lane>(
     alloc: Global,
     plan: &Plan,
     edge: u32,
     ringers: Both<Ringer>,
-    stands: &mut Vec<Stand<L>>,
-) -> Result<(), AllocError>
-    requires edge { edge < edge_count plan.now }
-    requires ringers { AreRingersAt plan.now (bells_of stands.old.items) edge ringers }
-    requires laid { AreLaid plan.now (bells_of stands.old.items) edge (rows_of L.seen_tx L.seen_closed L.seen_rx stands.old.items) }
-    ensures bells { OnOk result (bells_of stands.new.items ≡ bells_of stands.old.items) }
-    ensures laid { OnOk result (AreLaid plan.now (bells_of stands.old.items) (edge + 1) (rows_of L.seen_tx L.seen_closed L.seen_rx stands.new.items)) }
+) -> Result<Both<Port<L>>, AllocError>
+    requires { edge < edge_count plan.now }
+    ensures { IfOk result (λ ports. (bells : _) → AreRingersAt plan.now bells edge ringers → AreNewPorts plan.now bells edge (seen_port L.seen_tx L.seen_closed L.seen_rx ports.low) (seen_port L.seen_tx L.seen_closed L.seen_rx ports.high)) }
 {
     let (lower, higher) = plan.ends(edge);
     let Ok((low_tx, high_rx)) = L::pair(alloc, edge, lower) else {
@@ -106,6 +102,25 @@ fn open_edge<L: Lane>(
         rx: high_rx,
         ringer: ringers.low,
     };
+    Ok(Both { low, high })
+}
+
+// Opens the two links of an edge, and lays their ends at the two sites.
+fn open_edge<L: Lane>(
+    alloc: Global,
+    plan: &Plan,
+    edge: u32,
+    ringers: Both<Ringer>,
+    stands: &mut Vec<Stand<L>>,
+) -> Result<(), AllocError>
+    requires edge { edge < edge_count plan.now }
+    requires ringers { AreRingersAt plan.now (bells_of stands.old.items) edge ringers }
+    requires laid { AreLaid plan.now (bells_of stands.old.items) edge (rows_of L.seen_tx L.seen_closed L.seen_rx stands.old.items) }
+    ensures bells { OnOk result (bells_of stands.new.items ≡ bells_of stands.old.items) }
+    ensures laid { OnOk result (AreLaid plan.now (bells_of stands.old.items) (edge + 1) (rows_of L.seen_tx L.seen_closed L.seen_rx stands.new.items)) }
+{
+    let Both { low, high } = new_ports(alloc, plan, edge, ringers)?;
+    let (lower, higher) = plan.ends(edge);
     lay(stands, lower, low)?;
     lay(stands, higher, high)
 }
@@ -133,6 +148,26 @@ fn open_edges<L: Lane>(
     Ok(())
 }
 
+// Room for the stands, and for ringers by site and by edge.
+fn open_lists<S: Drop, P: Drop>(
+    alloc: Global,
+    plan: &Plan,
+) -> Result<(Vec<S>, Vec<Vec<Option<P>>>, Vec<Both<P>>), AllocError>
+    ensures plan { IfOk result (λ _. IsPlan plan.now) }
+    ensures stands { IfOk result (λ lists. site_count plan.now ≤ vec_capacity lists.0) }
+    ensures no_stand { IfOk result (λ lists. vec_len lists.0 ≡ 0) }
+    ensures rows { IfOk result (λ lists. site_count plan.now ≤ vec_capacity lists.1) }
+    ensures no_row { IfOk result (λ lists. vec_len lists.1 ≡ 0) }
+    ensures pairs { IfOk result (λ lists. edge_count plan.now ≤ vec_capacity lists.2) }
+    ensures no_pair { IfOk result (λ lists. vec_len lists.2 ≡ 0) }
+{
+    let sites = plan.sites() as usize;
+    let stands = Vec::with_capacity(alloc, sites)?;
+    let rows = Vec::with_capacity(alloc, sites)?;
+    let pairs = Vec::with_capacity(alloc, plan.edges() as usize)?;
+    Ok((stands, rows, pairs))
+}
+
 /// The ports and the bell of each site, newly opened.
 pub fn open_all<L: Lane>(alloc: Global, plan: &Plan) -> Result<Vec<Stand<L>>, AllocError>
     ensures len { IfOk result (λ stands. vec_len stands ≡ site_count plan.now) }
@@ -140,10 +175,7 @@ pub fn open_all<L: Lane>(alloc: Global, plan: &Plan) -> Result<Vec<Stand<L>>, Al
     ensures wired { IfOk result (λ stands. AreWired plan.now (rows_of L.seen_tx L.seen_closed L.seen_rx stands.items)) }
     ensures rung { IfOk result (λ stands. AreRung plan.now (bells_of stands.items) (rows_of L.seen_tx L.seen_closed L.seen_rx stands.items)) }
 {
-    let sites = plan.sites() as usize;
-    let mut stands = Vec::with_capacity(alloc, sites)?;
-    let mut rows = Vec::with_capacity(alloc, sites)?;
-    let mut ringers = Vec::with_capacity(alloc, plan.edges() as usize)?;
+    let (mut stands, mut rows, mut ringers) = open_lists(alloc, plan)?;
     open_stands(alloc, plan, &mut stands, &mut rows)?;
     pair_up(plan, &mut rows, &mut ringers);
     open_edges(alloc, plan, ringers, &mut stands)?;

@@ -1,5 +1,5 @@
 // The threads of the sites: what moves into each, and what it leaves.
-ghost use Rattle.std.specs.Prelude.{◌≡◌, ◌<◌, ◌≤◌, All, IfNone, IfOk, IfSome, OnOk, Some, length, map, slice_get, vec_len, vec_capacity};
+ghost use Rattle.std.specs.Prelude.{◌≡◌, ◌≢◌, ◌<◌, ◌≤◌, All, IfNone, IfOk, IfSome, OnOk, Some, length, map, slice_get, vec_len, vec_capacity};
 ghost use Rattle.std.specs.List.{AllZip};
 ghost use Rattle.dine_graph.specs.Plan.{SeenPlan, job_count, site_count};
 ghost use Rattle.dine_core.specs.Standing.{IsFresh, IsFreshFor};
@@ -98,6 +98,20 @@ fn sit<R: Wait, L: Lane, D: Diner>(rt: &R, seat: Seat<L, D>) -> SiteEnd<L, D>
     }
 }
 
+// Starts a thread with what it promises.
+fn spawn_some<
+    R: Threads,
+    P: Promise<T> + Drop,
+    F: FnOnce() -> T + Send + Drop + 'static,
+    T: Send + Drop + 'static,
+>(rt: &R, promise: P, run: F) -> Option<PromisedHandle<T, P>>
+    requires runs { F.pre run }
+    requires keeps { (r : T) → F.post run r → P.kept_by promise r }
+    ensures { IfSome result (λ child. child.promise ≡ promise) }
+{
+    thread::spawn_with(rt, promise, run).ok()
+}
+
 // Starts the thread of a seat.
 fn start<R: Threads + Wait + Copy + Send + 'static, L: Lane + 'static, D: Diner + 'static>(
     rt: &R,
@@ -118,7 +132,28 @@ where
         requires { IsReady L.seen_tx L.seen_closed L.seen_rx D.room_left seat }
         ensures { LeavesSeat L.seen_tx L.seen_closed L.seen_rx D.calls D.marks D.fits seat result }
     { sit(&theirs, seat) };
-    thread::spawn_with(rt, promise, run).ok()
+    spawn_some(rt, promise, run)
+}
+
+// Starts the thread of a seat, unless `threads` have started.
+fn start_within<R: Threads + Wait + Copy + Send + 'static, L: Lane + 'static, D: Diner + 'static>(
+    rt: &R,
+    seat: Seat<L, D>,
+    started: u32,
+    threads: u32,
+) -> Option<Child<L, D>>
+where
+    L::Tx: 'static,
+    L::ClosedTx: 'static,
+    L::Rx: 'static,
+    requires { IsReady L.seen_tx L.seen_closed L.seen_rx D.room_left seat }
+    ensures child { IfSome result (λ child. seat_of child ≡ seat) }
+    ensures left { IfSome result (λ _. started ≢ threads) }
+{
+    if started == threads {
+        return None;
+    }
+    start(rt, seat)
 }
 
 /// Starts a thread for each seat, at most `threads` of them. Answers the first seat that has none.
@@ -145,16 +180,29 @@ where
 {
     let mut started = 0u32;
     for seat in seats {
-        if started == threads {
-            return Some(started);
-        }
-        let Some(child) = start(rt, seat) else {
+        let Some(child) = start_within(rt, seat, started, threads) else {
             return Some(started);
         };
         children.push_reserved(child);
         started += 1;
     }
     None
+}
+
+// Joins each of some threads, in order.
+fn join_each<R: Threads, T: Drop, P: Promise<T>>(
+    rt: &R,
+    children: Vec<PromisedHandle<T, P>>,
+    ends: &mut Vec<T>,
+)
+    requires room { vec_len children ≤ vec_capacity ends.old }
+    requires none { vec_len ends.old ≡ 0 }
+    ensures len { vec_len ends.new ≡ vec_len children }
+    ensures kept { AllZip (λ child end. P.kept_by child.promise end) children.items ends.new.items }
+{
+    for child in children {
+        ends.push_reserved(child.join(rt));
+    }
 }
 
 /// Joins each thread, in order.
@@ -168,9 +216,7 @@ pub fn join_all<R: Threads, L: Lane, D: Diner>(
     ensures len { vec_len ends.new ≡ vec_len children }
     ensures left { AllZip (LeavesSeat L.seen_tx L.seen_closed L.seen_rx D.calls D.marks D.fits) (map seat_of children.items) ends.new.items }
 {
-    for child in children {
-        ends.push_reserved(child.join(rt));
-    }
+    join_each(rt, children, ends)
 }
 
 // The core of a site, packed.
@@ -183,6 +229,35 @@ fn pack_site(alloc: Global, plan: &Plan, number: u32) -> Result<Packed, AllocErr
     let tokens = site::fresh_tokens(alloc, plan, number)?;
     let core = SiteCore::open(alloc, plan, number, forks, tokens)?;
     Ok(core.pack())
+}
+
+// The seat of a site.
+fn seat_one<L: Lane, D: Diner>(
+    alloc: Global,
+    plan: &Plan,
+    number: u32,
+    stand: Stand<L>,
+    diner: D,
+    gate: &Arc<Gate, Global>,
+) -> Result<Seat<L, D>, AllocError>
+    requires { number < site_count plan.now }
+    ensures fresh { IfOk result (λ seat. IsFreshFor plan.now seat.packed) }
+    ensures site { IfOk result (λ seat. seat.packed.site ≡ number) }
+    ensures ports { IfOk result (λ seat. seat.ports ≡ stand.ports) }
+    ensures bell { IfOk result (λ seat. seat.bell ≡ stand.bell) }
+    ensures diner { IfOk result (λ seat. seat.diner ≡ diner) }
+{
+    let gate = Arc::try_clone(gate)?;
+    let packed = pack_site(alloc, plan, number)?;
+    let Stand { ports, bell } = stand;
+    Ok(Seat {
+        packed,
+        ports,
+        bell,
+        diner,
+        alloc,
+        gate,
+    })
 }
 
 /// A seat for each site.
@@ -210,18 +285,9 @@ pub fn seat_all<L: Lane, D: Diner>(
     let mut number = 0u32;
     let mut waiting = diners.into_iter();
     for stand in stands {
-        let packed = pack_site(alloc, plan, number)?;
-        let gate = Arc::try_clone(gate)?;
         let diner = waiting.next().unwrap();
-        let Stand { ports, bell } = stand;
-        seats.push_reserved(Seat {
-            packed,
-            ports,
-            bell,
-            diner,
-            alloc,
-            gate,
-        });
+        let seat = seat_one(alloc, plan, number, stand, diner, gate)?;
+        seats.push_reserved(seat);
         number += 1;
     }
     Ok(())

@@ -7,7 +7,7 @@ ghost use Rattle.dine_threads.specs.private.Setups.{IsSetUp};
 ghost use Rattle.dine_threads.specs.Journals.{AreJournals};
 ghost use Rattle.dine_threads.specs.Headline.{AllJoined, AreTokensOf, FallsShort, FaultIs, IsHeadline};
 
-use crate::collecting::{Room, collect, first_fault, make_room};
+use crate::collecting::{Room, RoomOf, collect, first_fault, make_room};
 use crate::gathered::{Gathered, Joined, RunFault};
 use crate::opening::open_all;
 use crate::seats::{Child, Seat, join_all, seat_all, start_all};
@@ -29,15 +29,15 @@ struct Setup<L: Lane, D: Diner> {
     seats: Vec<Seat<L, D>>,
     children: Vec<Child<L, D>>,
     ends: Vec<SiteEnd<L, D>>,
-    room: Room<L, D>,
+    room: RoomOf<L, D>,
 }
 
 // Room for the threads, for what each of them leaves, and for what is gathered of that. Whatever is refused here leaves
 // little to drop, so it stands apart from the rest.
-fn make_lists<L: Lane, D: Diner>(
+fn make_lists<C: Drop, E: Drop, S: Drop, P: Drop>(
     alloc: Global,
     plan: &Plan,
-) -> Result<(Vec<Child<L, D>>, Vec<SiteEnd<L, D>>, Room<L, D>), AllocError>
+) -> Result<(Vec<C>, Vec<E>, Room<S, P>), AllocError>
     ensures children { IfOk result (λ lists. site_count plan.now ≤ vec_capacity lists.0) }
     ensures no_child { IfOk result (λ lists. vec_len lists.0 ≡ 0) }
     ensures ends { IfOk result (λ lists. site_count plan.now ≤ vec_capacity lists.1) }

@@ -1,13 +1,11 @@
 // A site with three edges, whose letters all lie there before it starts.
-ghost use Rattle.std.specs.Prelude.{◌≡◌, ◌<◌, false, All, vec_len};
+ghost use Rattle.std.specs.Prelude.{◌≡◌, false, All, vec_len};
 ghost use Rattle.dine_link.specs.Links.{IsUnused};
 ghost use Rattle.dine_link.specs.Channels as channels;
-ghost use Rattle.dine_link.specs.Closing.{is_close};
 ghost use Rattle.dine_run.specs.Ports.{IsFreshPort, seen_port, seen_ports};
 
 use super::*;
-use dine_link::{ChannelRx, ChannelTx};
-use dine_token::Held;
+use dine_link::ChannelRx;
 
 // Three sites without jobs, and a fourth that has one job and an edge with each of them.
 const STAR: &str = "version = 1\n\
@@ -15,17 +13,25 @@ const STAR: &str = "version = 1\n\
     [[site]]\nname = \"d\"\njobs = [{ name = \"x\" }]\n\
     [[edge]]\nends = [\"a\", \"d\"]\n[[edge]]\nends = [\"b\", \"d\"]\n[[edge]]\nends = [\"c\", \"d\"]\n";
 
-fn port_of(tx: ChannelTx, rx: ChannelRx, ringer: Ringer) -> Port<ChannelLane>
-    requires silent { (ringer.rings ≡ 0) × (ringer.refused ≡ false) }
-    requires nothing_put { IsUnused (channels.seen_tx tx) }
-    requires nothing_taken { IsUnused (channels.seen_rx rx) }
-    ensures { IsFreshPort (seen_port channels.seen_tx channels.seen_closed channels.seen_rx result) }
+// What the fourth site has of an edge, with this link to it; and what its neighbour has of the link from it and of the
+// bell that is rung.
+fn port_of(
+    rt: &impl Abort,
+    alloc: Global,
+    edge: u32,
+    rx: ChannelRx,
+) -> (Port<ChannelLane>, (ChannelRx, Bell))
+    requires { IsUnused (channels.seen_rx rx) }
+    ensures { IsFreshPort (seen_port channels.seen_tx channels.seen_closed channels.seen_rx result.0) }
 {
-    Port::<ChannelLane> {
+    let (ringer, bell) = one_ringer(rt, alloc);
+    let (tx, far_rx) = link_from::<ChannelLane>(rt, alloc, edge, 3);
+    let port = Port::<ChannelLane> {
         tx: TxEnd::Live(tx),
         rx,
         ringer,
-    }
+    };
+    (port, (far_rx, bell))
 }
 
 fn three(
@@ -48,24 +54,10 @@ fn three(
     ports
 }
 
-// What the fourth site leaves, and the links from it.
-struct Left {
-    end: SiteEnd<ChannelLane, Fixed>,
-    _outs: (ChannelRx, ChannelRx, ChannelRx),
-}
-
-// Runs the fourth site over these links to it, with its bell rung in this order.
-fn runs<R: Wait + Abort>(
-    rt: &R,
-    alloc: Global,
-    ins: (ChannelRx, ChannelRx, ChannelRx),
-    order: &[u32],
-) -> Left
-    requires a { IsUnused (channels.seen_rx ins.0) }
-    requires b { IsUnused (channels.seen_rx ins.1) }
-    requires c { IsUnused (channels.seen_rx ins.2) }
+// The bell of the fourth site, rung in this order, and its ringers.
+fn rung<R: Wait + Abort>(rt: &R, alloc: Global, order: &[u32]) -> (Vec<Ringer>, Bell)
+    ensures bell { (result.1.degree ≡ 3) × (result.1.refused ≡ false) }
 {
-    let plan = read_plan(alloc, STAR).expect(rt, "a plan");
     let (mut ringers, bell) = bell_of(rt, alloc, 3);
     for i in order {
         let Some(ringer) = ringers.get_mut(*i as usize) else {
@@ -73,48 +65,76 @@ fn runs<R: Wait + Abort>(
         };
         same(rt, &ringer.ring(rt), &Ok(()));
     }
-    let (of_a, _bell_of_a) = one_ringer(rt, alloc);
-    let (of_b, _bell_of_b) = one_ringer(rt, alloc);
-    let (of_c, _bell_of_c) = one_ringer(rt, alloc);
-    let (tx_a, out_a) = link_from::<ChannelLane>(rt, alloc, 0, 3);
-    let (tx_b, out_b) = link_from::<ChannelLane>(rt, alloc, 1, 3);
-    let (tx_c, out_c) = link_from::<ChannelLane>(rt, alloc, 2, 3);
-    let (a, b, c) = ins;
-    let ports = three(
-        rt,
-        alloc,
-        port_of(tx_a, a, of_a),
-        port_of(tx_b, b, of_b),
-        port_of(tx_c, c, of_c),
-    );
-    let end = run_alone::<ChannelLane, R>(rt, alloc, &plan, 3, ports, bell, 0);
-    Left {
-        end,
-        _outs: (out_a, out_b, out_c),
-    }
+    (ringers, bell)
 }
 
-// The fork of an edge, sent to the fourth site.
-fn sent(rt: &impl Abort, alloc: Global, edge: u32) -> Letter
-    requires { edge < 3 }
-    ensures { is_close result ≡ false }
+// Runs the fourth site over these links to it, with its bell rung in this order. It leaves this.
+fn meets_three<R: Wait + Abort>(
+    rt: &R,
+    alloc: Global,
+    ins: (ChannelRx, ChannelRx, ChannelRx),
+    order: &[u32],
+    left: &Left,
+)
+    requires a { IsUnused (channels.seen_rx ins.0) }
+    requires b { IsUnused (channels.seen_rx ins.1) }
+    requires c { IsUnused (channels.seen_rx ins.2) }
 {
-    let fork = Fork::open(alloc, edge, edge, 3, 0, 1, 0).expect(rt, "memory");
-    Letter::Fork(Held::take(fork).give(3))
+    let plan = read_plan(alloc, STAR).expect(rt, "a plan");
+    let (_ringers, bell) = rung(rt, alloc, order);
+    let (a, b, c) = ins;
+    let (a, _at_a) = port_of(rt, alloc, 0, a);
+    let (b, _at_b) = port_of(rt, alloc, 1, b);
+    let (c, _at_c) = port_of(rt, alloc, 2, c);
+    let ports = three(rt, alloc, a, b, c);
+    runs_in::<ChannelLane, R>(rt, alloc, &plan, ports, bell, 0, left)
+}
+
+// A link of an edge to the fourth site, with these letters.
+fn link_with<R: Wait + Abort>(rt: &R, alloc: Global, edge: u32, letters: Letters) -> ChannelRx
+    ensures { IsUnused (channels.seen_rx result) }
+{
+    let (tx, rx) = link_from::<ChannelLane>(rt, alloc, edge, edge);
+    let _tx = fill::<ChannelLane, R>(rt, alloc, tx, letters);
+    rx
 }
 
 // A link with Done, the fork and Close.
 fn whole<R: Wait + Abort>(rt: &R, alloc: Global, edge: u32) -> ChannelRx
-    requires { edge < 3 }
     ensures { IsUnused (channels.seen_rx result) }
 {
-    let (mut tx, rx) = link_from::<ChannelLane>(rt, alloc, edge, edge);
-    let fork = sent(rt, alloc, edge);
-    assert!(rt; ChannelLane::put(rt, &mut tx, Letter::Done).is_ok());
-    assert!(rt; ChannelLane::put(rt, &mut tx, fork).is_ok());
-    assert!(rt; ChannelLane::close(rt, tx).is_ok());
-    rx
+    let letters = Letters {
+        first: Some(Put::Done),
+        second: Some(Put::Sent(edge)),
+        closes: true,
+    };
+    link_with(rt, alloc, edge, letters)
 }
+
+// What the fourth site does, where it meets no breach.
+const ALL: [EventKind; 21] = [
+    EventKind::Hungry,
+    EventKind::Ask(0),
+    EventKind::Ask(1),
+    EventKind::Ask(2),
+    EventKind::Take(2),
+    EventKind::Take(2),
+    EventKind::Take(0),
+    EventKind::Take(1),
+    EventKind::Take(0),
+    EventKind::Take(1),
+    EventKind::Begin,
+    EventKind::End,
+    EventKind::Done(0),
+    EventKind::Done(1),
+    EventKind::Done(2),
+    EventKind::Close(0),
+    EventKind::Close(1),
+    EventKind::Close(2),
+    EventKind::Take(2),
+    EventKind::Take(0),
+    EventKind::Take(1),
+];
 
 #[test]
 fn letters_of_three_links_are_taken_as_the_bell_rang(rt: HostRuntime) {
@@ -124,66 +144,119 @@ fn letters_of_three_links_are_taken_as_the_bell_rang(rt: HostRuntime) {
         whole(&rt, alloc, 1),
         whole(&rt, alloc, 2),
     );
-    let Left { end, _outs } = runs(&rt, alloc, ins, &[2, 2, 0, 1, 0, 1, 2, 0, 1]);
-    leaves(&rt, &end, 3, (1, 0), (3, 0, 3), None);
-    has_no_stray(&rt, &end);
-    for fork in &end.forks {
-        has_log(
-            &rt,
-            fork,
-            &[Entry::Move { to: 3 }, Entry::Meal { site: 3, k: 1 }],
-        );
-    }
+    let left = Left {
+        site: 3,
+        meals: (1, 0),
+        calls: &[Call { k: 1, ok: true }],
+        forks: &[0, 1, 2],
+        log: &[Entry::Move { to: 3 }, Entry::Meal { site: 3, k: 1 }],
+        tokens: &[],
+        ports: (0, 3),
+        journal: ALL.as_slice(),
+        stray: None,
+        fault: None,
+    };
+    meets_three(&rt, alloc, ins, &[2, 2, 0, 1, 0, 1, 2, 0, 1], &left)
 }
 
-// A link to the second place with these two letters.
-fn two_letters<R: Wait + Abort>(rt: &R, alloc: Global, first: Letter, second: Letter) -> ChannelRx
-    requires first { is_close first ≡ false }
-    requires second { is_close second ≡ false }
-    ensures { IsUnused (channels.seen_rx result) }
-{
-    let (mut tx, rx) = link_from::<ChannelLane>(rt, alloc, 1, 1);
-    assert!(rt; ChannelLane::put(rt, &mut tx, first).is_ok());
-    assert!(rt; ChannelLane::put(rt, &mut tx, second).is_ok());
-    rx
-}
+// What the fourth site does before it takes a letter, and where it took one at its second place.
+const ASKED: [EventKind; 4] = [
+    EventKind::Hungry,
+    EventKind::Ask(0),
+    EventKind::Ask(1),
+    EventKind::Ask(2),
+];
 
-// A link to the second place with Close alone.
-fn closed<R: Wait + Abort>(rt: &R, alloc: Global) -> ChannelRx
-    ensures { IsUnused (channels.seen_rx result) }
-{
-    let (tx, rx) = link_from::<ChannelLane>(rt, alloc, 1, 1);
-    assert!(rt; ChannelLane::close(rt, tx).is_ok());
-    rx
-}
+const ASKED_AND_TOOK: [EventKind; 5] = [
+    EventKind::Hungry,
+    EventKind::Ask(0),
+    EventKind::Ask(1),
+    EventKind::Ask(2),
+    EventKind::Take(1),
+];
 
-// The fourth site finds this breach in the letters of its second place.
-fn breaks<R: Wait + Abort>(rt: &R, alloc: Global, b: ChannelRx, order: &[u32], breach: Breach)
-    requires { IsUnused (channels.seen_rx b) }
-{
+// The fourth site finds this breach in the last of these letters of its second place, which rang for each. It has these
+// forks then, if any.
+fn breaks<R: Wait + Abort>(
+    rt: &R,
+    alloc: Global,
+    letters: Letters,
+    order: &[u32],
+    journal: &[EventKind],
+    forks: &[u32],
+    told: (Breach, Kind4),
+) {
+    let left = Left {
+        site: 3,
+        meals: (0, 0),
+        calls: &[],
+        forks,
+        log: &[Entry::Move { to: 3 }],
+        tokens: &[],
+        ports: (0, 3),
+        journal,
+        stray: Some((1, told.1)),
+        fault: Some(SiteFault::Breach(1, told.0)),
+    };
+    let b = link_with(rt, alloc, 1, letters);
     let (_tx_a, a) = link_from::<ChannelLane>(rt, alloc, 0, 0);
     let (_tx_c, c) = link_from::<ChannelLane>(rt, alloc, 2, 2);
-    let Left { end, _outs } = runs(rt, alloc, (a, b, c), order);
-    same(rt, &(end.site, end.ate), &(3, 0));
-    same(rt, &end.fault, &Some(SiteFault::Breach(1, breach)));
-    let Some(stray) = &end.stray else {
-        panic!(rt; "no stray");
+    meets_three(rt, alloc, (a, b, c), order, &left)
+}
+
+// The same in the second of two letters.
+fn second_breaks<R: Wait + Abort>(
+    rt: &R,
+    alloc: Global,
+    puts: (Put, Put),
+    forks: &[u32],
+    told: (Breach, Kind4),
+) {
+    let letters = Letters {
+        first: Some(puts.0),
+        second: Some(puts.1),
+        closes: false,
     };
-    same(rt, &stray.link, &1);
+    breaks(
+        rt,
+        alloc,
+        letters,
+        &[1, 1],
+        ASKED_AND_TOOK.as_slice(),
+        forks,
+        told,
+    )
 }
 
 // Each breach but that of a letter behind Close: a place where Close was taken is passed over.
 #[test]
 fn breaches_are_told_of_their_place(rt: HostRuntime) {
     let alloc = rt.alloc();
-    let early = two_letters(&rt, alloc, Letter::Done, Letter::Request(Token::open(1)));
-    breaks(&rt, alloc, early, &[1, 1], Breach::RequestOutOfTurn);
-    let forks = two_letters(&rt, alloc, sent(&rt, alloc, 1), sent(&rt, alloc, 1));
-    breaks(&rt, alloc, forks, &[1, 1], Breach::ForkOutOfTurn);
-    let strange = two_letters(&rt, alloc, Letter::Done, sent(&rt, alloc, 0));
-    breaks(&rt, alloc, strange, &[1, 1], Breach::StrangeFork);
-    let twice = two_letters(&rt, alloc, Letter::Done, Letter::Done);
-    breaks(&rt, alloc, twice, &[1, 1], Breach::DoneOutOfTurn);
-    let close = closed(&rt, alloc);
-    breaks(&rt, alloc, close, &[1], Breach::ClosedEarly)
+    let early = (Put::Done, Put::Request(1));
+    second_breaks(
+        &rt,
+        alloc,
+        early,
+        &[],
+        (Breach::RequestOutOfTurn, Kind4::Request),
+    );
+    let forks = (Put::Sent(1), Put::Sent(1));
+    second_breaks(
+        &rt,
+        alloc,
+        forks,
+        &[1],
+        (Breach::ForkOutOfTurn, Kind4::Fork),
+    );
+    let strange = (Put::Done, Put::Sent(0));
+    second_breaks(&rt, alloc, strange, &[], (Breach::StrangeFork, Kind4::Fork));
+    let twice = (Put::Done, Put::Done);
+    second_breaks(&rt, alloc, twice, &[], (Breach::DoneOutOfTurn, Kind4::Done));
+    let close = Letters {
+        first: None,
+        second: None,
+        closes: true,
+    };
+    let told = (Breach::ClosedEarly, Kind4::Close);
+    breaks(&rt, alloc, close, &[1], ASKED.as_slice(), &[], told)
 }

@@ -34,6 +34,10 @@ each_more P old new x grown was here k y at = elim (slice_get-push old x y k (su
 pub moved_split : {X : Type 0} (old new : List X) (x : X) (before after all : List X) → new ≡ old ++ x ∷ [] → before ≡ x ∷ after → old ++ before ≡ all → new ++ after ≡ all
 moved_split old new x before after all grown split was = ap (λ w. w ++ after) grown ∙ append_assoc old (x ∷ []) after ∙ ap (λ w. old ++ w) (sym split) ∙ was
 
+-- so it is where what is moved is known as y
+pub moved_as : {X : Type 0} (old new : List X) (x y : X) (before after all : List X) → new ≡ old ++ x ∷ [] → x ≡ y → before ≡ y ∷ after → old ++ before ≡ all → new ++ after ≡ all
+moved_as old new x y before after all grown is split was = moved_split old new x before after all grown (split ∙ ap (λ z. z ∷ after) (sym is)) was
+
 -- at its end nothing is left
 pub none_left : {X : Type 0} (old after all : List X) → after ≡ [] → old ++ after ≡ all → old ≡ all
 none_left old after all none was = sym (append-nil old) ∙ ap (λ w. old ++ w) (sym none) ∙ was

@@ -13,7 +13,7 @@ use Rattle.dine_link.specs.Links.{SeenEnd}
 use Rattle.dine_rules.specs.World.{place_of}
 use Rattle.dine_rules.proofs.links.Across.{edge_at-place_of, place_of-edge_at}
 use Rattle.dine_rules.proofs.lists.Counting.{slice_get-before}
-use Rattle.dine_threads.specs.private.Openings.{AreBare, AreLaid, AreRingersOf, AreStands, IsBareStand, bells_of, rows_of}
+use Rattle.dine_threads.specs.private.Openings.{AreBare, AreLaid, AreNewPorts, AreRingersOf, AreStands, IsBareStand, bells_of, rows_of}
 use Rattle.dine_site.specs.Ports.{SeenPort, IsFreshPort, seen_port, seen_ports}
 use Rattle.dine_threads.specs.private.Spots.{IsBothAt, IsFullRow, row_at, slot_at, low_spot, high_spot}
 use Rattle.dine_threads.specs.private.Wirings.{AreRingersAt, IsRung, IsWired, port_at}
@@ -61,18 +61,6 @@ place_of-earlier plan s n within is =
     ap (λ (e : ℕ). place_of plan s e) (sym (get_or_from_slice_get (edges_of plan s) place n 0 at)) ∙ place_of-edge_at plan s place (slice_get_within (edges_of plan s) place n at)
 
 -- ---- one edge more
-
--- two ports of an edge, of two links that were never used
-pub record AreNewPorts {Identity : Type 0} (plan : SeenPlan) (bells : List SeenBell) (edge : ℕ) (low high : SeenPort Identity) : Type 0 where
-  pub low_fresh : IsFreshPort low
-  pub high_fresh : IsFreshPort high
-  pub ringers : AreRingersAt plan bells edge (record { low = high.ringer; high = low.ringer })
-  pub goes : high.rx.link ≡ low.tx.link
-  pub comes : low.rx.link ≡ high.tx.link
-  pub low_edge : low.tx.link.edge ≡ edge
-  pub low_from : low.tx.link.from ≡ lo_of plan edge
-  pub high_edge : high.tx.link.edge ≡ edge
-  pub high_from : high.tx.link.from ≡ hi_of plan edge
 
 -- The row of a site after an edge was laid: it has one port more if the site is an end of it.
 record HasGrown {Identity : Type 0} (is_here : Bool) (edge : ℕ) (old new : List (SeenPort Identity)) : Type 0 where

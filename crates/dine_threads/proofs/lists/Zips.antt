@@ -20,11 +20,16 @@ AllZip-somes R [] (y ∷ ys) all = absurd all
 AllZip-somes R (x ∷ xs) [] all = absurd all
 AllZip-somes R (x ∷ xs) (y ∷ ys) all = (all.0, AllZip-somes R xs ys all.1)
 
--- one more pair at the end, where the first of each is read through f
-pub AllZip-map_push : {A B C : Type 0} (f : C → A) (R : A → B → Type 0) (cs : List C) (old new : List B) (c : C) (b : B) → new ≡ old ++ b ∷ [] → R (f c) b → AllZip R (map f cs) old → AllZip R (map f (cs ++ c ∷ [])) new
-AllZip-map_push f R cs old new c b grown here was =
-    subst (λ xs. AllZip R xs new) (sym (map-append f cs (c ∷ [])))
-    (subst (λ ys. AllZip R (map f cs ++ f c ∷ []) ys) (sym grown) (AllZip-push R (map f cs) old (f c) b was here))
+-- one more pair at the end of two lists that grew by it
+pub AllZip-grown : {A B : Type 0} (R : A → B → Type 0) (xs : List A) (old new : List B) (x : A) (y : B) → new ≡ old ++ y ∷ [] → R x y → AllZip R xs old → AllZip R (xs ++ x ∷ []) new
+AllZip-grown R xs old new x y grown here was = subst (λ ys. AllZip R (xs ++ x ∷ []) ys) (sym grown) (AllZip-push R xs old x y was here)
+
+-- where the first of each is read through f
+pub AllZip-mapped : {A B C : Type 0} (f : C → A) (R : A → B → Type 0) (cs : List C) (ys : List B) → AllZip (λ c y. R (f c) y) cs ys → AllZip R (map f cs) ys
+AllZip-mapped f R [] [] all = tt
+AllZip-mapped f R [] (y ∷ ys) all = absurd all
+AllZip-mapped f R (c ∷ cs) [] all = absurd all
+AllZip-mapped f R (c ∷ cs) (y ∷ ys) all = (all.0, AllZip-mapped f R cs ys all.1)
 
 -- a loop that moves the first of what is left into a list of what was made of it
 pub mapped_split : {S X : Type 0} (f : S → X) (old new : List S) (s : S) (x : X) (before after all : List X) → new ≡ old ++ s ∷ [] → before ≡ x ∷ after → f s ≡ x → map f old ++ before ≡ all → map f new ++ after ≡ all

@@ -40,6 +40,23 @@ found (Some fork ∷ slots) = fork ∷ found slots
 abbrev pub AreForksOf : SeenPlan → List SeenFork → Type 0
 AreForksOf plan forks = All (λ (fork : SeenFork). fork.edge < edge_count plan) forks
 
+-- Room for all that is gathered: empty lists with room for each site, place and edge, and an empty slot for each edge.
+pub record IsRoomFor {S P : Type 0} (plan : SeenPlan) (room : Room S P) : Type 0 where
+  pub sites : site_count plan ≤ vec_capacity room.sites
+  pub no_site : vec_len room.sites ≡ 0
+  pub empty_rows : vec_len room.empty ≡ site_count plan
+  pub empty_room : (s : ℕ) (row : _) → slice_get room.empty.items s ≡ Some row → length (edges_of plan s) ≤ vec_capacity row
+  pub no_thing : (s : ℕ) (row : _) → slice_get room.empty.items s ≡ Some row → vec_len row ≡ 0
+  pub rows : site_count plan ≤ vec_capacity room.rows
+  pub no_row : vec_len room.rows ≡ 0
+  pub pairs : edge_count plan ≤ vec_capacity room.pairs
+  pub no_pair : vec_len room.pairs ≡ 0
+  pub links : 2 * edge_count plan ≤ vec_capacity room.links
+  pub no_link : vec_len room.links ≡ 0
+  pub slots : room.slots.items ≡ replicate (edge_count plan) None
+  pub forks : edge_count plan ≤ vec_capacity room.forks
+  pub no_fork : vec_len room.forks ≡ 0
+
 module _ {Lane Tx Closed Rx D : Type 0} where
   -- a site as it ended, without its forks and its ports
   abbrev pub out_of : SiteEnd Lane D Tx Closed Rx → SiteOut D
@@ -55,24 +72,6 @@ module _ {Lane Tx Closed Rx D : Type 0} where
     pub count : length ends ≡ site_count plan
     pub ports : (s : ℕ) (end : SiteEnd Lane D Tx Closed Rx) → slice_get ends s ≡ Some end → length end.ports.items ≡ length (edges_of plan s)
     pub forks : AreForksOf plan (forks_left ends)
-
-  -- Room for all that is gathered: empty lists with room for each site, place and edge, and an empty slot for each
-  -- edge.
-  pub record IsRoomFor (plan : SeenPlan) (room : Room Lane D Tx Closed Rx) : Type 0 where
-    pub sites : site_count plan ≤ vec_capacity room.sites
-    pub no_site : vec_len room.sites ≡ 0
-    pub empty_rows : vec_len room.empty ≡ site_count plan
-    pub empty_room : (s : ℕ) (row : _) → slice_get room.empty.items s ≡ Some row → length (edges_of plan s) ≤ vec_capacity row
-    pub no_thing : (s : ℕ) (row : _) → slice_get room.empty.items s ≡ Some row → vec_len row ≡ 0
-    pub rows : site_count plan ≤ vec_capacity room.rows
-    pub no_row : vec_len room.rows ≡ 0
-    pub pairs : edge_count plan ≤ vec_capacity room.pairs
-    pub no_pair : vec_len room.pairs ≡ 0
-    pub links : 2 * edge_count plan ≤ vec_capacity room.links
-    pub no_link : vec_len room.links ≡ 0
-    pub slots : room.slots.items ≡ replicate (edge_count plan) None
-    pub forks : edge_count plan ≤ vec_capacity room.forks
-    pub no_fork : vec_len room.forks ≡ 0
 
 module _ {Lane Tx Closed Rx Identity D : Type 0} (live : Tx → SeenEnd Identity) (shut : Closed → SeenEnd Identity) (taking : Rx → SeenEnd Identity) where
   -- the ports of all sites as they left them, one row a site

@@ -1,14 +1,14 @@
 -- What is opened for the sites before their threads start: their link ends and their bells.
 use Rattle.std.specs.Prelude.{◌≡◌, ℕ, ◌<◌, false, List, [], All, filter, length, map, slice_get, slice_index_or, Option, Some}
 use Rattle.std.specs.List.{range_with_len}
-use Rattle.dine_graph.specs.Plan.{SeenPlan, site_count, edges_of, is_end}
+use Rattle.dine_graph.specs.Plan.{SeenPlan, site_count, edges_of, is_end, lo_of, hi_of}
 use Rattle.std.specs.Global.{Vec}
 use Rattle.dine_bell.specs.Bells.{SeenBell, SeenRinger, new_ringer}
 use Rattle.dine_link.specs.Links.{SeenEnd}
 use Rattle.dine_threads.specs.declared.opening.Stand.{Stand}
 use Rattle.dine_site.specs.Ports.{SeenPort, IsFreshPort, seen_ports}
 use Rattle.dine_threads.specs.private.Spots.{slot_at}
-use Rattle.dine_threads.specs.private.Wirings.{IsRung, IsWired}
+use Rattle.dine_threads.specs.private.Wirings.{AreRingersAt, IsRung, IsWired}
 
 module _ {Lane Tx Closed Rx : Type 0} where
   -- the bells of the sites
@@ -37,6 +37,18 @@ pub record AreLaid {Identity : Type 0} (plan : SeenPlan) (bells : List SeenBell)
   pub unused : (s : ℕ) → s < site_count plan → All IsFreshPort (slice_index_or rows s [])
   pub wired : (edge : ℕ) → edge < n → IsWired plan rows edge
   pub rung : (edge : ℕ) → edge < n → IsRung plan bells rows edge
+
+-- Two ports of an edge, of two links that were never used: they are wired, and each rings the other end's bell.
+pub record AreNewPorts {Identity : Type 0} (plan : SeenPlan) (bells : List SeenBell) (edge : ℕ) (low high : SeenPort Identity) : Type 0 where
+  pub low_fresh : IsFreshPort low
+  pub high_fresh : IsFreshPort high
+  pub ringers : AreRingersAt plan bells edge (record { low = high.ringer; high = low.ringer })
+  pub goes : high.rx.link ≡ low.tx.link
+  pub comes : low.rx.link ≡ high.tx.link
+  pub low_edge : low.tx.link.edge ≡ edge
+  pub low_from : low.tx.link.from ≡ lo_of plan edge
+  pub high_edge : high.tx.link.edge ≡ edge
+  pub high_from : high.tx.link.from ≡ hi_of plan edge
 
 module _ {Lane Tx Closed Rx Identity : Type 0} (live : Tx → SeenEnd Identity) (shut : Closed → SeenEnd Identity) (taking : Rx → SeenEnd Identity) where
   -- the ports of all sites, one row a site

@@ -1,5 +1,6 @@
-use Rattle.std.proofs.Common.{None, ◌++◌, ◌∷◌, [], vec_items, ap, ◌∙◌, arith}
+use Rattle.std.proofs.Common.{◌≡◌, None, replicate, ◌++◌, ◌∷◌, [], vec_items, ap, ◌∙◌, arith}
 use Rattle.std.proofs.lemmas.List.{nil_from_length, replicate_more}
+use Rattle.dine_graph.specs.Plan.{edge_count}
 use Rattle.dine_threads.proofs.collecting.empty_slots.Goals as goal
 
 pub loop-preserved : goal.loop-preserved
@@ -17,3 +18,11 @@ loop-init g c = record {
   room = omega (arith, c.in_ok-slots.ensures.capacity, c.edges.ensures.count);
   items = nil_from_length (vec_items c.in_ok-slots.slots) (omega (arith, c.in_ok-slots.ensures.len, c.in_ok-slots.slots.ok.0));
 }
+
+pub push_reserved-requires : goal.push_reserved-requires
+push_reserved-requires g c = omega (arith, c.loop.invariant.len, c.loop.invariant.room, c.loop-test.true)
+
+pub returns : goal.returns
+returns g c =
+    let all : c.loop.counter ≡ edge_count c.args.plan.now = omega arith in
+    c.loop.invariant.items ∙ ap (λ n. replicate n None) all

@@ -5,14 +5,15 @@ pub returns : goal.returns
 returns g c =
     let edges = c.edges.ensures.count in
     let lists = c.in_ok-pairs.ensures in
+    let sites = c.in_ok-sites.ensures in
     record {
-      sites = omega (arith, c.sites.ensures.count, c.in_ok-with_capacity.ensures.capacity);
-      no_site = c.in_ok-with_capacity.ensures.len;
-      empty_rows = c.in_ok-empty_rows.ensures.count;
-      empty_room = c.in_ok-empty_rows.ensures.room;
-      no_thing = c.in_ok-empty_rows.ensures.none;
-      rows = omega (arith, c.sites-2.ensures.count, c.in_ok-with_capacity-2.ensures.capacity);
-      no_row = c.in_ok-with_capacity-2.ensures.len;
+      sites = sites.sites;
+      no_site = sites.no_site;
+      empty_rows = sites.empty_rows;
+      empty_room = sites.empty_room;
+      no_thing = sites.no_thing;
+      rows = sites.rows;
+      no_row = sites.no_row;
       pairs = omega (arith, edges, lists.pairs);
       no_pair = lists.no_pair;
       links = omega (arith, edges, lists.links);

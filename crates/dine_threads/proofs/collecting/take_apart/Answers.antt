@@ -1,7 +1,6 @@
 use Rattle.std.proofs.Common.{◌≡◌, suc, ◌<◌, ◌++◌, All, Option, Some, List, [], length, map, slice_get, ap, sym, subst, ◌∙◌, arith, vec_items}
 use Rattle.std.specs.Global.{Vec}
 use Rattle.std.specs.Vec.Iter.{into_iter_items}
-use Rattle.std.proofs.lemmas.Grind.{common_steps}
 use Rattle.std.proofs.lemmas.List.{nil_from_length}
 use Rattle.dine_token.specs.Fork.{SeenFork}
 use Rattle.dine_graph.specs.Plan.{edge_count}
@@ -9,7 +8,7 @@ use Rattle.dine_site.specs.declared.port.Port.{Port}
 use Rattle.dine_site.specs.declared.site_end.SiteEnd.{SiteEnd}
 use Rattle.dine_threads.specs.private.Collecting.{AreForksOf, forks_left, laid, out_of}
 use Rattle.dine_threads.proofs.lists.Zips.{mapped_split}
-use Rattle.dine_threads.proofs.all_sites.Collected.{all_parts, laid-append, length-laid, moved_split, none_left}
+use Rattle.dine_threads.proofs.all_sites.Collected.{all_parts, laid-append, length-laid, moved_as, none_left}
 use Rattle.dine_threads.proofs.collecting.take_apart.Goals as goal
 
 pub loop-end-init : goal.loop-end-init
@@ -35,19 +34,19 @@ loop-end-init g c =
       slots = ap (λ l. laid (forks_left l) (vec_items c.args.slots.now)) ends;
     }
 
-pub fill_row-requires-clause-room : goal.fill_row-requires-clause-room
-fill_row-requires-clause-room g c =
+pub take_out-requires-clause-room : goal.take_out-requires-clause-room
+take_out-requires-clause-room g c κs ls =
     let next = rw c.unwrap-row.ensures at c.next-in-loop-end.ensures.cases in
     let fits = c.loop-end.invariant.fits 0 c.in-Some.end c.unwrap-row.result (ap (λ xs. slice_get xs 0) c.in-Some.ensures.steps.0) (ap (λ xs. slice_get xs 0) next.0) in
     omega (arith, fits, c.in-Some.end.ports.ok.0)
 
-pub fill_row-requires-clause-none : goal.fill_row-requires-clause-none
-fill_row-requires-clause-none g c =
+pub take_out-requires-clause-none : goal.take_out-requires-clause-none
+take_out-requires-clause-none g c κs ls =
     let next = rw c.unwrap-row.ensures at c.next-in-loop-end.ensures.cases in
     c.loop-end.invariant.no_thing 0 c.unwrap-row.result (ap (λ xs. slice_get xs 0) next.0)
 
-pub lay_forks-requires : goal.lay_forks-requires
-lay_forks-requires g c =
+pub take_out-requires-clause-forks : goal.take_out-requires-clause-forks
+take_out-requires-clause-forks g c κs ls =
     let was = c.loop-end.invariant in
     let forks = subst (AreForksOf c.args.plan.now) (ap forks_left c.in-Some.ensures.steps.0) was.forks in
     let here = (all_parts (λ (fork : SeenFork). fork.edge < edge_count c.args.plan.now) c.in-Some.end.forks.items (forks_left (into_iter_items c.next.new.self)) forks).0 in
@@ -67,32 +66,28 @@ loop-end-preserved g c =
       empties = omega (arith, next.1, was.empties, steps.1);
       fits = λ k other row at_end at_row. was.fits (suc k) other row (ap (λ xs. slice_get xs (suc k)) steps.0 ∙ at_end) (ap (λ xs. slice_get xs (suc k)) next.0 ∙ at_row);
       no_thing = λ k row at_row. was.no_thing (suc k) row (ap (λ xs. slice_get xs (suc k)) next.0 ∙ at_row);
-      site_room = omega (arith, was.site_room, steps.1, c.push_reserved-in-loop-end.ensures.len, c.push_reserved-in-loop-end.ensures.capacity);
-      row_room = omega (arith, was.row_room, steps.1, c.push_reserved.ensures.len, c.push_reserved.ensures.capacity);
-      count = omega (arith, was.count, ap length c.lay_forks.ensures, length-laid end.forks.items old, c.lay_forks.new.slots.ok.0, c.loop-end.slots.ok.0);
+      site_room = omega (arith, was.site_room, steps.1, c.push_reserved.ensures.len, c.push_reserved.ensures.capacity);
+      row_room = omega (arith, was.row_room, steps.1, c.push_reserved-in-loop-end.ensures.len, c.push_reserved-in-loop-end.ensures.capacity);
+      count = omega (arith, was.count, ap length c.take_out.ensures.slots, length-laid end.forks.items old, c.take_out.new.slots.ok.0, c.loop-end.slots.ok.0);
       forks = (all_parts (λ (fork : SeenFork). fork.edge < edge_count c.args.plan.now) end.forks.items (forks_left rest) forks).1;
-      sites = moved_split (vec_items c.loop-end.sites) (vec_items c.push_reserved-in-loop-end.new.self) (out_of end) (map out_of (into_iter_items c.loop-end.end-iterator)) (map out_of rest) (map out_of (vec_items c.args.ends)) c.push_reserved-in-loop-end.ensures.items (ap (map out_of) steps.0) was.sites;
+      sites = moved_as (vec_items c.loop-end.sites) (vec_items c.push_reserved.new.self) c.take_out.result (out_of end) (map out_of (into_iter_items c.loop-end.end-iterator)) (map out_of rest) (map out_of (vec_items c.args.ends)) c.push_reserved.ensures.items c.take_out.ensures.out (ap (map out_of) steps.0) was.sites;
       rows =
-          mapped_split (λ (row : Vec (Option (Port _ _ _ _))). row.items) (vec_items c.loop-end.rows) (vec_items c.push_reserved.new.self) c.fill_row.new.row (left end) (map left (into_iter_items c.loop-end.end-iterator)) (map left rest) (map left (vec_items c.args.ends)) c.push_reserved.ensures.items (ap (map left) steps.0) c.fill_row.ensures was.rows;
+          mapped_split (λ (row : Vec (Option (Port _ _ _ _))). row.items) (vec_items c.loop-end.rows) (vec_items c.push_reserved-in-loop-end.new.self) c.take_out.new.row (left end) (map left (into_iter_items c.loop-end.end-iterator)) (map left rest) (map left (vec_items c.args.ends)) c.push_reserved-in-loop-end.ensures.items (ap (map left) steps.0) c.take_out.ensures.row was.rows;
       slots =
-          ap (laid (forks_left rest)) c.lay_forks.ensures
+          ap (laid (forks_left rest)) c.take_out.ensures.slots
           ∙ sym (laid-append end.forks.items (forks_left rest) old)
           ∙ sym (ap (λ l. laid (forks_left l) old) steps.0)
           ∙ was.slots;
     }
 
-pub returns-clause-sites : goal.returns-clause-sites
-returns-clause-sites g c =
-    let none : into_iter_items c.loop-end.end-iterator ≡ [] = grind (arith, common_steps) in
-    none_left (vec_items c.loop-end.sites) (map out_of (into_iter_items c.loop-end.end-iterator)) (map out_of (vec_items c.args.ends)) (ap (map out_of) none) c.loop-end.invariant.sites
-
-pub returns-clause-rows : goal.returns-clause-rows
-returns-clause-rows g c =
-    let none : into_iter_items c.loop-end.end-iterator ≡ [] = grind (arith, common_steps) in
+pub returns : goal.returns
+returns g c =
+    let was = c.loop-end.invariant in
+    let rest = c.loop-end.end-iterator in
+    let none : into_iter_items rest ≡ [] = nil_from_length (into_iter_items rest) (omega (arith, c.in-None.ensures.steps.0, rest.rest.ok.0)) in
     let left : SiteEnd _ _ _ _ _ → List (Option (Port _ _ _ _)) = λ end. map Some end.ports.items in
-    none_left (map (λ (row : Vec (Option (Port _ _ _ _))). row.items) (vec_items c.loop-end.rows)) (map left (into_iter_items c.loop-end.end-iterator)) (map left (vec_items c.args.ends)) (ap (map left) none) c.loop-end.invariant.rows
-
-pub returns-clause-slots : goal.returns-clause-slots
-returns-clause-slots g c =
-    let none : into_iter_items c.loop-end.end-iterator ≡ [] = grind (arith, common_steps) in
-    sym (ap (λ l. laid (forks_left l) (vec_items c.loop-end.slots)) none) ∙ c.loop-end.invariant.slots
+    record {
+      sites = none_left (vec_items c.loop-end.sites) (map out_of (into_iter_items rest)) (map out_of (vec_items c.args.ends)) (ap (map out_of) none) was.sites;
+      rows = none_left (map (λ (row : Vec (Option (Port _ _ _ _))). row.items) (vec_items c.loop-end.rows)) (map left (into_iter_items rest)) (map left (vec_items c.args.ends)) (ap (map left) none) was.rows;
+      slots = sym (ap (λ l. laid (forks_left l) (vec_items c.loop-end.slots)) none) ∙ was.slots;
+    }

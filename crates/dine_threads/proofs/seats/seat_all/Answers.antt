@@ -1,8 +1,11 @@
-use Rattle.std.proofs.Common.{rules, Err, vec_len, ◌≡◌, ℕ, suc, ◌+◌, ◌≤◌, ◌++◌, Some, [], length, map, slice_get, ap, sym, subst, refl, ◌∙◌, inl, inr, arith, vec_items}
+use Rattle.std.proofs.Common.{rules, Err, vec_len, ◌≡◌, ℕ, suc, ◌+◌, ◌≤◌, ◌++◌, Some, [], ◌∷◌, length, map, slice_get, ap, sym, subst, refl, ◌∙◌, inl, inr, arith, vec_items}
 use Rattle.std.specs.Vec.Iter.{into_iter_items}
 use Rattle.std.proofs.lemmas.List.{nil_from_length, length-map}
 use Rattle.std.proofs.lemmas.Option.{slice_get_within}
 use Rattle.std.proofs.Math.Nat.{zero-add}
+use Rattle.std.specs.Global.{Vec}
+use Rattle.dine_bell.specs.Bells.{SeenBell}
+use Rattle.dine_site.specs.declared.port.Port.{Port}
 use Rattle.dine_graph.specs.Plan.{edges_of, job_count, site_count}
 use Rattle.dine_rules.specs.Local.{no_traffic}
 use Rattle.dine_core.specs.Standing.{IsFreshFor}
@@ -13,6 +16,13 @@ use Rattle.dine_threads.specs.private.Seats.{IsReady}
 use Rattle.dine_threads.proofs.all_sites.Edges.{slice_get-push}
 use Rattle.dine_threads.proofs.lists.Zips.{all_more, mapped_all, mapped_split}
 use Rattle.dine_threads.proofs.seats.seat_all.Goals as goal
+
+-- a seat by its parts
+same_seat : {Lane D Tx Closed Rx : Type 0} (seat : Seat Lane D Tx Closed Rx) (ports : Vec (Port Lane Tx Closed Rx)) (bell : SeenBell) (diner : D) → seat.ports ≡ ports → seat.bell ≡ bell → seat.diner ≡ diner
+    → seat ≡ record { packed = seat.packed; ports = ports; bell = bell; diner = diner; alloc = seat.alloc; gate = seat.gate }
+same_seat {Lane} {D} {Tx} {Closed} {Rx} seat ports bell diner is_ports is_bell is_diner =
+    let make : Vec (Port Lane Tx Closed Rx) → SeenBell → D → Seat Lane D Tx Closed Rx = λ x y z. record { packed = seat.packed; ports = x; bell = y; diner = z; alloc = seat.alloc; gate = seat.gate } in
+    ap (λ x. make x seat.bell seat.diner) is_ports ∙ ap (λ y. make ports y seat.diner) is_bell ∙ ap (make ports bell) is_diner
 
 pub loop-stand-init : goal.loop-stand-init
 loop-stand-init g c =
@@ -50,17 +60,19 @@ loop-stand-preserved g c =
     let taking = g.L.Lane.seen_rx in
     let old = vec_items c.loop-stand.seats in
     let new = vec_items c.push_reserved.new.self in
-    let grown = c.push_reserved.ensures.items in
     let stand = c.in-Some.stand in
     let diner = c.unwrap-diner.result in
-    let packed = c.in_ok-packed.packed in
-    let seat : Seat _ _ _ _ _ = record { packed = packed; ports = stand.ports; bell = stand.bell; diner = diner; alloc = c.args.alloc; gate = c.in_ok-gate.gate } in
+    let made = c.in_ok-seat.seat in
+    let is = c.in_ok-seat.ensures in
+    let packed = made.packed in
+    let seat : Seat _ _ _ _ _ = record { packed = packed; ports = stand.ports; bell = stand.bell; diner = diner; alloc = made.alloc; gate = made.gate } in
+    let grown = c.push_reserved.ensures.items ∙ ap (λ (s : Seat _ _ _ _ _). old ++ s ∷ []) (same_seat made stand.ports stand.bell diner is.ports is.bell is.diner) in
     let next = rw c.unwrap-diner.ensures at c.next-in-loop-stand.ensures.cases in
     let still : n + 0 ≡ n = omega arith in
     let here : IsStandOf live shut taking plan n stand = subst (λ m. IsStandOf live shut taking plan m stand) still (was.stands 0 stand (ap (λ xs. slice_get xs 0) c.in-Some.ensures.steps.0)) in
     let room : job_count plan n ≤ g.D.Diner.room_left diner = subst (λ m. job_count plan m ≤ g.D.Diner.room_left diner) still (was.rooms 0 diner (ap (λ xs. slice_get xs 0) next.0)) in
-    let fresh_for = c.in_ok-packed.ensures.fresh in
-    let sited : packed.site ≡ n = c.in_ok-packed.ensures.site in
+    let fresh_for = is.fresh in
+    let sited : packed.site ≡ n = is.site in
     let places : length packed.places ≡ length (edges_of plan n) = fresh_for.stands.degree ∙ length-map (edges_of plan packed.site) (λ edge. no_traffic) ∙ ap (λ s. length (edges_of plan s)) sited in
     let due : packed.due ≡ job_count plan n = fresh_for.stands.due ∙ ap (job_count plan) sited in
     let ready_here : IsReady live shut taking g.D.Diner.room_left seat = record {
@@ -94,20 +106,15 @@ loop-stand-preserved g c =
           (ap (map (λ (stand : Stand _ _ _ _). stand.ports)) c.in-Some.ensures.steps.0) refl was.ports;
     }
 
-pub pack_site-requires : goal.pack_site-requires
-pack_site-requires g c = omega (arith, c.loop-stand.invariant.count, c.in-Some.ensures.steps.1)
+pub seat_one-requires-after_bounds : goal.seat_one-requires-after_bounds
+seat_one-requires-after_bounds g c = λ κs bounds. omega (arith, c.loop-stand.invariant.count, c.in-Some.ensures.steps.1)
 
 pub push_reserved-requires : goal.push_reserved-requires
 push_reserved-requires g c = omega (arith, c.loop-stand.invariant.len, c.loop-stand.invariant.count, c.loop-stand.invariant.room, c.in-Some.ensures.steps.1)
 
-pub returns-in_err-packed : goal.returns-in_err-packed
-returns-in_err-packed g c =
-    let is : c.from_residual.result ≡ Err c.in_err-packed.field-0.0 = search rules in
-    rw is (record { len = tt; ready = tt; fresh = tt; diners = tt; ports = tt; bells = tt })
-
-pub returns-in_err-gate : goal.returns-in_err-gate
-returns-in_err-gate g c =
-    let is : c.from_residual-in_err-gate.result ≡ Err c.in_err-gate.field-0.0 = search rules in
+pub returns-in_err-seat : goal.returns-in_err-seat
+returns-in_err-seat g c =
+    let is : c.from_residual.result ≡ Err c.in_err-seat.field-0.0 = search rules in
     rw is (record { len = tt; ready = tt; fresh = tt; diners = tt; ports = tt; bells = tt })
 
 pub returns : goal.returns

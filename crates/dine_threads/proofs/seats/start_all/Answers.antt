@@ -5,8 +5,8 @@ use Rattle.dine_threads.specs.private.Seats.{IsReady, seat_of}
 use Rattle.dine_threads.proofs.lists.Zips.{all_first, all_rest, mapped_all, mapped_split}
 use Rattle.dine_threads.proofs.seats.start_all.Goals as goal
 
-pub start-requires-after_bounds : goal.start-requires-after_bounds
-start-requires-after_bounds g c = λ κs bounds.
+pub start_within-requires-after_bounds : goal.start_within-requires-after_bounds
+start_within-requires-after_bounds g c = λ κs bounds.
     all_first (IsReady g.L.Lane.seen_tx g.L.Lane.seen_closed g.L.Lane.seen_rx g.D.Diner.room_left) (into_iter_items c.loop-seat.seat-iterator) (into_iter_items c.next.new.self) c.in-Some.seat c.in-Some.ensures.steps.0 c.loop-seat.invariant.ready
 
 pub loop-seat-init : goal.loop-seat-init
@@ -34,18 +34,12 @@ loop-seat-preserved g c =
     let steps = c.in-Some.ensures.steps in
     record {
       len = omega (arith, was.len, c.push_reserved.ensures.len);
-      within = omega (arith, was.within, c.if-started-threads.false);
+      within = omega (arith, was.within, c.in-Some-start_within.ensures.left);
       count = omega (arith, was.count, steps.1);
       room = omega (arith, was.room, c.push_reserved.ensures.capacity);
       ready = all_rest (IsReady g.L.Lane.seen_tx g.L.Lane.seen_closed g.L.Lane.seen_rx g.D.Diner.room_left) (into_iter_items c.loop-seat.seat-iterator) (into_iter_items c.next.new.self) c.in-Some.seat steps.0 was.ready;
-      split = mapped_split seat_of (vec_items c.loop-seat.children) (vec_items c.push_reserved.new.self) c.in-Some-start.child c.in-Some.seat (into_iter_items c.loop-seat.seat-iterator) (into_iter_items c.next.new.self) (vec_items c.args.seats) c.push_reserved.ensures.items steps.0 c.in-Some-start.ensures was.split;
+      split = mapped_split seat_of (vec_items c.loop-seat.children) (vec_items c.push_reserved.new.self) c.in-Some-start_within.child c.in-Some.seat (into_iter_items c.loop-seat.seat-iterator) (into_iter_items c.next.new.self) (vec_items c.args.seats) c.push_reserved.ensures.items steps.0 c.in-Some-start_within.ensures.child was.split;
     }
-
-pub returns-then-started-threads : goal.returns-then-started-threads
-returns-then-started-threads g c =
-    let was = c.loop-seat.invariant in
-    let more : c.loop-seat.started < vec_len c.args.seats = omega (arith, was.count, c.in-Some.ensures.steps.1) in
-    record { few = omega (arith, more, was.len); all = tt; some = more; first = sym was.len; all_within = tt; some_within = was.within }
 
 pub returns-in_default : goal.returns-in_default
 returns-in_default g c =

@@ -1,4 +1,5 @@
-use Rattle.std.proofs.Common.{◌≡◌, ◌≢◌, ℕ, ◌<◌, Some, IsSome, slice_get, vec_items, sym, ap, ◌∙◌, subst, inl, inr, arith}
+use Rattle.std.proofs.Common.{◌≡◌, ◌≢◌, ℕ, ◌<◌, Some, IsSome, slice_get, vec_items, refl, sym, ap, ◌∙◌, subst, inl, inr, arith}
+use Rattle.std.proofs.lemmas.Option.{slice_get_within}
 use Rattle.dine_graph.specs.Plan.{edge_count, edges_of, lo_of, hi_of}
 use Rattle.dine_rules.specs.JoinedEnds.{AreEndsOfEdge}
 use Rattle.dine_rules.specs.Local.{edge_at}
@@ -8,6 +9,27 @@ use Rattle.dine_threads.specs.declared.slots.Spot.{Spot}
 use Rattle.dine_threads.proofs.all_sites.Edges.{at_low, at_high, found_spot, high_full, later_differs, low_full, slice_get-push}
 use Rattle.dine_threads.proofs.lists.Writes.{spots_apart}
 use Rattle.dine_threads.proofs.slots.pair_up.Goals as goal
+
+pub ends-lower-requires : goal.ends-lower-requires
+ends-lower-requires g c = omega (arith, c.loop-edge-test.true, c.edges-edge-end.ensures.count)
+
+pub push_reserved-requires : goal.push_reserved-requires
+push_reserved-requires g c = omega (arith, c.loop-edge.invariant.len, c.loop-edge.invariant.room, c.loop-edge-test.true, c.edges-edge-end.ensures.count)
+
+pub loop-edge-init : goal.loop-edge-init
+loop-edge-init g c = record {
+  len = c.requires.none;
+  room = c.requires.room;
+  low = λ e later within. refl;
+  high = λ e later within. refl;
+  paired = λ e both at. absurd (omega (arith, slice_get_within (vec_items c.args.pairs.now) e both at, c.requires.none, c.args.pairs.now.ok.0));
+}
+
+pub returns : goal.returns
+returns g c = record {
+  count = omega (arith, c.loop-edge.invariant.len, c.loop-edge-test.false, c.edges-edge-end.ensures.count);
+  each = c.loop-edge.invariant.paired;
+}
 
 pub unwrap-low-requires : goal.unwrap-low-requires
 unwrap-low-requires g c =

@@ -1,8 +1,8 @@
-use Rattle.std.proofs.Common.{◌≡◌, ℕ, ◌+◌, true, List, map, length, refl, sym, ◌∙◌, ap, subst, arith}
+use borrow.Author.Rules.{get_or_read}
+use Rattle.std.proofs.Common.{◌≡◌, ℕ, ◌+◌, true, List, map, length, refl, sym, ◌∙◌, ap, subst, arith, rules}
 use Rattle.std.specs.List.{All}
 use Rattle.std.proofs.lemmas.Bool.{false≢true}
 use Rattle.std.proofs.lemmas.List.{length-map}
-use Rattle.std.proofs.lemmas.Grind.{common_steps}
 use Rattle.dine_token.specs.Fork.{MayEat, eaten}
 use Rattle.dine_core.specs.declared.site.places.Place.{Place}
 use Rattle.dine_core.specs.private.SiteFields.{seen, HasRoom}
@@ -20,7 +20,7 @@ returns-clause-core c =
     ap begun_with c.lift.ensures.places ∙ ap begun c.self.view_is
 
 pub returns-clause-forks : goal.returns-clause-forks
-returns-clause-forks c = grind (arith, common_steps)
+returns-clause-forks c = search (rules, get_or_read)
 
 pub begin-requires-clause-may_eat : goal.begin-requires-clause-may_eat
 begin-requires-clause-may_eat c =

@@ -1,4 +1,4 @@
-use Rattle.std.proofs.Common.{◌≡◌, ◌∙◌, ℕ, Bool, true, List, length, vec_capacity, refl, sym, ap, subst, arith}
+use Rattle.std.proofs.Common.{◌≡◌, ◌∙◌, ℕ, Bool, true, List, length, vec_capacity, refl, sym, ap, subst, arith, ap₂}
 use Rattle.std.proofs.lemmas.Grind.{common_steps}
 use Rattle.dine_core.specs.declared.site.places.Place.{Place}
 use Rattle.dine_rules.specs.Local.{is_eating}
@@ -6,6 +6,7 @@ use Rattle.dine_core.specs.private.SiteFields.{seen, HasRoom}
 use Rattle.dine_core.specs.Core.{SeenCore}
 use Rattle.dine_rules.specs.Steps.{End}
 use Rattle.dine_core.specs.Places.{laid_down, drops_jobs, ended, IsMealOf, IsSound}
+use Rattle.dine_rules.specs.declared.phase.Phase.TheVariants.{Thinking}
 use Rattle.dine_core.proofs.one_site.CoreSteps.{stepped}
 use Rattle.dine_core.proofs.own_events.Marked.{length-laid_down}
 use Rattle.dine_core.proofs.one_site.SiteTests.{may_end}
@@ -13,7 +14,10 @@ use Rattle.dine_core.proofs.one_site.Ending.{sound_ended, stands_ended}
 use Rattle.dine_core.proofs.site.SiteCore.end.Goals as goal
 
 pub returns-clause-core : goal.returns-clause-core
-returns-clause-core c = grind (arith, common_steps)
+returns-clause-core c =
+    let with_both : Bool → List Place → SeenCore = λ (must_quit : Bool) (places : List Place). record (seen c.self.inside) { phase = Thinking; must_quit = must_quit; places = places } in
+    ap₂ with_both (c.drops_jobs-must_quit.ensures ∙ ap (drops_jobs c.args.failed) (sym c.self.view_is)) (c.lay_down.ensures.places ∙ ap (laid_down c.self.inside.places) c.end-hands.ensures.forks)
+    ∙ ap (ended c.args.failed c.args.meal.forks) c.self.view_is
 
 pub returns-clause-step : goal.returns-clause-step
 returns-clause-step c plan state keeps stands forks =

@@ -1,14 +1,14 @@
-use Rattle.std.proofs.Common.{refl, arith}
+use Rattle.std.proofs.Common.{refl, ap}
 use Rattle.std.proofs.lemmas.Bool.{and_parts}
-use Rattle.std.proofs.lemmas.Grind.{common_steps}
 use Rattle.dine_rules.specs.Steps.{Hungry}
+use Rattle.dine_core.specs.Places.{hungered}
 use Rattle.dine_core.proofs.one_site.CoreSteps.{stepped}
 use Rattle.dine_core.proofs.one_site.SiteTests.{may_hunger}
 use Rattle.dine_core.proofs.one_site.Stands.{stands-hungered}
 use Rattle.dine_core.proofs.site.SiteCore.hungry.Goals as goal
 
 pub returns-clause-hungry : goal.returns-clause-hungry
-returns-clause-hungry c = grind (arith, common_steps)
+returns-clause-hungry c = ap hungered c.self.view_is
 
 pub returns-clause-step : goal.returns-clause-step
 returns-clause-step c plan state keeps stands =

@@ -1,13 +1,13 @@
-use Rattle.std.proofs.Common.{refl, arith}
-use Rattle.std.proofs.lemmas.Grind.{common_steps}
+use Rattle.std.proofs.Common.{refl, ap}
 use Rattle.dine_rules.specs.Steps.{Quit}
+use Rattle.dine_core.specs.Places.{quitted}
 use Rattle.dine_core.proofs.one_site.CoreSteps.{stepped}
 use Rattle.dine_core.proofs.one_site.SiteTests.{may_quit}
 use Rattle.dine_core.proofs.one_site.Stands.{stands-quitted}
 use Rattle.dine_core.proofs.site.SiteCore.quit.Goals as goal
 
 pub returns-clause-quit : goal.returns-clause-quit
-returns-clause-quit c = grind (arith, common_steps)
+returns-clause-quit c = ap quitted c.self.view_is
 
 pub returns-clause-step : goal.returns-clause-step
 returns-clause-step c plan state keeps stands =

@@ -1,4 +1,4 @@
-use Rattle.std.proofs.Common.{sym, ◌∙◌, ap, arith}
+use Rattle.std.proofs.Common.{refl, sym, ◌∙◌, ap, arith}
 use Rattle.std.proofs.lemmas.Grind.{common_steps}
 use Rattle.dine_core.specs.declared.site.places.Place.{Place}
 use Rattle.dine_core.specs.Core.{SeenCore}
@@ -45,3 +45,6 @@ returns-clause-core c = c.take_in_turn.ensures.core
 
 pub returns-clause-taken : goal.returns-clause-taken
 returns-clause-taken c = c.take_in_turn.ensures.taken
+
+pub returns-in-Some-clause-core : goal.returns-in-Some-clause-core
+returns-in-Some-clause-core c = (refl, refl)

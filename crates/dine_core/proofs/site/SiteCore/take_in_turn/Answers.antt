@@ -1,9 +1,10 @@
-use Rattle.std.proofs.Common.{◌≡◌, None, refl, sym, ◌∙◌, subst, arith}
+use Rattle.std.proofs.Common.{◌≡◌, None, refl, sym, ◌∙◌, subst, arith, List, ap}
 use Rattle.std.proofs.lemmas.Grind.{common_steps}
 use Rattle.dine_core.specs.Core.{SeenCore}
 use Rattle.dine_rules.specs.Steps.{Take}
 use Rattle.dine_core.specs.private.SiteFields.{seen}
-use Rattle.dine_core.specs.Places.{place_at, no_place, breach_at, noted, IsSoundPlace}
+use Rattle.dine_core.specs.Places.{place_at, no_place, breach_at, noted, IsSoundPlace, took}
+use Rattle.dine_core.specs.declared.site.places.Place.{Place}
 use Rattle.dine_core.proofs.one_site.Sound.{kept_with, sound_noted}
 use Rattle.dine_core.proofs.one_site.CoreSteps.{stepped}
 use Rattle.dine_core.proofs.one_site.Breaches.{breach_is, may_take, stands-took}
@@ -18,7 +19,12 @@ invariant_of-self c =
     kept_with c.self.inside i (noted c.args.letter (place_at old i)) c.note.new.self c.self.invariant c.note.ensures.noted (sound_noted old (place_at old i) c.args.letter turn here)
 
 pub returns-clause-core : goal.returns-clause-core
-returns-clause-core c = grind (arith, common_steps)
+returns-clause-core c =
+    let with_places : List Place → SeenCore = λ (places : List Place). record (seen c.self.inside) { places = places } in
+    ap with_places c.note.ensures.noted ∙ ap (took c.args.i c.args.letter) c.self.view_is
+
+pub returns-clause-proper : goal.returns-clause-proper
+returns-clause-proper c = c.note.ensures.proper
 
 pub returns-clause-taken : goal.returns-clause-taken
 returns-clause-taken c plan state keeps stands =

@@ -1,0 +1,13 @@
+use Rattle.std.proofs.Common.{arith}
+use Rattle.dine_threads.proofs.opening.open_lists.Goals as goal
+
+pub returns : goal.returns
+returns g c = record {
+  plan = c.sites-sites.ensures.plan;
+  stands = omega (arith, c.sites-sites.ensures.count, c.in_ok-stands.ensures.capacity);
+  no_stand = c.in_ok-stands.ensures.len;
+  rows = omega (arith, c.sites-sites.ensures.count, c.in_ok-rows.ensures.capacity);
+  no_row = c.in_ok-rows.ensures.len;
+  pairs = omega (arith, c.edges.ensures.count, c.in_ok-pairs.ensures.capacity);
+  no_pair = c.in_ok-pairs.ensures.len;
+}
