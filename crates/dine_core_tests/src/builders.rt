@@ -1,11 +1,10 @@
 // Plans made by a program, beside what is read of the text that says the same.
 use crate::asserts::same;
-use crate::plans::{in_short, second_in_short};
+use crate::plans::{in_short, printed, second_in_short};
 use dine_plan::{Plan, PlanBuilder, PlanFault, read_plan};
 use dine_token::Act;
-use std::alloc::{AllocError, Global};
+use std::alloc::Global;
 use std::process::Abort;
-use std::test::Fail;
 
 const THREE: &str = r#"
 version = 2
@@ -25,6 +24,34 @@ fn add_edge(rt: &impl Abort, plan: &mut PlanBuilder, one: u32, other: u32) -> u3
     plan.edge(one, other).expect(rt, "memory")
 }
 
+// What is told of a job by its site and number, from 1; of a site; or of an edge.
+#[derive(Clone, Copy)]
+enum Part {
+    Fails(u32, u32),
+    Turns(u32, u32, u32),
+    Does(u32, u32, Act),
+    Resigns(u32),
+    Value(u32, u64),
+}
+
+// Whether there is such a job, site or edge, of which this is then told.
+fn tell(plan: &mut PlanBuilder, part: Part) -> bool {
+    match part {
+        Part::Fails(site, k) => plan.fails(site, k),
+        Part::Turns(site, k, turns) => plan.turns(site, k, turns),
+        Part::Does(site, k, act) => plan.act(site, k, act),
+        Part::Resigns(site) => plan.resign(site),
+        Part::Value(edge, value) => plan.value(edge, value),
+    }
+}
+
+// All this is told, and whether there is each such job, site or edge.
+fn tell_all(rt: &impl Abort, plan: &mut PlanBuilder, parts: &[(Part, bool)]) {
+    for (part, is_there) in parts {
+        same(rt, &tell(plan, *part), is_there);
+    }
+}
+
 // What the text `THREE` says, told by a program.
 fn three(rt: &impl Abort, alloc: Global) -> PlanBuilder {
     let mut plan = PlanBuilder::open(alloc);
@@ -33,89 +60,77 @@ fn three(rt: &impl Abort, alloc: Global) -> PlanBuilder {
     let first = add_edge(rt, &mut plan, b, a);
     let _second = add_edge(rt, &mut plan, b, 2);
     let _c = add_site(rt, &mut plan, "c", 0);
-    plan.act(a, 2, Act::Add(10));
-    plan.fails(a, 2);
-    plan.turns(a, 3, 100);
-    plan.resign(a);
-    plan.act(b, 1, Act::Set(7));
-    plan.value(first, 5);
+    let parts = [
+        (Part::Does(a, 2, Act::Add(10)), true),
+        (Part::Fails(a, 2), true),
+        (Part::Turns(a, 3, 100), true),
+        (Part::Resigns(a), true),
+        (Part::Does(b, 1, Act::Set(7)), true),
+        (Part::Value(first, 5), true),
+    ];
+    tell_all(rt, &mut plan, &parts);
     plan
 }
 
 // All that is told of a plan, in short, or its fault as it is printed.
-fn answer(alloc: Global, plan: Result<Plan, PlanFault>) -> Result<String, AllocError> {
+fn answer(rt: &impl Abort, alloc: Global, plan: Result<Plan, PlanFault>) -> String {
     match plan {
-        Ok(plan) => {
-            let form = in_short(alloc, &plan)?;
-            let values = second_in_short(alloc, &plan)?;
-            format!(in alloc; "{form} {values}")
-        }
-        Err(fault) => format!(in alloc; "{fault}"),
+        Ok(plan) => whole_in_short(rt, alloc, &plan),
+        Err(fault) => printed(rt, alloc, fault),
     }
+}
+
+fn whole_in_short(rt: &impl Abort, alloc: Global, plan: &Plan) -> String {
+    let form = in_short(rt, alloc, plan);
+    let values = second_in_short(rt, alloc, plan);
+    format!(in alloc; "{form} {values}").expect(rt, "memory")
 }
 
 // This is told of a plan, or is its fault as it is printed.
 fn is_told(rt: &impl Abort, alloc: Global, plan: Result<Plan, PlanFault>, want: &str) {
-    let told = answer(alloc, plan).expect(rt, "memory");
+    let told = answer(rt, alloc, plan);
     same(rt, &told.as_str(), &want);
 }
+
+// The answer to what was told is this one, and so is that to the text that says the same.
+fn tells(rt: &impl Abort, alloc: Global, plan: &PlanBuilder, want: &str) {
+    let text = plan.text().expect(rt, "memory");
+    is_told(rt, alloc, read_plan(alloc, text.as_str()), want);
+    is_told(rt, alloc, plan.finish(), want);
+}
+
+const TOLD_OF_THREE: &str =
+    "a 1/0/false 2/0/true 3/100/false;b 1/0/false;c; 0-1 1-2 2: a! +0 +10 +0 b =7 c 5 0";
 
 #[test]
 fn builds_what_is_read(rt: HostRuntime) {
-    let alloc = rt.alloc();
-    let built = three(&rt, alloc);
-    let want = "a 1/0/false 2/0/true 3/100/false;b 1/0/false;c; 0-1 1-2 2: a! +0 +10 +0 b =7 c 5 0";
-    is_told(&rt, alloc, built.finish(), want);
-    is_told(&rt, alloc, read_plan(alloc, THREE), want);
-    let text = built.text().expect(&rt, "memory");
-    is_told(&rt, alloc, read_plan(alloc, text.as_str()), want);
+    tells(&rt, rt.alloc(), &three(&rt, rt.alloc()), TOLD_OF_THREE);
+    is_told(&rt, rt.alloc(), read_plan(rt.alloc(), THREE), TOLD_OF_THREE);
 }
 
 #[test]
-fn numbers_what_is_told(rt: HostRuntime) -> Result<(), Fail> {
+fn numbers_what_is_told(rt: HostRuntime) {
     let mut plan = PlanBuilder::open(rt.alloc());
-    let sites = (plan.site("a", 2)?, plan.site("b", 0)?, plan.site("c", 1)?);
-    same(&rt, &sites, &(0, 1, 2));
-    let edges = (plan.edge(0, 1)?, plan.edge(1, 2)?);
-    same(&rt, &edges, &(0, 1));
-    let jobs = (
-        plan.fails(0, 0),
-        plan.fails(0, 1),
-        plan.fails(0, 2),
-        plan.fails(0, 3),
-    );
-    same(&rt, &jobs, &(false, true, true, false));
-    let others = (
-        plan.turns(1, 1, 5),
-        plan.act(3, 1, Act::Set(1)),
-        plan.act(2, 1, Act::Set(1)),
-    );
-    same(&rt, &others, &(false, false, true));
-    let rest = (
-        plan.resign(2),
-        plan.resign(3),
-        plan.value(1, 9),
-        plan.value(2, 9),
-    );
-    same(&rt, &rest, &(true, false, true, false));
-    Ok(())
-}
-
-// The answer to what was told, where the text that says the same has that answer too.
-fn told(alloc: Global, plan: &PlanBuilder) -> Result<String, AllocError> {
-    let text = plan.text()?;
-    let read = answer(alloc, read_plan(alloc, text.as_str()))?;
-    let built = answer(alloc, plan.finish())?;
-    if built.as_str() == read.as_str() {
-        return Ok(built);
+    for (name, jobs, number) in [("a", 2, 0), ("b", 0, 1), ("c", 1, 2)] {
+        same(&rt, &add_site(&rt, &mut plan, name, jobs), &number);
     }
-    format!(in alloc; "built {built}, read {read}")
-}
-
-// That answer is this one.
-fn tells(rt: &impl Abort, alloc: Global, plan: &PlanBuilder, want: &str) {
-    let told = told(alloc, plan).expect(rt, "memory");
-    same(rt, &told.as_str(), &want);
+    for (one, other, number) in [(0, 1, 0), (1, 2, 1)] {
+        same(&rt, &add_edge(&rt, &mut plan, one, other), &number);
+    }
+    let parts = [
+        (Part::Fails(0, 0), false),
+        (Part::Fails(0, 1), true),
+        (Part::Fails(0, 2), true),
+        (Part::Fails(0, 3), false),
+        (Part::Turns(1, 1, 5), false),
+        (Part::Does(3, 1, Act::Set(1)), false),
+        (Part::Does(2, 1, Act::Set(1)), true),
+        (Part::Resigns(2), true),
+        (Part::Resigns(3), false),
+        (Part::Value(1, 9), true),
+        (Part::Value(2, 9), false),
+    ];
+    tell_all(&rt, &mut plan, &parts);
 }
 
 // A plan with so many sites of a job each, and with all their edges or with none.
@@ -131,72 +146,97 @@ fn wide(rt: &impl Abort, alloc: Global, sites: u32, has_edges: bool) -> PlanBuil
     plan
 }
 
+// No site can have a name like these.
+fn refuses_names(rt: &impl Abort, alloc: Global) {
+    for name in ["", "a b", "\" }]\nversion = 1 #", "\u{e9}"] {
+        let mut plan = three(rt, alloc);
+        add_site(rt, &mut plan, name, 0);
+        tells(rt, alloc, &plan, "6 BadName at site 3");
+    }
+}
+
 #[test]
 fn refuses_names_and_sites(rt: HostRuntime) {
-    let alloc = rt.alloc();
-    let mut plan = PlanBuilder::open(alloc);
-    tells(&rt, alloc, &plan, "8 NoSite");
+    let mut plan = PlanBuilder::open(rt.alloc());
+    tells(&rt, rt.alloc(), &plan, "8 NoSite");
     add_site(&rt, &mut plan, "a", 1_000);
-    add_site(&rt, &mut plan, "b", 1_001);
-    tells(&rt, alloc, &plan, "10 TooManyJobs at site 1");
-    add_site(&rt, &mut plan, "a", u32::MAX);
-    tells(&rt, alloc, &plan, "7 SiteTwice at site 2");
-    for name in ["", "a b", "\" }]\nversion = 1 #", "\u{e9}"] {
-        let mut plan = three(&rt, alloc);
-        add_site(&rt, &mut plan, name, 0);
-        tells(&rt, alloc, &plan, "6 BadName at site 3");
+    for (name, jobs, want) in [
+        ("b", 1_001, "10 TooManyJobs at site 1"),
+        ("a", u32::MAX, "7 SiteTwice at site 2"),
+    ] {
+        add_site(&rt, &mut plan, name, jobs);
+        tells(&rt, rt.alloc(), &plan, want);
     }
-    tells(&rt, alloc, &wide(&rt, alloc, 65, false), "9 TooManySites");
+    refuses_names(&rt, rt.alloc());
+    let many = wide(&rt, rt.alloc(), 65, false);
+    tells(&rt, rt.alloc(), &many, "9 TooManySites");
 }
 
 #[test]
 fn refuses_edges(rt: HostRuntime) {
-    let alloc = rt.alloc();
-    let mut plan = three(&rt, alloc);
-    add_edge(&rt, &mut plan, 0, 1);
-    tells(&rt, alloc, &plan, "14 EdgeTwice at edge 2");
-    add_edge(&rt, &mut plan, 2, 2);
-    tells(&rt, alloc, &plan, "13 Loop at edge 3");
-    add_edge(&rt, &mut plan, 3, 0);
-    tells(&rt, alloc, &plan, "12 UnknownEnd at edge 4");
+    let mut plan = three(&rt, rt.alloc());
+    for (one, other, want) in [
+        (0, 1, "14 EdgeTwice at edge 2"),
+        (2, 2, "13 Loop at edge 3"),
+        (3, 0, "12 UnknownEnd at edge 4"),
+    ] {
+        add_edge(&rt, &mut plan, one, other);
+        tells(&rt, rt.alloc(), &plan, want);
+    }
     add_site(&rt, &mut plan, "d", 0);
-    tells(&rt, alloc, &plan, "13 Loop at edge 3");
-    tells(&rt, alloc, &wide(&rt, alloc, 33, true), "15 TooManyEdges");
+    tells(&rt, rt.alloc(), &plan, "13 Loop at edge 3");
+    let many = wide(&rt, rt.alloc(), 33, true);
+    tells(&rt, rt.alloc(), &many, "15 TooManyEdges");
 }
+
+// The largest numbers of all.
+const LARGEST: [(Part, bool); 4] = [
+    (Part::Turns(1, 1, 1_000_000), true),
+    (Part::Does(0, 1, Act::Add(1_000_000)), true),
+    (Part::Does(1, 1, Act::Set(1_000_000)), true),
+    (Part::Value(1, 1_000_000), true),
+];
 
 #[test]
 fn refuses_numbers(rt: HostRuntime) {
-    let alloc = rt.alloc();
-    let mut plan = three(&rt, alloc);
-    plan.value(1, u64::MAX);
-    tells(&rt, alloc, &plan, "19 ValueTooLarge at edge 1");
-    plan.act(1, 1, Act::Set(1_000_001));
-    tells(&rt, alloc, &plan, "18 ActTooLarge at site 1");
-    plan.act(0, 1, Act::Add(u64::MAX));
-    tells(&rt, alloc, &plan, "18 ActTooLarge at site 0");
-    plan.turns(1, 1, u32::MAX);
-    tells(&rt, alloc, &plan, "11 TurnsTooLarge at site 1");
-    plan.turns(1, 1, 1_000_000);
-    plan.act(0, 1, Act::Add(1_000_000));
-    plan.act(1, 1, Act::Set(1_000_000));
-    plan.value(1, 1_000_000);
+    let mut plan = three(&rt, rt.alloc());
+    for (part, want) in [
+        (Part::Value(1, u64::MAX), "19 ValueTooLarge at edge 1"),
+        (
+            Part::Does(1, 1, Act::Set(1_000_001)),
+            "18 ActTooLarge at site 1",
+        ),
+        (
+            Part::Does(0, 1, Act::Add(u64::MAX)),
+            "18 ActTooLarge at site 0",
+        ),
+        (Part::Turns(1, 1, u32::MAX), "11 TurnsTooLarge at site 1"),
+    ] {
+        tell_all(&rt, &mut plan, &[(part, true)]);
+        tells(&rt, rt.alloc(), &plan, want);
+    }
+    tell_all(&rt, &mut plan, &LARGEST);
     let want =
         "a 1/0/false 2/0/true 3/100/false;b 1/1000000/false;c; 0-1 1-2 2: a! +1000000 +10 +0 b =1000000 c 5 1000000";
-    tells(&rt, alloc, &plan, want);
+    tells(&rt, rt.alloc(), &plan, want);
+}
+
+// The plan has the site that was told, or its fault is want of memory, or that no site could be told for that.
+fn is_built(rt: &impl Abort, plan: Result<Plan, PlanFault>, is_told: bool) {
+    match plan {
+        Ok(plan) => {
+            assert!(rt; plan.sites() == 1);
+            same(rt, &(is_told, plan.jobs(0)), &(true, 2));
+        }
+        Err(PlanFault::Memory) => {}
+        Err(fault) => same(rt, &(is_told, fault), &(false, PlanFault::NoSite)),
+    }
 }
 
 // Under `--fail-alloc` each allocation fails in turn: what was told stays, and the answer is then want of memory.
 #[test]
-fn builds_the_plan_or_answers_memory(rt: HostRuntime) -> Result<(), Fail> {
+fn builds_the_plan_or_answers_memory(rt: HostRuntime) {
     let mut plan = PlanBuilder::open(rt.alloc());
-    let told = plan.site("a", 2).is_ok();
-    let fault = match plan.finish() {
-        Ok(found) => {
-            same(&rt, &(told, found.sites(), found.jobs(0)), &(true, 1, 2));
-            return Ok(());
-        }
-        Err(fault) => fault,
-    };
-    assert!(rt; fault == PlanFault::Memory || !told && fault == PlanFault::NoSite);
-    Ok(())
+    let is_told = plan.site("a", 2).is_ok();
+    is_built(&rt, plan.finish(), is_told);
 }

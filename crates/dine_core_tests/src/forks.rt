@@ -1,109 +1,320 @@
-// Forks with the logs of some ways that they may go, meals and tokens.
+// Forks with the logs of some ways that they may go, meals and tokens. Ways are scripts: what is done with the forks in
+// hand one after another, which one function goes through.
+ghost use Rattle.std.specs.Prelude.{◌≡◌, true, All};
+ghost use Rattle.dine_token.specs.Fork.{IsEnd, MayEat};
+ghost use Rattle.dine_token.specs.Values.{IsAct};
+
 use crate::asserts::same;
 use dine_token::{Act, Entry, Fork, Held, Meal, Period, Token};
-use std::test::Fail;
+use std::alloc::Global;
+use std::process::Abort;
 
-fn meal(site: u32, k: u32) -> Entry {
-    Entry::Meal { site, k }
+// What a fork tells: where it is, whether it is dirty, how many meals of the lower end it has and how many of the
+// higher, its value, its log, and the periods of its log, each as its site, its first meal and how many.
+#[derive(Clone, Copy)]
+pub(crate) struct Told<'a> {
+    at: u32,
+    is_dirty: bool,
+    meals: (u32, u32),
+    value: u64,
+    log: &'a [Entry],
+    periods: &'a [(u32, u32, u32)],
 }
 
-fn to(to: u32) -> Entry {
-    Entry::Move { to }
+#[derive(Clone, Copy)]
+pub(crate) enum Step<'a> {
+    // A fork of this edge is opened and comes to hand as the last: its ends, the meals due to them, and its value.
+    Open(u32, (u32, u32), (u32, u32), u64),
+    // The site eats its meal of this number with all forks in hand, which have these values then.
+    Eat((u32, u32), Act, &'a [u64]),
+    // The last is sent to this end and taken in hand there.
+    Give(u32),
+    // The last is laid down.
+    Keep,
+    // The last tells this.
+    Tells(Told<'a>),
 }
 
-fn period(site: u32, first: u32, count: u32) -> Period {
-    Period { site, first, count }
+// A fork as it is opened, with what it was opened with.
+pub(crate) fn opened(
+    rt: &impl Abort,
+    alloc: Global,
+    edge: u32,
+    ends: (u32, u32),
+    due: (u32, u32),
+    value: u64,
+) -> Fork {
+    assert!(rt; ends.0 < ends.1);
+    assert!(rt; due.0 <= 1000);
+    assert!(rt; due.1 <= 1000);
+    assert!(rt; value <= 1_000_000);
+    let fork = Fork::open(alloc, edge, ends.0, ends.1, due.0, due.1, value).expect(rt, "memory");
+    same(rt, &fork.edge(), &edge);
+    same(rt, &fork.ends(), &ends);
+    same(rt, &(fork.due_of(ends.0), fork.due_of(ends.1)), &due);
+    same(rt, &fork.value(), &value);
+    fork
+}
+
+fn is_end(fork: &Fork, site: u32) -> bool
+    ensures { result ≡ true → IsEnd fork.now site }
+{
+    let (lower, higher) = fork.ends();
+    site == lower || site == higher
+}
+
+// Whether the site may eat this meal with the fork.
+fn may_eat(fork: &Fork, site: u32, k: u32) -> bool
+    ensures { result ≡ true → MayEat site k fork.now }
+{
+    is_end(fork, site)
+        && fork.at() == site
+        && k <= fork.due_of(site)
+        && fork.meals_of(site) + 1 == k
+}
+
+fn all_may_eat(hands: &[Held], site: u32, k: u32) -> bool
+    ensures { result ≡ true → All (MayEat site k) hands.now }
+{
+    for i in 0..hands.len() {
+        if !may_eat(hands[i].fork(), site, k) {
+            return false;
+        }
+    }
+    true
+}
+
+fn is_act(act: Act) -> bool
+    ensures { result ≡ true → IsAct act }
+{
+    match act {
+        Act::Add(amount) => amount <= 1_000_000,
+        Act::Set(amount) => amount <= 1_000_000,
+    }
+}
+
+// How many meals of the site the fork has.
+fn meals_of(rt: &impl Abort, fork: &Fork, site: u32) -> u32 {
+    assert!(rt; is_end(fork, site));
+    fork.meals_of(site)
+}
+
+// The meal is this one, with so many forks, each with its meals so far and its value.
+fn is_meal(rt: &impl Abort, meal: &Meal, site: u32, k: u32, values: &[u64]) {
+    same(rt, &(meal.site(), meal.k()), &(site, k));
+    assert!(rt; meal.len() as usize == values.len());
+    for i in 0..meal.len() {
+        let fork = meal.fork(i);
+        same(rt, &meals_of(rt, fork, site), &k);
+        same(rt, &Some(fork.value()), &values.get(i as usize).copied());
+    }
+}
+
+fn eat(
+    rt: &impl Abort,
+    hands: Vec<Held>,
+    site: u32,
+    k: u32,
+    act: Act,
+    values: &[u64],
+) -> Vec<Held> {
+    assert!(rt; hands.len() <= 10);
+    assert!(rt; all_may_eat(hands.as_slice(), site, k));
+    assert!(rt; is_act(act));
+    let meal = Meal::begin(site, k, act, hands);
+    is_meal(rt, &meal, site, k, values);
+    meal.end()
+}
+
+// The fork after it was sent to the other end.
+fn give(rt: &impl Abort, held: Held, to: u32) -> Fork {
+    let fork = held.fork();
+    let (lower, higher) = fork.ends();
+    assert!(rt; to == (if fork.at() == lower { higher } else { lower }));
+    assert!(rt; fork.is_dirty());
+    assert!(rt; fork.meals_of(to) < fork.due_of(to));
+    held.give(to)
+}
+
+fn last(rt: &impl Abort, hands: &mut Vec<Held>) -> Held {
+    hands.pop().expect(rt, "a fork")
+}
+
+// The fork comes to hand.
+fn comes(rt: &impl Abort, hands: &mut Vec<Held>, fork: Fork) {
+    assert!(rt; hands.len() < hands.capacity());
+    hands.push_reserved(Held::take(fork));
+}
+
+// The fork has exactly this log.
+pub(crate) fn has_log(rt: &impl Abort, fork: &Fork, log: &[Entry]) {
+    assert!(rt; fork.len() as usize == log.len());
+    for i in 0..fork.len() {
+        let entry = log.get(i as usize).copied();
+        same(rt, &Some(fork.entry(i)), &entry);
+    }
+}
+
+// The fork has exactly these periods, and a Move between any two.
+pub(crate) fn has_periods(rt: &impl Abort, fork: &Fork, periods: &[(u32, u32, u32)]) {
+    assert!(rt; fork.periods() as usize == periods.len());
+    same(rt, &fork.moves().saturating_add(1), &fork.periods());
+    for i in 0..fork.periods() {
+        let Period { site, first, count } = fork.period(i);
+        let period = periods.get(i as usize).copied();
+        same(rt, &Some((site, first, count)), &period);
+    }
+}
+
+fn tells(rt: &impl Abort, fork: &Fork, told: Told) {
+    same(
+        rt,
+        &(fork.at(), fork.is_dirty(), fork.value()),
+        &(told.at, told.is_dirty, told.value),
+    );
+    let (lower, higher) = fork.ends();
+    let meals = (meals_of(rt, fork, lower), meals_of(rt, fork, higher));
+    same(rt, &meals, &told.meals);
+    has_log(rt, fork, told.log);
+    has_periods(rt, fork, told.periods);
+}
+
+// A step of the last fork.
+fn goes_on(rt: &impl Abort, alloc: Global, hands: &mut Vec<Held>, step: Step) {
+    match step {
+        Step::Open(edge, ends, due, value) => {
+            comes(rt, hands, opened(rt, alloc, edge, ends, due, value));
+        }
+        Step::Give(to) => {
+            let fork = give(rt, last(rt, hands), to);
+            comes(rt, hands, fork);
+        }
+        Step::Keep => {
+            let _ = last(rt, hands).keep();
+        }
+        Step::Tells(told) => {
+            let held = last(rt, hands);
+            tells(rt, held.fork(), told);
+            comes(rt, hands, held.keep());
+        }
+        Step::Eat(_, _, _) => {}
+    }
+}
+
+// The forks in hand after these steps, one after another.
+fn after(rt: &impl Abort, alloc: Global, steps: &[Step]) -> Vec<Held> {
+    let mut hands = Vec::with_capacity(alloc, 2).expect(rt, "memory");
+    for step in steps {
+        if let Step::Eat((site, k), act, values) = *step {
+            hands = eat(rt, hands, site, k, act, values);
+        } else {
+            goes_on(rt, alloc, &mut hands, *step);
+        }
+    }
+    hands
+}
+
+// All forks in hand are laid down.
+fn lay_down(rt: &impl Abort, mut hands: Vec<Held>) {
+    for _ in 0..hands.len() {
+        let _ = last(rt, &mut hands).keep();
+    }
+    assert!(rt; hands.is_empty());
+    hands.destroy_empty();
+}
+
+fn play(rt: &impl Abort, alloc: Global, steps: &[Step]) {
+    lay_down(rt, after(rt, alloc, steps));
+}
+
+// The fork that was in hand last after these steps.
+pub(crate) fn fork_after(rt: &impl Abort, alloc: Global, steps: &[Step]) -> Fork {
+    let mut hands = after(rt, alloc, steps);
+    let fork = last(rt, &mut hands).keep();
+    lay_down(rt, hands);
+    fork
 }
 
 // Two sites with one job each share a fork: the lower eats, sends it, and the higher eats.
 #[test]
-fn fork_goes_from_one_end_to_the_other(rt: HostRuntime) -> Result<(), Fail> {
-    let fork = Fork::open(rt.alloc(), 7, 2, 5, 1, 1, 0)?;
-    same(&rt, &fork.edge(), &7);
-    same(&rt, &fork.ends(), &(2, 5));
-    same(&rt, &(fork.due_of(2), fork.due_of(5)), &(1, 1));
-    same(
-        &rt,
-        &(fork.at(), fork.is_dirty(), fork.len(), fork.moves()),
-        &(2, true, 0, 0),
-    );
-    let mut hands = Vec::with_capacity(rt.alloc(), 1)?;
-    hands.push_reserved(Held::take(fork));
-    let first = Meal::begin(2, 1, Act::Add(0), hands);
-    same(&rt, &(first.site(), first.k(), first.len()), &(2, 1, 1));
-    same(&rt, &first.fork(0).meals_of(2), &1);
-    let mut hands = first.end();
-    let Some(held) = hands.pop() else {
-        unreachable!();
+fn fork_goes_from_one_end_to_the_other(rt: HostRuntime) {
+    let opened = Told {
+        at: 2,
+        is_dirty: true,
+        meals: (0, 0),
+        value: 0,
+        log: &[],
+        periods: &[(2, 1, 0)],
     };
-    same(&rt, &held.fork().len(), &1);
-    let fork = held.give(5);
-    same(
-        &rt,
-        &(fork.at(), fork.is_dirty(), fork.moves()),
-        &(5, false, 1),
-    );
-    hands.push_reserved(Held::take(fork));
-    let mut hands = Meal::begin(5, 1, Act::Add(0), hands).end();
-    let Some(held) = hands.pop() else {
-        unreachable!();
+    let eaten = Told {
+        meals: (1, 0),
+        log: &[Entry::Meal { site: 2, k: 1 }],
+        periods: &[(2, 1, 1)],
+        ..opened
     };
-    hands.destroy_empty();
-    let fork = held.keep();
-    assert!(rt; fork.len() == 3);
-    same(
-        &rt,
-        &(fork.entry(0), fork.entry(1), fork.entry(2)),
-        &(meal(2, 1), to(5), meal(5, 1)),
-    );
-    same(
-        &rt,
-        &(fork.meals_of(2), fork.meals_of(5), fork.is_dirty()),
-        &(1, 1, true),
-    );
-    assert!(rt; fork.periods() == 2);
-    same(
-        &rt,
-        &(fork.period(0), fork.period(1)),
-        &(period(2, 1, 1), period(5, 1, 1)),
-    );
-    Ok(())
+    let given = Told {
+        at: 5,
+        is_dirty: false,
+        log: &[Entry::Meal { site: 2, k: 1 }, Entry::Move { to: 5 }],
+        periods: &[(2, 1, 1), (5, 1, 0)],
+        ..eaten
+    };
+    let whole = Told {
+        is_dirty: true,
+        meals: (1, 1),
+        log: &[
+            Entry::Meal { site: 2, k: 1 },
+            Entry::Move { to: 5 },
+            Entry::Meal { site: 5, k: 1 },
+        ],
+        periods: &[(2, 1, 1), (5, 1, 1)],
+        ..given
+    };
+    let steps = [
+        Step::Open(7, (2, 5), (1, 1), 0),
+        Step::Tells(opened),
+        Step::Eat((2, 1), Act::Add(0), &[0]),
+        Step::Tells(eaten),
+        Step::Give(5),
+        Step::Tells(given),
+        Step::Eat((5, 1), Act::Add(0), &[0]),
+        Step::Tells(whole),
+    ];
+    play(&rt, rt.alloc(), &steps);
 }
 
 // The lower end sends the fork before it eats, so its first period is without a meal.
 #[test]
-fn fork_that_goes_first_has_an_empty_period(rt: HostRuntime) -> Result<(), Fail> {
-    let fork = Fork::open(rt.alloc(), 0, 0, 1, 1, 1, 0)?;
-    same(
-        &rt,
-        &(fork.periods(), fork.period(0)),
-        &(1, period(0, 1, 0)),
-    );
-    let fork = Held::take(fork).give(1);
-    let mut hands = Vec::with_capacity(rt.alloc(), 1)?;
-    hands.push_reserved(Held::take(fork));
-    let mut hands = Meal::begin(1, 1, Act::Add(0), hands).end();
-    let Some(held) = hands.pop() else {
-        unreachable!();
+fn fork_that_goes_first_has_an_empty_period(rt: HostRuntime) {
+    let opened = Told {
+        at: 0,
+        is_dirty: true,
+        meals: (0, 0),
+        value: 0,
+        log: &[],
+        periods: &[(0, 1, 0)],
     };
-    hands.destroy_empty();
-    let fork = held.keep();
-    assert!(rt; fork.len() == 2 && fork.periods() == 2);
-    same(&rt, &fork.moves(), &1);
-    same(
-        &rt,
-        &(fork.period(0), fork.period(1)),
-        &(period(0, 1, 0), period(1, 1, 1)),
-    );
-    same(&rt, &(fork.entry(0), fork.entry(1)), &(to(1), meal(1, 1)));
-    Ok(())
+    let whole = Told {
+        at: 1,
+        meals: (0, 1),
+        log: &[Entry::Move { to: 1 }, Entry::Meal { site: 1, k: 1 }],
+        periods: &[(0, 1, 0), (1, 1, 1)],
+        ..opened
+    };
+    let steps = [
+        Step::Open(0, (0, 1), (1, 1), 0),
+        Step::Tells(opened),
+        Step::Give(1),
+        Step::Eat((1, 1), Act::Add(0), &[0]),
+        Step::Tells(whole),
+    ];
+    play(&rt, rt.alloc(), &steps);
 }
 
 #[test]
 fn meal_without_forks_has_its_number(rt: HostRuntime) {
-    let meal = Meal::begin(3, 4, Act::Add(0), Vec::new(rt.alloc()));
-    same(&rt, &(meal.site(), meal.k(), meal.len()), &(3, 4, 0));
-    meal.end().destroy_empty();
+    let steps = [Step::Eat((3, 4), Act::Add(0), &[])];
+    play(&rt, rt.alloc(), &steps);
 }
 
 #[test]
@@ -113,43 +324,28 @@ fn token_names_its_edge(rt: HostRuntime) {
 
 // A value goes with the fork: each meal does its act to it, of every fork in hand, and a Move leaves it.
 #[test]
-fn value_is_changed_by_each_meal(rt: HostRuntime) -> Result<(), Fail> {
-    let one = Fork::open(rt.alloc(), 0, 0, 1, 2, 1, 5)?;
-    let other = Fork::open(rt.alloc(), 1, 0, 2, 2, 0, 1_000_000)?;
-    same(&rt, &(one.value(), other.value()), &(5, 1_000_000));
-    let mut hands = Vec::with_capacity(rt.alloc(), 2)?;
-    hands.push_reserved(Held::take(one));
-    hands.push_reserved(Held::take(other));
-    let first = Meal::begin(0, 1, Act::Add(10), hands);
-    same(
-        &rt,
-        &(first.fork(0).value(), first.fork(1).value()),
-        &(15, 1_000_010),
-    );
-    let second = Meal::begin(0, 2, Act::Set(7), first.end());
-    same(
-        &rt,
-        &(second.fork(0).value(), second.fork(1).value()),
-        &(7, 7),
-    );
-    let mut hands = second.end();
-    let Some(other) = hands.pop() else {
-        unreachable!();
+fn value_is_changed_by_each_meal(rt: HostRuntime) {
+    let given = Told {
+        at: 1,
+        is_dirty: false,
+        meals: (2, 0),
+        value: 7,
+        log: &[
+            Entry::Meal { site: 0, k: 1 },
+            Entry::Meal { site: 0, k: 2 },
+            Entry::Move { to: 1 },
+        ],
+        periods: &[(0, 1, 2), (1, 1, 0)],
     };
-    let _ = other.keep();
-    let Some(one) = hands.pop() else {
-        unreachable!();
-    };
-    let one = one.give(1);
-    same(&rt, &one.value(), &7);
-    hands.push_reserved(Held::take(one));
-    let last = Meal::begin(1, 1, Act::Add(3), hands);
-    same(&rt, &last.fork(0).value(), &10);
-    let mut hands = last.end();
-    let Some(one) = hands.pop() else {
-        unreachable!();
-    };
-    hands.destroy_empty();
-    let _ = one.keep();
-    Ok(())
+    let steps = [
+        Step::Open(0, (0, 1), (2, 1), 5),
+        Step::Open(1, (0, 2), (2, 0), 1_000_000),
+        Step::Eat((0, 1), Act::Add(10), &[15, 1_000_010]),
+        Step::Eat((0, 2), Act::Set(7), &[7, 7]),
+        Step::Keep,
+        Step::Give(1),
+        Step::Tells(given),
+        Step::Eat((1, 1), Act::Add(3), &[10]),
+    ];
+    play(&rt, rt.alloc(), &steps);
 }

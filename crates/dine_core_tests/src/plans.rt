@@ -6,34 +6,38 @@ ghost use Rattle.dine_graph.specs.Plan.{site_count};
 use crate::asserts::same;
 use dine_plan::{Plan, PlanFault, read_plan};
 use dine_token::Act;
-use std::alloc::{AllocError, Global};
+use std::alloc::Global;
 use std::fmt::Write;
-use std::test::Fail;
+use std::process::Abort;
 
 // What is read of a text: its plan in short, or its fault as it is printed.
-fn answer_to(alloc: Global, text: &str) -> Result<String, AllocError> {
+fn answer_to(rt: &impl Abort, alloc: Global, text: &str) -> String {
     match read_plan(alloc, text) {
-        Ok(plan) => in_short(alloc, &plan),
-        Err(fault) => format!(in alloc; "{fault}"),
+        Ok(plan) => in_short(rt, alloc, &plan),
+        Err(fault) => printed(rt, alloc, fault),
     }
+}
+
+pub(crate) fn printed(rt: &impl Abort, alloc: Global, fault: PlanFault) -> String {
+    format!(in alloc; "{fault}").expect(rt, "memory")
 }
 
 // Each site with its jobs, and then the ends of each edge.
-pub(crate) fn in_short(alloc: Global, plan: &Plan) -> Result<String, AllocError> {
+pub(crate) fn in_short(rt: &impl Abort, alloc: Global, plan: &Plan) -> String {
     let mut out = String::new(alloc);
     for site in 0..plan.sites() {
-        out.push_str(plan.name(site))?;
-        push_jobs(&mut out, plan, site)?;
-        out.push(';')?;
+        out.push_str(plan.name(site)).expect(rt, "memory");
+        push_jobs(rt, &mut out, plan, site);
+        out.push(';').expect(rt, "memory");
     }
     for edge in 0..plan.edges() {
         let (lo, hi) = plan.ends(edge);
-        write!(out, " {lo}-{hi}")?;
+        write!(out, " {lo}-{hi}").expect(rt, "memory");
     }
-    Ok(out)
+    out
 }
 
-fn push_jobs(out: &mut String, plan: &Plan, site: u32) -> Result<(), AllocError>
+fn push_jobs(rt: &impl Abort, out: &mut String, plan: &Plan, site: u32)
     requires { site < site_count plan.now }
 {
     for k in 0..plan.jobs(site) {
@@ -41,59 +45,64 @@ fn push_jobs(out: &mut String, plan: &Plan, site: u32) -> Result<(), AllocError>
         let name = job.name.as_str();
         let turns = job.turns;
         let fails = job.fails;
-        write!(out, " {name}/{turns}/{fails}")?;
+        write!(out, " {name}/{turns}/{fails}").expect(rt, "memory");
     }
-    Ok(())
 }
 
+const BOTH_FORMS: [&str; 2] = [
+    "version = 1\n[[site]]\nname = \"a\"\njobs = [{ name = \"x\" }, { name = \"y\", turns = 5, fails = true }]\n[[site]]\nname = \"b\"\n[[site]]\nname = \"c\"\n[[site.jobs]]\nname = \"z\"\n[[edge]]\nends = [\"a\", \"b\"]\n[[edge]]\nends = [\"b\", \"c\"]\n",
+    "edge = [{ ends = [\"b\", \"a\"] }, { ends = [\"c\", \"b\"] }]\nsite = [{ jobs = [{ name = \"x\", fails = false }, { fails = true, turns = 5, name = \"y\" }], name = \"a\" }, { name = \"b\", jobs = [] }, { name = \"c\", jobs = [{ name = \"z\", turns = 0 }] }]\nversion = 1\n",
+];
+
 #[test]
-fn reads_both_forms_of_a_plan(rt: HostRuntime) -> Result<(), Fail> {
-    let alloc = rt.alloc();
+fn reads_both_forms_of_a_plan(rt: HostRuntime) {
     let want = "a x/0/false y/5/true;b;c z/0/false; 0-1 1-2";
-    for text in [
-        "version = 1\n[[site]]\nname = \"a\"\njobs = [{ name = \"x\" }, { name = \"y\", turns = 5, fails = true }]\n[[site]]\nname = \"b\"\n[[site]]\nname = \"c\"\n[[site.jobs]]\nname = \"z\"\n[[edge]]\nends = [\"a\", \"b\"]\n[[edge]]\nends = [\"b\", \"c\"]\n",
-        "edge = [{ ends = [\"b\", \"a\"] }, { ends = [\"c\", \"b\"] }]\nsite = [{ jobs = [{ name = \"x\", fails = false }, { fails = true, turns = 5, name = \"y\" }], name = \"a\" }, { name = \"b\", jobs = [] }, { name = \"c\", jobs = [{ name = \"z\", turns = 0 }] }]\nversion = 1\n",
-    ] {
-        let answer = answer_to(alloc, text)?;
-        assert_eq!(rt; answer.as_str(), want, "{text}");
+    for text in BOTH_FORMS {
+        let answer = answer_to(&rt, rt.alloc(), text);
+        same(&rt, &answer.as_str(), &want);
     }
-    Ok(())
 }
 
 const WHOLE: &str =
     "version = 1\n[[site]]\nname = \"a\"\njobs = [{ name = \"x\" }, { name = \"y\", turns = 5, fails = true }]\n[[site]]\nname = \"b\"\n[[site]]\nname = \"c\"\njobs = [{ name = \"z\", turns = 1000000 }]\n[[edge]]\nends = [\"c\", \"b\"]\n[[edge]]\nends = [\"a\", \"c\"]\n";
 
-// Every reader of the plan of a text.
-#[test]
-fn reads_the_whole_plan(rt: HostRuntime) -> Result<(), Fail> {
-    let alloc = rt.alloc();
-    let plan = read_plan(alloc, WHOLE)?;
-    let short = in_short(alloc, &plan)?;
-    same(
-        &rt,
-        &short.as_str(),
-        &"a x/0/false y/5/true;b;c z/1000000/false; 1-2 0-2",
-    );
+fn read(rt: &impl Abort, alloc: Global, text: &str) -> Plan {
+    read_plan(alloc, text).expect(rt, "a plan")
+}
+
+fn tells_its_sites(rt: &impl Abort, plan: &Plan) {
     assert!(rt; plan.sites() == 3);
-    assert!(rt; plan.edges() == 2);
-    same(
-        &rt,
-        &(plan.name(0), plan.name(1), plan.name(2)),
-        &("a", "b", "c"),
-    );
-    same(&rt, &(plan.jobs(0), plan.jobs(1), plan.jobs(2)), &(2, 0, 1));
-    same(&rt, &plan.edges_of(0), &[1].as_slice());
-    same(&rt, &plan.edges_of(1), &[0].as_slice());
-    same(&rt, &plan.edges_of(2), &[0, 1].as_slice());
+    let names = (plan.name(0), plan.name(1), plan.name(2));
+    same(rt, &names, &("a", "b", "c"));
+    same(rt, &(plan.jobs(0), plan.jobs(1), plan.jobs(2)), &(2, 0, 1));
+    let all: [&[u32]; 3] = [&[1], &[0], &[0, 1]];
+    for site in 0..plan.sites() {
+        let edges = all.get(site as usize).copied();
+        same(rt, &Some(plan.edges_of(site)), &edges);
+    }
+}
+
+fn tells_its_edges(rt: &impl Abort, plan: &Plan) {
+    same(rt, &plan.edges(), &2);
     for edge in 0..plan.edges() {
         let (lo, hi) = plan.ends(edge);
-        same(&rt, &(lo, hi), &(if edge == 0 { (1, 2) } else { (0, 2) }));
-        same(&rt, &plan.other(edge, lo), &hi);
-        same(&rt, &plan.other(edge, hi), &lo);
-        same(&rt, &plan.place(edge, lo), &0);
-        same(&rt, &plan.place(edge, hi), &edge);
+        same(rt, &(lo, hi), &(if edge == 0 { (1, 2) } else { (0, 2) }));
+        let others = (plan.other(edge, lo), plan.other(edge, hi));
+        same(rt, &others, &(hi, lo));
+        let places = (plan.place(edge, lo), plan.place(edge, hi));
+        same(rt, &places, &(0, edge));
     }
-    Ok(())
+}
+
+// Every reader of the plan of a text.
+#[test]
+fn reads_the_whole_plan(rt: HostRuntime) {
+    let plan = read(&rt, rt.alloc(), WHOLE);
+    let short = in_short(&rt, rt.alloc(), &plan);
+    let want = "a x/0/false y/5/true;b;c z/1000000/false; 1-2 0-2";
+    same(&rt, &short.as_str(), &want);
+    tells_its_sites(&rt, &plan);
+    tells_its_edges(&rt, &plan);
 }
 
 const FAULTS: [(PlanFault, u32, &str); 20] = [
@@ -132,14 +141,12 @@ const FAULTS: [(PlanFault, u32, &str); 20] = [
 ];
 
 #[test]
-fn prints_each_fault_by_its_number(rt: HostRuntime) -> Result<(), Fail> {
-    let alloc = rt.alloc();
+fn prints_each_fault_by_its_number(rt: HostRuntime) {
     for (fault, number, text) in FAULTS {
-        let printed = format!(in alloc; "{fault}")?;
-        same(&rt, &printed.as_str(), &text);
+        let found = printed(&rt, rt.alloc(), fault);
+        same(&rt, &found.as_str(), &text);
         same(&rt, &fault.number(), &number);
     }
-    Ok(())
 }
 
 const SECOND: &str = r#"
@@ -158,46 +165,43 @@ value = 1000000
 
 // What version 2 of the format has beside version 1: each site that resigns is marked, and + or = stands before the
 // amount of an act.
-pub(crate) fn second_in_short(alloc: Global, plan: &Plan) -> Result<String, AllocError> {
-    let mut out = format!(in alloc; "{}:", plan.version())?;
+pub(crate) fn second_in_short(rt: &impl Abort, alloc: Global, plan: &Plan) -> String {
+    let mut out = format!(in alloc; "{}:", plan.version()).expect(rt, "memory");
     for site in 0..plan.sites() {
         let mark = if plan.resigns(site) { "!" } else { "" };
-        write!(out, " {}{mark}", plan.name(site))?;
-        push_acts(&mut out, plan, site)?;
+        write!(out, " {}{mark}", plan.name(site)).expect(rt, "memory");
+        push_acts(rt, &mut out, plan, site);
     }
     for edge in 0..plan.edges() {
-        write!(out, " {}", plan.value(edge))?;
+        write!(out, " {}", plan.value(edge)).expect(rt, "memory");
     }
-    Ok(out)
+    out
 }
 
-fn push_acts(out: &mut String, plan: &Plan, site: u32) -> Result<(), AllocError>
+fn push_acts(rt: &impl Abort, out: &mut String, plan: &Plan, site: u32)
     requires { site < site_count plan.now }
 {
     for k in 0..plan.jobs(site) {
-        match plan.job(site, k + 1).act {
-            Act::Add(amount) => write!(out, " +{amount}")?,
-            Act::Set(amount) => write!(out, " ={amount}")?,
-        }
+        let (sign, amount) = match plan.job(site, k + 1).act {
+            Act::Add(amount) => ('+', amount),
+            Act::Set(amount) => ('=', amount),
+        };
+        write!(out, " {sign}{amount}").expect(rt, "memory");
     }
-    Ok(())
 }
 
 #[test]
-fn reads_values_acts_and_policies(rt: HostRuntime) -> Result<(), Fail> {
-    let alloc = rt.alloc();
-    let plan = read_plan(alloc, SECOND)?;
-    let found = second_in_short(alloc, &plan)?;
+fn reads_values_acts_and_policies(rt: HostRuntime) {
+    let plan = read(&rt, rt.alloc(), SECOND);
+    let found = second_in_short(&rt, rt.alloc(), &plan);
     same(&rt, &found.as_str(), &"2: a! +10 =0 +0 b 1000000");
-    Ok(())
 }
 
 // Under `--fail-alloc` each allocation fails in turn, and the answer is then want of memory.
 #[test]
-fn answers_the_plan_or_memory(rt: HostRuntime) -> Result<(), Fail> {
+fn answers_the_plan_or_memory(rt: HostRuntime) {
     match read_plan(rt.alloc(), WHOLE) {
         Ok(plan) => same(&rt, &(plan.sites(), plan.edges()), &(3, 2)),
         Err(fault) => same(&rt, &fault, &PlanFault::Memory),
     }
-    Ok(())
 }

@@ -4,14 +4,14 @@ mod breaches;
 mod script;
 
 use crate::asserts::same;
+use crate::forks::{Step as Way, fork_after, has_log};
 use dine_core::site::{fresh_forks, fresh_tokens};
 use dine_core::{Breach, EventKind, Kind4, Letter, Packed, Parts, Phase, SiteCore};
 use dine_plan::{Plan, read_plan};
-use dine_token::{Act, Entry, Fork, Held, Meal, Token};
+use dine_token::{Act, Entry, Fork, Token};
 use script::{A, B, C, Step, plays};
 use std::alloc::{AllocError, Global};
 use std::process::Abort;
-use std::test::Fail;
 
 // Two sites with an edge, and so many jobs.
 fn pair_text(lower: &str, higher: &str, alloc: Global) -> Result<String, AllocError> {
@@ -47,6 +47,16 @@ fn core_of(rt: &impl Abort, alloc: Global, plan: &Plan, site: u32) -> SiteCore {
     let forks = fresh_forks(alloc, plan, site).expect(rt, "memory");
     let tokens = fresh_tokens(alloc, plan, site).expect(rt, "memory");
     SiteCore::open(alloc, plan, site, forks, tokens).expect(rt, "memory")
+}
+
+fn forks_of(rt: &impl Abort, alloc: Global, plan: &Plan, site: u32) -> Vec<Fork> {
+    assert!(rt; site < plan.sites());
+    fresh_forks(alloc, plan, site).expect(rt, "memory")
+}
+
+fn tokens_of(rt: &impl Abort, alloc: Global, plan: &Plan, site: u32) -> Vec<Token> {
+    assert!(rt; site < plan.sites());
+    fresh_tokens(alloc, plan, site).expect(rt, "memory")
 }
 
 // What the site does next of itself.
@@ -121,10 +131,6 @@ fn close(rt: &impl Abort, core: &mut SiteCore) -> Letter {
     core.close(0)
 }
 
-fn take(rt: &impl Abort, core: &mut SiteCore, letter: Letter) {
-    take_at(rt, core, 0, letter);
-}
-
 fn take_at(rt: &impl Abort, core: &mut SiteCore, i: u32, letter: Letter) {
     assert!(rt; i < core.degree());
     assert!(rt; core.take(i, letter).is_ok());
@@ -172,16 +178,6 @@ fn refuse(rt: &impl Abort, core: &mut SiteCore, letter: Letter, cause: Breach) -
     back
 }
 
-fn request() -> Letter {
-    Letter::Request(Token::open(0))
-}
-
-// The fork that the lower site gives, when it is asked for it.
-fn fork_from(rt: &impl Abort, a: &mut SiteCore) -> Letter {
-    take(rt, a, request());
-    give_at(rt, a, 0)
-}
-
 fn spend(rt: &impl Abort, core: SiteCore) -> Parts {
     assert!(rt; core.phase() != Phase::Eating);
     core.into_parts()
@@ -197,15 +193,10 @@ fn are_left(rt: &impl Abort, left: &Vec<Parts>, n: usize, forks: usize, tokens: 
     );
 }
 
-// The first fork that a site of a script left has exactly this log.
-fn has_log(rt: &impl Abort, left: &Vec<Parts>, n: usize, log: &[Entry]) {
+// The first fork that a site of a script left.
+fn fork_left<'a>(rt: &impl Abort, left: &'a [Parts], n: usize) -> &'a Fork {
     let parts = left.get(n).expect(rt, "a site");
-    let fork = parts.forks.first().expect(rt, "a fork");
-    assert!(rt; fork.len() as usize == log.len());
-    for (i, entry) in (0..fork.len()).zip(log) {
-        assert!(rt; i < fork.len());
-        same(rt, &fork.entry(i), entry);
-    }
+    parts.forks.first().expect(rt, "a fork")
 }
 
 #[test]
@@ -243,7 +234,7 @@ fn two_sites_eat_one_after_the_other(rt: HostRuntime) {
         Entry::Move { to: 1 },
         Entry::Meal { site: 1, k: 1 },
     ];
-    has_log(&rt, &left, B, &log);
+    has_log(&rt, fork_left(&rt, left.as_slice(), B), &log);
 }
 
 // The one site of the script is the middle one.
@@ -416,31 +407,25 @@ fn second_break_off_gives_nothing(rt: HostRuntime) {
 }
 
 #[test]
-fn fresh_forks_are_those_of_the_lower_end(rt: HostRuntime) -> Result<(), Fail> {
-    let alloc = rt.alloc();
-    let plan = read_plan(alloc, ROW).expect(&rt, "a plan");
-    assert!(&rt; 1 < plan.sites());
-    let forks = fresh_forks(alloc, &plan, 1)?;
-    assert!(&rt; forks.len() == 1);
-    let fork = &forks[0];
+fn fresh_forks_are_those_of_the_lower_end(rt: HostRuntime) {
+    let plan = read_plan(rt.alloc(), ROW).expect(&rt, "a plan");
+    let forks = forks_of(&rt, rt.alloc(), &plan, 1);
+    same(&rt, &forks.len(), &1);
+    let fork = forks.first().expect(&rt, "a fork");
     same(&rt, &(fork.edge(), fork.len()), &(1, 0));
     assert!(&rt; fork.ends() == (1, 2));
     same(&rt, &(fork.due_of(1), fork.due_of(2)), &(0, 1));
-    assert!(&rt; 2 < plan.sites());
-    same(&rt, &fresh_forks(alloc, &plan, 2)?.len(), &0);
-    Ok(())
+    same(&rt, &forks_of(&rt, rt.alloc(), &plan, 2).len(), &0);
 }
 
 #[test]
-fn fresh_tokens_are_those_of_the_higher_end(rt: HostRuntime) -> Result<(), Fail> {
-    let alloc = rt.alloc();
-    let plan = read_plan(alloc, ROW).expect(&rt, "a plan");
-    assert!(&rt; 1 < plan.sites());
-    let tokens = fresh_tokens(alloc, &plan, 1)?;
-    assert!(&rt; tokens.len() == 1);
-    same(&rt, &tokens[0].edge(), &0);
-    same(&rt, &fresh_tokens(alloc, &plan, 0)?.len(), &0);
-    Ok(())
+fn fresh_tokens_are_those_of_the_higher_end(rt: HostRuntime) {
+    let plan = read_plan(rt.alloc(), ROW).expect(&rt, "a plan");
+    let tokens = tokens_of(&rt, rt.alloc(), &plan, 1);
+    same(&rt, &tokens.len(), &1);
+    let edge = tokens.first().map(|token| token.edge());
+    same(&rt, &edge, &Some(0));
+    same(&rt, &tokens_of(&rt, rt.alloc(), &plan, 0).len(), &0);
 }
 
 // The packed core of a site.
@@ -490,16 +475,12 @@ fn valued(rt: &impl Abort, alloc: Global, act: &str) -> Plan {
 // A fork of the edge that was opened with the value, with which `a` has eaten once without adding, and which went to
 // `b`.
 fn foreign(rt: &impl Abort, alloc: Global, value: u64) -> Letter {
-    assert!(rt; value <= 1_000_000);
-    let fork = Fork::open(alloc, 0, 0, 1, 1, 1, value).expect(rt, "memory");
-    let mut hands = Vec::with_capacity(alloc, 1).expect(rt, "memory");
-    hands.push_reserved(Held::take(fork));
-    let mut hands = Meal::begin(0, 1, Act::Add(0), hands).end();
-    let Some(held) = hands.pop() else {
-        unreachable!();
-    };
-    hands.destroy_empty();
-    Letter::Fork(held.give(1))
+    let steps = [
+        Way::Open(0, (0, 1), (1, 1), value),
+        Way::Eat((0, 1), Act::Add(0), &[value]),
+        Way::Give(1),
+    ];
+    Letter::Fork(fork_after(rt, alloc, &steps))
 }
 
 // The value of the one fork that the site holds after a meal.
@@ -512,22 +493,29 @@ fn value_after_meal(rt: &impl Abort, core: &mut SiteCore) -> u64 {
     value
 }
 
+fn value_of(rt: &impl Abort, letter: &Letter) -> u64 {
+    match letter {
+        Letter::Fork(fork) => fork.value(),
+        _ => panic!(rt; "no fork"),
+    }
+}
+
 // A core takes a fork whatever its value, and its meal changes that value.
 #[test]
 fn meal_changes_the_value_that_came(rt: HostRuntime) {
     for (act, value) in [("set = 7", 7), ("add = 3", 903)] {
         let plan = valued(&rt, rt.alloc(), act);
-        let mut b = core_of(&rt, rt.alloc(), &plan, 1);
-        grow_hungry(&rt, &mut b);
-        let _request = ask_at(&rt, &mut b, 0);
-        take(&rt, &mut b, foreign(&rt, rt.alloc(), 900));
-        same(&rt, &value_after_meal(&rt, &mut b), &value);
-        let parts = spend(&rt, b);
-        same(
-            &rt,
-            &parts.forks.first().map(|fork| fork.value()),
-            &Some(value),
-        );
+        let steps = [
+            Step::Hungry(A),
+            Step::Ask(A, 0),
+            Step::Lose,
+            Step::Foreign(900),
+            Step::Take(A, 0),
+            Step::EatWith(A, value),
+        ];
+        let left = plays(&rt, rt.alloc(), &plan, &[1], &steps);
+        let fork = fork_left(&rt, left.as_slice(), A);
+        same(&rt, &fork.value(), &value);
     }
 }
 
@@ -535,12 +523,13 @@ fn meal_changes_the_value_that_came(rt: HostRuntime) {
 #[test]
 fn fork_that_is_given_has_the_value_in_hand(rt: HostRuntime) {
     let plan = valued(&rt, rt.alloc(), "set = 7");
-    let mut a = core_of(&rt, rt.alloc(), &plan, 0);
-    grow_hungry(&rt, &mut a);
-    same(&rt, &value_after_meal(&rt, &mut a), &15);
-    let Letter::Fork(fork) = fork_from(&rt, &mut a) else {
-        panic!(rt; "no fork");
-    };
-    same(&rt, &fork.value(), &15);
-    let _parts = spend(&rt, a);
+    let steps = [
+        Step::Hungry(A),
+        Step::EatWith(A, 15),
+        Step::Request(0),
+        Step::Take(A, 0),
+        Step::Give(A, 0),
+        Step::LiesWith(15),
+    ];
+    plays(&rt, rt.alloc(), &plan, &[0], &steps);
 }

@@ -7,6 +7,7 @@ mod readers;
 mod side_by_side;
 
 use crate::asserts::same;
+use crate::forks::{has_log, has_periods};
 use dine_plan::{Plan, read_plan};
 use dine_rules::{Event, EventKind, Phase};
 use dine_token::{Act, Entry, Fork, Period};
@@ -99,37 +100,6 @@ fn opened(rt: &impl Abort, alloc: Global, plan: &Plan) -> World {
 fn entry_at(rt: &impl Abort, fork: &Fork, i: u32) -> Entry {
     assert!(rt; i < fork.len());
     fork.entry(i)
-}
-
-// The fork has exactly this log.
-fn has_log(rt: &impl Abort, fork: &Fork, log: &[Entry]) {
-    assert!(rt; fork.len() as usize == log.len());
-    for (i, entry) in (0..fork.len()).zip(log) {
-        same(rt, &entry_at(rt, fork, i), entry);
-    }
-}
-
-// The rest of the world has so many events.
-fn finishes(rt: &impl Abort, world: &mut World, events: u64) {
-    same(rt, &world.finish(), &events);
-}
-
-// Two sites ate so many meals each.
-fn ate(rt: &impl Abort, world: &World, meals: (u32, u32)) {
-    let (lower, higher) = meals;
-    let wanted = (Some(lower), Some(higher));
-    same(rt, &(world.ate(0), world.ate(1)), &wanted);
-}
-
-// So many of these choices have an event.
-fn replays(rt: &impl Abort, world: &mut World, choices: &[u32], events: u64) {
-    same(rt, &world.replay(choices), &events);
-}
-
-// The forks that come out have all meals of both their ends.
-fn ends_whole(rt: &impl Abort, plan: &Plan, world: World) {
-    let forks = spend(rt, plan, world);
-    has_all_meals(rt, plan, forks.as_slice());
 }
 
 fn period_at(rt: &impl Abort, fork: &Fork, i: u32) -> Period {
@@ -228,86 +198,144 @@ fn wander_to_the_end(rt: &impl Abort, alloc: Global, plan: &Plan) {
     }
 }
 
-// Of two sites either may grow hungry, and there is no other event.
-fn both_may_hunger(rt: &impl Abort, world: &World) {
-    let kind = EventKind::Hungry;
-    same(rt, &world.count(), &2);
-    for site in 0..2u32 {
-        same(rt, &world.enabled(site), &Some(Event { site, kind }));
+// What happens in a world, or what it tells then. A test is a list of these, which one function goes through.
+#[derive(Clone, Copy)]
+enum Step<'a> {
+    // So many events are enabled.
+    Count(u32),
+    // This is the n-th of them, from 0.
+    Enabled(u32, Option<Event>),
+    // The event is refused.
+    Refused(u32, EventKind),
+    // The n-th enabled event is this one of this site, which is done.
+    Does(u32, u32, EventKind),
+    // So many of these choices have an event.
+    Replays(&'a [u32], u64),
+    // The rest of the world has so many events.
+    Finishes(u64),
+    // No world of the plan has more events.
+    Bound(u64),
+    // The site is in this phase, and ate so many meals.
+    Site(u32, Option<Phase>, Option<u32>),
+    // Whether there is a fork of the edge.
+    HasFork(u32, bool),
+    // The fork of the first edge has this log.
+    Log(&'a [Entry]),
+    // Nothing is left to do.
+    Complete,
+}
+
+// A step by which something happens.
+fn happens(rt: &impl Abort, plan: &Plan, world: &mut World, step: Step) {
+    match step {
+        Step::Refused(site, kind) => refuse(rt, world, site, kind),
+        Step::Does(choice, site, kind) => {
+            let event = Event { site, kind };
+            same(rt, &world.enabled(choice), &Some(event));
+            same(rt, &world.step(event), &Ok(()));
+            is_safe(rt, plan, world);
+        }
+        Step::Replays(choices, events) => same(rt, &world.replay(choices), &events),
+        Step::Finishes(events) => same(rt, &world.finish(), &events),
+        _ => {}
     }
-    same(rt, &world.enabled(2), &None);
 }
 
-// There is a second site, which thinks and ate nothing, and a first edge, but no third site and no second edge.
-fn has_no_third(rt: &impl Abort, world: &World) {
-    let phases = (world.phase(1), world.phase(2));
-    same(rt, &phases, &(Some(Phase::Thinking), None));
-    same(rt, &(world.ate(1), world.ate(2)), &(Some(0), None));
-    assert!(rt; world.fork(0).is_some() && world.fork(1).is_none());
+// A step that looks at the world.
+fn tells(rt: &impl Abort, plan: &Plan, world: &World, step: Step) {
+    match step {
+        Step::Count(count) => same(rt, &world.count(), &count),
+        Step::Enabled(n, event) => same(rt, &world.enabled(n), &event),
+        Step::Bound(bound) => same(rt, &world.bound(), &bound),
+        Step::Site(site, phase, ate) => {
+            same(rt, &(world.phase(site), world.ate(site)), &(phase, ate));
+        }
+        Step::HasFork(edge, is_there) => same(rt, &world.fork(edge).is_some(), &is_there),
+        Step::Log(log) => has_log(rt, world.fork(0).expect(rt, "a fork"), log),
+        Step::Complete => is_complete(rt, plan, world),
+        _ => {}
+    }
 }
 
+// The forks that come out of the plan's world after these steps.
+fn goes(rt: &impl Abort, alloc: Global, plan: &Plan, steps: &[Step]) -> Vec<Fork> {
+    let mut world = opened(rt, alloc, plan);
+    for step in steps {
+        happens(rt, plan, &mut world, *step);
+        tells(rt, plan, &world, *step);
+    }
+    spend(rt, plan, world)
+}
+
+// The same, where they have all meals of both their ends.
+fn goes_whole(rt: &impl Abort, alloc: Global, plan: &Plan, steps: &[Step]) {
+    let forks = goes(rt, alloc, plan, steps);
+    has_all_meals(rt, plan, forks.as_slice());
+}
+
+const LOWER_MAY_HUNGER: Step = Step::Enabled(
+    0,
+    Some(Event {
+        site: 0,
+        kind: EventKind::Hungry,
+    }),
+);
+
+const HIGHER_MAY_HUNGER: Step = Step::Enabled(
+    1,
+    Some(Event {
+        site: 1,
+        kind: EventKind::Hungry,
+    }),
+);
+
+// Either site may grow hungry, and there is no other event. There is a second site, which thinks and ate nothing, and a
+// first edge, but no third site and no second edge.
 #[test]
 fn pair_opens_with_two_events(rt: HostRuntime) {
+    let steps = [
+        Step::Count(2),
+        LOWER_MAY_HUNGER,
+        HIGHER_MAY_HUNGER,
+        Step::Enabled(2, None),
+        Step::Refused(1, EventKind::Take(0)),
+        Step::Refused(1, EventKind::Take(1)),
+        Step::Refused(0, EventKind::Begin),
+        Step::Refused(2, EventKind::Hungry),
+        Step::Count(2),
+        LOWER_MAY_HUNGER,
+        HIGHER_MAY_HUNGER,
+        Step::Enabled(2, None),
+        Step::Site(1, Some(Phase::Thinking), Some(0)),
+        Step::Site(2, None, None),
+        Step::HasFork(0, true),
+        Step::HasFork(1, false),
+    ];
     let plan = pair(&rt, rt.alloc());
-    let mut world = opened(&rt, rt.alloc(), &plan);
-    both_may_hunger(&rt, &world);
-    refuse(&rt, &mut world, 1, EventKind::Take(0));
-    refuse(&rt, &mut world, 1, EventKind::Take(1));
-    refuse(&rt, &mut world, 0, EventKind::Begin);
-    refuse(&rt, &mut world, 2, EventKind::Hungry);
-    both_may_hunger(&rt, &world);
-    has_no_third(&rt, &world);
-    let _forks = spend(&rt, &plan, world);
+    let _forks = goes(&rt, rt.alloc(), &plan, &steps);
 }
 
 #[test]
 fn pair_finishes(rt: HostRuntime) {
-    let plan = pair(&rt, rt.alloc());
-    let mut world = opened(&rt, rt.alloc(), &plan);
-    finishes(&rt, &mut world, 18);
-    is_complete(&rt, &plan, &world);
-    finishes(&rt, &mut world, 0);
-    ate(&rt, &world, (1, 1));
-    same(&rt, &world.bound(), &22);
-    let log = [
-        Entry::Meal { site: 0, k: 1 },
-        Entry::Move { to: 1 },
-        Entry::Meal { site: 1, k: 1 },
+    let steps = [
+        Step::Finishes(18),
+        Step::Complete,
+        Step::Finishes(0),
+        Step::Site(0, Some(Phase::Thinking), Some(1)),
+        Step::Site(1, Some(Phase::Thinking), Some(1)),
+        Step::Bound(22),
+        Step::Log(&[
+            Entry::Meal { site: 0, k: 1 },
+            Entry::Move { to: 1 },
+            Entry::Meal { site: 1, k: 1 },
+        ]),
     ];
-    has_log(&rt, world.fork(0).expect(&rt, "a fork"), &log);
-    ends_whole(&rt, &plan, world);
+    goes_whole(&rt, rt.alloc(), &pair(&rt, rt.alloc()), &steps);
 }
 
-// The choices, each with the site and the kind of its event, where the higher site asks first.
-const HIGHER_FIRST: [(u32, u32, EventKind); 22] = [
-    (1, 1, EventKind::Hungry),
-    (1, 1, EventKind::Ask(0)),
-    (0, 0, EventKind::Take(0)),
-    (0, 0, EventKind::Give(0)),
-    (0, 0, EventKind::Hungry),
-    (0, 0, EventKind::Ask(0)),
-    (0, 1, EventKind::Take(0)),
-    (0, 1, EventKind::Take(0)),
-    (0, 1, EventKind::Begin),
-    (0, 1, EventKind::End),
-    (0, 1, EventKind::Give(0)),
-    (0, 0, EventKind::Take(0)),
-    (0, 0, EventKind::Begin),
-    (0, 0, EventKind::End),
-    (0, 0, EventKind::Done(0)),
-    (0, 1, EventKind::Take(0)),
-    (0, 1, EventKind::Done(0)),
-    (0, 0, EventKind::Take(0)),
-    (0, 0, EventKind::Close(0)),
-    (0, 1, EventKind::Take(0)),
-    (0, 1, EventKind::Close(0)),
-    (0, 0, EventKind::Take(0)),
-];
-
-// The higher site ate first, with the fork that the lower gave it.
-fn higher_ate_first(rt: &impl Abort, plan: &Plan, world: World) {
-    is_complete(rt, plan, &world);
-    let forks = spend(rt, plan, world);
+// After these steps of the pair the higher site ate first, with the fork that the lower gave it.
+fn higher_eats_first(rt: &impl Abort, alloc: Global, steps: &[Step]) {
+    let forks = goes(rt, alloc, &pair(rt, alloc), steps);
     let fork = forks.get(0).expect(rt, "a fork");
     let log = [
         Entry::Move { to: 1 },
@@ -320,41 +348,60 @@ fn higher_ate_first(rt: &impl Abort, plan: &Plan, world: World) {
 
 #[test]
 fn higher_site_asks_first(rt: HostRuntime) {
-    let plan = pair(&rt, rt.alloc());
-    let mut world = opened(&rt, rt.alloc(), &plan);
-    for (choice, site, kind) in HIGHER_FIRST {
-        let event = Event { site, kind };
-        same(&rt, &world.enabled(choice), &Some(event));
-        same(&rt, &world.step(event), &Ok(()));
-        is_safe(&rt, &plan, &world);
-    }
-    higher_ate_first(&rt, &plan, world);
+    let steps = [
+        Step::Does(1, 1, EventKind::Hungry),
+        Step::Does(1, 1, EventKind::Ask(0)),
+        Step::Does(0, 0, EventKind::Take(0)),
+        Step::Does(0, 0, EventKind::Give(0)),
+        Step::Does(0, 0, EventKind::Hungry),
+        Step::Does(0, 0, EventKind::Ask(0)),
+        Step::Does(0, 1, EventKind::Take(0)),
+        Step::Does(0, 1, EventKind::Take(0)),
+        Step::Does(0, 1, EventKind::Begin),
+        Step::Does(0, 1, EventKind::End),
+        Step::Does(0, 1, EventKind::Give(0)),
+        Step::Does(0, 0, EventKind::Take(0)),
+        Step::Does(0, 0, EventKind::Begin),
+        Step::Does(0, 0, EventKind::End),
+        Step::Does(0, 0, EventKind::Done(0)),
+        Step::Does(0, 1, EventKind::Take(0)),
+        Step::Does(0, 1, EventKind::Done(0)),
+        Step::Does(0, 0, EventKind::Take(0)),
+        Step::Does(0, 0, EventKind::Close(0)),
+        Step::Does(0, 1, EventKind::Take(0)),
+        Step::Does(0, 1, EventKind::Close(0)),
+        Step::Does(0, 0, EventKind::Take(0)),
+        Step::Complete,
+    ];
+    higher_eats_first(&rt, rt.alloc(), &steps);
 }
 
 #[test]
 fn choices_are_replayed(rt: HostRuntime) {
-    let plan = pair(&rt, rt.alloc());
-    let mut world = opened(&rt, rt.alloc(), &plan);
-    replays(&rt, &mut world, &[], 0);
-    replays(&rt, &mut world, &[1, 1, 0, 0], 4);
-    finishes(&rt, &mut world, 18);
-    higher_ate_first(&rt, &plan, world);
+    let steps = [
+        Step::Replays(&[], 0),
+        Step::Replays(&[1, 1, 0, 0], 4),
+        Step::Finishes(18),
+        Step::Complete,
+    ];
+    higher_eats_first(&rt, rt.alloc(), &steps);
 }
 
 #[test]
 fn choices_of_no_event_are_passed_over(rt: HostRuntime) {
-    let plan = pair(&rt, rt.alloc());
-    let mut world = opened(&rt, rt.alloc(), &plan);
-    replays(&rt, &mut world, &[9, 2], 0);
-    same(&rt, &world.count(), &2);
-    replays(&rt, &mut world, &[1, 1, 2, 0, 0], 4);
-    finishes(&rt, &mut world, 18);
-    higher_ate_first(&rt, &plan, world);
+    let steps = [
+        Step::Replays(&[9, 2], 0),
+        Step::Count(2),
+        Step::Replays(&[1, 1, 2, 0, 0], 4),
+        Step::Finishes(18),
+        Step::Complete,
+    ];
+    higher_eats_first(&rt, rt.alloc(), &steps);
 }
 
 // After the choices and all that is left, the fork of two sites with these jobs has these periods, each as its site,
 // its first meal and how many.
-fn has_periods(
+fn ends_with_periods(
     rt: &impl Abort,
     alloc: Global,
     jobs: &[u32],
@@ -366,40 +413,34 @@ fn has_periods(
     let _ = world.replay(choices);
     let _ = world.finish();
     let fork = world.fork(0).expect(rt, "a fork");
-    assert!(rt; fork.periods() as usize == periods.len());
-    for (i, period) in (0..periods.len() as u32).zip(periods) {
-        let Period { site, first, count } = period_at(rt, fork, i);
-        same(rt, &(site, first, count), period);
-    }
+    has_periods(rt, fork, periods);
     let _forks = spend(rt, &plan, world);
 }
 
 #[test]
 fn forks_of_pairs_have_these_periods(rt: HostRuntime) {
-    let alloc = rt.alloc();
-    has_periods(&rt, alloc, &[1, 1], &[], &[(0, 1, 1), (1, 1, 1)]);
-    has_periods(
-        &rt,
-        alloc,
-        &[1, 1],
-        &[1, 1, 0, 0],
-        &[(0, 1, 0), (1, 1, 1), (0, 1, 1)],
-    );
-    has_periods(&rt, alloc, &[3, 0], &[], &[(0, 1, 3)]);
+    let runs: [(&[u32], &[u32], &[(u32, u32, u32)]); 3] = [
+        (&[1, 1], &[], &[(0, 1, 1), (1, 1, 1)]),
+        (&[1, 1], &[1, 1, 0, 0], &[(0, 1, 0), (1, 1, 1), (0, 1, 1)]),
+        (&[3, 0], &[], &[(0, 1, 3)]),
+    ];
+    for (jobs, choices, periods) in runs {
+        ends_with_periods(&rt, rt.alloc(), jobs, choices, periods);
+    }
 }
 
 #[test]
 fn site_alone_eats_all_its_jobs(rt: HostRuntime) {
-    let plan = plan_of(&rt, rt.alloc(), 1, 2, [].as_slice());
-    let mut world = opened(&rt, rt.alloc(), &plan);
-    same(&rt, &world.count(), &1);
-    same(&rt, &world.bound(), &6);
-    finishes(&rt, &mut world, 6);
-    same(&rt, &world.ate(0), &Some(2));
-    assert!(rt; world.fork(0).is_none());
-    is_complete(&rt, &plan, &world);
-    let forks = spend(&rt, &plan, world);
-    same(&rt, &forks.len(), &0);
+    let steps = [
+        Step::Count(1),
+        Step::Bound(6),
+        Step::Finishes(6),
+        Step::Site(0, Some(Phase::Thinking), Some(2)),
+        Step::HasFork(0, false),
+        Step::Complete,
+    ];
+    let plan = plan_of(&rt, rt.alloc(), 1, 2, &[]);
+    same(&rt, &goes(&rt, rt.alloc(), &plan, &steps).len(), &0);
 }
 
 // The second of the lower site's three jobs fails.
@@ -410,53 +451,44 @@ const RESIGNING: Graph = Graph {
     resigning: &[true, false],
 };
 
-// The lower site may quit, and can do nothing else of its own.
-fn only_quit_is_next(rt: &impl Abort, world: &mut World) {
-    let (site, kind) = (0, EventKind::Quit);
-    same(rt, &world.enabled(0), &Some(Event { site, kind }));
-    refuse(rt, world, 0, EventKind::Hungry);
-    refuse(rt, world, 0, EventKind::Done(0));
-}
-
+// After the meal that failed the lower site may quit, and can do nothing else of its own.
 #[test]
 fn site_that_resigns_drops_its_jobs_left(rt: HostRuntime) {
-    let plan = plan_by(&rt, rt.alloc(), RESIGNING);
-    let mut world = opened(&rt, rt.alloc(), &plan);
-    same(&rt, &world.bound(), &36);
-    replays(&rt, &mut world, &[0, 0, 0], 3);
-    refuse(&rt, &mut world, 0, EventKind::Quit);
-    replays(&rt, &mut world, &[0, 0, 0], 3);
-    only_quit_is_next(&rt, &mut world);
-    finishes(&rt, &mut world, 16);
-    ate(&rt, &world, (2, 1));
-    let log = [
-        Entry::Meal { site: 0, k: 1 },
-        Entry::Meal { site: 0, k: 2 },
-        Entry::Move { to: 1 },
-        Entry::Meal { site: 1, k: 1 },
+    let (site, kind) = (0, EventKind::Quit);
+    let steps = [
+        Step::Bound(36),
+        Step::Replays(&[0, 0, 0], 3),
+        Step::Refused(site, kind),
+        Step::Replays(&[0, 0, 0], 3),
+        Step::Enabled(0, Some(Event { site, kind })),
+        Step::Refused(0, EventKind::Hungry),
+        Step::Refused(0, EventKind::Done(0)),
+        Step::Finishes(16),
+        Step::Site(0, Some(Phase::Thinking), Some(2)),
+        Step::Site(1, Some(Phase::Thinking), Some(1)),
+        Step::Log(&[
+            Entry::Meal { site: 0, k: 1 },
+            Entry::Meal { site: 0, k: 2 },
+            Entry::Move { to: 1 },
+            Entry::Meal { site: 1, k: 1 },
+        ]),
     ];
-    has_log(&rt, world.fork(0).expect(&rt, "a fork"), &log);
-    let _forks = spend(&rt, &plan, world);
+    let plan = plan_by(&rt, rt.alloc(), RESIGNING);
+    let _forks = goes(&rt, rt.alloc(), &plan, &steps);
 }
 
 #[test]
 fn row_of_three_finishes(rt: HostRuntime) {
-    let plan = plan_of(&rt, rt.alloc(), 3, 1, [(0, 1), (1, 2)].as_slice());
-    let mut world = opened(&rt, rt.alloc(), &plan);
-    same(&rt, &world.bound(), &41);
-    finishes(&rt, &mut world, 33);
-    is_complete(&rt, &plan, &world);
-    ends_whole(&rt, &plan, world);
+    let steps = [Step::Bound(41), Step::Finishes(33), Step::Complete];
+    let plan = plan_of(&rt, rt.alloc(), 3, 1, &[(0, 1), (1, 2)]);
+    goes_whole(&rt, rt.alloc(), &plan, &steps);
 }
 
 #[test]
 fn sites_without_jobs_only_say_so(rt: HostRuntime) {
-    let plan = plan_of(&rt, rt.alloc(), 2, 0, [(0, 1)].as_slice());
-    let mut world = opened(&rt, rt.alloc(), &plan);
-    same(&rt, &world.bound(), &8);
-    finishes(&rt, &mut world, 8);
-    is_complete(&rt, &plan, &world);
-    ends_whole(&rt, &plan, world);
+    let steps = [Step::Bound(8), Step::Finishes(8), Step::Complete];
+    let plan = plan_of(&rt, rt.alloc(), 2, 0, &[(0, 1)]);
+    goes_whole(&rt, rt.alloc(), &plan, &steps);
 }
 
 // Whatever event is the last, the forks come out of the hands of sites, of meals and of links.

@@ -4,6 +4,7 @@ use crate::asserts::same;
 use crate::diners::Taster;
 use dine_core::EventKind;
 use dine_link::LinkEnd;
+use dine_plan::{Plan, read_plan};
 use dine_run::{Call, SiteOut};
 use dine_token::{Entry, Fork};
 use std::alloc::{AllocError, Global};
@@ -34,64 +35,113 @@ impl Graph {
     }
 }
 
-// Sites with as many jobs each, and no edges.
-pub fn apart(alloc: Global, sites: u32, jobs: u32) -> Result<Graph, AllocError> {
-    let mut all = Vec::new(alloc);
-    for _ in 0..sites {
-        all.push(jobs)?;
+// The graphs that are run on. All sites have as many jobs, where no other is said.
+#[derive(Clone, Copy)]
+pub enum Shape {
+    // Sites without edges.
+    Apart { sites: u32, jobs: u32 },
+    // Each site has an edge with the next, and the last with the first.
+    Ring { sites: u32, jobs: u32 },
+    // The first site has an edge with each other one.
+    Star { sites: u32, jobs: u32 },
+    // Each of 16 sites has an edge with each other one.
+    Complete { jobs: u32 },
+    // Eight rows of eight sites, each of which has an edge with those beside, above and below it.
+    Grid { jobs: u32 },
+    // 2 to 12 sites with 0 to 8 jobs each, about half of which resign, and about a third of all edges.
+    Random { seed: u32 },
+    // Two sites with three jobs and one, of which the first resigns.
+    ResigningPair,
+}
+
+pub fn graph_of(rt: &impl Abort, alloc: Global, shape: Shape) -> Graph {
+    match shape {
+        Shape::Apart { sites, jobs } => apart(rt, alloc, sites, jobs),
+        Shape::Ring { sites, jobs } => ring(rt, alloc, sites, jobs),
+        Shape::Star { sites, jobs } => star(rt, alloc, sites, jobs),
+        Shape::Complete { jobs } => complete(rt, alloc, jobs),
+        Shape::Grid { jobs } => grid(rt, alloc, jobs),
+        Shape::Random { seed } => random(rt, alloc, seed),
+        Shape::ResigningPair => resigning_pair(rt, alloc),
     }
-    Ok(Graph {
-        jobs: all,
+}
+
+impl Graph {
+    fn join(&mut self, rt: &impl Abort, lower: u32, higher: u32) {
+        self.edges.push((lower, higher)).expect(rt, "memory");
+    }
+
+    fn seat(&mut self, rt: &impl Abort, jobs: u32) {
+        self.jobs.push(jobs).expect(rt, "memory");
+    }
+
+    fn say_resigns(&mut self, rt: &impl Abort, resigns: bool) {
+        self.resigning.push(resigns).expect(rt, "memory");
+    }
+}
+
+fn apart(rt: &impl Abort, alloc: Global, sites: u32, jobs: u32) -> Graph {
+    let mut graph = Graph {
+        jobs: Vec::new(alloc),
         edges: Vec::new(alloc),
         resigning: Vec::new(alloc),
-    })
+    };
+    for _ in 0..sites {
+        graph.seat(rt, jobs);
+    }
+    graph
 }
 
-// Each site has an edge with the next, and the last with the first.
-pub fn ring(alloc: Global, sites: u32, jobs: u32) -> Result<Graph, AllocError> {
-    let mut graph = apart(alloc, sites, jobs)?;
+fn ring(rt: &impl Abort, alloc: Global, sites: u32, jobs: u32) -> Graph {
+    let mut graph = apart(rt, alloc, sites, jobs);
     let mut last = 0;
     for site in 1..sites {
-        graph.edges.push((last, site))?;
+        graph.join(rt, last, site);
         last = site;
     }
-    graph.edges.push((0, last))?;
-    Ok(graph)
+    graph.join(rt, 0, last);
+    graph
 }
 
-// The first site has an edge with each other one.
-pub fn star(alloc: Global, sites: u32, jobs: u32) -> Result<Graph, AllocError> {
-    let mut graph = apart(alloc, sites, jobs)?;
+fn star(rt: &impl Abort, alloc: Global, sites: u32, jobs: u32) -> Graph {
+    let mut graph = apart(rt, alloc, sites, jobs);
     for leaf in 1..sites {
-        graph.edges.push((0, leaf))?;
+        graph.join(rt, 0, leaf);
     }
-    Ok(graph)
+    graph
 }
 
-// Each of 16 sites has an edge with each other one.
-pub fn complete(alloc: Global, jobs: u32) -> Result<Graph, AllocError> {
-    let mut graph = apart(alloc, 16, jobs)?;
+fn complete(rt: &impl Abort, alloc: Global, jobs: u32) -> Graph {
+    let mut graph = apart(rt, alloc, 16, jobs);
     for pair in 0..256u32 {
         let (lower, higher) = (pair % 16, pair / 16);
         if lower < higher {
-            graph.edges.push((lower, higher))?;
+            graph.join(rt, lower, higher);
         }
     }
-    Ok(graph)
+    graph
 }
 
-// Eight rows of eight sites, each of which has an edge with those beside, above and below it.
-pub fn grid(alloc: Global, jobs: u32) -> Result<Graph, AllocError> {
-    let mut graph = apart(alloc, 64, jobs)?;
+fn grid(rt: &impl Abort, alloc: Global, jobs: u32) -> Graph {
+    let mut graph = apart(rt, alloc, 64, jobs);
     for site in 0..64u32 {
         if site % 8 < 7 {
-            graph.edges.push((site, site + 1))?;
+            graph.join(rt, site, site + 1);
         }
         if site < 56 {
-            graph.edges.push((site, site + 8))?;
+            graph.join(rt, site, site + 8);
         }
     }
-    Ok(graph)
+    graph
+}
+
+fn resigning_pair(rt: &impl Abort, alloc: Global) -> Graph {
+    let mut graph = apart(rt, alloc, 0, 0);
+    graph.seat(rt, 3);
+    graph.seat(rt, 1);
+    graph.join(rt, 0, 1);
+    graph.say_resigns(rt, true);
+    graph
 }
 
 // Numbers below 65,536 that look random, and are the same from the same start.
@@ -110,32 +160,21 @@ impl Dice {
     }
 }
 
-// Two sites with three jobs and one, of which the first resigns.
-pub fn resigning_pair(alloc: Global) -> Result<Graph, AllocError> {
-    let mut graph = apart(alloc, 0, 0)?;
-    graph.jobs.push(3)?;
-    graph.jobs.push(1)?;
-    graph.edges.push((0, 1))?;
-    graph.resigning.push(true)?;
-    Ok(graph)
-}
-
-// 2 to 12 sites with 0 to 8 jobs each, about half of which resign, and about a third of all edges.
-pub fn random(alloc: Global, seed: u32) -> Result<Graph, AllocError> {
+fn random(rt: &impl Abort, alloc: Global, seed: u32) -> Graph {
     let mut dice = Dice { state: seed };
     let sites = 2 + dice.roll() % 11;
-    let mut graph = apart(alloc, 0, 0)?;
+    let mut graph = apart(rt, alloc, 0, 0);
     for _ in 0..sites {
-        graph.jobs.push(dice.roll() % 9)?;
-        graph.resigning.push(dice.roll() % 2 == 0)?;
+        graph.seat(rt, dice.roll() % 9);
+        graph.say_resigns(rt, dice.roll() % 2 == 0);
     }
     for pair in 0..144u32 {
         let (lower, higher) = (pair % 12, pair / 12);
         if lower < higher && higher < sites && dice.roll() % 3 == 0 {
-            graph.edges.push((lower, higher))?;
+            graph.join(rt, lower, higher);
         }
     }
-    Ok(graph)
+    graph
 }
 
 // So many jobs, as a plan has them.
@@ -147,24 +186,34 @@ fn push_jobs(text: &mut String, jobs: u32) -> Result<(), AllocError> {
     text.push_str("]\n")
 }
 
-// The plan of the graph.
-pub fn plan_text(alloc: Global, graph: &Graph) -> Result<String, AllocError> {
-    let mut text = String::from_str(alloc, "version = 2\n")?;
+fn push_site(text: &mut String, site: u32, jobs: u32, resigns: bool) -> Result<(), AllocError> {
+    let policy = if resigns { "resign" } else { "go" };
+    write!(
+        text,
+        "[[site]]\nname = \"s{site}\"\non_fault = \"{policy}\"\n"
+    )?;
+    push_jobs(text, jobs)
+}
+
+fn push_edge(text: &mut String, lower: u32, higher: u32) -> Result<(), AllocError> {
+    write!(text, "[[edge]]\nends = [\"s{lower}\", \"s{higher}\"]\n")
+}
+
+fn plan_text(rt: &impl Abort, alloc: Global, graph: &Graph) -> String {
+    let mut text = String::from_str(alloc, "version = 2\n").expect(rt, "memory");
     for (site, jobs) in (0..64u32).zip(graph.jobs.as_slice()) {
-        let policy = if graph.resigns(site) { "resign" } else { "go" };
-        write!(
-            &mut text,
-            "[[site]]\nname = \"s{site}\"\non_fault = \"{policy}\"\n"
-        )?;
-        push_jobs(&mut text, *jobs)?;
+        push_site(&mut text, site, *jobs, graph.resigns(site)).expect(rt, "memory");
     }
     for (lower, higher) in graph.edges.as_slice() {
-        write!(
-            &mut text,
-            "[[edge]]\nends = [\"s{lower}\", \"s{higher}\"]\n"
-        )?;
+        push_edge(&mut text, *lower, *higher).expect(rt, "memory");
     }
-    Ok(text)
+    text
+}
+
+// The plan of the graph.
+pub fn plan_of(rt: &impl Abort, alloc: Global, graph: &Graph) -> Plan {
+    let text = plan_text(rt, alloc, graph);
+    read_plan(alloc, text.as_str()).expect(rt, "a plan")
 }
 
 // An end of a fork, and how many meals it had with it.

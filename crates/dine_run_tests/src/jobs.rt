@@ -1,7 +1,7 @@
 // Runs of jobs of which nothing is proved.
 use crate::asserts::same;
-use crate::graphs::{plan_text, resigning_pair};
-use dine_run::{Gathered, Job, JobFault, Jobs, Plan, RingLane, SeatFault, SiteOut, read_plan, run};
+use crate::graphs::{Shape, graph_of, plan_of};
+use dine_run::{Gathered, Job, JobFault, Jobs, Plan, RingLane, SeatFault, SiteOut, run};
 use std::alloc::Global;
 use std::process::Abort;
 use std::sync::Wait;
@@ -36,9 +36,8 @@ fn counters(rt: &impl Abort, alloc: Global, count: u32, fails_at: u32) -> Vec<Co
 
 // The plan of two sites of which the first one resigns.
 fn resigning(rt: &impl Abort, alloc: Global) -> Plan {
-    let graph = resigning_pair(alloc).expect(rt, "memory");
-    let text = plan_text(alloc, &graph).expect(rt, "memory");
-    read_plan(alloc, text.as_str()).expect(rt, "a plan")
+    let graph = graph_of(rt, alloc, Shape::ResigningPair);
+    plan_of(rt, alloc, &graph)
 }
 
 // The site ate so often, and its diner did each of these jobs once and noted how it went.

@@ -2,13 +2,13 @@
 use crate::asserts::same;
 use crate::diners::{Taster, outcomes_of, tasters};
 use crate::graphs::*;
-use dine_core::EventKind;
+use dine_core::{Event, EventKind};
 use dine_link::{ChannelLane, Lane, RingLane};
-use dine_plan::{Plan, read_plan};
+use dine_plan::Plan;
 use dine_run::{Gathered, SiteOut, order, run};
 use dine_token::Fork;
 use dine_world::World;
-use std::alloc::{AllocError, Global};
+use std::alloc::Global;
 use std::process::Abort;
 use std::sync::Wait;
 use std::thread::Threads;
@@ -27,9 +27,21 @@ where
     L::Rx: 'static,
 {
     let diners = tasters(alloc, plan, fails_each).expect(rt, "memory");
-    let Ok(gathered) = run::<L, Taster, R>(rt, alloc, plan, diners) else {
-        panic!(rt; "no run");
-    };
+    match run::<L, Taster, R>(rt, alloc, plan, diners) {
+        Ok(gathered) => holds(rt, alloc, graph, plan, fails_each, gathered),
+        Err(_) => panic!(rt; "no run"),
+    }
+}
+
+// What was gathered is as it has to be.
+fn holds(
+    rt: &impl Abort,
+    alloc: Global,
+    graph: &Graph,
+    plan: &Plan,
+    fails_each: u32,
+    gathered: Gathered<Taster>,
+) {
     let Gathered {
         forks,
         sites,
@@ -39,13 +51,13 @@ where
     holds_forks(rt, graph, fails_each, forks.as_slice());
     holds_links(rt, graph, forks.as_slice(), links.as_slice());
     let journals = journals_of(rt, alloc, sites);
-    let world = world_where(rt, alloc, plan, fails_each);
+    let events = order(alloc, plan, journals.as_slice()).expect(rt, "an order");
     holds_order(
         rt,
         alloc,
         plan,
-        journals.as_slice(),
-        world,
+        fails_each,
+        events.as_slice(),
         forks.as_slice(),
     )
 }
@@ -66,26 +78,27 @@ fn journals_of(rt: &impl Abort, alloc: Global, sites: Vec<SiteOut<Taster>>) -> V
     journals
 }
 
-// The journals have an order, and the world, where the same jobs fail, that is stepped through it has the logs that
-// were gathered.
+// The world, where the same jobs fail, that is stepped through the events has the logs that were gathered.
 fn holds_order(
     rt: &impl Abort,
     alloc: Global,
     plan: &Plan,
-    journals: &[Vec<EventKind>],
-    world: World,
+    fails_each: u32,
+    events: &[Event],
     forks: &[Fork],
 ) {
-    let mut world = world;
-    let events = order(alloc, plan, journals).expect(rt, "an order");
-    for event in events.iter() {
+    let mut world = world_where(rt, alloc, plan, fails_each);
+    for event in events {
         same(rt, &world.step(*event), &Ok(()));
     }
     same(rt, &world.count(), &0);
-    let stepped = world.into_forks();
-    same(rt, &stepped.len(), &forks.len());
-    for (gathered, fork) in forks.iter().zip(stepped.iter()) {
-        same_log(rt, gathered, fork);
+    have_same_logs(rt, forks, world.into_forks().as_slice());
+}
+
+fn have_same_logs(rt: &impl Abort, ones: &[Fork], others: &[Fork]) {
+    same(rt, &ones.len(), &others.len());
+    for (one, other) in ones.iter().zip(others) {
+        same_log(rt, one, other);
     }
 }
 
@@ -102,7 +115,7 @@ fn same_log(rt: &impl Abort, one: &Fork, other: &Fork) {
 fn runs_once<L: Lane + 'static, R: Threads + Wait + Abort + Copy + Send + 'static>(
     rt: &R,
     alloc: Global,
-    graph: Result<Graph, AllocError>,
+    shape: Shape,
     fails_each: u32,
 )
 where
@@ -110,79 +123,86 @@ where
     L::ClosedTx: 'static,
     L::Rx: 'static,
 {
-    let graph = graph.expect(rt, "memory");
-    let text = plan_text(alloc, &graph).expect(rt, "memory");
-    let plan = read_plan(alloc, text.as_str()).expect(rt, "a plan");
+    let graph = graph_of(rt, alloc, shape);
+    let plan = plan_of(rt, alloc, &graph);
     runs_over::<L, R>(rt, alloc, &graph, &plan, fails_each)
 }
 
 #[test]
 fn rings_eat_all_their_meals(rt: HostRuntime) {
-    let alloc = rt.alloc();
-    runs_once::<ChannelLane, HostRuntime>(&rt, alloc, ring(alloc, 5, 1000), 0);
-    runs_once::<ChannelLane, HostRuntime>(&rt, alloc, ring(alloc, 64, 1000), 0);
+    for sites in [5, 64] {
+        let ring = Shape::Ring { sites, jobs: 1000 };
+        runs_once::<ChannelLane, HostRuntime>(&rt, rt.alloc(), ring, 0);
+    }
 }
 
 #[test]
 fn stars_eat_all_their_meals(rt: HostRuntime) {
-    let alloc = rt.alloc();
-    runs_once::<ChannelLane, HostRuntime>(&rt, alloc, star(alloc, 64, 1000), 0)
+    let star = Shape::Star {
+        sites: 64,
+        jobs: 1000,
+    };
+    runs_once::<ChannelLane, HostRuntime>(&rt, rt.alloc(), star, 0)
 }
 
 #[test]
 fn sites_that_are_all_neighbours_eat_all_their_meals(rt: HostRuntime) {
-    let alloc = rt.alloc();
-    runs_once::<ChannelLane, HostRuntime>(&rt, alloc, complete(alloc, 1000), 0)
+    let complete = Shape::Complete { jobs: 1000 };
+    runs_once::<ChannelLane, HostRuntime>(&rt, rt.alloc(), complete, 0)
 }
 
 #[test]
 fn grids_eat_all_their_meals(rt: HostRuntime) {
-    let alloc = rt.alloc();
-    runs_once::<ChannelLane, HostRuntime>(&rt, alloc, grid(alloc, 1000), 7)
+    let grid = Shape::Grid { jobs: 1000 };
+    runs_once::<ChannelLane, HostRuntime>(&rt, rt.alloc(), grid, 7)
 }
 
 #[test]
 fn random_graphs_eat_their_meals(rt: HostRuntime) {
-    let alloc = rt.alloc();
     for seed in 0..30u32 {
-        runs_once::<ChannelLane, HostRuntime>(&rt, alloc, random(alloc, seed), seed % 4);
+        runs_once::<ChannelLane, HostRuntime>(&rt, rt.alloc(), Shape::Random { seed }, seed % 4);
     }
 }
 
 // The same graphs, with fewer jobs, over links that are rings.
 #[test]
 fn meals_are_eaten_over_rings(rt: HostRuntime) {
-    let alloc = rt.alloc();
-    for graph in [
-        ring(alloc, 5, 1000),
-        ring(alloc, 64, 100),
-        star(alloc, 64, 100),
-        complete(alloc, 100),
-        grid(alloc, 100),
+    for shape in [
+        Shape::Ring {
+            sites: 5,
+            jobs: 1000,
+        },
+        Shape::Ring {
+            sites: 64,
+            jobs: 100,
+        },
+        Shape::Star {
+            sites: 64,
+            jobs: 100,
+        },
+        Shape::Complete { jobs: 100 },
+        Shape::Grid { jobs: 100 },
     ] {
-        runs_once::<RingLane, HostRuntime>(&rt, alloc, graph, 7);
+        runs_once::<RingLane, HostRuntime>(&rt, rt.alloc(), shape, 7);
     }
     for seed in 0..30u32 {
-        runs_once::<RingLane, HostRuntime>(&rt, alloc, random(alloc, seed), seed % 4);
+        runs_once::<RingLane, HostRuntime>(&rt, rt.alloc(), Shape::Random { seed }, seed % 4);
     }
 }
 
 // The first site's second job of three fails, and it resigns.
 #[test]
 fn site_that_resigns_eats_no_more(rt: HostRuntime) {
-    let alloc = rt.alloc();
-    runs_once::<ChannelLane, HostRuntime>(&rt, alloc, resigning_pair(alloc), 2);
-    runs_once::<RingLane, HostRuntime>(&rt, alloc, resigning_pair(alloc), 2)
+    runs_once::<ChannelLane, HostRuntime>(&rt, rt.alloc(), Shape::ResigningPair, 2);
+    runs_once::<RingLane, HostRuntime>(&rt, rt.alloc(), Shape::ResigningPair, 2)
 }
 
 #[test]
 fn many_small_runs_end(rt: HostRuntime) {
-    let alloc = rt.alloc();
-    let graph = ring(alloc, 5, 2).expect(&rt, "memory");
-    let text = plan_text(alloc, &graph).expect(&rt, "memory");
-    let plan = read_plan(alloc, text.as_str()).expect(&rt, "a plan");
+    let graph = graph_of(&rt, rt.alloc(), Shape::Ring { sites: 5, jobs: 2 });
+    let plan = plan_of(&rt, rt.alloc(), &graph);
     for round in 0..200u32 {
-        runs_over::<ChannelLane, HostRuntime>(&rt, alloc, &graph, &plan, round % 3);
-        runs_over::<RingLane, HostRuntime>(&rt, alloc, &graph, &plan, round % 3);
+        runs_over::<ChannelLane, HostRuntime>(&rt, rt.alloc(), &graph, &plan, round % 3);
+        runs_over::<RingLane, HostRuntime>(&rt, rt.alloc(), &graph, &plan, round % 3);
     }
 }

@@ -4,7 +4,7 @@ ghost use Rattle.dine_graph.specs.Plan.{job_count};
 
 use crate::asserts::same;
 use crate::diners::{Taster, Waiter, waiters};
-use crate::graphs::{apart, plan_text};
+use crate::graphs::{Shape, graph_of, plan_of};
 use dine_link::{ChannelLane, Lane, RingLane};
 use dine_plan::{Plan, read_plan};
 use dine_run::{CallLog, Jobs, RunFault, SiteOut, run, run_within};
@@ -115,9 +115,8 @@ fn diners_for_one(rt: &impl Abort, alloc: Global, count: usize) -> Vec<Taster> {
 
 // The plan of two sites without an edge, with a job each.
 fn two_apart(rt: &impl Abort, alloc: Global) -> Plan {
-    let graph = apart(alloc, 2, 1).expect(rt, "memory");
-    let text = plan_text(alloc, &graph).expect(rt, "memory");
-    read_plan(alloc, text.as_str()).expect(rt, "a plan")
+    let graph = graph_of(rt, alloc, Shape::Apart { sites: 2, jobs: 1 });
+    plan_of(rt, alloc, &graph)
 }
 
 // These are the first of them, and none was called.

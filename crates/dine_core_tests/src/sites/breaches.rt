@@ -369,14 +369,14 @@ fn letters_come_at_a_place_that_is_not_closed(rt: HostRuntime) {
 #[test]
 fn breaches_have_the_numbers_one_to_six(rt: HostRuntime) {
     let breaches = [
-        Breach::AfterClose,
-        Breach::RequestOutOfTurn,
-        Breach::ForkOutOfTurn,
-        Breach::StrangeFork,
-        Breach::DoneOutOfTurn,
-        Breach::ClosedEarly,
+        (Breach::AfterClose, 1),
+        (Breach::RequestOutOfTurn, 2),
+        (Breach::ForkOutOfTurn, 3),
+        (Breach::StrangeFork, 4),
+        (Breach::DoneOutOfTurn, 5),
+        (Breach::ClosedEarly, 6),
     ];
-    for (number, breach) in (1..).zip(breaches) {
+    for (breach, number) in breaches {
         same(&rt, &breach.number(), &number);
     }
 }

@@ -1,13 +1,14 @@
 // Scripts: what some sites do one after another, and the letters that go between them. A test is a list of steps, which
 // one function goes through, so that each call is proved once and not once more in each test.
 use super::{
-    ask_at, break_off, close, core_of, eat, give_at, grow_hungry, is_broken_off, may_do, next_is,
-    quit, refuse, say_done_at, spend, take_at, waits,
+    ask_at, break_off, close, core_of, eat, foreign, give_at, grow_hungry, is_broken_off, may_do,
+    next_is, quit, refuse, say_done_at, spend, take_at, value_after_meal, value_of, waits,
 };
 use crate::asserts::same;
+use crate::forks::opened;
 use dine_core::{Breach, EventKind, Kind4, Letter, Parts, SiteCore};
 use dine_plan::Plan;
-use dine_token::{Fork, Token};
+use dine_token::Token;
 use std::alloc::Global;
 use std::process::Abort;
 
@@ -26,6 +27,8 @@ pub enum Step {
     // It eats a meal that goes well, or one that fails, and has nothing else to do before it ends.
     Eat(usize),
     Fail(usize),
+    // It eats with a fork that has this value then.
+    EatWith(usize, u64),
     Quit(usize),
     // It breaks off at its first place, which puts Close, or has done so before.
     BreakOff(usize),
@@ -54,6 +57,8 @@ pub enum Step {
     Finished(usize),
     // The topmost letter is of this kind.
     Lies(Kind4),
+    // The topmost letter is a fork of this value, and is gone then.
+    LiesWith(u64),
     // The topmost letter is gone.
     Lose,
     // A letter that no site of the script wrote: the Request of an edge, and Done and Close.
@@ -66,6 +71,8 @@ pub enum Step {
         higher: u32,
         due: (u32, u32),
     },
+    // A fork of the first edge from site 0 to site 1, as `foreign` says.
+    Foreign(u64),
 }
 
 fn core_at<'a>(rt: &impl Abort, cores: &'a mut Vec<SiteCore>, n: usize) -> &'a mut SiteCore {
@@ -74,14 +81,6 @@ fn core_at<'a>(rt: &impl Abort, cores: &'a mut Vec<SiteCore>, n: usize) -> &'a m
 
 fn top(rt: &impl Abort, pile: &mut Vec<Letter>) -> Letter {
     pile.pop().expect(rt, "a letter")
-}
-
-fn opened_fork(rt: &impl Abort, alloc: Global, edge: u32, higher: u32, due: (u32, u32)) -> Letter {
-    assert!(rt; 0 < higher);
-    assert!(rt; due.0 <= 1000);
-    assert!(rt; due.1 <= 1000);
-    let fork = Fork::open(alloc, edge, 0, higher, due.0, due.1, 0).expect(rt, "memory");
-    Letter::Fork(fork)
 }
 
 // The letter that comes on top by this step, if one does.
@@ -100,7 +99,11 @@ fn letter_put(
         Step::Request(edge) => Some(Letter::Request(Token::open(edge))),
         Step::Done => Some(Letter::Done),
         Step::CloseLetter => Some(Letter::Close),
-        Step::Fork { edge, higher, due } => Some(opened_fork(rt, alloc, edge, higher, due)),
+        Step::Fork { edge, higher, due } => {
+            let fork = opened(rt, alloc, edge, (0, higher), due, 0);
+            Some(Letter::Fork(fork))
+        }
+        Step::Foreign(value) => Some(foreign(rt, alloc, value)),
         _ => None,
     }
 }
@@ -111,6 +114,10 @@ fn goes_on(rt: &impl Abort, cores: &mut Vec<SiteCore>, step: Step) {
         Step::Hungry(n) => grow_hungry(rt, core_at(rt, cores, n)),
         Step::Eat(n) => eat(rt, core_at(rt, cores, n), false),
         Step::Fail(n) => eat(rt, core_at(rt, cores, n), true),
+        Step::EatWith(n, value) => {
+            let core = core_at(rt, cores, n);
+            same(rt, &value_after_meal(rt, core), &value);
+        }
         Step::Quit(n) => quit(rt, core_at(rt, cores, n)),
         Step::BrokenOff(n) => is_broken_off(rt, core_at(rt, cores, n)),
         Step::May(n, may) => may_do(rt, core_at(rt, cores, n), may),
@@ -143,6 +150,7 @@ fn lands(rt: &impl Abort, cores: &mut Vec<SiteCore>, pile: &mut Vec<Letter>, ste
             same(rt, &letter.kind(), &kind);
             pile.push(letter).expect(rt, "memory");
         }
+        Step::LiesWith(value) => same(rt, &value_of(rt, &top(rt, pile)), &value),
         Step::Lose => {
             let _letter = top(rt, pile);
         }

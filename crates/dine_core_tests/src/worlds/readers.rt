@@ -61,11 +61,8 @@ pub(super) fn same_readers<R: Abort>(rt: &R, model: &Model<R>, world: &World) {
 
 // What each end of the pair has said, where both said the same of the other.
 fn have_said(rt: &impl Abort, world: &World, said: Said) {
-    same(
-        rt,
-        &(world.said(0, 0), world.said(1, 0)),
-        &(Some(said), Some(said)),
-    );
+    let told = (world.said(0, 0), world.said(1, 0));
+    same(rt, &told, &(Some(said), Some(said)));
 }
 
 fn all_or_none(is_said: bool) -> Said {
@@ -77,60 +74,87 @@ fn all_or_none(is_said: bool) -> Said {
     }
 }
 
+// A moment of the pair: the choices that lead there from the one before, where the fork and the token are then, whether
+// the fork is dirty, and the letters to the lower end and to the higher.
+struct Moment<'a> {
+    choices: &'a [u32],
+    fork: Whereabouts,
+    token: Whereabouts,
+    is_dirty: bool,
+    to_lower: &'a [Kind4],
+    to_higher: &'a [Kind4],
+}
+
+fn is_at(rt: &impl Abort, world: &World, moment: &Moment) {
+    let told = (world.where_is_fork(0), world.where_is_token(0));
+    same(rt, &told, &(Some(moment.fork), Some(moment.token)));
+    same(rt, &world.is_fork_dirty(0), &Some(moment.is_dirty));
+    has_letters(rt, world, 0, 0, moment.to_lower);
+    has_letters(rt, world, 1, 0, moment.to_higher);
+}
+
+// As it is at the start, and after the last event.
+const AT_START: Moment = Moment {
+    choices: &[],
+    fork: Whereabouts::At(0),
+    token: Whereabouts::At(1),
+    is_dirty: true,
+    to_lower: &[],
+    to_higher: &[],
+};
+
+const MOMENTS: [Moment; 4] = [
+    AT_START,
+    // The higher end grew hungry and asked.
+    Moment {
+        choices: &[1, 1],
+        fork: Whereabouts::At(0),
+        token: Whereabouts::To(0),
+        is_dirty: true,
+        to_lower: &[Kind4::Request],
+        to_higher: &[],
+    },
+    // The lower end took the request, gave the fork, grew hungry and asked for it again.
+    Moment {
+        choices: &[0, 0, 0, 0],
+        fork: Whereabouts::To(1),
+        token: Whereabouts::To(1),
+        is_dirty: false,
+        to_lower: &[],
+        to_higher: &[Kind4::Fork, Kind4::Request],
+    },
+    // The higher end took the fork.
+    Moment {
+        choices: &[0],
+        fork: Whereabouts::At(1),
+        token: Whereabouts::To(1),
+        is_dirty: false,
+        to_lower: &[],
+        to_higher: &[Kind4::Request],
+    },
+];
+
+// There is no edge but the first, and no place but one at each of the two sites.
+fn tells_of_one_edge(rt: &impl Abort, world: &World) {
+    let told = (world.where_is_fork(1), world.where_is_token(1));
+    same(rt, &told, &(None, None));
+    same(rt, &world.is_fork_dirty(1), &None);
+    tells_nothing(rt, world, 0, 1);
+    tells_nothing(rt, world, 2, 0);
+}
+
 #[test]
 fn readers_follow_a_pair(rt: HostRuntime) {
     let plan = pair(&rt, rt.alloc());
     let mut world = opened(&rt, rt.alloc(), &plan);
-    let (at_lower, to_lower) = (Some(Whereabouts::At(0)), Some(Whereabouts::To(0)));
-    let (at_higher, to_higher) = (Some(Whereabouts::At(1)), Some(Whereabouts::To(1)));
-    same(
-        &rt,
-        &(world.where_is_fork(0), world.where_is_token(0)),
-        &(at_lower, at_higher),
-    );
-    same(&rt, &world.is_fork_dirty(0), &Some(true));
     have_said(&rt, &world, all_or_none(false));
-    // The higher end grew hungry and asked.
-    let _ = world.replay([1, 1].as_slice());
-    same(
-        &rt,
-        &(world.where_is_fork(0), world.where_is_token(0)),
-        &(at_lower, to_lower),
-    );
-    has_letters(&rt, &world, 0, 0, [Kind4::Request].as_slice());
-    has_letters(&rt, &world, 1, 0, [].as_slice());
-    // The lower end took the request, gave the fork, grew hungry and asked for it again.
-    let _ = world.replay([0, 0, 0, 0].as_slice());
-    same(
-        &rt,
-        &(world.where_is_fork(0), world.where_is_token(0)),
-        &(to_higher, to_higher),
-    );
-    has_letters(&rt, &world, 0, 0, [].as_slice());
-    has_letters(&rt, &world, 1, 0, [Kind4::Fork, Kind4::Request].as_slice());
-    same(&rt, &world.is_fork_dirty(0), &Some(false));
-    // The higher end took the fork.
-    let _ = world.replay([0].as_slice());
-    same(
-        &rt,
-        &(world.where_is_fork(0), world.is_fork_dirty(0)),
-        &(at_higher, Some(false)),
-    );
+    for moment in &MOMENTS {
+        let _ = world.replay(moment.choices);
+        is_at(&rt, &world, moment);
+    }
     let _ = world.finish();
-    same(
-        &rt,
-        &(world.where_is_fork(0), world.where_is_token(0)),
-        &(at_lower, at_higher),
-    );
-    same(&rt, &world.is_fork_dirty(0), &Some(true));
+    is_at(&rt, &world, &AT_START);
     have_said(&rt, &world, all_or_none(true));
-    same(
-        &rt,
-        &(world.where_is_fork(1), world.where_is_token(1)),
-        &(None, None),
-    );
-    same(&rt, &world.is_fork_dirty(1), &None);
-    tells_nothing(&rt, &world, 0, 1);
-    tells_nothing(&rt, &world, 2, 0);
+    tells_of_one_edge(&rt, &world);
     let _forks = spend(&rt, &plan, world);
 }

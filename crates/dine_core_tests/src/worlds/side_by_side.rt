@@ -201,14 +201,26 @@ fn world_of(rt: &impl Abort, trial: &Trial) -> World {
     }
 }
 
+// The enabled events, after so many, where world and model are compared and refusals tried.
+fn compare<R: Abort>(
+    rt: &R,
+    trial: &Trial,
+    model: &Model<R>,
+    world: &mut World,
+    events: u64,
+) -> Vec<Event> {
+    let enabled = model.enabled();
+    refuse_others(rt, trial.all.as_slice(), enabled.as_slice(), world);
+    agree(rt, model, enabled.as_slice(), world, events);
+    enabled
+}
+
 // A run to the end, compared after every event, with refusals tried at each state. Answers its choices.
 fn run_alike(rt: &impl Abort, trial: &Trial, mut chooser: Chooser) -> Vec<u32> {
     let (mut model, mut world) = (model_of(rt, trial), world_of(rt, trial));
     let mut choices = Vec::new(trial.alloc);
     for events in 0..=trial.graph.bound() {
-        let enabled = model.enabled();
-        refuse_others(rt, trial.all.as_slice(), enabled.as_slice(), &mut world);
-        agree(rt, &model, enabled.as_slice(), &world, events);
+        let _enabled = compare(rt, trial, &model, &mut world, events);
         let choice = chooser.next(world.count());
         let Some(event) = world.enabled(choice) else {
             break;
@@ -272,9 +284,11 @@ fn finish_alike(rt: &impl Abort, trial: &Trial, choices: &[u32]) {
     }
 }
 
-// Runs and replays of a plan with so many jobs at each site.
-fn go_alike(rt: &impl Abort, alloc: Global, jobs: &[u32], edges: &[(u32, u32)]) {
-    go_alike_by(rt, &trial_of(rt, alloc, jobs, edges));
+// Runs and replays of plans, each with so many jobs at each site and these edges.
+fn go_alike(rt: &impl Abort, alloc: Global, plans: &[(&[u32], &[(u32, u32)])]) {
+    for (jobs, edges) in plans {
+        go_alike_by(rt, &trial_of(rt, alloc, jobs, edges));
+    }
 }
 
 fn go_alike_by(rt: &impl Abort, trial: &Trial) {
@@ -299,9 +313,7 @@ fn run_branches(rt: &impl Abort, trial: &Trial, branches: &mut Vec<Vec<Event>>) 
     let known = branches.len() as u64;
     for events in 0..=trial.graph.bound() {
         if known <= events {
-            let enabled = model.enabled();
-            refuse_others(rt, trial.all.as_slice(), enabled.as_slice(), &mut world);
-            agree(rt, &model, enabled.as_slice(), &world, events);
+            let enabled = compare(rt, trial, &model, &mut world, events);
             if enabled.is_empty() {
                 break;
             }
@@ -338,10 +350,9 @@ fn run_all(rt: &impl Abort, trial: &Trial, mut branches: Vec<Vec<Event>>) -> u32
     0
 }
 
-// Does all runs that the plan has.
-fn run_whole(rt: &impl Abort, alloc: Global, jobs: &[u32], edges: &[(u32, u32)]) -> u32 {
-    let trial = trial_of(rt, alloc, jobs, edges);
-    run_all(rt, &trial, Vec::new(alloc))
+// Does all runs that the graph's plan has.
+fn run_whole(rt: &impl Abort, alloc: Global, graph: Graph) -> u32 {
+    run_all(rt, &trial_by(rt, alloc, graph), Vec::new(alloc))
 }
 
 const LOWER_HUNGRY: Event = Event {
@@ -396,71 +407,67 @@ fn pair_runs_alike_where_the_lower_is_asked(rt: HostRuntime) {
     same(&rt, &run_pair(&rt, rt.alloc(), first), &6_147);
 }
 
+// Plans with so many jobs at each site and these edges, and how many runs each has.
+const SMALLEST: [(&[u32], &[(u32, u32)], u32); 5] = [
+    (&[2], &[], 1),
+    (&[1, 2], &[], 84),
+    (&[0, 0], &[(0, 1)], 54),
+    (&[0, 1], &[(0, 1)], 306),
+    (&[3, 0], &[(0, 1)], 702),
+];
+
 #[test]
 fn smallest_plans_run_alike_in_all_ways(rt: HostRuntime) {
-    let alloc = rt.alloc();
-    let edges = [(0, 1)].as_slice();
-    let runs = run_whole(&rt, alloc, [2].as_slice(), [].as_slice());
-    same(&rt, &runs, &1);
-    let runs = run_whole(&rt, alloc, [1, 2].as_slice(), [].as_slice());
-    same(&rt, &runs, &84);
-    let runs = run_whole(&rt, alloc, [0, 0].as_slice(), edges);
-    same(&rt, &runs, &54);
-    let runs = run_whole(&rt, alloc, [0, 1].as_slice(), edges);
-    same(&rt, &runs, &306);
-    let runs = run_whole(&rt, alloc, [3, 0].as_slice(), edges);
-    same(&rt, &runs, &702);
+    for (jobs, edges, runs) in SMALLEST {
+        let graph = graph_of(jobs, edges);
+        same(&rt, &run_whole(&rt, rt.alloc(), graph), &runs);
+    }
 }
 
 #[test]
 fn pairs_and_rows_run_alike(rt: HostRuntime) {
-    let alloc = rt.alloc();
-    let pair = [(0, 1)].as_slice();
-    go_alike(&rt, alloc, [2].as_slice(), [].as_slice());
-    go_alike(&rt, alloc, [1, 2].as_slice(), [].as_slice());
-    go_alike(&rt, alloc, [1, 1].as_slice(), pair);
-    go_alike(&rt, alloc, [2, 2].as_slice(), pair);
-    go_alike(&rt, alloc, [0, 1].as_slice(), pair);
-    go_alike(&rt, alloc, [3, 0].as_slice(), [(1, 0)].as_slice());
-    go_alike(
-        &rt,
-        alloc,
-        [1, 2, 1].as_slice(),
-        [(0, 1), (1, 2)].as_slice(),
-    );
-    go_alike(
-        &rt,
-        alloc,
-        [2, 0, 3].as_slice(),
-        [(2, 1), (1, 0)].as_slice(),
-    );
+    let plans: [(&[u32], &[(u32, u32)]); 8] = [
+        (&[2], &[]),
+        (&[1, 2], &[]),
+        (&[1, 1], &[(0, 1)]),
+        (&[2, 2], &[(0, 1)]),
+        (&[0, 1], &[(0, 1)]),
+        (&[3, 0], &[(1, 0)]),
+        (&[1, 2, 1], &[(0, 1), (1, 2)]),
+        (&[2, 0, 3], &[(2, 1), (1, 0)]),
+    ];
+    go_alike(&rt, rt.alloc(), &plans);
 }
 
 #[test]
 fn rings_run_alike(rt: HostRuntime) {
-    let alloc = rt.alloc();
-    let three = [(0, 1), (1, 2), (2, 0)].as_slice();
-    let five = [(3, 4), (0, 1), (4, 0), (2, 1), (2, 3)].as_slice();
-    go_alike(&rt, alloc, [1, 2, 3].as_slice(), three);
-    go_alike(&rt, alloc, [1, 0, 2, 1, 2].as_slice(), five);
+    let plans: [(&[u32], &[(u32, u32)]); 2] = [
+        (&[1, 2, 3], &[(0, 1), (1, 2), (2, 0)]),
+        (&[1, 0, 2, 1, 2], &[(3, 4), (0, 1), (4, 0), (2, 1), (2, 3)]),
+    ];
+    go_alike(&rt, rt.alloc(), &plans);
 }
 
+// The middle is the first site, and the last.
 #[test]
 fn stars_run_alike(rt: HostRuntime) {
-    let alloc = rt.alloc();
-    let middle_first = [(0, 1), (0, 2), (0, 3)].as_slice();
-    let middle_last = [(3, 1), (3, 0), (2, 3)].as_slice();
-    go_alike(&rt, alloc, [3, 1, 2, 0].as_slice(), middle_first);
-    go_alike(&rt, alloc, [1, 2, 0, 2].as_slice(), middle_last);
+    let plans: [(&[u32], &[(u32, u32)]); 2] = [
+        (&[3, 1, 2, 0], &[(0, 1), (0, 2), (0, 3)]),
+        (&[1, 2, 0, 2], &[(3, 1), (3, 0), (2, 3)]),
+    ];
+    go_alike(&rt, rt.alloc(), &plans);
 }
 
 #[test]
 fn graphs_of_all_edges_and_of_few_run_alike(rt: HostRuntime) {
-    let alloc = rt.alloc();
-    let all = [(0, 1), (0, 2), (0, 3), (1, 2), (1, 3), (2, 3)].as_slice();
-    let few = [(3, 0), (1, 3)].as_slice();
-    go_alike(&rt, alloc, [1, 2, 1, 1].as_slice(), all);
-    go_alike(&rt, alloc, [1, 2, 2, 1, 0].as_slice(), few);
+    let plans: [(&[u32], &[(u32, u32)]); 2] = [
+        (
+            &[1, 2, 1, 1],
+            &[(0, 1), (0, 2), (0, 3), (1, 2), (1, 3), (2, 3)],
+        ),
+        (&[1, 2, 2, 1, 0], &[(3, 0), (1, 3)]),
+    ];
+    go_alike(&rt, rt.alloc(), &plans);
 }
 
 // Runs of the graph's plan, and of one whose jobs do not fail, with the outcomes of the graph given.
@@ -480,60 +487,62 @@ fn resign_alike(rt: &impl Abort, alloc: Global, graph: Graph) {
     finish_alike(rt, &given, choices.as_slice());
 }
 
-// Sites that resign and such that go on, with jobs that fail: in the middle, the last one, none, and more than one.
-#[test]
-fn resigning_sites_run_alike(rt: HostRuntime) {
-    let alloc = rt.alloc();
-    let pair = Graph {
+// Pairs, a row and a ring.
+const RESIGNING: [Graph; 4] = [
+    Graph {
         jobs: &[3, 1],
         edges: &[(0, 1)],
         failing: &[2, 1],
         resigning: &[true, true],
-    };
-    resign_alike(&rt, alloc, pair);
-    let goes_on = Graph {
-        resigning: &[false, true],
+    },
+    Graph {
+        jobs: &[3, 1],
+        edges: &[(0, 1)],
         failing: &[2, 0],
-        ..pair
-    };
-    resign_alike(&rt, alloc, goes_on);
-    let row = Graph {
+        resigning: &[false, true],
+    },
+    Graph {
         jobs: &[2, 3, 2],
         edges: &[(0, 1), (2, 1)],
         failing: &[1, 6, 2],
         resigning: &[true, true, true],
-    };
-    resign_alike(&rt, alloc, row);
-    let ring = Graph {
+    },
+    Graph {
         jobs: &[3, 2, 2],
         edges: &[(0, 1), (1, 2), (2, 0)],
         failing: &[4, 1, 3],
         resigning: &[true, true, false],
-    };
-    resign_alike(&rt, alloc, ring);
+    },
+];
+
+// Sites that resign and such that go on, with jobs that fail: in the middle, the last one, none, and more than one.
+#[test]
+fn resigning_sites_run_alike(rt: HostRuntime) {
+    for graph in RESIGNING {
+        resign_alike(&rt, rt.alloc(), graph);
+    }
 }
+
+const RESIGNING_ALONE: Graph = Graph {
+    jobs: &[3],
+    edges: &[],
+    failing: &[2],
+    resigning: &[true],
+};
+
+const RESIGNING_LOWER: Graph = Graph {
+    jobs: &[2, 0],
+    edges: &[(0, 1)],
+    failing: &[1, 0],
+    resigning: &[true, false],
+};
 
 // All runs of a pair whose lower site quits after the first of its two meals, where the higher has no job, and of such
 // a site alone.
 #[test]
 fn resigning_sites_run_alike_in_all_ways(rt: HostRuntime) {
-    let alloc = rt.alloc();
-    let alone = Graph {
-        jobs: &[3],
-        edges: &[],
-        failing: &[2],
-        resigning: &[true],
-    };
-    let trial = trial_by(&rt, alloc, alone);
-    same(&rt, &run_all(&rt, &trial, Vec::new(alloc)), &1);
-    let pair = Graph {
-        jobs: &[2, 0],
-        edges: &[(0, 1)],
-        failing: &[1, 0],
-        resigning: &[true, false],
-    };
-    let trial = trial_by(&rt, alloc, pair);
-    assert!(rt; run_all(&rt, &trial, Vec::new(alloc)) != 0);
+    same(&rt, &run_whole(&rt, rt.alloc(), RESIGNING_ALONE), &1);
+    assert!(rt; run_whole(&rt, rt.alloc(), RESIGNING_LOWER) != 0);
 }
 
 // The edges of a ring, and one from every second site to the fifth from it.
@@ -575,35 +584,40 @@ fn offers(world: &World, event: Event) -> bool {
     false
 }
 
+const HIGHER_TAKES: Event = Event {
+    site: 1,
+    kind: EventKind::Take(0),
+};
+
+const HIGHER_BEGINS: Event = Event {
+    site: 1,
+    kind: EventKind::Begin,
+};
+
+// After the choices the fork and the request lie in the link to the higher site, which takes both.
+fn takes_both(rt: &impl Abort, trial: &Trial, choices: &[u32]) {
+    let (mut model, mut world) = (model_of(rt, trial), world_of(rt, trial));
+    let replayed = (model.replay(choices), world.replay(choices));
+    same(rt, &replayed, &(6, 6));
+    let kinds = model.kinds_in_link(1, 0);
+    let wanted = [Kind4::Fork, Kind4::Request];
+    same(rt, &kinds.as_slice(), &wanted.as_slice());
+    for (events, takes, begins) in [(6, true, false), (7, true, true), (8, false, true)] {
+        agree_anew(rt, &model, &world, events);
+        let offered = (offers(&world, HIGHER_TAKES), offers(&world, HIGHER_BEGINS));
+        same(rt, &offered, &(takes, begins));
+        if takes {
+            step_both(rt, &mut model, &mut world, HIGHER_TAKES);
+        }
+    }
+    let finished = (model.finish(), world.finish());
+    same(rt, &finished, &(14, 14));
+    end_both(rt, &model, world);
+}
+
 // The higher site asks first, and the lower asks for the fork back as soon as it gave it.
 #[test]
 fn fork_and_request_lie_in_one_link(rt: HostRuntime) {
-    let graph = graph_of([1, 1].as_slice(), [(0, 1)].as_slice());
-    let plan = plan_by(&rt, rt.alloc(), graph);
-    let mut model = Model::open(&rt, rt.alloc(), graph);
-    let mut world = opened(&rt, rt.alloc(), &plan);
-    same(&rt, &model.replay([1, 1, 0, 0, 0, 0].as_slice()), &6);
-    same(&rt, &world.replay([1, 1, 0, 0, 0, 0].as_slice()), &6);
-    agree_anew(&rt, &model, &world, 6);
-    let kinds = model.kinds_in_link(1, 0);
-    same(
-        &rt,
-        &kinds.as_slice(),
-        &[Kind4::Fork, Kind4::Request].as_slice(),
-    );
-    let site = 1;
-    let kind = EventKind::Take(0);
-    let take = Event { site, kind };
-    let kind = EventKind::Begin;
-    let begin = Event { site, kind };
-    assert!(rt; offers(&world, take) && !offers(&world, begin));
-    step_both(&rt, &mut model, &mut world, take);
-    agree_anew(&rt, &model, &world, 7);
-    assert!(rt; offers(&world, take) && offers(&world, begin));
-    step_both(&rt, &mut model, &mut world, take);
-    agree_anew(&rt, &model, &world, 8);
-    assert!(rt; !offers(&world, take) && offers(&world, begin));
-    let finished = (model.finish(), world.finish());
-    same(&rt, &finished, &(14, 14));
-    end_both(&rt, &model, world);
+    let trial = trial_of(&rt, rt.alloc(), [1, 1].as_slice(), [(0, 1)].as_slice());
+    takes_both(&rt, &trial, &[1, 1, 0, 0, 0, 0]);
 }

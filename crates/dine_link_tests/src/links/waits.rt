@@ -1,6 +1,7 @@
 // A full link makes the one who puts wait.
 ghost use Rattle.std.specs.Prelude.{◌≡◌, []};
 
+use super::steps::puts;
 use crate::asserts::same;
 use dine_link::{ChannelLane, Lane, RingLane};
 use dine_rules::Letter;
@@ -14,13 +15,12 @@ use std::thread;
 use std::thread::Threads;
 
 // Puts five letters, and counts each that was put.
-fn put_five<L: Lane, R: Wait>(rt: &R, mut tx: L::Tx, count: &AtomicU64) -> L::Tx
+fn put_five<L: Lane, R: Wait + Abort>(rt: &R, mut tx: L::Tx, count: &AtomicU64) -> L::Tx
     requires { (L.seen_tx tx).letters ≡ [] }
 {
     for edge in 0..5 {
-        if L::put(rt, &mut tx, Letter::Request(Token::open(edge))).is_ok() {
-            count.fetch_add(1, Ordering::SeqCst);
-        }
+        puts::<L, R>(rt, &mut tx, Letter::Request(Token::open(edge)));
+        count.fetch_add(1, Ordering::SeqCst);
     }
     tx
 }
