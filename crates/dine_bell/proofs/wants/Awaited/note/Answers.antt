@@ -4,6 +4,3 @@ use Rattle.dine_bell.proofs.wants.Awaited.note.Goals as goal
 
 pub returns-then-eq : goal.returns-then-eq
 returns-then-eq c = search (tests, rules)
-
-pub returns-else-eq : goal.returns-else-eq
-returns-else-eq c = search (tests, rules)
