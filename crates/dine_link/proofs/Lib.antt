@@ -1,2 +1,4 @@
+pub mod Passes
 pub mod Relays
 pub mod Endings
+pub mod BellSteps

@@ -6,7 +6,7 @@ use Rattle.crossbeam_channel.specs.Fifo.{Pushes, Pops, Forks, Merges, Learns}
 use Rattle.atomic_table.proofs.Lists.{at_set, at_snoc}
 use Rattle.dine_rules.specs.declared.letters.Letter.{Letter}
 use Rattle.dine_link.specs.declared.rule.Known.{Known}
-use Rattle.dine_bell.proofs.Passes.{Each, each_set}
+use Rattle.dine_link.proofs.Passes.{Each, each_set}
 use Rattle.dine_link.specs.private.Rule.{Fits, IsInOrder, fresh, spent, putting, taking, both, after_put, after_take}
 
 -- the view just behind the end of a list is the one that was added

@@ -4,5 +4,7 @@ pub mod Lanes
 pub mod Channels
 pub mod FaultLanes
 pub mod Ends
+pub mod Bells
 pub mod Rings
+pub mod Waking
 pub mod private

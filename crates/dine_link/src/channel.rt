@@ -8,11 +8,11 @@ ghost use Rattle.dine_link.specs.Closing.{is_close, ends_in_close};
 
 use crate::backoff;
 use crate::closing::is_close;
+use crate::faults::{LinkFault, Lost};
 use crate::lane::{Lane, TxEnd};
 use crate::link_end::{BothEnds, LinkEnd};
 use crate::rule::{Ends, InOrder, Known, Puts, Reconciles, Takes};
 use crossbeam_channel::{Pass, RuledReceiver, RuledSender, bounded_with};
-use dine_bell::{LinkFault, Lost};
 use dine_rules::Letter;
 use std::alloc::Global;
 use std::sync::Wait;

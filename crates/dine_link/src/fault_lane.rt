@@ -5,9 +5,9 @@ ghost use Rattle.dine_rules.specs.Streams.{is_close_last};
 ghost use Rattle.dine_link.specs.FaultLanes.{lets_through, spent};
 
 use crate::channel::{ChannelClosedTx, ChannelLane, ChannelRx, ChannelTx};
+use crate::faults::{LinkFault, Lost};
 use crate::lane::{Lane, TxEnd};
 use crate::link_end::LinkEnd;
-use dine_bell::{LinkFault, Lost};
 use dine_rules::Letter;
 use std::alloc::Global;
 use std::sync::Wait;

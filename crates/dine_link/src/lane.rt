@@ -7,8 +7,8 @@ ghost use Rattle.dine_link.specs.Closing.{is_close};
 ghost use Rattle.dine_link.specs.Links.{SeenEnd, IsLink, with_letter, after_refusal, link_of};
 ghost use Rattle.dine_link.specs.Lanes.{seen_end};
 
+use crate::faults::{LinkFault, Lost};
 use crate::link_end::LinkEnd;
-use dine_bell::{LinkFault, Lost};
 use dine_rules::Letter;
 use std::alloc::Global;
 use std::sync::Wait;

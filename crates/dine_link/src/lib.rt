@@ -1,19 +1,28 @@
-//! Links: letters in order from one site to one other, whichever threads these run in. The bells that tell who put one,
-//! and the gates where threads wait for the start, are those of `dine_bell`, and are handed on.
+//! Links: letters in order from one site to one other, whichever threads these run in. Bells: who put one. Gates: where
+//! threads wait for the start.
 #![tactic(auto)]
 
 mod backoff;
+mod bell;
+mod bell_rule;
 mod channel;
 mod closing;
 mod fault_lane;
+mod faults;
+mod gate;
 mod lane;
 mod link_end;
 mod ring;
 mod rule;
+mod sleeper;
+mod wants;
 
+pub use bell::{Bell, Ringer};
 pub use channel::{ChannelClosedTx, ChannelLane, ChannelRx, ChannelTx};
-pub use dine_bell::{Bell, Gate, LinkFault, Lost, Ringer, Signal, Wants};
 pub use fault_lane::{FaultLane, FaultRx, FaultTx, fault_rx, fault_tx};
+pub use faults::{LinkFault, Lost};
+pub use gate::{Gate, Signal};
 pub use lane::{Lane, TxEnd};
 pub use link_end::LinkEnd;
 pub use ring::{RingClosedTx, RingLane, RingRx, RingTx};
+pub use wants::Wants;

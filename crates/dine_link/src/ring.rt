@@ -8,9 +8,9 @@ ghost use Rattle.dine_link.specs.Closing.{is_close, ends_in_close};
 
 use crate::backoff::Backoff;
 use crate::closing::is_close;
+use crate::faults::{LinkFault, Lost};
 use crate::lane::{Lane, TxEnd};
 use crate::link_end::{BothEnds, LinkEnd};
-use dine_bell::{LinkFault, Lost};
 use dine_rules::Letter;
 use rtrb::{Consumer, Producer, PushError, RingBuffer};
 use std::alloc::Global;

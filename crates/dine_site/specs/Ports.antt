@@ -11,7 +11,7 @@ use Rattle.dine_site.specs.declared.port.Closed.TheVariants as closed
 use Rattle.dine_link.specs.declared.lane.TxEnd.{TxEnd}
 use Rattle.dine_link.specs.declared.lane.TxEnd.TheVariants.{Live, Shut}
 use Rattle.dine_link.specs.Lanes.{seen_end}
-use Rattle.dine_bell.specs.Bells.{SeenRinger, after_refused_ring, after_ring}
+use Rattle.dine_link.specs.Bells.{SeenRinger, after_refused_ring, after_ring}
 use Rattle.dine_link.specs.Links.{SeenEnd, after_refusal, with_letter}
 
 -- A port: the end that the site puts in, whether more can be put in it, the end that it takes from, and the ringer of

@@ -19,7 +19,7 @@ use Rattle.dine_site.specs.declared.site_end.SiteFault.TheVariants as fault
 use Rattle.dine_site.specs.declared.site_end.Stray.{Stray}
 use Rattle.dine_site.specs.declared.site_loop.running.Stop.{Stop}
 use Rattle.dine_site.specs.declared.site_loop.running.Running.{Running}
-use Rattle.dine_bell.specs.Bells.{SeenBell}
+use Rattle.dine_link.specs.Bells.{SeenBell}
 use Rattle.dine_link.specs.Links.{SeenEnd}
 use Rattle.dine_site.specs.Diners.{HasEaten}
 use Rattle.dine_site.specs.Doings.{HasDone}

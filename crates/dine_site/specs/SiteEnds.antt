@@ -7,7 +7,7 @@ use Rattle.dine_rules.specs.declared.events.EventKind.{EventKind}
 use Rattle.dine_rules.specs.Local.{LocalState}
 use Rattle.dine_core.specs.Core.{forks_in_hand}
 use Rattle.dine_core.specs.Standing.{all_places}
-use Rattle.dine_bell.specs.Bells.{SeenBell}
+use Rattle.dine_link.specs.Bells.{SeenBell}
 use Rattle.dine_site.specs.declared.site_end.SiteFault.{SiteFault}
 use Rattle.dine_site.specs.declared.site_end.SiteFault.TheVariants as fault
 use Rattle.dine_site.specs.declared.site_end.Stray.{Stray}

@@ -2,7 +2,7 @@
 ghost use Rattle.std.specs.Prelude.{◌≡◌, ℕ, ◌<◌, ◌≤◌, ◌+◌, ◌++◌, [], ◌∷◌, All, IfOk, None, OnOk, Some, length, map, set, slice_get, slice_index_or, vec_len, vec_capacity};
 ghost use Rattle.dine_graph.specs.Plan.{IsPlan, edge_count, edges_of, site_count};
 ghost use Rattle.dine_threads.specs.private.Openings.{AreBare, AreLaid, AreNewPorts, AreRingersOf, AreStands, IsBareStand, bells_of, rows_of};
-ghost use Rattle.dine_bell.specs.Bells.{new_ringer};
+ghost use Rattle.dine_link.specs.Bells.{new_ringer};
 ghost use Rattle.dine_site.specs.Ports.{seen_port};
 ghost use Rattle.dine_threads.specs.private.Spots.{AreFull, IsFullRow};
 ghost use Rattle.dine_threads.specs.private.Wirings.{AreRingersAt, AreRung, AreWired};

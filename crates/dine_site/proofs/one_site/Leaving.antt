@@ -17,7 +17,7 @@ use Rattle.dine_core.specs.Standing.{all_places}
 use Rattle.dine_site.specs.declared.diner.Call.{Call}
 use Rattle.dine_site.specs.declared.site_end.SiteFault.TheVariants as fault
 use Rattle.dine_site.specs.Diners.{HasEaten}
-use Rattle.dine_bell.specs.Bells.{SeenBell}
+use Rattle.dine_link.specs.Bells.{SeenBell}
 use Rattle.dine_site.specs.Endings.{OnLinks, links_at, nothing_on_links, traffic_on}
 use Rattle.dine_site.proofs.lists.Lists.{all_at}
 use Rattle.dine_site.specs.Ports.{SeenPort, IsFreshPort, PutsFit}

@@ -17,7 +17,7 @@ use Rattle.dine_rules.specs.StepLists.{LeadTo}
 use Rattle.dine_rules.specs.Steps.{Break, may, with_put}
 use Rattle.dine_site.specs.Doings.{HasDone}
 use Rattle.dine_rules.specs.Streams.{KeepsStreams}
-use Rattle.dine_bell.specs.Bells.{SeenBell}
+use Rattle.dine_link.specs.Bells.{SeenBell}
 use Rattle.dine_link.specs.Closing.{is_close}
 use Rattle.dine_site.specs.declared.port.Closed.{Closed}
 use Rattle.dine_site.specs.declared.port.Closed.TheVariants.{Heard, Refused, Unheard}

@@ -12,7 +12,7 @@ use Rattle.dine_rules.specs.Local.{LocalState, Traffic, no_traffic, traffic_at, 
 use Rattle.dine_rules.specs.Steps.{Hungry, Begin, End, Quit, Take, after, with_put, with_taken}
 use Rattle.dine_rules.specs.Streams.{KeepsStreams}
 use Rattle.dine_rules.specs.Journals.{IsJournal}
-use Rattle.dine_bell.specs.Bells.{SeenBell}
+use Rattle.dine_link.specs.Bells.{SeenBell}
 use Rattle.dine_link.specs.Closing.{is_close}
 use Rattle.dine_token.specs.Fork.{SeenFork}
 use Rattle.dine_core.specs.Core.{SeenCore, forks_in_hand}

@@ -7,7 +7,7 @@ ghost use Rattle.dine_core.specs.NextEvent.{can_by_itself};
 ghost use Rattle.dine_core.specs.Standing.{ForEachState};
 ghost use Rattle.dine_core.specs.Wants.{wants_of};
 ghost use Rattle.dine_link.specs.Closing.{is_close};
-ghost use Rattle.dine_bell.specs.Waking.{seen_wants};
+ghost use Rattle.dine_link.specs.Waking.{seen_wants};
 ghost use Rattle.dine_site.specs.Ports.{ChangesAt, SendsClose, SeenPort, seen_ports};
 ghost use Rattle.dine_site.specs.SiteEnds.{IsSiteEnd};
 ghost use Rattle.dine_site.specs.Running.{ClosedBelow, EatsOn, ForSome, GoesOn, GoesToEnd, HasStopped, HeedsOn, IsPutting, IsReady, IsRunning, Leads, MayEnd, SameMeals, StaysStopped, seen_run};

@@ -8,7 +8,7 @@ use Rattle.std.proofs.lemmas.List.Elements.{All-nil, All-cons, All-append}
 use Rattle.std.proofs.lemmas.Option.{same_Some, slice_get_within, slice_get-get_or, get_or_from_slice_get}
 use Rattle.dine_graph.specs.Plan.{SeenPlan, IsPlan, site_count, edge_count, edges_of, ends_of, lo_of, hi_of, is_end}
 use Rattle.dine_graph.proofs.ListLemmas.{filter-range_more}
-use Rattle.dine_bell.specs.Bells.{SeenBell, SeenRinger, new_ringer}
+use Rattle.dine_link.specs.Bells.{SeenBell, SeenRinger, new_ringer}
 use Rattle.dine_link.specs.Links.{SeenEnd}
 use Rattle.dine_rules.specs.World.{place_of}
 use Rattle.dine_rules.proofs.links.Across.{edge_at-place_of, place_of-edge_at}

@@ -3,7 +3,7 @@ use Rattle.std.specs.Prelude.{◌≡◌, ℕ, ◌<◌, false, List, [], All, fil
 use Rattle.std.specs.List.{range_with_len}
 use Rattle.dine_graph.specs.Plan.{SeenPlan, site_count, edges_of, is_end, lo_of, hi_of}
 use Rattle.std.specs.Global.{Vec}
-use Rattle.dine_bell.specs.Bells.{SeenBell, SeenRinger, new_ringer}
+use Rattle.dine_link.specs.Bells.{SeenBell, SeenRinger, new_ringer}
 use Rattle.dine_link.specs.Links.{SeenEnd}
 use Rattle.dine_threads.specs.declared.opening.Stand.{Stand}
 use Rattle.dine_site.specs.Ports.{SeenPort, IsFreshPort, seen_ports}

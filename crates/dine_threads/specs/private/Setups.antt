@@ -1,7 +1,7 @@
 -- All that a run needs before its threads start.
 use Rattle.std.specs.Prelude.{◌≡◌, ℕ, ◌≤◌, List, All, map, vec_len, vec_capacity}
 use Rattle.dine_graph.specs.Plan.{SeenPlan, site_count}
-use Rattle.dine_bell.specs.Bells.{SeenBell}
+use Rattle.dine_link.specs.Bells.{SeenBell}
 use Rattle.dine_link.specs.Links.{SeenEnd}
 use Rattle.dine_threads.specs.declared.seats.Seat.{Seat}
 use Rattle.dine_threads.specs.declared.threads.Setup.{Setup}

@@ -2,7 +2,7 @@
 use Rattle.std.specs.Prelude.{◌≡◌, ℕ, ◌<◌, List, [], slice_get, slice_index_or, Option, Some}
 use Rattle.dine_graph.specs.Plan.{SeenPlan, edge_count, lo_of, hi_of}
 use Rattle.dine_rules.specs.World.{place_of}
-use Rattle.dine_bell.specs.Bells.{SeenBell, SeenRinger, new_ringer}
+use Rattle.dine_link.specs.Bells.{SeenBell, SeenRinger, new_ringer}
 use Rattle.dine_threads.specs.declared.slots.Both.{Both}
 use Rattle.dine_threads.specs.declared.slots.Spot.{Spot}
 use Rattle.dine_site.specs.Ports.{SeenPort}

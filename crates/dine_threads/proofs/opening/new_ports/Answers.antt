@@ -1,5 +1,5 @@
 use Rattle.std.proofs.Common.{ℕ, true, refl, ap, ◌∙◌}
-use Rattle.dine_bell.specs.Bells.{SeenRinger}
+use Rattle.dine_link.specs.Bells.{SeenRinger}
 use Rattle.dine_threads.proofs.opening.new_ports.Goals as goal
 
 pub returns : goal.returns

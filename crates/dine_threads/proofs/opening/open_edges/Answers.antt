@@ -2,7 +2,7 @@ use Rattle.std.proofs.Common.{rules, ℕ, suc, ◌+◌, ◌≡◌, List, Some, s
 use Rattle.dine_graph.specs.Plan.{edge_count}
 use Rattle.dine_threads.specs.private.Openings.{AreLaid, bells_of, rows_of}
 use Rattle.dine_threads.specs.private.Wirings.{AreRingersAt}
-use Rattle.dine_bell.specs.Bells.{SeenBell}
+use Rattle.dine_link.specs.Bells.{SeenBell}
 use Rattle.std.proofs.Math.Nat.{zero-add}
 use Rattle.dine_threads.proofs.all_sites.Laying.{laid_none}
 use Rattle.dine_threads.proofs.opening.open_edges.Goals as goal

@@ -1,7 +1,7 @@
 use Rattle.std.proofs.Common.{ℕ, ◌<◌, List, Option, Some, None, length, map, get_or, ap, ◌∙◌, arith}
 use Rattle.std.proofs.lemmas.List.FromFn.{length-map-range_with_len}
 use Rattle.dine_graph.specs.Plan.{edges_of}
-use Rattle.dine_bell.specs.Bells.{SeenRinger, new_ringer}
+use Rattle.dine_link.specs.Bells.{SeenRinger, new_ringer}
 use Rattle.std.proofs.Math.Nat.{zero-add}
 use Rattle.dine_threads.proofs.all_sites.Edges.{few_edges}
 use Rattle.dine_threads.proofs.all_sites.Laying.{filled, filled_at}

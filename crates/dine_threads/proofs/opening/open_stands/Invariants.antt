@@ -1,7 +1,7 @@
 use Rattle.std.proofs.Common.{◌≡◌, ℕ, ◌<◌, ◌≤◌, Some, length, slice_get, vec_len, vec_capacity, vec_items}
 use Rattle.dine_graph.specs.Plan.{edges_of, site_count}
 use Rattle.dine_threads.specs.private.Openings.{AreBare, bells_of}
-use Rattle.dine_bell.specs.Bells.{new_ringer}
+use Rattle.dine_link.specs.Bells.{new_ringer}
 use Rattle.dine_threads.specs.private.Spots.{IsFullRow, row_at, slot_at}
 use Rattle.dine_threads.proofs.opening.open_stands.Given as goal
 

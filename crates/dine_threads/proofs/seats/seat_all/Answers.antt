@@ -4,7 +4,7 @@ use Rattle.std.proofs.lemmas.List.{nil_from_length, length-map}
 use Rattle.std.proofs.lemmas.Option.{slice_get_within}
 use Rattle.std.proofs.Math.Nat.{zero-add}
 use Rattle.std.specs.Global.{Vec}
-use Rattle.dine_bell.specs.Bells.{SeenBell}
+use Rattle.dine_link.specs.Bells.{SeenBell}
 use Rattle.dine_site.specs.declared.port.Port.{Port}
 use Rattle.dine_graph.specs.Plan.{edges_of, job_count, site_count}
 use Rattle.dine_rules.specs.Local.{no_traffic}

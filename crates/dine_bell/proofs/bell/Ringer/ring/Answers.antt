@@ -1,5 +1,0 @@
-use Rattle.dine_bell.proofs.BellSteps.{rings}
-use Rattle.dine_bell.proofs.bell.Ringer.ring.Goals as goal
-
-pub send_as-rung-requires-clause-rule : goal.send_as-rung-requires-clause-rule
-send_as-rung-requires-clause-rule g c = (rings _ _ _ _ c.self.invariant.own, λ queue views h at. tt)

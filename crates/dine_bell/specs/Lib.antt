@@ -1,3 +1,0 @@
-pub mod Bells
-pub mod Waking
-pub mod private

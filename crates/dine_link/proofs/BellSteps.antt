@@ -1,0 +1,97 @@
+-- Each step of a bell keeps its rule.
+use Rattle.std.proofs.Common.{◌≡◌, ◌≢◌, ◌<◌, ◌+◌, ℕ, zero, suc, List, [], ◌∷◌, ◌++◌, map, set, false, sym, refl, ap, ◌∙◌, subst, ⊎_elim, arith}
+use mathlib.Core.Option.{some, some-ne-none, some-injective}
+use lib.ListN.{get_elem?}
+use Rattle.std.specs.List.{All, range_with_len}
+use Rattle.std.proofs.lemmas.List.FromFn.{map-range_with_len_more}
+use Rattle.std.proofs.lemmas.List.Elements.{All-append, All-cons, All-nil, All-head, All-tail}
+use Rattle.crossbeam_channel.specs.Fifo.{Pushes, Pops, Forks}
+use Rattle.atomic_table.proofs.Lists.{at_snoc}
+use Rattle.dine_link.specs.declared.bell_rule.Part.{Part}
+use Rattle.dine_link.specs.declared.bell_rule.Part.TheVariants.{Waits, Rings}
+use Rattle.dine_link.specs.private.BellRule.{IsOfRinger, Fits, AreOfRingers, no_ringers, one_more, next_ringer, IsKnown, after_sound, after_hearing, rings_of}
+use Rattle.dine_link.specs.Bells.{BellId, SeenRinger, new_ringer}
+use Rattle.dine_link.proofs.Passes.{Each, each_set}
+
+-- a new channel
+begins_at : (pass : ℕ) (view : Part) → get_elem? (no_ringers ∷ []) pass ≡ some view → Fits 0 0 pass view
+begins_at zero view e = subst (λ (u : Part). Fits 0 0 0 u) (some-injective no_ringers view e) (refl, refl)
+begins_at (suc pass) view e = absurd (some-ne-none view (sym e))
+
+pub begins : AreOfRingers [] (no_ringers ∷ [])
+begins = record { ringers = 0; bell = 0; below = All-nil (λ (number : ℕ). number < 0); fits = begins_at }
+
+-- a pass fits as before, and what it knows is told by the number of the ringers
+fits_sound : (ringers bell pass : ℕ) (v : Part) → Fits ringers bell pass v → Fits ringers bell pass (after_sound v)
+fits_sound ringers bell pass (Waits count told) fits = fits
+fits_sound ringers bell pass (Rings own rings) fits = fits
+
+fits_hearing : (ringers bell pass number : ℕ) (v : Part) → Fits ringers bell pass v → Fits ringers bell pass (after_hearing v number)
+fits_hearing ringers bell pass number (Waits count told) fits = fits
+fits_hearing ringers bell pass number (Rings own rings) fits = fits
+
+ringer_below : (ringers bell pass number : ℕ) (v : Part) → Fits ringers bell pass v → IsOfRinger number v → number < ringers
+ringer_below ringers bell pass number (Waits count told) fits is = absurd is
+ringer_below ringers bell pass number (Rings own rings) fits is = omega (arith, fits, is)
+
+known_below : (ringers bell pass number : ℕ) (v : Part) → Fits ringers bell pass v → number < ringers → IsKnown number v
+known_below ringers bell pass number (Waits count told) fits below = omega (arith, fits.1, below)
+known_below ringers bell pass number (Rings own rings) fits below = tt
+
+-- a ring
+pub rings : (n pass : ℕ) (v : Part) (number : ℕ) → IsOfRinger number v → Pushes AreOfRingers n pass v number (λ w. IsOfRinger number v × (w ≡ after_sound v))
+rings n pass v number is queue views _ h at = let P : ℕ → Type 0 = λ y. y < h.ringers in let mine = h.fits pass v at in let below = ringer_below h.ringers h.bell pass number v mine is in (
+  after_sound v,
+  record {
+    ringers = h.ringers;
+    bell = h.bell;
+    below = All-append P queue (number ∷ []) h.below (All-cons P number [] below (All-nil P));
+    fits = each_set (Fits h.ringers h.bell) views pass (after_sound v) (fits_sound h.ringers h.bell pass v mine) (λ j u other e. h.fits j u e);
+  },
+  (is, refl),
+)
+
+-- a wait
+pub hears : (pass : ℕ) (v : Part) → Pops AreOfRingers pass v (λ number w. IsKnown number v × (w ≡ after_hearing v number))
+hears pass v number queue views h at = let P : ℕ → Type 0 = λ y. y < h.ringers in let mine = h.fits pass v at in let below = All-head P number queue h.below in (
+  after_hearing v number,
+  record {
+    ringers = h.ringers;
+    bell = h.bell;
+    below = All-tail P number queue h.below;
+    fits = each_set (Fits h.ringers h.bell) views pass (after_hearing v number) (fits_hearing h.ringers h.bell pass number v mine) (λ j u other e. h.fits j u e);
+  },
+  (known_below h.ringers h.bell pass number v mine below, refl),
+)
+
+-- a pass other than the bell's fits one ringer more
+fits_more : (ringers bell pass other : ℕ) (u : Part) → pass ≡ bell → other ≢ pass → Fits ringers bell other u → Fits (ringers + 1) bell other u
+fits_more ringers bell pass other (Waits count told) is apart fits = absurd (apart (fits.0 ∙ sym is))
+fits_more ringers bell pass other (Rings own rings) is apart fits = omega (arith, fits)
+
+all_more : (ringers : ℕ) (queue : List ℕ) → All (λ y. y < ringers) queue → All (λ y. y < ringers + 1) queue
+all_more ringers queue h = λ k d lt. let below = h k d lt in omega (arith, below)
+
+-- a ringer more
+waits_forks : (pass count : ℕ) → Forks AreOfRingers pass (Waits count []) (Waits (count + 1) []) (Rings count 0)
+waits_forks pass count queue views h at =
+    let mine = h.fits pass (Waits count []) at in
+    let more : Part = Waits (count + 1) [] in
+    let vs : List Part = set views pass more in
+    let New : ℕ → Part → Type 0 = Fits (h.ringers + 1) h.bell in
+    let same : count ≡ h.ringers = mine.1 in
+    let old : Each New vs = each_set New views pass more (mine.0, omega (arith, same)) (λ j u apart e. fits_more h.ringers h.bell pass j u mine.0 apart (h.fits j u e)) in record {
+      ringers = h.ringers + 1;
+      bell = h.bell;
+      below = all_more h.ringers queue h.below;
+      fits = λ j u e. ⊎_elim (λ x. old j u x) (λ (is : Rings count 0 ≡ u). subst (λ (y : Part). New j y) is (omega (arith, same))) (at_snoc vs (Rings count 0) u j e);
+    }
+
+pub forks : (pass : ℕ) (v : Part) (count : ℕ) → v ≡ Waits count [] → Forks AreOfRingers pass v (one_more v) (next_ringer v)
+forks pass v count is = subst (λ (u : Part). Forks AreOfRingers pass u (one_more u) (next_ringer u)) (sym is) (waits_forks pass count)
+
+-- the ringers so far and a new one
+pub ringer_more : (bell own_bell : BellId) (number : ℕ) (before after : List SeenRinger) (own : Part) → before ≡ map (new_ringer bell) (range_with_len 0 number) → own_bell ≡ bell → own ≡ Rings number 0
+    → after ≡ before ++ record { bell = own_bell; number = number; rings = rings_of own; refused = false } ∷ [] → after ≡ map (new_ringer bell) (range_with_len 0 (number + 1))
+ringer_more bell own_bell number before after own so_far same is added = let one : BellId → Part → SeenRinger = λ b p. record { bell = b; number = number; rings = rings_of p; refused = false } in
+    added ∙ ap (λ (l : List SeenRinger). l ++ one own_bell own ∷ []) so_far ∙ ap (λ (b : BellId). map (new_ringer bell) (range_with_len 0 number) ++ one b own ∷ []) same ∙ ap (λ (p : Part). map (new_ringer bell) (range_with_len 0 number) ++ one bell p ∷ []) is ∙ sym (map-range_with_len_more (new_ringer bell) 0 number number (omega arith))

@@ -1,0 +1,5 @@
+use Rattle.dine_link.proofs.BellSteps.{hears}
+use Rattle.dine_link.proofs.bell.Bell.wait_for.Goals as goal
+
+pub recv_as-requires-clause-rule : goal.recv_as-requires-clause-rule
+recv_as-requires-clause-rule g c = (hears _ _, λ queue views h at. tt)

@@ -1,0 +1,26 @@
+-- What wakes a bell that sleeps.
+use Rattle.std.specs.Prelude.{ℕ, nat_le, ◌||◌, Bool, true, Option, None, Some}
+use Rattle.std.specs.Option.{option_map}
+use Rattle.dine_rules.specs.declared.letters.Kind4.{Kind4}
+use Rattle.dine_rules.specs.Wants.{SeenWants, is_wanted, still_wanted}
+use Rattle.dine_link.specs.declared.wants.Wants.{Wants}
+use Rattle.dine_link.specs.declared.wants.Awaited.{Awaited}
+
+-- the letters that a site waits for
+abbrev pub seen_awaited : Awaited → SeenWants
+seen_awaited awaited = record { requests = awaited.requests; forks = awaited.forks }
+
+-- what a bell wants: such letters, or nothing of its own where any ring will do
+abbrev pub seen_wants : Wants → Option SeenWants
+seen_wants wants = option_map seen_awaited wants.only
+
+-- A ring of the ringer of that number for a letter of that kind wakes the bell. What a site waits for is said of places
+-- below 64.
+abbrev pub wakes : Option SeenWants → ℕ → Kind4 → Bool
+wakes None number kind = true
+wakes (Some wants) number kind = nat_le 64 number || is_wanted wants number kind
+
+-- what it wants once a letter of that kind lies for which it was not woken
+abbrev pub still_wants : Option SeenWants → Kind4 → Option SeenWants
+still_wants None kind = None
+still_wants (Some wants) kind = Some (still_wanted wants kind)

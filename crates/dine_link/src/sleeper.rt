@@ -1,0 +1,138 @@
+// What a bell shares with its ringers: whether it sleeps, what wakes it, and how it is woken.
+ghost use Rattle.std.specs.Prelude.{◌≡◌, ◌-◌, nat_le, ◌&&◌, ◌||◌, not, true, false};
+ghost use Rattle.dine_link.specs.Waking.{seen_wants, wakes, still_wants};
+
+use crate::wants::Wants;
+use dine_rules::Kind4;
+use std::alloc::{AllocError, Global};
+use std::sync::atomic::{AtomicU64, Ordering};
+use std::sync::{Arc, Mutex, Wait};
+use std::thread::Parker;
+
+// Whether the bell sleeps, what it wants while it does, and for how many rings more it has room.
+#[derive(Drop)]
+pub struct Rest {
+    asleep: bool,
+    wants: Wants,
+    room: usize,
+}
+
+// The bell parks, and a ringer that found it asleep unparks it.
+#[derive(Drop)]
+pub struct Sleeper {
+    pub rest: Mutex<Rest>,
+    parker: Parker,
+    ringers: AtomicU64,
+}
+
+// What a ringer has of it. When the last one goes, the bell is woken.
+pub struct Waker {
+    pub sleeper: Arc<Sleeper, Global>,
+}
+
+impl Rest {
+    pub fn new() -> Rest {
+        Rest {
+            asleep: false,
+            wants: Wants::anything(),
+            room: 0,
+        }
+    }
+
+    // The bell lies down, with room for so many rings.
+    pub fn lie_down(&mut self, wants: Wants, room: usize)
+        ensures asleep { self.new.asleep ≡ true }
+        ensures wants { self.new.wants ≡ wants }
+        ensures room { self.new.room ≡ room }
+    {
+        self.asleep = true;
+        self.wants = wants;
+        self.room = room;
+    }
+
+    // Whether the bell sleeps.
+    pub fn is_asleep(&self) -> bool
+        ensures { result ≡ self.now.asleep }
+    {
+        self.asleep
+    }
+
+    // Wakes the bell, and tells whether it slept.
+    pub fn wake(&mut self) -> bool
+        ensures slept { result ≡ self.old.asleep }
+        ensures awake { self.new.asleep ≡ false }
+    {
+        let slept = self.asleep;
+        self.asleep = false;
+        slept
+    }
+
+    // Notes a ring for a letter of that kind, and tells whether it wakes the bell: one that the bell wants does, and
+    // the last one that it has room for, so that nobody waits for room beside a bell that sleeps.
+    pub fn note(&mut self, number: u32, kind: Kind4) -> bool
+        ensures woken { result ≡ (self.old.asleep && (wakes (seen_wants self.old.wants) number kind || nat_le self.old.room 1)) }
+        ensures asleep { self.new.asleep ≡ (self.old.asleep && not result) }
+        ensures wants { self.new.asleep ≡ true → seen_wants self.new.wants ≡ still_wants (seen_wants self.old.wants) kind }
+        ensures room { self.new.asleep ≡ true → self.new.room ≡ self.old.room - 1 }
+    {
+        if !self.asleep {
+            return false;
+        }
+        if self.wants.has(number, kind) || self.room <= 1 {
+            self.asleep = false;
+            return true;
+        }
+        self.wants.note(kind);
+        self.room -= 1;
+        false
+    }
+}
+
+impl Sleeper {
+    // That of a bell of so many ringers.
+    pub fn new() -> Sleeper {
+        Sleeper {
+            rest: Mutex::new(Rest::new()),
+            parker: Parker::new(),
+            ringers: AtomicU64::new(0),
+        }
+    }
+
+    // Waits until a ringer has woken the bell, or none is left.
+    pub fn sleep<R: Wait>(&self, rt: &R) {
+        if self.ringers.load(Ordering::SeqCst) > 0 {
+            self.parker.park(rt);
+        }
+    }
+}
+
+impl Waker {
+    // That of one ringer more.
+    pub fn of(sleeper: &Arc<Sleeper, Global>) -> Result<Waker, AllocError> {
+        let sleeper = Arc::try_clone(sleeper)?;
+        sleeper.ringers.fetch_add(1, Ordering::SeqCst);
+        Ok(Waker { sleeper })
+    }
+
+    // Wakes the bell where it sleeps.
+    pub fn wake<R: Wait>(&self, rt: &R) {
+        let slept = self.sleeper.rest.lock(rt).wake();
+        if slept {
+            self.unpark();
+        }
+    }
+
+    // Has the bell go on, which was asleep.
+    pub fn unpark(&self) {
+        self.sleeper.parker.unpark();
+    }
+}
+
+impl Drop for Waker {
+    fn drop(self) {
+        let Self { sleeper } = self;
+        if sleeper.ringers.fetch_sub(1, Ordering::SeqCst) == 1 {
+            sleeper.parker.unpark();
+        }
+    }
+}

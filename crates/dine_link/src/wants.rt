@@ -1,0 +1,81 @@
+// The rings that wake a bell.
+ghost use Rattle.std.specs.Prelude.{◌≡◌, ◌<◌, None, Some};
+ghost use Rattle.dine_rules.specs.Wants.{is_wanted, still_wanted};
+ghost use Rattle.dine_link.specs.Waking.{seen_awaited, seen_wants, wakes, still_wants};
+
+use dine_rules::Kind4;
+use dine_set::BitSet64;
+
+/// The rings that wake a bell: any ring, or those for the letters that a site waits for.
+#[derive(Clone, Copy)]
+pub struct Wants {
+    only: Option<Awaited>,
+}
+
+// A Request at one of these places, the last of so many Forks, each Done and each Close.
+#[derive(Clone, Copy)]
+pub struct Awaited {
+    requests: BitSet64,
+    forks: u32,
+}
+
+impl Wants {
+    /// Any ring wakes the bell.
+    pub fn anything() -> Wants
+        ensures { seen_wants result ≡ None }
+    {
+        Wants { only: None }
+    }
+
+    /// A ring for a Request by one of these ringers wakes the bell, for the last of so many Forks, for each Done and
+    /// for each Close. Where no fork is lacking, each Fork does. A ringer whose number is 64 or more always wakes it.
+    pub fn of(requests: BitSet64, forks: u32) -> Wants
+        ensures { seen_wants result ≡ Some (record { requests = requests; forks = forks }) }
+    {
+        Wants {
+            only: Some(Awaited { requests, forks }),
+        }
+    }
+
+    // Whether a ring for a letter of that kind wakes the bell.
+    pub fn has(&self, number: u32, kind: Kind4) -> bool
+        ensures { result ≡ wakes (seen_wants self.now) number kind }
+    {
+        match &self.only {
+            None => true,
+            Some(awaited) => number >= 64 || awaited.has(number, kind),
+        }
+    }
+
+    // Once a letter of that kind lies which does not wake the bell.
+    pub fn note(&mut self, kind: Kind4)
+        ensures { seen_wants self.new ≡ still_wants (seen_wants self.old) kind }
+    {
+        if let Some(awaited) = &mut self.only {
+            awaited.note(kind);
+        }
+    }
+}
+
+impl Awaited {
+    // Whether a letter of that kind at the place is waited for.
+    fn has(&self, place: u32, kind: Kind4) -> bool
+        requires { place < 64 }
+        ensures { result ≡ is_wanted (seen_awaited self.now) place kind }
+    {
+        match kind {
+            Kind4::Request => self.requests.has(place),
+            Kind4::Fork => self.forks <= 1,
+            Kind4::Done | Kind4::Close => true,
+        }
+    }
+
+    // Once a letter of that kind lies that is not waited for.
+    fn note(&mut self, kind: Kind4)
+        ensures { seen_awaited self.new ≡ still_wanted (seen_awaited self.old) kind }
+    {
+        if kind == Kind4::Fork {
+            self.forks = self.forks.saturating_sub(1);
+        }
+    }
+}
