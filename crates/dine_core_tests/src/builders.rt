@@ -92,10 +92,14 @@ fn is_told(rt: &impl Abort, alloc: Global, plan: Result<Plan, PlanFault>, want: 
     same(rt, &told.as_str(), &want);
 }
 
+fn is_read(rt: &impl Abort, alloc: Global, text: &str, want: &str) {
+    is_told(rt, alloc, read_plan(alloc, text), want);
+}
+
 // The answer to what was told is this one, and so is that to the text that says the same.
 fn tells(rt: &impl Abort, alloc: Global, plan: &PlanBuilder, want: &str) {
     let text = plan.text().expect(rt, "memory");
-    is_told(rt, alloc, read_plan(alloc, text.as_str()), want);
+    is_read(rt, alloc, text.as_str(), want);
     is_told(rt, alloc, plan.finish(), want);
 }
 
@@ -105,7 +109,7 @@ const TOLD_OF_THREE: &str =
 #[test]
 fn builds_what_is_read(rt: HostRuntime) {
     tells(&rt, rt.alloc(), &three(&rt, rt.alloc()), TOLD_OF_THREE);
-    is_told(&rt, rt.alloc(), read_plan(rt.alloc(), THREE), TOLD_OF_THREE);
+    is_read(&rt, rt.alloc(), THREE, TOLD_OF_THREE);
 }
 
 #[test]

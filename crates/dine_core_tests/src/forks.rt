@@ -110,6 +110,13 @@ fn is_meal(rt: &impl Abort, meal: &Meal, site: u32, k: u32, values: &[u64]) {
     }
 }
 
+fn begin(rt: &impl Abort, hands: Vec<Held>, site: u32, k: u32, act: Act) -> Meal {
+    assert!(rt; hands.len() <= 10);
+    assert!(rt; all_may_eat(hands.as_slice(), site, k));
+    assert!(rt; is_act(act));
+    Meal::begin(site, k, act, hands)
+}
+
 fn eat(
     rt: &impl Abort,
     hands: Vec<Held>,
@@ -118,10 +125,7 @@ fn eat(
     act: Act,
     values: &[u64],
 ) -> Vec<Held> {
-    assert!(rt; hands.len() <= 10);
-    assert!(rt; all_may_eat(hands.as_slice(), site, k));
-    assert!(rt; is_act(act));
-    let meal = Meal::begin(site, k, act, hands);
+    let meal = begin(rt, hands, site, k, act);
     is_meal(rt, &meal, site, k, values);
     meal.end()
 }

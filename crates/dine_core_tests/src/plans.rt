@@ -66,7 +66,8 @@ fn reads_both_forms_of_a_plan(rt: HostRuntime) {
 const WHOLE: &str =
     "version = 1\n[[site]]\nname = \"a\"\njobs = [{ name = \"x\" }, { name = \"y\", turns = 5, fails = true }]\n[[site]]\nname = \"b\"\n[[site]]\nname = \"c\"\njobs = [{ name = \"z\", turns = 1000000 }]\n[[edge]]\nends = [\"c\", \"b\"]\n[[edge]]\nends = [\"a\", \"c\"]\n";
 
-fn read(rt: &impl Abort, alloc: Global, text: &str) -> Plan {
+// The plan of a text. What `read_plan` promises of the text is not said here: of a whole text it is long.
+pub(crate) fn read(rt: &impl Abort, alloc: Global, text: &str) -> Plan {
     read_plan(alloc, text).expect(rt, "a plan")
 }
 
@@ -197,11 +198,16 @@ fn reads_values_acts_and_policies(rt: HostRuntime) {
     same(&rt, &found.as_str(), &"2: a! +10 =0 +0 b 1000000");
 }
 
+// This many sites and edges are read, or memory is refused.
+fn reads_or_not(rt: &impl Abort, alloc: Global, text: &str, count: (u32, u32)) {
+    match read_plan(alloc, text) {
+        Ok(plan) => same(rt, &(plan.sites(), plan.edges()), &count),
+        Err(fault) => same(rt, &fault, &PlanFault::Memory),
+    }
+}
+
 // Under `--fail-alloc` each allocation fails in turn, and the answer is then want of memory.
 #[test]
 fn answers_the_plan_or_memory(rt: HostRuntime) {
-    match read_plan(rt.alloc(), WHOLE) {
-        Ok(plan) => same(&rt, &(plan.sites(), plan.edges()), &(3, 2)),
-        Err(fault) => same(&rt, &fault, &PlanFault::Memory),
-    }
+    reads_or_not(&rt, rt.alloc(), WHOLE, (3, 2));
 }

@@ -5,11 +5,12 @@ mod script;
 
 use crate::asserts::same;
 use crate::forks::{Step as Way, fork_after, has_log};
+use crate::plans::read;
 use dine_core::site::{fresh_forks, fresh_tokens};
 use dine_core::{Breach, EventKind, Kind4, Letter, Packed, Parts, Phase, SiteCore};
-use dine_plan::{Plan, read_plan};
+use dine_plan::Plan;
 use dine_token::{Act, Entry, Fork, Token};
-use script::{A, B, C, Step, plays};
+use script::{A, B, C, Step, leave, play, plays, seat, seated};
 use std::alloc::{AllocError, Global};
 use std::process::Abort;
 
@@ -28,7 +29,7 @@ const THREE_JOBS: &str = "{ name = \"x\" }, { name = \"y\" }, { name = \"z\" }";
 
 fn plan_of(rt: &impl Abort, alloc: Global, lower: &str, higher: &str) -> Plan {
     let text = pair_text(lower, higher, alloc).expect(rt, "memory");
-    read_plan(alloc, text.as_str()).expect(rt, "a plan")
+    read(rt, alloc, text.as_str())
 }
 
 // Three sites in a row, and a job at the last.
@@ -240,7 +241,7 @@ fn two_sites_eat_one_after_the_other(rt: HostRuntime) {
 // The one site of the script is the middle one.
 #[test]
 fn events_come_in_the_fixed_order(rt: HostRuntime) {
-    let plan = read_plan(rt.alloc(), ROW).expect(&rt, "a plan");
+    let plan = read(&rt, rt.alloc(), ROW);
     let steps = [
         Step::Next(A, Some(EventKind::Done(0))),
         Step::Request(1),
@@ -291,7 +292,7 @@ fn policy_plan(rt: &impl Abort, alloc: Global, policy: &str) -> Plan {
     let text = format!(in alloc;
         "version = 2\n[[site]]\nname = \"a\"\non_fault = \"{policy}\"\njobs = [{THREE_JOBS}]\n[[site]]\nname = \"b\"\njobs = [{JOB}]\n[[edge]]\nends = [\"a\", \"b\"]\n"
     ).expect(rt, "memory");
-    read_plan(alloc, text.as_str()).expect(rt, "a plan")
+    read(rt, alloc, text.as_str())
 }
 
 // Only a meal that failed has a site quit, and then it grows hungry no more.
@@ -363,7 +364,7 @@ fn waits(rt: &impl Abort, core: &SiteCore, wanted: (Option<u32>, u32, u32)) {
 
 #[test]
 fn what_a_site_waits_for_follows_its_forks(rt: HostRuntime) {
-    let plan = read_plan(rt.alloc(), BUSY_ROW).expect(&rt, "a plan");
+    let plan = read(&rt, rt.alloc(), BUSY_ROW);
     let steps = [
         Step::Waits(A, (Some(0), 1, 0)),
         Step::Waits(C, (None, 0, 1)),
@@ -408,7 +409,7 @@ fn second_break_off_gives_nothing(rt: HostRuntime) {
 
 #[test]
 fn fresh_forks_are_those_of_the_lower_end(rt: HostRuntime) {
-    let plan = read_plan(rt.alloc(), ROW).expect(&rt, "a plan");
+    let plan = read(&rt, rt.alloc(), ROW);
     let forks = forks_of(&rt, rt.alloc(), &plan, 1);
     same(&rt, &forks.len(), &1);
     let fork = forks.first().expect(&rt, "a fork");
@@ -420,7 +421,7 @@ fn fresh_forks_are_those_of_the_lower_end(rt: HostRuntime) {
 
 #[test]
 fn fresh_tokens_are_those_of_the_higher_end(rt: HostRuntime) {
-    let plan = read_plan(rt.alloc(), ROW).expect(&rt, "a plan");
+    let plan = read(&rt, rt.alloc(), ROW);
     let tokens = tokens_of(&rt, rt.alloc(), &plan, 1);
     same(&rt, &tokens.len(), &1);
     let edge = tokens.first().map(|token| token.edge());
@@ -438,28 +439,48 @@ fn packed_site(rt: &impl Abort, alloc: Global, plan: &Plan, site: u32) -> Packed
         .pack()
 }
 
+// A core that was packed and comes back.
+fn repacked(rt: &impl Abort, alloc: Global, plan: &Plan, site: u32) -> SiteCore {
+    packed_site(rt, alloc, plan, site).unpack()
+}
+
 #[test]
 fn packed_core_comes_back_as_it_was(rt: HostRuntime) {
-    let alloc = rt.alloc();
-    let plan = plan_of(&rt, alloc, JOB, TWO_JOBS);
-    let mut core = packed_site(&rt, alloc, &plan, 0).unpack();
-    same(&rt, &(core.site(), core.degree(), core.ate()), &(0, 1, 0));
-    assert!(&rt; 0 < core.degree());
-    assert!(&rt; core.has_fork(0));
-    assert!(&rt; !core.has_token(0));
-    grow_hungry(&rt, &mut core);
-    eat(&rt, &mut core, false);
-    same(&rt, &core.ate(), &1);
-    same(&rt, &spend(&rt, core).forks.len(), &1);
+    let plan = plan_of(&rt, rt.alloc(), JOB, TWO_JOBS);
+    let mut cores = seated(&rt, rt.alloc(), &plan, &[]);
+    seat(&rt, &mut cores, repacked(&rt, rt.alloc(), &plan, 0));
+    let steps = [
+        Step::Degree(A, 1),
+        Step::Tells(
+            A,
+            Told {
+                site: 0,
+                phase: Phase::Thinking,
+                ate: 0,
+                has_fork: true,
+                has_token: false,
+                has_taken_close: false,
+                is_closed: false,
+                is_finished: false,
+            },
+        ),
+        Step::Hungry(A),
+        Step::Eat(A),
+        Step::Ate(A, 1),
+    ];
+    play(&rt, rt.alloc(), &mut cores, &steps);
+    are_left(&rt, &leave(&rt, rt.alloc(), cores), A, 1, 0);
+}
+
+fn pack_and_drop(rt: &impl Abort, alloc: Global, plan: &Plan, site: u32) {
+    let _ = packed_site(rt, alloc, plan, site);
 }
 
 #[test]
 fn packed_core_may_be_dropped(rt: HostRuntime) {
-    let alloc = rt.alloc();
-    let plan = plan_of(&rt, alloc, JOB, TWO_JOBS);
-    for site in 0..2 {
-        let _ = packed_site(&rt, alloc, &plan, site);
-    }
+    let plan = plan_of(&rt, rt.alloc(), JOB, TWO_JOBS);
+    pack_and_drop(&rt, rt.alloc(), &plan, 0);
+    pack_and_drop(&rt, rt.alloc(), &plan, 1);
 }
 
 // Two sites with an edge of value 5 and a job each: that of `a` adds 10, and that of `b` does this.
@@ -469,7 +490,7 @@ fn valued(rt: &impl Abort, alloc: Global, act: &str) -> Plan {
         [[edge]]\nends = [\"a\", \"b\"]\nvalue = 5\n"
     )
     .expect(rt, "memory");
-    read_plan(alloc, text.as_str()).expect(rt, "a plan")
+    read(rt, alloc, text.as_str())
 }
 
 // A fork of the edge that was opened with the value, with which `a` has eaten once without adding, and which went to
@@ -483,14 +504,13 @@ fn foreign(rt: &impl Abort, alloc: Global, value: u64) -> Letter {
     Letter::Fork(fork_after(rt, alloc, &steps))
 }
 
-// The value of the one fork that the site holds after a meal.
-fn value_after_meal(rt: &impl Abort, core: &mut SiteCore) -> u64 {
+// A meal with a fork that has this value then.
+fn eat_with(rt: &impl Abort, core: &mut SiteCore, value: u64) {
     assert!(rt; core.may_begin());
     let meal = core.begin();
     assert!(rt; 0 < meal.len());
-    let value = meal.fork(0).value();
+    same(rt, &meal.fork(0).value(), &value);
     core.end(meal, false);
-    value
 }
 
 fn value_of(rt: &impl Abort, letter: &Letter) -> u64 {

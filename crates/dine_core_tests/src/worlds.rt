@@ -8,12 +8,13 @@ mod side_by_side;
 
 use crate::asserts::same;
 use crate::forks::{has_log, has_periods};
-use dine_plan::{Plan, read_plan};
+use crate::plans::read;
+use dine_plan::Plan;
 use dine_rules::{Event, EventKind, Phase};
 use dine_token::{Act, Entry, Fork, Period};
 use dine_world::{NotEnabled, World};
 use graph::{Graph, graph_of};
-use std::alloc::{AllocError, Global};
+use std::alloc::Global;
 use std::fmt::Write;
 use std::process::Abort;
 
@@ -34,47 +35,61 @@ fn first_value(edge: u32) -> u64 {
     u64::from(edge).saturating_mul(100)
 }
 
-// Adds the jobs of a site, with their acts, and those that fail.
-fn push_jobs(text: &mut String, graph: Graph, site: u32) -> Result<(), AllocError> {
+// Adds a job of a site, with its act, and whether it fails.
+fn push_job(rt: &impl Abort, text: &mut String, graph: Graph, site: u32, job: u32) {
+    let k = job.saturating_add(1);
+    let fails = graph.fails(site, k);
+    let (act, amount) = match act_of(site, k) {
+        Act::Add(amount) => ("add", amount),
+        Act::Set(amount) => ("set", amount),
+    };
+    write!(
+        text,
+        "{{ name = \"j{job}\", fails = {fails}, {act} = {amount} }}, "
+    )
+    .expect(rt, "memory");
+}
+
+fn push_site(rt: &impl Abort, text: &mut String, graph: Graph, site: u32) {
+    let policy = if graph.resigns(site) { "resign" } else { "go" };
+    write!(
+        text,
+        "[[site]]\nname = \"s{site}\"\non_fault = \"{policy}\"\njobs = ["
+    )
+    .expect(rt, "memory");
     for job in 0..graph.due_of(site) {
-        let k = job.saturating_add(1);
-        let fails = graph.fails(site, k);
-        write!(text, "{{ name = \"j{job}\", fails = {fails}, ")?;
-        match act_of(site, k) {
-            Act::Add(amount) => write!(text, "add = {amount} }}, ")?,
-            Act::Set(amount) => write!(text, "set = {amount} }}, ")?,
-        }
+        push_job(rt, text, graph, site, job);
     }
-    Ok(())
+    text.push_str("]\n").expect(rt, "memory");
+}
+
+fn push_edge(rt: &impl Abort, text: &mut String, edge: u32, ends: (u32, u32)) {
+    let (one, other) = ends;
+    let value = first_value(edge);
+    write!(
+        text,
+        "[[edge]]\nends = [\"s{one}\", \"s{other}\"]\nvalue = {value}\n"
+    )
+    .expect(rt, "memory");
 }
 
 // The text of a plan of version 2.
-fn text_of(alloc: Global, graph: Graph) -> Result<String, AllocError> {
-    let mut text = String::from_str(alloc, "version = 2\n")?;
+fn text_of(rt: &impl Abort, alloc: Global, graph: Graph) -> String {
+    let mut text = String::from_str(alloc, "version = 2\n").expect(rt, "memory");
     for site in 0..graph.sites() {
-        let policy = if graph.resigns(site) { "resign" } else { "go" };
-        write!(
-            text,
-            "[[site]]\nname = \"s{site}\"\non_fault = \"{policy}\"\njobs = ["
-        )?;
-        push_jobs(&mut text, graph, site)?;
-        text.push_str("]\n")?;
+        push_site(rt, &mut text, graph, site);
     }
     let mut edge = 0u32;
-    for (lower, higher) in graph.edges {
-        let value = first_value(edge);
-        write!(
-            text,
-            "[[edge]]\nends = [\"s{lower}\", \"s{higher}\"]\nvalue = {value}\n"
-        )?;
+    for ends in graph.edges {
+        push_edge(rt, &mut text, edge, *ends);
         edge = edge.saturating_add(1);
     }
-    Ok(text)
+    text
 }
 
 fn plan_by(rt: &impl Abort, alloc: Global, graph: Graph) -> Plan {
-    let text = text_of(alloc, graph).expect(rt, "memory");
-    read_plan(alloc, text.as_str()).expect(rt, "a plan")
+    let text = text_of(rt, alloc, graph);
+    read(rt, alloc, text.as_str())
 }
 
 // The plan of a site for each number of jobs, none of which fails, and of these edges.

@@ -2,8 +2,8 @@
 use super::script::{A, B, C, Step, leave, play, plays, seat, seated};
 use super::{JOB, ROW, THREE_JOBS, TWO_JOBS, are_left, core_of, plan_of};
 use crate::asserts::same;
+use crate::plans::read;
 use dine_core::{Breach, Kind4, Parts};
-use dine_plan::read_plan;
 use std::alloc::Global;
 use std::process::Abort;
 
@@ -349,7 +349,7 @@ fn nothing_comes_after_close(rt: HostRuntime) {
 // Close at one place leaves the other as it was.
 #[test]
 fn letters_come_at_a_place_that_is_not_closed(rt: HostRuntime) {
-    let plan = read_plan(rt.alloc(), ROW).expect(&rt, "a plan");
+    let plan = read(&rt, rt.alloc(), ROW);
     let steps = [
         Step::SayDone(A, 0),
         Step::Done,

@@ -1,8 +1,9 @@
 // Scripts: what some sites do one after another, and the letters that go between them. A test is a list of steps, which
 // one function goes through, so that each call is proved once and not once more in each test.
 use super::{
-    ask_at, break_off, close, core_of, eat, foreign, give_at, grow_hungry, is_broken_off, may_do,
-    next_is, quit, refuse, say_done_at, spend, take_at, value_after_meal, value_of, waits,
+    Told, ask_at, break_off, close, core_of, eat, eat_with, foreign, give_at, grow_hungry,
+    is_broken_off, may_do, next_is, quit, refuse, say_done_at, spend, take_at, told_of, value_of,
+    waits,
 };
 use crate::asserts::same;
 use crate::forks::opened;
@@ -53,6 +54,10 @@ pub enum Step {
     Closed(usize, bool),
     // It ate so many meals.
     Ate(usize, u32),
+    // It has so many places.
+    Degree(usize, u32),
+    // This is what it tells of itself and its first place.
+    Tells(usize, Told),
     // It has nothing left to do.
     Finished(usize),
     // The topmost letter is of this kind.
@@ -108,27 +113,47 @@ fn letter_put(
     }
 }
 
-// A step that moves no letter.
+// A step by which a letter comes on top.
+fn puts(
+    rt: &impl Abort,
+    alloc: Global,
+    cores: &mut Vec<SiteCore>,
+    pile: &mut Vec<Letter>,
+    step: Step,
+) {
+    if let Some(letter) = letter_put(rt, alloc, cores, step) {
+        pile.push(letter).expect(rt, "memory");
+    }
+}
+
+// A step by which a site goes on, and no letter moves.
 fn goes_on(rt: &impl Abort, cores: &mut Vec<SiteCore>, step: Step) {
     match step {
         Step::Hungry(n) => grow_hungry(rt, core_at(rt, cores, n)),
         Step::Eat(n) => eat(rt, core_at(rt, cores, n), false),
         Step::Fail(n) => eat(rt, core_at(rt, cores, n), true),
-        Step::EatWith(n, value) => {
-            let core = core_at(rt, cores, n);
-            same(rt, &value_after_meal(rt, core), &value);
-        }
+        Step::EatWith(n, value) => eat_with(rt, core_at(rt, cores, n), value),
         Step::Quit(n) => quit(rt, core_at(rt, cores, n)),
         Step::BrokenOff(n) => is_broken_off(rt, core_at(rt, cores, n)),
-        Step::May(n, may) => may_do(rt, core_at(rt, cores, n), may),
-        Step::Next(n, kind) => next_is(rt, core_at(rt, cores, n), kind),
-        Step::Waits(n, wanted) => waits(rt, core_at(rt, cores, n), wanted),
-        Step::Closed(n, is_closed) => {
-            let core = core_at(rt, cores, n);
-            same(rt, &core.is_closed(), &is_closed);
-        }
-        Step::Ate(n, k) => same(rt, &core_at(rt, cores, n).ate(), &k),
-        Step::Finished(n) => assert!(rt; core_at(rt, cores, n).is_finished()),
+        _ => {}
+    }
+}
+
+fn seen_at<'a>(rt: &impl Abort, cores: &'a [SiteCore], n: usize) -> &'a SiteCore {
+    cores.get(n).expect(rt, "a site")
+}
+
+// A step that looks at a site.
+fn looks(rt: &impl Abort, cores: &[SiteCore], step: Step) {
+    match step {
+        Step::May(n, may) => may_do(rt, seen_at(rt, cores, n), may),
+        Step::Next(n, kind) => next_is(rt, seen_at(rt, cores, n), kind),
+        Step::Waits(n, wanted) => waits(rt, seen_at(rt, cores, n), wanted),
+        Step::Closed(n, is_closed) => same(rt, &seen_at(rt, cores, n).is_closed(), &is_closed),
+        Step::Ate(n, k) => same(rt, &seen_at(rt, cores, n).ate(), &k),
+        Step::Degree(n, places) => same(rt, &seen_at(rt, cores, n).degree(), &places),
+        Step::Tells(n, told) => same(rt, &told_of(rt, seen_at(rt, cores, n), 0), &told),
+        Step::Finished(n) => assert!(rt; seen_at(rt, cores, n).is_finished()),
         _ => {}
     }
 }
@@ -178,10 +203,9 @@ pub fn play(rt: &impl Abort, alloc: Global, cores: &mut Vec<SiteCore>, steps: &[
     let mut pile = Vec::new(alloc);
     for step in steps {
         goes_on(rt, cores, *step);
+        looks(rt, cores.as_slice(), *step);
         lands(rt, cores, &mut pile, *step);
-        if let Some(letter) = letter_put(rt, alloc, cores, *step) {
-            pile.push(letter).expect(rt, "memory");
-        }
+        puts(rt, alloc, cores, &mut pile, *step);
     }
 }
 

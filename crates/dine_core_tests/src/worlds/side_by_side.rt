@@ -54,20 +54,25 @@ fn value_by(edge: u32, log: &[Entry]) -> u64 {
     value
 }
 
-fn same_fork<R: Abort>(rt: &R, model: &Model<R>, edge: u32, fork: &Fork) {
-    let (lower, higher) = model.graph.ends(edge);
-    let log = model.fork_log(edge);
-    same(rt, &fork.edge(), &edge);
-    same(rt, &fork.ends(), &(lower, higher));
-    same(rt, &fork.is_dirty(), &is_dirty(log.as_slice()));
-    same(rt, &fork.at(), &location_of(lower, log.as_slice()));
+fn same_log(rt: &impl Abort, log: &[Entry], fork: &Fork) {
     same(rt, &(fork.len() as usize), &log.len());
-    same(rt, &fork.value(), &value_by(edge, log.as_slice()));
     for i in 0..fork.len() {
         let entry = log.get(i as usize).copied();
         same(rt, &Some(entry_at(rt, fork, i)), &entry);
     }
-    let periods = model.periods_of(lower, log.as_slice());
+}
+
+fn same_fork<R: Abort>(rt: &R, model: &Model<R>, edge: u32, fork: &Fork) {
+    let (lower, higher) = model.graph.ends(edge);
+    let log = model.fork_log(edge);
+    let log = log.as_slice();
+    same(rt, &fork.edge(), &edge);
+    same(rt, &fork.ends(), &(lower, higher));
+    same(rt, &fork.is_dirty(), &is_dirty(log));
+    same(rt, &fork.at(), &location_of(lower, log));
+    same(rt, &fork.value(), &value_by(edge, log));
+    same_log(rt, log, fork);
+    let periods = model.periods_of(lower, log);
     same_periods(rt, periods.as_slice(), fork);
 }
 
@@ -262,15 +267,26 @@ fn draw_choices(rt: &impl Abort, trial: &Trial, seed: u32) -> Vec<u32> {
     choices
 }
 
+// The choices lead both to the same state, after so many events.
+fn replay_both<R: Abort>(rt: &R, model: &mut Model<R>, world: &mut World, choices: &[u32]) -> u64 {
+    let replayed = model.replay(choices);
+    same(rt, &world.replay(choices), &replayed);
+    agree_anew(rt, model, world, replayed);
+    replayed
+}
+
+// The first events lead both to the same state, from one after so many events.
+fn finish_both<R: Abort>(rt: &R, model: &mut Model<R>, world: &mut World, events: u64) {
+    let finished = model.finish();
+    same(rt, &world.finish(), &finished);
+    agree_anew(rt, model, world, events.wrapping_add(finished));
+}
+
 // The choices lead both to the same state, and so do the first events from there.
 fn replay_alike(rt: &impl Abort, trial: &Trial, choices: &[u32]) {
     let (mut model, mut world) = (model_of(rt, trial), world_of(rt, trial));
-    let replayed = model.replay(choices);
-    same(rt, &world.replay(choices), &replayed);
-    agree_anew(rt, &model, &world, replayed);
-    let finished = model.finish();
-    same(rt, &world.finish(), &finished);
-    agree_anew(rt, &model, &world, replayed.wrapping_add(finished));
+    let replayed = replay_both(rt, &mut model, &mut world, choices);
+    finish_both(rt, &mut model, &mut world, replayed);
     end_both(rt, &model, world);
 }
 
