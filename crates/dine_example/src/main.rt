@@ -113,15 +113,21 @@ fn settle<R: Threads + Wait + Copy + Send + 'static>(
     Ok((books, order_of(alloc, plan, gathered.sites)?))
 }
 
-fn main(rt: HostRuntime) -> Result<()> {
-    let plan = read_plan(rt.alloc(), RING)?;
-    let (books, events) = settle(&rt, rt.alloc(), &plan)?;
+// Tells what each account has, and all together.
+fn tell_books(rt: &impl Print, plan: &Plan, books: &Books) -> Result<()>
+    requires { IsBooks plan.now books.now }
+{
     for site in 0..plan.sites() {
         println!(rt; "{} {}", plan.name(site), books.balances[site as usize])?;
     }
     println!(rt; "total {}", books.total)?;
+    Ok(())
+}
+
+// Tells what the sites did, and how many meals there were.
+fn tell_order<R: Print + Eprint>(rt: &R, plan: &Plan, events: &[Event]) -> Result<()> {
     let mut meals = 0u32;
-    for event in &events {
+    for event in events {
         if event.site < plan.sites() {
             eprintln!(rt; "{} {:?}", plan.name(event.site), event.kind)?;
         }
@@ -131,4 +137,11 @@ fn main(rt: HostRuntime) -> Result<()> {
     }
     println!(rt; "{meals} meals in one order")?;
     Ok(())
+}
+
+fn main(rt: HostRuntime) -> Result<()> {
+    let plan = read_plan(rt.alloc(), RING)?;
+    let (books, events) = settle(&rt, rt.alloc(), &plan)?;
+    tell_books(&rt, &plan, &books)?;
+    tell_order(&rt, &plan, events.as_slice())
 }

@@ -31,6 +31,16 @@ fn told<R: Threads + Wait + Copy + Send + 'static>(
     name: &str,
 ) -> Result<Option<Told>, AllocError> {
     let told = match name {
+        "run_channels" => runs::run_pair::<ChannelLane, R>(rt, alloc)?,
+        "run_rings" => runs::run_pair::<RingLane, R>(rt, alloc)?,
+        _ => return told_at_once(alloc, name),
+    };
+    Ok(Some(told))
+}
+
+// The same of the calls without threads.
+fn told_at_once(alloc: Global, name: &str) -> Result<Option<Told>, AllocError> {
+    let told = match name {
         "plan" => calls::plan(alloc),
         "fork" => calls::fork(alloc),
         "core" => calls::core(alloc)?,
@@ -41,13 +51,19 @@ fn told<R: Threads + Wait + Copy + Send + 'static>(
         "bell" => calls::bell(alloc),
         "order" => calls::one_order(alloc)?,
         "diner" => runs::diner(alloc)?,
+        _ => return told_of_tables(alloc, name),
+    };
+    Ok(Some(told))
+}
+
+// The same of the calls that make tables or texts.
+fn told_of_tables(alloc: Global, name: &str) -> Result<Option<Told>, AllocError> {
+    let told = match name {
         "edge_table" => tables::edges(alloc)?,
         "site_table" => tables::sites(alloc)?,
         "write_edges" => tables::edges_text(alloc)?,
         "write_sites" => tables::sites_text(alloc)?,
         "world_text" => tables::world(alloc)?,
-        "run_channels" => runs::run_pair::<ChannelLane, R>(rt, alloc)?,
-        "run_rings" => runs::run_pair::<RingLane, R>(rt, alloc)?,
         _ => return Ok(None),
     };
     Ok(Some(told))

@@ -103,24 +103,36 @@ fn run_lower<L: Lane, R: Wait>(
     Ok(run_site(rt, alloc, core, ports, bell, Eater { log }))
 }
 
+// Asks for the fork, is done and closes, as the higher site does.
+fn say_all<L: Lane, R: Wait>(rt: &R, mut tx: L::Tx)
+    requires { IsUnused (L.seen_tx tx) }
+{
+    let _ = L::put(rt, &mut tx, Letter::Request(Token::open(0)));
+    let _ = L::put(rt, &mut tx, Letter::Done);
+    let _ = L::close(rt, tx);
+}
+
+// The ringer, once it rang three times.
+fn rung<R: Wait>(rt: &R, mut ringer: Ringer) -> Ringer {
+    for _ in 0..3 {
+        let _ = ringer.ring(rt);
+    }
+    ringer
+}
+
 // What is left of the lower site of the pair, where the higher one asked, is done and closed.
 fn lower_of_pair<L: Lane, R: Wait>(rt: &R, alloc: Global) -> Result<Left<L>, AllocError>
     ensures { IfOk result (λ left. IsUnused (L.seen_rx left.1)) }
 {
     let plan = pair(alloc)?;
-    let (Ok((tx, far_rx)), Ok((mut far_tx, rx))) = (L::pair(alloc, 0, 0), L::pair(alloc, 0, 1))
-    else {
+    let (ringer, bell) = one_ringer(alloc)?;
+    let (far_ringer, _far_bell) = one_ringer(alloc)?;
+    let (Ok((tx, far_rx)), Ok((far_tx, rx))) = (L::pair(alloc, 0, 0), L::pair(alloc, 0, 1)) else {
         return Err(AllocError);
     };
-    let (mut ringer, bell) = one_ringer(alloc)?;
-    let (far_ringer, _far_bell) = one_ringer(alloc)?;
     let ports = one_port::<L>(alloc, tx, rx, far_ringer)?;
-    let _ = L::put(rt, &mut far_tx, Letter::Request(Token::open(0)));
-    let _ = L::put(rt, &mut far_tx, Letter::Done);
-    let _ = L::close(rt, far_tx);
-    for _ in 0..3 {
-        let _ = ringer.ring(rt);
-    }
+    say_all::<L, R>(rt, far_tx);
+    let _ringer = rung(rt, ringer);
     Ok((run_lower(rt, alloc, &plan, ports, bell)?, far_rx))
 }
 
@@ -147,23 +159,45 @@ fn next_kind<L: Lane, R: Wait>(rt: &R, letters: &mut L::Rx) -> Option<Kind4>
     }
 }
 
-/// Tells how the lower site of the pair ended: its fault, whether a letter was handed back, its meals, its forks and
-/// tokens, the events of its journal, and the kinds of the letters that it put.
-pub fn tell<L: Lane, R: Wait + Print>(rt: &R, alloc: Global) -> io::Result<()> {
-    let (end, mut letters) = lower_of_pair::<L, R>(rt, alloc)?;
-    let held = (end.forks.len(), end.tokens.len());
+// What is told of a site's end: its fault, whether a letter was handed back, its meals, and how many forks, tokens and
+// events of its journal there are.
+#[derive(Drop)]
+struct Outcome {
+    fault: &'static str,
+    stray: bool,
+    ate: u32,
+    forks: usize,
+    tokens: usize,
+    journal: usize,
+}
+
+fn outcome_of<L: Lane>(end: SiteEnd<L, Eater>) -> Outcome {
+    Outcome {
+        fault: name_of(end.fault),
+        stray: end.stray.is_some(),
+        ate: end.ate,
+        forks: end.forks.len(),
+        tokens: end.tokens.len(),
+        journal: end.journal.len(),
+    }
+}
+
+fn tell_outcome<R: Print>(rt: &R, outcome: &Outcome) -> io::Result<()> {
     print!(rt;
         "{} stray={} ate={} ",
-        name_of(end.fault),
-        end.stray.is_some(),
-        end.ate
+        outcome.fault, outcome.stray, outcome.ate
     )?;
     print!(rt;
         "forks={} tokens={} journal={}",
-        held.0,
-        held.1,
-        end.journal.len()
+        outcome.forks, outcome.tokens, outcome.journal
     )?;
+    Ok(())
+}
+
+// Tells the kinds of the letters, four at most, and ends the line.
+fn tell_kinds<L: Lane, R: Wait + Print>(rt: &R, mut letters: L::Rx) -> io::Result<()>
+    requires { IsUnused (L.seen_rx letters) }
+{
     for taken in 0..4u32 {
         let Some(kind) = next_kind::<L, R>(rt, &mut letters) else {
             break;
@@ -172,4 +206,12 @@ pub fn tell<L: Lane, R: Wait + Print>(rt: &R, alloc: Global) -> io::Result<()> {
     }
     println!(rt; "")?;
     Ok(())
+}
+
+/// Tells how the lower site of the pair ended: its fault, whether a letter was handed back, its meals, its forks and
+/// tokens, the events of its journal, and the kinds of the letters that it put.
+pub fn tell<L: Lane, R: Wait + Print>(rt: &R, alloc: Global) -> io::Result<()> {
+    let (end, letters) = lower_of_pair::<L, R>(rt, alloc)?;
+    tell_outcome(rt, &outcome_of(end))?;
+    tell_kinds::<L, R>(rt, letters)
 }

@@ -1,5 +1,5 @@
 -- A fault of a run tells of the plan that was read.
-use Rattle.std.proofs.Common.{◌≡◌, ◌≢◌, ◌∙◌, List, ℕ, Option, Some, Result, Ok, Err, IfErr, IfSome, IsErrAnd, ap, sym, subst}
+use Rattle.std.proofs.Common.{◌≡◌, ◌≢◌, ◌∙◌, List, ℕ, Option, Some, Result, Ok, Err, IfErr, IfSome, IsErrAnd, ap, sym, subst, rules}
 use Rattle.dine_graph.specs.Plan.{SeenPlan}
 use Rattle.dine.specs.Commands.{FailsRun, IsFailedRun}
 use Rattle.dine.specs.FaultLines.{status_of}
@@ -26,3 +26,24 @@ returns-in_err-text-clause-failed_run g c =
     let left = g.R.Read.remaining c.args.input.now in
     let told = failed_run c.from_residual-in_err-text.result c.in_err-text.field-0.0 (asked_of c.in_ok-command.command) plan left c.from_residual-in_err-text.ensures.1 c.in_err-text.ensures.fault c.in_ok-plan.ensures.plan in
     subst (λ (asked : Option Asked). IfErr c.from_residual-in_err-text.result (λ made. status_of made ≡ status.RunFailed → IsFailedRun asked made left)) (sym c.in_ok-command.ensures.ok) told
+
+pub returns-in_err-command-clause-unread : goal.returns-in_err-command-clause-unread
+returns-in_err-command-clause-unread g c = search rules
+
+pub returns-in_err-plan-clause-refused : goal.returns-in_err-plan-clause-refused
+returns-in_err-plan-clause-refused g c = search rules
+
+pub returns-in_err-plan-clause-cause : goal.returns-in_err-plan-clause-cause
+returns-in_err-plan-clause-cause g c = search rules
+
+pub returns-in_err-plan-clause-refused_within : goal.returns-in_err-plan-clause-refused_within
+returns-in_err-plan-clause-refused_within g c = search rules
+
+pub returns-in_err-write_out-clause-part : goal.returns-in_err-write_out-clause-part
+returns-in_err-write_out-clause-part g c = search rules
+
+pub returns-clause-done : goal.returns-clause-done
+returns-clause-done g c = search rules
+
+pub returns-clause-within : goal.returns-clause-within
+returns-clause-within g c = search rules

@@ -1,4 +1,4 @@
-use Rattle.std.proofs.Common.{◌≡◌, true, ◌∙◌, ap, arith}
+use Rattle.std.proofs.Common.{◌≡◌, true, ◌∙◌, ap, arith, rules}
 use Rattle.dine.specs.private.Records.{is_plain}
 use Rattle.dine.proofs.PlainFields.{plain_decimal, plain_name}
 use Rattle.dine.proofs.tables.push_edge.Goals as goal
@@ -25,3 +25,9 @@ push_record-requires-2-clause-plain c =
     let lo_meals : is_plain c.as_bytes-4.result.now ≡ true = ap is_plain (c.as_bytes-4.ensures.value ∙ c.in_ok-lo_meals.ensures.ok) ∙ plain_decimal row.lo_meals (omega arith) in
     let hi_meals : is_plain c.as_bytes-5.result.now ≡ true = ap is_plain (c.as_bytes-5.ensures.value ∙ c.in_ok-hi_meals.ensures.ok) ∙ plain_decimal row.hi_meals (omega arith) in
     rw (edge, lo, hi, lo_meals, hi_meals)
+
+pub returns-then-version-eq2-clause-text : goal.returns-then-version-eq2-clause-text
+returns-then-version-eq2-clause-text c = search rules
+
+pub returns-clause-text : goal.returns-clause-text
+returns-clause-text c = search rules

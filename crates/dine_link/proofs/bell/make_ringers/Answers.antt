@@ -1,4 +1,4 @@
-use Rattle.std.proofs.Common.{ap, ◌∙◌, arith}
+use Rattle.std.proofs.Common.{ap, ◌∙◌, arith, rules}
 use Rattle.std.proofs.lemmas.Grind.{common_steps}
 use Rattle.crossbeam_channel.specs.Claims.{view}
 use Rattle.crossbeam_channel.specs.Ends.{sends_on}
@@ -17,3 +17,6 @@ loop-number-preserved c = let before = c.loop-number.invariant in record {
   count = grind (arith, common_steps);
   room = grind (arith, common_steps);
 }
+
+pub loop-number-init : goal.loop-number-init
+loop-number-init c = search rules

@@ -1,5 +1,5 @@
 -- A write takes the next bytes of the text, or leaves the writer as it was.
-use Rattle.std.proofs.Common.{◌≡◌, ◌-◌, arith, ap, drop, length, take, length-drop, subst, take_all}
+use Rattle.std.proofs.Common.{◌≡◌, ◌-◌, arith, ap, drop, length, take, length-drop, subst, take_all, rules}
 use Rattle.std.specs.Io.KnownBytes.{Appends}
 use Rattle.std.proofs.KnownBytes.{Appends-kept}
 use Rattle.dine_words.proofs.OutputLemmas.{Appends-next}
@@ -30,3 +30,6 @@ loop-preserved g c =
         within = omega (arith, w.written-is);
       }
     ]
+
+pub returns-then-ne-clause-whole : goal.returns-then-ne-clause-whole
+returns-then-ne-clause-whole g c = search rules

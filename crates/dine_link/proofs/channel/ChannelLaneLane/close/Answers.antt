@@ -1,4 +1,4 @@
-use Rattle.std.proofs.Common.{ap}
+use Rattle.std.proofs.Common.{ap, rules}
 use Rattle.crossbeam_channel.specs.Claims.{view}
 use Rattle.dine_link.proofs.Endings.{ended-added, close_last-added}
 use Rattle.dine_link.proofs.channel.ChannelLaneLane.close.Goals as goal
@@ -8,3 +8,6 @@ invariant_of-result-clause-ended g c = rw (ap (λ end. end.letters) c.in-Ok.ensu
 
 pub invariant_of-result-clause-close_last : goal.invariant_of-result-clause-close_last
 invariant_of-result-clause-close_last g c = rw (ap (λ end. end.letters) c.in-Ok.ensures) (close_last-added (view c.args.tx.putting.pass).put c.args.tx.unclosed)
+
+pub returns : goal.returns
+returns g c = search rules

@@ -1,7 +1,10 @@
-use Rattle.std.proofs.Common.{ap, sym, ◌∙◌}
+use Rattle.std.proofs.Common.{ap, sym, ◌∙◌, rules}
 use Rattle.rtrb.specs.Ring.{received}
 use Rattle.dine_link.proofs.Endings.{has_close-added}
 use Rattle.dine_link.proofs.ring.RingLaneLane.take.Goals as goal
 
 pub invariant_of-rx-clause-told : goal.invariant_of-rx-clause-told
 invariant_of-rx-clause-told g c = rw (c.in-Ok.ensures.ok.0, ap (λ end. end.letters) c.loop.invariant) (c.is_close-rx.ensures ∙ sym (has_close-added (received c.args.rx.now.consumer) c.in-Ok.letter c.requires.open))
+
+pub invariant_of-rx-in_default : goal.invariant_of-rx-in_default
+invariant_of-rx-in_default g c = search rules

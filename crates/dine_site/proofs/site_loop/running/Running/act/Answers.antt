@@ -42,3 +42,6 @@ returns g c =
       resigns = did.resigns ∙ same.resigns;
       site = did.site ∙ same.site;
     }
+
+pub perform-requires-clause-room_for_end : goal.perform-requires-clause-room_for_end
+perform-requires-clause-room_for_end g c κs within = search rules

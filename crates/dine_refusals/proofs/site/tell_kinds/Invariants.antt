@@ -1,5 +1,5 @@
 use Rattle.std.proofs.Common.{◌≤◌, length}
-use Rattle.dine_refusals.proofs.site.tell.Given as goal
+use Rattle.dine_refusals.proofs.site.tell_kinds.Given as goal
 
 -- a letter was taken each time, at most
 abbrev pub invariant-loop-taken : goal.invariant-loop-taken

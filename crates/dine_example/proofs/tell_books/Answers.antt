@@ -2,10 +2,10 @@ use Rattle.std.proofs.Common.{◌∙◌, length, ap, arith}
 use Rattle.std.proofs.lemmas.List.FromFn.{length-map-range_with_len}
 use Rattle.dine_graph.specs.Plan.{site_count}
 use Rattle.dine_example.specs.Balances.{balance_of}
-use Rattle.dine_example.proofs.main.Goals as goal
+use Rattle.dine_example.proofs.tell_books.Goals as goal
 
 pub index-requires : goal.index-requires
 index-requires g c =
-    let plan = c.in_ok-plan.plan in
-    let count = ap length c.in_ok-books.ensures.books.balances ∙ length-map-range_with_len (balance_of plan) 0 (site_count plan) in
+    let plan = c.args.plan.now in
+    let count = ap length c.requires.balances ∙ length-map-range_with_len (balance_of plan) 0 (site_count plan) in
     omega (arith, count, c.loop-site-test.true, c.sites-site-end.ensures.count)
