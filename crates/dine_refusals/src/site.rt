@@ -162,7 +162,7 @@ fn next_kind<L: Lane, R: Wait>(rt: &R, letters: &mut L::Rx) -> Option<Kind4>
 // What is told of a site's end: its fault, whether a letter was handed back, its meals, and how many forks, tokens and
 // events of its journal there are.
 #[derive(Drop)]
-struct Outcome {
+struct Ended {
     fault: &'static str,
     stray: bool,
     ate: u32,
@@ -171,8 +171,8 @@ struct Outcome {
     journal: usize,
 }
 
-fn outcome_of<L: Lane>(end: SiteEnd<L, Eater>) -> Outcome {
-    Outcome {
+fn ended<L: Lane>(end: SiteEnd<L, Eater>) -> Ended {
+    Ended {
         fault: name_of(end.fault),
         stray: end.stray.is_some(),
         ate: end.ate,
@@ -182,14 +182,11 @@ fn outcome_of<L: Lane>(end: SiteEnd<L, Eater>) -> Outcome {
     }
 }
 
-fn tell_outcome<R: Print>(rt: &R, outcome: &Outcome) -> io::Result<()> {
-    print!(rt;
-        "{} stray={} ate={} ",
-        outcome.fault, outcome.stray, outcome.ate
-    )?;
+fn tell_ended<R: Print>(rt: &R, ended: &Ended) -> io::Result<()> {
+    print!(rt; "{} stray={} ate={} ", ended.fault, ended.stray, ended.ate)?;
     print!(rt;
         "forks={} tokens={} journal={}",
-        outcome.forks, outcome.tokens, outcome.journal
+        ended.forks, ended.tokens, ended.journal
     )?;
     Ok(())
 }
@@ -212,6 +209,6 @@ fn tell_kinds<L: Lane, R: Wait + Print>(rt: &R, mut letters: L::Rx) -> io::Resul
 /// tokens, the events of its journal, and the kinds of the letters that it put.
 pub fn tell<L: Lane, R: Wait + Print>(rt: &R, alloc: Global) -> io::Result<()> {
     let (end, letters) = lower_of_pair::<L, R>(rt, alloc)?;
-    tell_outcome(rt, &outcome_of(end))?;
+    tell_ended(rt, &ended(end))?;
     tell_kinds::<L, R>(rt, letters)
 }
