@@ -171,7 +171,7 @@ struct Ended {
     journal: usize,
 }
 
-fn ended<L: Lane>(end: SiteEnd<L, Eater>) -> Ended {
+fn ended_of<L: Lane>(end: SiteEnd<L, Eater>) -> Ended {
     Ended {
         fault: name_of(end.fault),
         stray: end.stray.is_some(),
@@ -209,6 +209,6 @@ fn tell_kinds<L: Lane, R: Wait + Print>(rt: &R, mut letters: L::Rx) -> io::Resul
 /// tokens, the events of its journal, and the kinds of the letters that it put.
 pub fn tell<L: Lane, R: Wait + Print>(rt: &R, alloc: Global) -> io::Result<()> {
     let (end, letters) = lower_of_pair::<L, R>(rt, alloc)?;
-    tell_ended(rt, &ended(end))?;
+    tell_ended(rt, &ended_of(end))?;
     tell_kinds::<L, R>(rt, letters)
 }
