@@ -1,5 +1,5 @@
 -- A line that is made in place before it is written.
-use Rattle.std.proofs.Common.{◌≡◌, ◌∙◌, ℕ, List, [], ◌∷◌, ◌++◌, Option, None, Some, IfSome, option_map, append-nil, append_assoc, ap, sym, subst}
+use Rattle.std.proofs.Common.{◌≡◌, ◌∙◌, ℕ, List, [], ◌∷◌, ◌++◌, Some, append-nil, append_assoc, ap, sym, subst}
 use Rattle.std.specs.Fmt.{WritesText, option_append}
 use Rattle.std.specs.Fmt.InlineText.{AppendsIfIntact, IsIntact, inline_text}
 use Rattle.std.specs.List.{FoldsTo, concat}
@@ -15,8 +15,7 @@ module _ {n : ℕ} where
       (rest.0, rest.1 ∙ ap (λ (l : List ℕ). l ++ concat parts) first.1 ∙ append_assoc (inline_text before) part (concat parts))
 
   -- what an empty text holds behind the writes of a front and of words
-  pub holds_line : (before after : InlineText n) (front : List ℕ) (words : Option (List ℕ)) → inline_text before ≡ [] → IsIntact before
-      → WritesText AppendsIfIntact before (option_append (Some front) words) after → IfSome (option_map (λ (w : List ℕ). front ++ w) words) (λ (line : List ℕ). inline_text after ≡ line)
-  holds_line before after front None empty intact wrote = tt
-  holds_line before after front (Some words) empty intact wrote =
+  pub holds_line : (before after : InlineText n) (front words : List ℕ) → inline_text before ≡ [] → IsIntact before
+      → WritesText AppendsIfIntact before (option_append (Some front) (Some words)) after → inline_text after ≡ front ++ words
+  holds_line before after front words empty intact wrote =
       (after_writes before wrote.parts after wrote.calls intact).1 ∙ ap (λ (l : List ℕ). inline_text before ++ l) wrote.whole ∙ ap (λ (l : List ℕ). l ++ (front ++ words)) empty

@@ -1,7 +1,8 @@
 -- What ends a command before its end.
-use Rattle.std.specs.Prelude.{ℕ, List, [], ◌∷◌, ◌++◌, Option, Some, None, IfSome, codes, option_map}
+use Rattle.std.specs.Prelude.{ℕ, List, [], ◌∷◌, ◌++◌, Option, codes}
 use Rattle.std.specs.declared.io.ErrorKind.{ErrorKind}
 use Rattle.std.specs.declared.io.ErrorKind.TheVariants as kind
+use Rattle.dine_reader.specs.Fault.{plan_fault_words}
 use Rattle.dine_reader.specs.declared.plan_fault.PlanFault.{PlanFault}
 use Rattle.dine_reader.specs.declared.plan_fault.PlanFault.TheVariants as text
 use Rattle.dine_threads.specs.Causes.{cause_of, cause_words}
@@ -60,24 +61,24 @@ fault_of_cause cause = fault.RunFailed cause
 abbrev pub fault_of_run : RunFault SeenPlanDiner → Fault
 fault_of_run answer = fault_of_cause (cause_of answer)
 
--- the words that tell of a fault; those of a plan end in its cause, as the plan's fault prints it
-abbrev pub fault_words : Fault → Option (List ℕ)
-fault_words fault.Usage = Some (codes "usage: dine [run [--table edges|sites] [--links channel|ring] | replay [--choices LIST] | check]")
-fault_words (fault.NoPlan cause) = None
-fault_words (fault.RunFailed cause) = Some (cause_words cause)
-fault_words fault.OutOfMemory = Some (codes "out of memory")
-fault_words fault.ReadingFailed = Some (codes "reading failed")
-fault_words fault.InputTooLong = Some (codes "input too long")
-fault_words fault.WritingFailed = Some (codes "writing failed")
+-- the words that tell of a fault
+abbrev pub fault_words : Fault → List ℕ
+fault_words fault.Usage = codes "usage: dine [run [--table edges|sites] [--links channel|ring] | replay [--choices LIST] | check]"
+fault_words (fault.NoPlan cause) = codes "plan refused: " ++ plan_fault_words cause
+fault_words (fault.RunFailed cause) = cause_words cause
+fault_words fault.OutOfMemory = codes "out of memory"
+fault_words fault.ReadingFailed = codes "reading failed"
+fault_words fault.InputTooLong = codes "input too long"
+fault_words fault.WritingFailed = codes "writing failed"
 
 -- the line that tells of a fault, without its line feed
-abbrev pub line_of : Fault → Option (List ℕ)
-line_of cause = option_map (λ words. codes "dine: " ++ words) (fault_words cause)
+abbrev pub line_of : Fault → List ℕ
+line_of cause = codes "dine: " ++ fault_words cause
 
 -- a line with its line feed
 abbrev pub whole_line : List ℕ → List ℕ
 whole_line line = line ++ 10 ∷ []
 
 -- what was written is a beginning of the line, and it may be none of it: how much a writer takes is not known
-abbrev pub TellsLine : Option (List ℕ) → Option (List ℕ) → Option (List ℕ) → Type 0
-TellsLine line before after = IfSome line (λ text. WritesPrefix before after (whole_line text))
+abbrev pub TellsLine : List ℕ → Option (List ℕ) → Option (List ℕ) → Type 0
+TellsLine line before after = WritesPrefix before after (whole_line line)

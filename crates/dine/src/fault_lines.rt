@@ -35,9 +35,10 @@ pub enum Fault {
 /// The words of its line, behind the name of the program. Those of a refused plan end in its cause, as the plan's fault
 /// prints it, and those of a run are its cause.
 impl fmt::Display for Fault {
+    ghost use Rattle.std.specs.Prelude.{Some};
     ghost use Rattle.dine.specs.FaultLines.{fault_words};
 
-    ghost output = { λ fault. fault_words fault };
+    ghost output = { λ fault. Some (fault_words fault) };
 
     fn fmt<W: fmt::Write>(&self, f: &mut fmt::Formatter<W>) -> fmt::Result {
         match self {
@@ -55,7 +56,7 @@ impl fmt::Display for Fault {
 }
 
 impl Fault {
-    ghost use Rattle.std.specs.Prelude.{IfSome, OnOk};
+    ghost use Rattle.std.specs.Prelude.{OnOk};
     ghost use Rattle.std.specs.Io.KnownBytes.{Appends};
     ghost use Rattle.dine.specs.FaultLines.{TellsLine, line_of, status_of, whole_line};
 
@@ -87,7 +88,7 @@ impl Fault {
 
     // Writes the line that tells of it, and flushes. The line is made in place, since memory may have been refused.
     fn tell<F: Write>(self, faults: &mut F) -> Result<(), WriteFault>
-        ensures whole { OnOk result (IfSome (line_of self) (λ line. Appends (F.contents faults.old) (F.contents faults.new) (whole_line line))) }
+        ensures whole { OnOk result (Appends (F.contents faults.old) (F.contents faults.new) (whole_line (line_of self))) }
         ensures begun { TellsLine (line_of self) (F.contents faults.old) (F.contents faults.new) }
     {
         let mut line = InlineText::<LINE>::new();

@@ -1,5 +1,6 @@
--- The number of each cause, and the position that it carries.
-use Rattle.std.specs.Prelude.{ℕ}
+-- The number of each cause, the position that it carries, and how it is told in words.
+use Rattle.std.specs.Prelude.{ℕ, List, ◌++◌, codes}
+use Rattle.std.specs.Fmt.{decimal}
 use Rattle.dine_reader.specs.declared.plan_fault.PlanFault.{PlanFault}
 use Rattle.dine_reader.specs.declared.plan_fault.PlanFault.TheVariants.{NotToml, Version, UnknownKey, MissingKey, WrongKind, BadName, SiteTwice, NoSite, TooManySites, TooManyJobs, TurnsTooLarge, UnknownEnd, Loop, EdgeTwice, TooManyEdges, TwoActs, ActTooLarge, ValueTooLarge, UnknownPolicy, Memory}
 
@@ -41,3 +42,26 @@ position_of_fault (ActTooLarge site) = site
 position_of_fault (ValueTooLarge edge) = edge
 position_of_fault (UnknownPolicy site) = site
 position_of_fault _ = 0
+
+-- how a cause is told: by its number, its name and, where it carries a position, by that
+abbrev pub plan_fault_words : PlanFault → List ℕ
+plan_fault_words NotToml = codes "1 NotToml"
+plan_fault_words Version = codes "2 Version"
+plan_fault_words UnknownKey = codes "3 UnknownKey"
+plan_fault_words MissingKey = codes "4 MissingKey"
+plan_fault_words WrongKind = codes "5 WrongKind"
+plan_fault_words (BadName site) = codes "6 BadName at site " ++ decimal site
+plan_fault_words (SiteTwice site) = codes "7 SiteTwice at site " ++ decimal site
+plan_fault_words NoSite = codes "8 NoSite"
+plan_fault_words TooManySites = codes "9 TooManySites"
+plan_fault_words (TooManyJobs site) = codes "10 TooManyJobs at site " ++ decimal site
+plan_fault_words (TurnsTooLarge site) = codes "11 TurnsTooLarge at site " ++ decimal site
+plan_fault_words (UnknownEnd edge) = codes "12 UnknownEnd at edge " ++ decimal edge
+plan_fault_words (Loop edge) = codes "13 Loop at edge " ++ decimal edge
+plan_fault_words (EdgeTwice edge) = codes "14 EdgeTwice at edge " ++ decimal edge
+plan_fault_words TooManyEdges = codes "15 TooManyEdges"
+plan_fault_words Memory = codes "16 Memory"
+plan_fault_words (TwoActs site) = codes "17 TwoActs at site " ++ decimal site
+plan_fault_words (ActTooLarge site) = codes "18 ActTooLarge at site " ++ decimal site
+plan_fault_words (ValueTooLarge edge) = codes "19 ValueTooLarge at edge " ++ decimal edge
+plan_fault_words (UnknownPolicy site) = codes "20 UnknownPolicy at site " ++ decimal site

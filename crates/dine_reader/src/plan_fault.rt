@@ -1,6 +1,6 @@
 //! Why a text is no plan.
-ghost use Rattle.std.specs.Prelude.{◌≡◌};
-ghost use Rattle.dine_reader.specs.Fault.{number_of_fault};
+ghost use Rattle.std.specs.Prelude.{◌≡◌, Some};
+ghost use Rattle.dine_reader.specs.Fault.{number_of_fault, plan_fault_words};
 ghost use Rattle.dine_reader.specs.declared.plan_fault.PlanFault.TheVariants.{Memory};
 
 use std::alloc::{AllocError, AllocFailed};
@@ -82,58 +82,34 @@ impl PlanFault {
             PlanFault::UnknownPolicy(_) => 20,
         }
     }
-
-    // The cause's number and name, and for a cause with a position of what.
-    fn words(&self) -> &'static str {
-        match self {
-            PlanFault::NotToml => "1 NotToml",
-            PlanFault::Version => "2 Version",
-            PlanFault::UnknownKey => "3 UnknownKey",
-            PlanFault::MissingKey => "4 MissingKey",
-            PlanFault::WrongKind => "5 WrongKind",
-            PlanFault::BadName(_) => "6 BadName at site",
-            PlanFault::SiteTwice(_) => "7 SiteTwice at site",
-            PlanFault::NoSite => "8 NoSite",
-            PlanFault::TooManySites => "9 TooManySites",
-            PlanFault::TooManyJobs(_) => "10 TooManyJobs at site",
-            PlanFault::TurnsTooLarge(_) => "11 TurnsTooLarge at site",
-            PlanFault::UnknownEnd(_) => "12 UnknownEnd at edge",
-            PlanFault::Loop(_) => "13 Loop at edge",
-            PlanFault::EdgeTwice(_) => "14 EdgeTwice at edge",
-            PlanFault::TooManyEdges => "15 TooManyEdges",
-            PlanFault::Memory => "16 Memory",
-            PlanFault::TwoActs(_) => "17 TwoActs at site",
-            PlanFault::ActTooLarge(_) => "18 ActTooLarge at site",
-            PlanFault::ValueTooLarge(_) => "19 ValueTooLarge at edge",
-            PlanFault::UnknownPolicy(_) => "20 UnknownPolicy at site",
-        }
-    }
-
-    // The position of the cause, where it has one.
-    fn position(&self) -> Option<usize> {
-        match self {
-            PlanFault::BadName(at)
-            | PlanFault::SiteTwice(at)
-            | PlanFault::TooManyJobs(at)
-            | PlanFault::TurnsTooLarge(at)
-            | PlanFault::UnknownEnd(at)
-            | PlanFault::Loop(at)
-            | PlanFault::EdgeTwice(at)
-            | PlanFault::TwoActs(at)
-            | PlanFault::ActTooLarge(at)
-            | PlanFault::ValueTooLarge(at)
-            | PlanFault::UnknownPolicy(at) => Some(*at),
-            _ => None,
-        }
-    }
 }
 
+/// The number and the name of the cause and, where it has one, the position: `2 Version`, `6 BadName at site 0`.
 impl fmt::Display for PlanFault {
+    ghost output = { λ fault. Some (plan_fault_words fault) };
+
     fn fmt<W: fmt::Write>(&self, f: &mut fmt::Formatter<W>) -> fmt::Result {
-        f.write_str(self.words())?;
-        match self.position() {
-            Some(at) => write!(f, " {at}"),
-            None => Ok(()),
+        match *self {
+            PlanFault::NotToml => f.write_str("1 NotToml"),
+            PlanFault::Version => f.write_str("2 Version"),
+            PlanFault::UnknownKey => f.write_str("3 UnknownKey"),
+            PlanFault::MissingKey => f.write_str("4 MissingKey"),
+            PlanFault::WrongKind => f.write_str("5 WrongKind"),
+            PlanFault::BadName(site) => write!(f, "6 BadName at site {site}"),
+            PlanFault::SiteTwice(site) => write!(f, "7 SiteTwice at site {site}"),
+            PlanFault::NoSite => f.write_str("8 NoSite"),
+            PlanFault::TooManySites => f.write_str("9 TooManySites"),
+            PlanFault::TooManyJobs(site) => write!(f, "10 TooManyJobs at site {site}"),
+            PlanFault::TurnsTooLarge(site) => write!(f, "11 TurnsTooLarge at site {site}"),
+            PlanFault::UnknownEnd(edge) => write!(f, "12 UnknownEnd at edge {edge}"),
+            PlanFault::Loop(edge) => write!(f, "13 Loop at edge {edge}"),
+            PlanFault::EdgeTwice(edge) => write!(f, "14 EdgeTwice at edge {edge}"),
+            PlanFault::TooManyEdges => f.write_str("15 TooManyEdges"),
+            PlanFault::Memory => f.write_str("16 Memory"),
+            PlanFault::TwoActs(site) => write!(f, "17 TwoActs at site {site}"),
+            PlanFault::ActTooLarge(site) => write!(f, "18 ActTooLarge at site {site}"),
+            PlanFault::ValueTooLarge(edge) => write!(f, "19 ValueTooLarge at edge {edge}"),
+            PlanFault::UnknownPolicy(site) => write!(f, "20 UnknownPolicy at site {site}"),
         }
     }
 }

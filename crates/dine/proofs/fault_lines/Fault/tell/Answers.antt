@@ -1,27 +1,24 @@
 -- The line was made whole before it was written.
-use Rattle.std.proofs.Common.{◌≡◌, ◌∙◌, List, ℕ, IfSome, codes, subst, rules}
-use Rattle.std.proofs.lemmas.Option.{IfSome_then}
-use Rattle.std.proofs.lemmas.Result.{on_ok_weaker}
+use Rattle.std.proofs.Common.{◌≡◌, ◌∙◌, List, ℕ, codes, subst, rules}
 use Rattle.std.specs.Io.KnownBytes.{Appends}
+use Rattle.std.specs.Prelude.{OnOk}
 use Rattle.dine_words.specs.Output.{WritesPrefix}
 use Rattle.dine.specs.FaultLines.{fault_words, line_of, whole_line}
 use Rattle.dine.proofs.LineLemmas.{holds_line}
 use Rattle.dine.proofs.fault_lines.Fault.tell.Given.{Over}
 use Rattle.dine.proofs.fault_lines.Fault.tell.Goals as goal
 
-held : (g : Over) (c : goal.After-write_line g) → IfSome (line_of c.args.self) (λ (line : List ℕ). c.as_str.result.now ≡ line)
-held g c = IfSome_then (line_of c.args.self)
-    (holds_line c.new-line.result c.write_fmt.new.self (codes "dine: ") (fault_words c.args.self) c.new-line.ensures.text c.new-line.ensures.intact (search rules))
-    (λ line is. c.as_str.ensures.value ∙ is)
+held : (g : Over) (c : goal.After-write_line g) → c.as_str.result.now ≡ line_of c.args.self
+held g c = c.as_str.ensures.value ∙ holds_line c.new-line.result c.write_fmt.new.self (codes "dine: ") (fault_words c.args.self) c.new-line.ensures.text c.new-line.ensures.intact (search rules)
 
 pub returns-clause-whole : goal.returns-clause-whole
 returns-clause-whole g c =
     let old = g.F.Write.contents c.args.faults.now in
     let new = g.F.Write.contents c.write_line.new.output in
-    on_ok_weaker c.write_line.result (λ whole. IfSome_then (line_of c.args.self) (held g c) (λ line is. subst (λ (l : List ℕ). Appends old new (whole_line l)) is whole)) c.write_line.ensures.whole
+    subst (λ (l : List ℕ). OnOk c.write_line.result (Appends old new (whole_line l))) (held g c) c.write_line.ensures.whole
 
 pub returns-clause-begun : goal.returns-clause-begun
 returns-clause-begun g c =
     let old = g.F.Write.contents c.args.faults.now in
     let new = g.F.Write.contents c.write_line.new.output in
-    IfSome_then (line_of c.args.self) (held g c) (λ line is. subst (λ (l : List ℕ). WritesPrefix old new (whole_line l)) is c.write_line.ensures.prefix)
+    subst (λ (l : List ℕ). WritesPrefix old new (whole_line l)) (held g c) c.write_line.ensures.prefix
