@@ -4,3 +4,4 @@ pub mod NameLemmas
 pub mod ListLemmas
 pub mod GraphLemmas
 pub mod FirstLemmas
+pub mod VersionLemmas

@@ -1,10 +1,11 @@
 -- The plan of a document.
-use Rattle.std.specs.Prelude.{◌≡◌, ℕ, min, max, List, map, Some}
+use Rattle.std.specs.Prelude.{◌≡◌, ℕ, min, max, false, List, map, Some}
 use Rattle.std.specs.List.{position_or_len}
 use Rattle.std.specs.Str.{bytes_eq}
 use Rattle.toml.specs.Data.{Data, Members, table}
 use Rattle.toml.specs.Parse.{parse_document}
-use Rattle.dine_graph.specs.Plan.{SeenJob, SeenSite, SeenPlan}
+use Rattle.dine_token.specs.declared.act.Act.TheVariants.{Add}
+use Rattle.dine_graph.specs.Plan.{SeenJob, SeenSite, SeenPlan, act_of, resigns, value_of}
 use Rattle.dine_reader.specs.Document.{sites_in, edges_in, jobs_in, name_in, turns_in, fails_in, act_in, resigns_in, value_in, version_in, end_in}
 
 -- the job of a job table
@@ -37,3 +38,9 @@ plan_of_document doc = plan_in (version_in doc) (sites_in doc) (edges_in doc)
 -- The text is a document, and p is the plan of its sites and edges. Of a document that is refused this means nothing.
 abbrev pub IsPlanOf : List ℕ → SeenPlan → Type 0
 IsPlanOf text p = (doc : Members) × (parse_document text ≡ Some doc) × (p ≡ plan_of_document (table doc))
+
+-- what version 1 has no words for: each edge has the value 0, each meal adds 0 to it, and no site drops its jobs
+pub record IsPlain (p : SeenPlan) : Type 0 where
+  pub valueless : (e : ℕ) → value_of p e ≡ 0
+  pub adds_nothing : (s k : ℕ) → act_of p s k ≡ Add 0
+  pub none_resigns : (s : ℕ) → resigns p s ≡ false

@@ -1,8 +1,10 @@
 //! Laws over the definitions alone. Each function does nothing: its contract is the law.
 
-ghost use Rattle.std.specs.Prelude.{◌≡◌, ℕ, None, Some};
+ghost use Rattle.std.specs.Prelude.{◌≡◌, ℕ, List, None, Some};
 ghost use Rattle.toml.specs.Data.{Data};
-ghost use Rattle.dine_reader.specs.RefusalTests.{first_refusal};
+ghost use Rattle.dine_graph.specs.Plan.{SeenPlan};
+ghost use Rattle.dine_reader.specs.PlanOf.{IsPlain, IsPlanOf};
+ghost use Rattle.dine_reader.specs.RefusalTests.{first_fault, first_refusal};
 ghost use Rattle.dine_reader.specs.RefusalFacts.{Refuses, IsFirst};
 ghost use Rattle.dine_reader.specs.declared.plan_fault.PlanFault.{PlanFault};
 ghost use Rattle.dine_reader.specs.declared.plan_fault.PlanFault.TheVariants.{UnknownEnd, Loop, EdgeTwice};
@@ -18,4 +20,9 @@ pub fn first_refusal_is_first()
 pub fn loops_and_pairs_are_of_known_ends()
     ensures loops { (doc : Data) (edge : ℕ) → Refuses doc (UnknownEnd edge) → Refuses doc (Loop edge) → ⊥ }
     ensures pairs { (doc : Data) (edge : ℕ) → Refuses doc (UnknownEnd edge) → Refuses doc (EdgeTwice edge) → ⊥ }
+{}
+
+/// A plan of version 1 has no values: each edge has the value 0, each meal adds 0 to it, and no site resigns.
+pub fn first_version_has_no_values()
+    ensures plain { (text : List ℕ) (p : SeenPlan) → first_fault text ≡ None → IsPlanOf text p → p.version ≡ 1 → IsPlain p }
 {}
