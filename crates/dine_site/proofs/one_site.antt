@@ -1,5 +1,6 @@
 -- One site's loop: its letters at each place, each event and each fault, and what it leaves.
 pub mod Letters
+pub mod Turns
 pub mod AtPlaces
 pub mod Meals
 pub mod Heeding

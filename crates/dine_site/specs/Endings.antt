@@ -5,7 +5,6 @@ use Rattle.dine_rules.specs.declared.breach.Breach.{Breach}
 use Rattle.dine_rules.specs.declared.events.EventKind.{EventKind}
 use Rattle.dine_rules.specs.declared.letters.Letter.{Letter}
 use Rattle.dine_rules.specs.Breach.{first_breach}
-use Rattle.dine_rules.specs.Journals.{IsJournal}
 use Rattle.dine_rules.specs.Local.{LocalState, Traffic, is_eating, start_of, traffic_at}
 use Rattle.dine_rules.specs.Streams.{IsPutInOrder, KeepsStreams}
 use Rattle.dine_core.specs.Core.{tokens_in_hand}
@@ -14,7 +13,7 @@ use Rattle.dine_link.specs.Closing.{is_close}
 use Rattle.dine_site.specs.declared.site_end.SiteFault.{SiteFault}
 use Rattle.dine_site.specs.declared.site_end.SiteFault.TheVariants as fault
 use Rattle.dine_site.specs.declared.site_end.Stray.{Stray}
-use Rattle.dine_site.specs.Doings.{HasDone}
+use Rattle.dine_site.specs.Doings.{HasActed, HasDone}
 use Rattle.dine_site.specs.Ports.{SeenPort, PutsFit}
 
 -- the letter that was handed back at place i, where one was
@@ -88,17 +87,17 @@ pub record Ending : Type 0 where
 
 -- What a site tells fits a state of whole lists that keeps the streams, in which it does not eat. Its tokens are those
 -- of this state, and so are its links, but for the letter of a breach, a letter that a link refused, and a Close that a
--- link refused; what its links have is in order all the same. It did the events of its journal and then it broke off,
--- and where it was started it has put Close everywhere. Where it tells no fault it did all, just those events, its
--- links have exactly what it put, and none of them refused. A site that was not started is at its start. A link that
--- refused to give a letter is told. A breach that is told is so, and a link that is told lost.
+-- link refused; what its links have is in order all the same. It did the events of its journal, each in its turn, and
+-- then it broke off, and where it was started it has put Close everywhere. Where it tells no fault it did all, just
+-- those events, its links have exactly what it put, and none of them refused. A site that was not started is at its
+-- start. A link that refused to give a letter is told. A breach that is told is so, and a link that is told lost.
 pub record HasEnded (plan : SeenPlan) (s : ℕ) (state : LocalState) (links : ℕ → OnLinks) (end : Ending) : Type 0 where
   pub keeps : KeepsStreams plan s state
   pub rests : is_eating state.phase ≡ false
   pub ate : end.ate ≡ state.ate
   pub tokens : end.tokens ≡ tokens_in_hand plan s state (all_places state)
   pub did : HasDone plan s end.journal state
-  pub did_all : end.fault ≡ None → IsJournal plan s end.journal state
+  pub did_all : end.fault ≡ None → HasActed plan s end.journal state
   pub puts : (i : ℕ) → i < length state.traffic → PutsFit (links i).put_refused (refused_at i end.fault end.stray) (traffic_at state i).put (links i).put
   pub takes : (i : ℕ) → i < length state.traffic → (links i).taken ≡ (traffic_at state i).taken ++ option_to_list (breached_at i end.fault end.stray)
   pub in_order : (i : ℕ) → i < length state.traffic → IsPutInOrder plan s i state.ate (traffic_on (links i))

@@ -5,12 +5,12 @@ use Rattle.dine_graph.specs.Plan.{SeenPlan, IsPlan, site_count}
 use Rattle.dine_rules.specs.declared.breach.Breach.{Breach}
 use Rattle.dine_rules.specs.declared.events.EventKind.{EventKind}
 use Rattle.dine_rules.specs.declared.letters.Letter.{Letter}
-use Rattle.dine_rules.specs.Journals.{IsJournal}
 use Rattle.dine_rules.specs.Letters.{has_close}
 use Rattle.dine_rules.specs.Local.{LocalState, Traffic, is_eating, traffic_at}
 use Rattle.dine_rules.specs.Steps.{with_put}
 use Rattle.dine_rules.specs.Streams.{KeepsStreams}
 use Rattle.dine_core.specs.Core.{SeenCore, Refines}
+use Rattle.dine_core.specs.NextEvent.{next_event}
 use Rattle.dine_core.specs.Places.{place_at}
 use Rattle.dine_core.specs.Standing.{ForEachState, has_finished}
 use Rattle.dine_site.specs.declared.diner.Call.{Call}
@@ -22,7 +22,7 @@ use Rattle.dine_site.specs.declared.site_loop.running.Running.{Running}
 use Rattle.dine_link.specs.Bells.{SeenBell}
 use Rattle.dine_link.specs.Links.{SeenEnd}
 use Rattle.dine_site.specs.Diners.{HasEaten}
-use Rattle.dine_site.specs.Doings.{HasDone}
+use Rattle.dine_site.specs.Doings.{HasActed, HasDone}
 use Rattle.dine_site.specs.Ports.{HasRung, IsUnrefused, SeenPort, SameLinks, PutsFit, seen_ports}
 use Rattle.dine_site.specs.Endings.{IsBreached, IsLost, breached_at, hands_back, links_at, refused_at}
 use Rattle.dine_site.specs.SiteEnds.{HasBellRefused}
@@ -68,13 +68,14 @@ pub record HasState {Identity : Type 0} (plan : SeenPlan) (given : List (SeenPor
   pub places : length run.ports ≡ length run.core.places
   pub same_links : (i : ℕ) (old new : SeenPort Identity) → slice_get given i ≡ Some old → slice_get run.ports i ≡ Some new → SameLinks old new
 
--- Between two events, without a fault. The journal led to the state, and no wait was refused.
+-- Between two events, without a fault. The events of the journal led to the state, each in its turn, and no wait was
+-- refused.
 pub record IsRunning {Identity : Type 0} (plan : SeenPlan) (given : List (SeenPort Identity)) (run : SeenRun Identity) : Type 0 where
   pub state : LocalState
   pub has : HasState plan given run state
   pub lists : AtEach (λ i. RunsAt) state run.ports
   pub heard : run.bell.refused ≡ false
-  pub did : IsJournal plan run.core.site run.journal state
+  pub did : HasActed plan run.core.site run.journal state
 
 -- The core has put the letter at place i, and the link has it not yet.
 pub record IsPutting {Identity : Type 0} (i : ℕ) (letter : Letter) (plan : SeenPlan) (given : List (SeenPort Identity)) (run : SeenRun Identity) : Type 0 where
@@ -84,7 +85,7 @@ pub record IsPutting {Identity : Type 0} (i : ℕ) (letter : Letter) (plan : See
   pub has : HasState plan given run (with_put i letter before)
   pub lists : AtEach (λ j. RunsAt) before run.ports
   pub heard : run.bell.refused ≡ false
-  pub did : IsJournal plan run.core.site run.journal (with_put i letter before)
+  pub did : HasActed plan run.core.site run.journal (with_put i letter before)
 
 -- After the first fault. What is told is so, and the site was started.
 pub record IsStopped {Identity : Type 0} (stray : Option Stray) (cause : SiteFault) (plan : SeenPlan) (given : List (SeenPort Identity)) (run : SeenRun Identity) : Type 0 where
@@ -99,6 +100,10 @@ pub record IsStopped {Identity : Type 0} (stray : Option Stray) (cause : SiteFau
   pub wait_told : run.bell.refused ≡ true → cause ≡ fault.Lost (length state.traffic)
   pub no_stray : hands_back (Some cause) ≡ false → stray ≡ None
   pub started : cause ≢ fault.NotStarted
+
+-- in each state for which the core stands this is the first event that needs no letter, or there is none
+abbrev pub IsNext : Option EventKind → SeenCore → Type 0
+IsNext next core = ForEachState core (λ plan state. next_event plan core.site state ≡ next)
 
 -- Close is put at each of the places below i
 abbrev pub ClosedBelow : ℕ → SeenCore → Type 0

@@ -4,6 +4,7 @@
 
 mod call_log;
 mod diner;
+pub mod laws;
 mod port;
 mod site_end;
 mod site_loop;

@@ -8,6 +8,7 @@ use Rattle.dine_rules.specs.Journals.{IsJournal, journal_of}
 use Rattle.dine_rules.specs.Local.{LocalState}
 use Rattle.dine_rules.specs.World.{WorldState}
 use Rattle.dine_link.specs.Links.{SeenLink}
+use Rattle.dine_site.specs.Doings.{HasActed}
 use Rattle.dine_threads.specs.Gathered.{traffic_of}
 use Rattle.dine_threads.specs.Headline.{ate_of}
 
@@ -25,3 +26,7 @@ module _ (plan : SeenPlan) (ates : List ℕ) (links : List SeenLink) where
   -- it ate and to all that it put on its links.
   abbrev pub AreJournals : List (List EventKind) → Type 0
   AreJournals journals = (s : ℕ) → s < site_count plan → IsJournal plan s (journal_of journals s) (state_left s)
+
+  -- The same, and each site did its events in their turn.
+  abbrev pub HaveActed : List (List EventKind) → Type 0
+  HaveActed journals = (s : ℕ) → s < site_count plan → HasActed plan s (journal_of journals s) (state_left s)

@@ -4,7 +4,7 @@ ghost use Rattle.dine_graph.specs.Plan.{job_count, site_count};
 ghost use Rattle.dine_threads.specs.Gathered.{AreFinishedOuts, AreOutsOf, IsClosedWhole};
 ghost use Rattle.dine_threads.specs.private.Collecting.{IsRoomFor};
 ghost use Rattle.dine_threads.specs.private.Setups.{IsSetUp};
-ghost use Rattle.dine_threads.specs.Journals.{AreJournals};
+ghost use Rattle.dine_threads.specs.Journals.{HaveActed};
 ghost use Rattle.dine_threads.specs.Headline.{AllJoined, AreTokensOf, FallsShort, FaultIs, IsHeadline};
 
 use crate::collecting::{Room, RoomOf, collect, first_fault, make_room};
@@ -98,7 +98,7 @@ where
     ensures many { IfOk result (λ _. vec_len diners ≡ site_count plan.now) }
     ensures finished { IfOk result (λ gathered. AreFinishedOuts plan.now gathered.sites.items) }
     ensures headline { IfOk result (λ gathered. IsHeadline plan.now (map (λ out. out.ate) gathered.sites.items) gathered.links.items gathered.forks.items) }
-    ensures journals { IfOk result (λ gathered. AreJournals plan.now (map (λ out. out.ate) gathered.sites.items) gathered.links.items (map (λ out. out.journal.items) gathered.sites.items)) }
+    ensures journals { IfOk result (λ gathered. HaveActed plan.now (map (λ out. out.ate) gathered.sites.items) gathered.links.items (map (λ out. out.journal.items) gathered.sites.items)) }
     ensures tokens { IfOk result (λ gathered. AreTokensOf plan.now gathered.links.items gathered.sites.items) }
     ensures sites { IfOk result (λ gathered. AreOutsOf D.calls D.marks D.fits plan.now diners.items gathered.sites.items) }
     ensures fault { IfErr result (FaultIs D.calls D.marks D.fits plan.now diners) }
@@ -125,7 +125,7 @@ where
     ensures many { IfOk result (λ _. vec_len diners ≡ site_count plan.now) }
     ensures finished { IfOk result (λ gathered. AreFinishedOuts plan.now gathered.sites.items) }
     ensures headline { IfOk result (λ gathered. IsHeadline plan.now (map (λ out. out.ate) gathered.sites.items) gathered.links.items gathered.forks.items) }
-    ensures journals { IfOk result (λ gathered. AreJournals plan.now (map (λ out. out.ate) gathered.sites.items) gathered.links.items (map (λ out. out.journal.items) gathered.sites.items)) }
+    ensures journals { IfOk result (λ gathered. HaveActed plan.now (map (λ out. out.ate) gathered.sites.items) gathered.links.items (map (λ out. out.journal.items) gathered.sites.items)) }
     ensures tokens { IfOk result (λ gathered. AreTokensOf plan.now gathered.links.items gathered.sites.items) }
     ensures sites { IfOk result (λ gathered. AreOutsOf D.calls D.marks D.fits plan.now diners.items gathered.sites.items) }
     ensures fault { IfErr result (FaultIs D.calls D.marks D.fits plan.now diners) }

@@ -7,17 +7,19 @@ use Rattle.std.proofs.lemmas.Bool.{and_parts, not-true, ltb-true}
 use Rattle.dine_graph.specs.Plan.{SeenPlan, edges_of}
 use Rattle.dine_rules.specs.declared.events.EventKind.{EventKind}
 use Rattle.dine_rules.specs.declared.letters.Letter.{Letter}
-use Rattle.dine_rules.specs.Journals.{IsJournal}
 use Rattle.dine_rules.specs.Letters.{has_close}
 use Rattle.dine_rules.specs.Local.{LocalState, Traffic, no_traffic, traffic_at, is_eating}
 use Rattle.dine_rules.specs.Steps.{Step, Give, Ask, Done, Close, Break, may, after, step_by, with_put}
+use Rattle.dine_core.specs.NextEvent.{next_event}
+use Rattle.dine_site.specs.Doings.{HasActed, event_of, own_event}
 use Rattle.dine_rules.specs.Streams.{KeepsStreams}
 use Rattle.dine_core.specs.Core.{SeenCore, Refines}
 use Rattle.dine_core.specs.Standing.{CoreStep, CorePuts}
 use Rattle.dine_site.specs.Endings.{links_at, nothing_on_links, on_links}
 use Rattle.dine_site.specs.Ports.{SeenPort, SameLinks}
-use Rattle.dine_site.specs.Running.{SeenRun, AtEach, HasState, IsRunning, IsPutting}
+use Rattle.dine_site.specs.Running.{SeenRun, AtEach, HasState, IsNext, IsRunning, IsPutting}
 use Rattle.dine_site.proofs.lists.Lists.{get-set, set-get}
+use Rattle.dine_site.proofs.one_site.Turns.{JournalsGrow, acted_more}
 
 along : {A B C : Type 0} (Q : A → B → C → Type 0) (a a' : A) (b b' : B) (c c' : C) → a ≡ a' → b ≡ b' → c ≡ c' → Q a' b' c' → Q a b c
 along Q a a' b b' c c' p q r h = subst (λ x. Q x b c) (sym p) (subst (λ y. Q a' y c) (sym q) (subst (λ z. Q a' b' z) (sym r) h))
@@ -126,17 +128,13 @@ opens-break i plan s state h =
     let parts = and_parts _ _ h in
     (ltb-true i (length state.traffic) parts.0, not-true (has_close (traffic_at state i).put) (and_parts _ _ parts.1).1)
 
--- what a law says: a journal grows by each event that its site may do
-abbrev pub JournalsGrow : Type 0
-JournalsGrow = (plan : SeenPlan) (s : ℕ) (journal : List EventKind) (state : LocalState) (kind : EventKind) (failed : Bool) (next : ℕ → Option Letter) (step : Step) → IsJournal plan s journal state
-    → step_by failed next kind ≡ Some step → may plan s state step ≡ true → IsJournal plan s (journal ++ kind ∷ []) (after plan s state step)
-
 -- an event more of the journal
 pub did_step : {Identity : Type 0} (grows : JournalsGrow) (plan : SeenPlan) (given : List (SeenPort Identity)) (run : SeenRun Identity) (running : IsRunning plan given run) (kind : EventKind) (step : Step) (core : SeenCore)
-    (failed : Bool) (next : ℕ → Option Letter) → step_by failed next kind ≡ Some step → CoreStep plan running.state step run.core core → IsJournal plan core.site (run.journal ++ kind ∷ []) (after plan run.core.site running.state step)
-did_step grows plan given run running kind step core failed next is_step did =
-    subst (λ (s : ℕ). IsJournal plan s (run.journal ++ kind ∷ []) (after plan run.core.site running.state step)) (sym did.site)
-    (grows plan run.core.site run.journal running.state kind failed next step running.did is_step did.allowed.needs)
+    (failed : Bool) (next : ℕ → Option Letter) → step_by failed next kind ≡ Some step → event_of step ≡ Some kind → next_event plan run.core.site running.state ≡ own_event step → CoreStep plan running.state step run.core core
+    → HasActed plan core.site (run.journal ++ kind ∷ []) (after plan run.core.site running.state step)
+did_step grows plan given run running kind step core failed next is_step is_event turn did =
+    subst (λ (s : ℕ). HasActed plan s (run.journal ++ kind ∷ []) (after plan run.core.site running.state step)) (sym did.site)
+    (acted_more grows plan run.core.site run.journal running.state kind failed next step running.did is_step is_event did.allowed.needs turn)
 
 module _ {Identity : Type 0} (plan : SeenPlan) (given : List (SeenPort Identity)) (i : ℕ) (step : Step) (l : Letter) (opens : Opens i step) where
   -- the state once the core put the letter
@@ -147,9 +145,9 @@ module _ {Identity : Type 0} (plan : SeenPlan) (given : List (SeenPort Identity)
       subst (λ (new : LocalState). HasState plan given (record { core = core; ports = run.ports; bell = run.bell; journal = journal }) new) did.0
       (has-step plan given run state step core journal has did.1 (ap (λ (new : LocalState). is_eating new.phase) did.0 ∙ has.rests))
 
-  pub putting : JournalsGrow → (kind : EventKind) → step_by false (λ j. None) kind ≡ Some step → (run : SeenRun Identity) (core : SeenCore) (journal : List EventKind) → journal ≡ run.journal ++ kind ∷ [] → CorePuts i step run.core core l → IsRunning plan given run
+  pub putting : JournalsGrow → (kind : EventKind) → step_by false (λ j. None) kind ≡ Some step → event_of step ≡ Some kind → (run : SeenRun Identity) (core : SeenCore) (journal : List EventKind) → journal ≡ run.journal ++ kind ∷ [] → CorePuts i step run.core core l → IsNext (own_event step) run.core → IsRunning plan given run
       → IsPutting i l plan given (record { core = core; ports = run.ports; bell = run.bell; journal = journal })
-  putting grows kind is_step run core journal noted puts running =
+  putting grows kind is_step is_event run core journal noted puts next running =
       let did = puts plan running.state running.has.keeps running.has.stands in
       let room = opens plan run.core.site running.state did.1.allowed.needs in
       record {
@@ -159,6 +157,6 @@ module _ {Identity : Type 0} (plan : SeenPlan) (given : List (SeenPort Identity)
         has = has-put run core journal running.state puts running.has;
         lists = running.lists;
         heard = running.heard;
-        did = subst (λ (kinds : List EventKind). IsJournal plan core.site kinds (with_put i l running.state)) (sym noted)
-            (subst (λ (new : LocalState). IsJournal plan core.site (run.journal ++ kind ∷ []) new) did.0 (did_step grows plan given run running kind step core false (λ j. None) is_step did.1));
+        did = subst (λ (kinds : List EventKind). HasActed plan core.site kinds (with_put i l running.state)) (sym noted)
+            (subst (λ (new : LocalState). HasActed plan core.site (run.journal ++ kind ∷ []) new) did.0 (did_step grows plan given run running kind step core false (λ j. None) is_step is_event (next plan running.state running.has.keeps running.has.stands) did.1));
       }

@@ -8,10 +8,10 @@ use Rattle.dine_token.specs.Fork.{SeenFork}
 use Rattle.dine_graph.specs.Plan.{SeenPlan, edges_of}
 use Rattle.dine_rules.specs.Local.{Traffic, no_traffic, start_of, traffic_at}
 use Rattle.dine_rules.specs.declared.events.EventKind.{EventKind}
-use Rattle.dine_rules.specs.Journals.{IsJournal}
 use Rattle.dine_rules.specs.Streams.{KeepsStreams}
 use Rattle.dine_site.proofs.one_site.Letters.{ClosedFrontsAreInOrder, FrontsAreInOrder, fit_in_order, rang_same}
 use Rattle.dine_site.proofs.one_site.Stops.{just_did}
+use Rattle.dine_site.proofs.one_site.Turns.{acted_nothing}
 use Rattle.dine_core.specs.Core.{forks_in_hand, tokens_in_hand}
 use Rattle.dine_core.specs.Standing.{all_places}
 use Rattle.dine_site.specs.declared.diner.Call.{Call}
@@ -48,8 +48,8 @@ left_unstarted {Identity} fronts closes plan s given site forks tokens journal b
     rests = refl;
     ate = refl;
     tokens = hold_tokens;
-    did = just_did (did_nothing journal nothing);
-    did_all = λ none. did_nothing journal nothing;
+    did = just_did (acted_nothing plan s journal nothing);
+    did_all = λ none. acted_nothing plan s journal nothing;
     puts = puts;
     takes = takes;
     in_order = λ i within. fit_in_order fronts closes plan s i (start_of plan s) (links_at given i).put_refused (traffic_on (links_at given i)) None [] keeps within (puts i within) (takes i within);
@@ -82,9 +82,6 @@ left_unstarted {Identity} fronts closes plan s given site forks tokens journal b
 
   takes : (i : ℕ) → i < length (start_of plan s).traffic → (links_at given i).taken ≡ (traffic_at (start_of plan s) i).taken ++ []
   takes i within = ap (λ (l : OnLinks). l.taken) (nothing_on given i unused) ∙ sym (ap (λ (t : Traffic). t.taken ++ []) (no_letters (edges_of plan s) i))
-
-  did_nothing : (kinds : List EventKind) → kinds ≡ [] → IsJournal plan s kinds (start_of plan s)
-  did_nothing kinds none = subst (λ (x : List EventKind). IsJournal plan s x (start_of plan s)) (sym none) refl
 
 -- a diner that was not called has eaten nothing
 pub not_called : {D : Type 0} (calls : D → List Call) (marks : D → List Bool) (fits : List Bool → ℕ → Bool → Bool) (diner : D) → HasEaten calls marks fits 0 0 diner diner

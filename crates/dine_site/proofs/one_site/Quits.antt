@@ -57,4 +57,4 @@ kept_breaking plan s [] state end lead = ap (λ (x : LocalState). x.has_quit) (s
 kept_breaking plan s (i ∷ places) state end lead = kept_breaking plan s places (after plan s state (Break i)) end lead.1
 
 pub quit_told_before : (plan : SeenPlan) (s : ℕ) (journal : List EventKind) (state : LocalState) → HasDone plan s journal state → state.has_quit ≡ tells_quit journal
-quit_told_before plan s journal state did = kept_breaking plan s did.places did.before state did.broke_off ∙ quit_told plan s journal did.before did.by_journal
+quit_told_before plan s journal state did = kept_breaking plan s did.places did.before state did.broke_off ∙ quit_told plan s journal did.before did.acted.by_journal

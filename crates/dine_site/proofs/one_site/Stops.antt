@@ -1,7 +1,7 @@
 -- A site stops: each fault leaves it with what a stop says, and breaking off keeps that.
 use Rattle.std.proofs.Common.{◌≡◌, ℕ, ◌<◌, ◌≤◌, ◌^◌, ◌==◌, Bool, true, false, cond, if◌then◌else◌, List, [], ◌∷◌, ◌++◌, length, map, set, get_or, Option, Some, None, refl, sym, ◌∙◌, ap, subst, inl, inr, arith, length-set}
 use Rattle.std.specs.List.{slice_get}
-use Rattle.std.proofs.lemmas.List.{get_or-set_same, get_or-set_other, map-set}
+use Rattle.std.proofs.lemmas.List.{get_or-set_same, get_or-set_other, map-set, map_push}
 use Rattle.std.proofs.lemmas.Bool.{cases_eq, eq-eqb, false≢true, ne_eqb, true≢false}
 use Rattle.std.proofs.lemmas.Option.{none-some, same_Some}
 use Rattle.dine_graph.specs.Plan.{SeenPlan, IsPlan, site_count}
@@ -12,10 +12,9 @@ use Rattle.dine_rules.specs.declared.letters.Letter.TheVariants as letter
 use Rattle.dine_rules.specs.Letters.{has_close, has_done, forks_in, requests_in}
 use Rattle.dine_rules.specs.Breach.{first_breach}
 use Rattle.dine_rules.specs.Local.{LocalState, Traffic, no_traffic, traffic_at}
-use Rattle.dine_rules.specs.Journals.{IsJournal}
 use Rattle.dine_rules.specs.StepLists.{LeadTo}
-use Rattle.dine_rules.specs.Steps.{Break, may, with_put}
-use Rattle.dine_site.specs.Doings.{HasDone}
+use Rattle.dine_rules.specs.Steps.{Step, Break, may, with_put}
+use Rattle.dine_site.specs.Doings.{HasActed, HasDone}
 use Rattle.dine_rules.specs.Streams.{KeepsStreams}
 use Rattle.dine_link.specs.Bells.{SeenBell}
 use Rattle.dine_link.specs.Closing.{is_close}
@@ -32,6 +31,7 @@ use Rattle.dine_site.specs.Endings.{IsBreached, IsLost, OnLinks, breached_at, li
 use Rattle.dine_site.specs.SiteEnds.{HasBellRefused}
 use Rattle.dine_site.specs.Running.{AtEach, SeenRun, HasState, RunsAt, StopsAt, IsRunning, IsPutting, IsStopped}
 use Rattle.dine_site.proofs.one_site.Letters.{puts_fit-shorter, stops-as_it_was, stops-refused, stops-unclosed, stops-untaken, stops-breached, stops-closed, stops-close_refused, stops-close_unheard, forks_in-closed, requests_in-closed, has_done-closed}
+use Rattle.dine_site.proofs.one_site.Turns.{led_more}
 use Rattle.dine_site.proofs.one_site.AtPlaces.{at-set, at-port, has-port, has-put, links_there, opens-break}
 
 -- what the letter of a stray is, at its place and at another
@@ -73,14 +73,14 @@ closing_breach plan s state i within link l = elim (cases_eq link i) [
 ]
 
 -- what the journal led to, with no Close of a way out yet
-pub just_did : {plan : SeenPlan} {s : ℕ} {journal : List EventKind} {state : LocalState} → IsJournal plan s journal state → HasDone plan s journal state
-just_did {state = state} did = record { before = state; by_journal = did; places = []; broke_off = refl }
+pub just_did : {plan : SeenPlan} {s : ℕ} {journal : List EventKind} {state : LocalState} → HasActed plan s journal state → HasDone plan s journal state
+just_did {state = state} did = record { before = state; acted = did; places = []; broke_off = refl }
 
 -- one Close more of the way out
 one_more : (plan : SeenPlan) (s : ℕ) (places : List ℕ) (before state : LocalState) (i : ℕ) → LeadTo plan s before (map Break places) state → may plan s state (Break i) ≡ true
     → LeadTo plan s before (map Break (places ++ i ∷ [])) (with_put i letter.Close state)
-one_more plan s [] before state i same needs = (ap (λ (x : LocalState). may plan s x (Break i)) same ∙ needs, ap (with_put i letter.Close) same)
-one_more plan s (place ∷ places) before state i leads needs = (leads.0, one_more plan s places (with_put place letter.Close before) state i leads.1 needs)
+one_more plan s places before state i led needs =
+    subst (λ (steps : List Step). LeadTo plan s before steps (with_put i letter.Close state)) (sym (map_push Break places i)) (led_more plan s (map Break places) before state (Break i) led needs)
 
 -- a letter that is put adds no place
 grown_place : (state : LocalState) (i : ℕ) (l : Letter) → length (with_put i l state).traffic ≡ length state.traffic
@@ -350,7 +350,7 @@ module _ {Identity : Type 0} (plan : SeenPlan) (given : List (SeenPort Identity)
     broke_more = subst (λ (s : ℕ). HasDone plan s run.journal (with_put i letter.Close stopped.state)) (sym did.site)
         (record {
           before = stopped.did.before;
-          by_journal = stopped.did.by_journal;
+          acted = stopped.did.acted;
           places = stopped.did.places ++ i ∷ [];
           broke_off = one_more plan run.core.site stopped.did.places stopped.did.before stopped.state i stopped.did.broke_off did.allowed.needs;
         })

@@ -11,17 +11,18 @@ use Rattle.dine_rules.specs.declared.letters.Letter.TheVariants as letter
 use Rattle.dine_rules.specs.Local.{LocalState, Traffic, no_traffic, traffic_at, start_of}
 use Rattle.dine_rules.specs.Steps.{Hungry, Begin, End, Quit, Take, after, with_put, with_taken}
 use Rattle.dine_rules.specs.Streams.{KeepsStreams}
-use Rattle.dine_rules.specs.Journals.{IsJournal}
 use Rattle.dine_link.specs.Bells.{SeenBell}
 use Rattle.dine_link.specs.Closing.{is_close}
 use Rattle.dine_token.specs.Fork.{SeenFork}
 use Rattle.dine_core.specs.Core.{SeenCore, forks_in_hand}
 use Rattle.dine_core.specs.Standing.{CoreStep, CoreSteps, ForEachState, IsFreshFor, all_places}
 use Rattle.dine_site.specs.Ports.{SeenPort, SameLinks, IsFreshPort, put_on, closed_on, taken_on}
-use Rattle.dine_site.specs.Running.{SeenRun, RunsAt, IsRunning, IsPutting}
+use Rattle.dine_site.specs.Doings.{HasActed}
+use Rattle.dine_site.specs.Running.{SeenRun, RunsAt, IsNext, IsRunning, IsPutting}
 use Rattle.dine_site.proofs.lists.Lists.{all_at}
 use Rattle.dine_site.proofs.one_site.Letters.{runs-put, runs-closed, runs-taken, live_where_open}
-use Rattle.dine_site.proofs.one_site.AtPlaces.{JournalsGrow, at-set, did_step, has-core, has-step, has-port}
+use Rattle.dine_site.proofs.one_site.Turns.{JournalsGrow, acted_more, acted_nothing, end_is_next}
+use Rattle.dine_site.proofs.one_site.AtPlaces.{at-set, did_step, has-core, has-step, has-port}
 
 module _ {Identity : Type 0} (plan : SeenPlan) (given : List (SeenPort Identity)) (run : SeenRun Identity) where
   -- ---- a letter goes out
@@ -72,17 +73,17 @@ module _ {Identity : Type 0} (plan : SeenPlan) (given : List (SeenPort Identity)
   pub place_within : (running : IsRunning plan given run) (i : ℕ) → i < length run.core.places → i < length running.state.traffic
   place_within running i h = omega (arith, running.has.stands.degree)
 
-  pub take_runs : JournalsGrow → (i : ℕ) (l : Letter) (core : SeenCore) (journal : List EventKind) → journal ≡ run.journal ++ event.Take i ∷ [] → i < length run.core.places → CoreSteps (Take i l) run.core core → IsRunning plan given run → (port : SeenPort Identity) → slice_get run.ports i ≡ Some port
+  pub take_runs : JournalsGrow → (i : ℕ) (l : Letter) (core : SeenCore) (journal : List EventKind) → journal ≡ run.journal ++ event.Take i ∷ [] → i < length run.core.places → CoreSteps (Take i l) run.core core → IsNext None run.core → IsRunning plan given run → (port : SeenPort Identity) → slice_get run.ports i ≡ Some port
       → IsRunning plan given (record { core = core; ports = set run.ports i (taken_on l port); bell = run.bell; journal = journal })
-  take_runs grows i l core journal noted within steps running port at = record {
+  take_runs grows i l core journal noted within steps next running port at = record {
     state = with_taken i l running.state;
     has = has-port plan given (record { core = core; ports = run.ports; bell = run.bell; journal = journal }) (with_taken i l running.state) i port (taken_on l port)
         (has-step plan given run running.state (Take i l) core journal running.has (steps plan running.state running.has.keeps running.has.stands) running.has.rests) at refl refl refl refl;
     lists = at-set (λ j. RunsAt) (λ j. RunsAt) running.state (with_taken i l running.state) i _ refl (place_within running i within) run.ports (taken_on l port) running.lists
         (runs-taken (traffic_at running.state i) port (running.lists i port at) l) (λ j t p ne h. h);
     heard = running.heard;
-    did = subst (λ (kinds : List EventKind). IsJournal plan core.site kinds (with_taken i l running.state)) (sym noted)
-        (did_step grows plan given run running (event.Take i) (Take i l) core false (λ j. Some l) refl (steps plan running.state running.has.keeps running.has.stands));
+    did = subst (λ (kinds : List EventKind). HasActed plan core.site kinds (with_taken i l running.state)) (sym noted)
+        (did_step grows plan given run running (event.Take i) (Take i l) core false (λ j. Some l) refl refl (next plan running.state running.has.keeps running.has.stands) (steps plan running.state running.has.keeps running.has.stands));
   }
 
   pub take_room : ((plan : SeenPlan) (s : ℕ) (state : LocalState) (j : ℕ) → IsPlan plan → s < site_count plan → KeepsStreams plan s state → j < length state.traffic → length (traffic_at state j).taken ≤ 2003)
@@ -131,31 +132,31 @@ module _ {Identity : Type 0} (plan : SeenPlan) (given : List (SeenPort Identity)
     did = running.did;
   }
 
-  pub hungry_runs : JournalsGrow → (core : SeenCore) (journal : List EventKind) → journal ≡ run.journal ++ event.Hungry ∷ [] → CoreSteps Hungry run.core core → IsRunning plan given run → IsRunning plan given (record { core = core; ports = run.ports; bell = run.bell; journal = journal })
-  hungry_runs grows core journal noted steps running = record {
+  pub hungry_runs : JournalsGrow → (core : SeenCore) (journal : List EventKind) → journal ≡ run.journal ++ event.Hungry ∷ [] → CoreSteps Hungry run.core core → IsNext (Some event.Hungry) run.core → IsRunning plan given run → IsRunning plan given (record { core = core; ports = run.ports; bell = run.bell; journal = journal })
+  hungry_runs grows core journal noted steps next running = record {
     state = after plan run.core.site running.state Hungry;
     has = has-step plan given run running.state Hungry core journal running.has (steps plan running.state running.has.keeps running.has.stands) refl;
     lists = running.lists;
     heard = running.heard;
-    did = subst (λ (kinds : List EventKind). IsJournal plan core.site kinds (after plan run.core.site running.state Hungry)) (sym noted)
-        (did_step grows plan given run running event.Hungry Hungry core false (λ j. None) refl (steps plan running.state running.has.keeps running.has.stands));
+    did = subst (λ (kinds : List EventKind). HasActed plan core.site kinds (after plan run.core.site running.state Hungry)) (sym noted)
+        (did_step grows plan given run running event.Hungry Hungry core false (λ j. None) refl refl (next plan running.state running.has.keeps running.has.stands) (steps plan running.state running.has.keeps running.has.stands));
   }
 
-  pub quit_runs : JournalsGrow → (core : SeenCore) (journal : List EventKind) → journal ≡ run.journal ++ event.Quit ∷ [] → CoreSteps Quit run.core core → IsRunning plan given run → IsRunning plan given (record { core = core; ports = run.ports; bell = run.bell; journal = journal })
-  quit_runs grows core journal noted steps running = record {
+  pub quit_runs : JournalsGrow → (core : SeenCore) (journal : List EventKind) → journal ≡ run.journal ++ event.Quit ∷ [] → CoreSteps Quit run.core core → IsNext (Some event.Quit) run.core → IsRunning plan given run → IsRunning plan given (record { core = core; ports = run.ports; bell = run.bell; journal = journal })
+  quit_runs grows core journal noted steps next running = record {
     state = after plan run.core.site running.state Quit;
     has = has-step plan given run running.state Quit core journal running.has (steps plan running.state running.has.keeps running.has.stands) running.has.rests;
     lists = running.lists;
     heard = running.heard;
-    did = subst (λ (kinds : List EventKind). IsJournal plan core.site kinds (after plan run.core.site running.state Quit)) (sym noted)
-        (did_step grows plan given run running event.Quit Quit core false (λ j. None) refl (steps plan running.state running.has.keeps running.has.stands));
+    did = subst (λ (kinds : List EventKind). HasActed plan core.site kinds (after plan run.core.site running.state Quit)) (sym noted)
+        (did_step grows plan given run running event.Quit Quit core false (λ j. None) refl refl (next plan running.state running.has.keeps running.has.stands) (steps plan running.state running.has.keeps running.has.stands));
   }
 
   pub eat_runs : JournalsGrow → (failed : Bool) (eating core : SeenCore) (forks : List SeenFork) (first journal : List EventKind) → first ≡ run.journal ++ event.Begin ∷ [] → journal ≡ first ++ event.End ∷ [] → CoreSteps Begin run.core eating
       → ForEachState run.core (λ plan state. forks ≡ forks_in_hand plan run.core.site (after plan run.core.site state Begin) (all_places state))
       → ForEachState eating (λ plan state. forks ≡ forks_in_hand plan eating.site state (all_places state) → CoreStep plan state (End failed) eating core)
-      → IsRunning plan given run → IsRunning plan given (record { core = core; ports = run.ports; bell = run.bell; journal = journal })
-  eat_runs grows failed eating core forks first journal began_noted ended_noted begins in_hand ends running =
+      → IsNext (Some event.Begin) run.core → IsRunning plan given run → IsRunning plan given (record { core = core; ports = run.ports; bell = run.bell; journal = journal })
+  eat_runs grows failed eating core forks first journal began_noted ended_noted begins in_hand ends next running =
       let state = after plan run.core.site running.state Begin in
       let began = begins plan running.state running.has.keeps running.has.stands in
       let hands = in_hand plan running.state running.has.keeps running.has.stands ∙ ap (λ (s : ℕ). forks_in_hand plan s state (all_places state)) (sym began.site) in
@@ -165,13 +166,13 @@ module _ {Identity : Type 0} (plan : SeenPlan) (given : List (SeenPort Identity)
         has = has-core plan given run running.state (after plan eating.site state (End failed)) core journal running.has (ended.site ∙ began.site) ended.stands ended.keeps refl;
         lists = running.lists;
         heard = running.heard;
-        did = subst (λ (s : ℕ). IsJournal plan s journal (after plan eating.site state (End failed))) (sym ended.site)
-            (subst (λ (kinds : List EventKind). IsJournal plan eating.site kinds (after plan eating.site state (End failed))) (sym ended_noted)
-            (grows plan eating.site first state event.End failed (λ j. None) (End failed)
-            (subst (λ (s : ℕ). IsJournal plan s first state) (sym began.site)
-            (subst (λ (kinds : List EventKind). IsJournal plan run.core.site kinds state) (sym began_noted)
-            (grows plan run.core.site run.journal running.state event.Begin false (λ j. None) Begin running.did refl began.allowed.needs)))
-            refl ended.allowed.needs));
+        did = subst (λ (s : ℕ). HasActed plan s journal (after plan eating.site state (End failed))) (sym ended.site)
+            (subst (λ (kinds : List EventKind). HasActed plan eating.site kinds (after plan eating.site state (End failed))) (sym ended_noted)
+            (acted_more grows plan eating.site first state event.End failed (λ j. None) (End failed)
+            (subst (λ (s : ℕ). HasActed plan s first state) (sym began.site)
+            (subst (λ (kinds : List EventKind). HasActed plan run.core.site kinds state) (sym began_noted)
+            (acted_more grows plan run.core.site run.journal running.state event.Begin false (λ j. None) Begin running.did refl refl began.allowed.needs (next plan running.state running.has.keeps running.has.stands))))
+            refl refl ended.allowed.needs (end_is_next plan eating.site state refl)));
       }
 
 -- ---- the start
@@ -193,7 +194,7 @@ start_runs {Identity} plan core ports starts fresh count unused bell unheard jou
   };
   lists = λ i port at. unused_runs i port (all_at IsFreshPort ports i port unused at);
   heard = unheard;
-  did = subst (λ (kinds : List EventKind). IsJournal plan core.site kinds (start_of plan core.site)) (sym none_yet) refl;
+  did = acted_nothing plan core.site journal none_yet;
 } where
   same : (i : ℕ) (old new : SeenPort Identity) → ◌≡◌ {A = Option (SeenPort Identity)} (Some old) (Some new) → SameLinks old new
   same i old new e = record { tx = cc; rx = cc; bell = cc; number = cc }

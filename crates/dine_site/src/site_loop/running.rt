@@ -10,7 +10,7 @@ ghost use Rattle.dine_link.specs.Closing.{is_close};
 ghost use Rattle.dine_link.specs.Waking.{seen_wants};
 ghost use Rattle.dine_site.specs.Ports.{ChangesAt, SendsClose, SeenPort, seen_ports};
 ghost use Rattle.dine_site.specs.SiteEnds.{IsSiteEnd};
-ghost use Rattle.dine_site.specs.Running.{ClosedBelow, EatsOn, ForSome, GoesOn, GoesToEnd, HasStopped, HeedsOn, IsPutting, IsReady, IsRunning, Leads, MayEnd, SameMeals, StaysStopped, seen_run};
+ghost use Rattle.dine_site.specs.Running.{ClosedBelow, EatsOn, ForSome, GoesOn, GoesToEnd, HasStopped, HeedsOn, IsNext, IsPutting, IsReady, IsRunning, Leads, MayEnd, SameMeals, StaysStopped, seen_run};
 
 use crate::diner::Diner;
 use crate::port::{Closed, Port, Sent};
@@ -83,6 +83,7 @@ impl<L: Lane, D: Diner> Running<L, D> {
         requires ready { IsReady D.room_left self.old }
         ensures way { Leads IsRunning (GoesOn result) (seen_run L.seen_tx L.seen_closed L.seen_rx self.old) (seen_run L.seen_tx L.seen_closed L.seen_rx self.new) }
         ensures ready { IsReady D.room_left self.new }
+        ensures quiet { OnOk result (IsNext None self.new.core) }
         ensures eats { EatsOn D.calls D.marks D.fits self.old self.new }
         ensures heeds { HeedsOn D.calls self.old self.new }
         ensures resigns { self.new.core.resigns ≡ self.old.core.resigns }
@@ -102,6 +103,7 @@ impl<L: Lane, D: Diner> Running<L, D> {
         requires running { ForSome IsRunning (seen_run L.seen_tx L.seen_closed L.seen_rx self.old) }
         requires ready { IsReady D.room_left self.old }
         requires may { can_by_itself self.old.core kind ≡ true }
+        requires next { IsNext (Some kind) self.old.core }
         ensures way { Leads IsRunning (GoesOn result) (seen_run L.seen_tx L.seen_closed L.seen_rx self.old) (seen_run L.seen_tx L.seen_closed L.seen_rx self.new) }
         ensures ready { IsReady D.room_left self.new }
         ensures eats { EatsOn D.calls D.marks D.fits self.old self.new }
@@ -137,6 +139,7 @@ impl<L: Lane, D: Diner> Running<L, D> {
         requires running { ForSome IsRunning (seen_run L.seen_tx L.seen_closed L.seen_rx self.old) }
         requires ready { IsReady D.room_left self.old }
         requires may { can_by_itself self.old.core kind ≡ true }
+        requires next { IsNext (Some kind) self.old.core }
         requires room { vec_len self.old.journal < vec_capacity self.old.journal }
         requires room_for_end { kind ≡ EventKind.Begin → vec_len self.old.journal + 2 ≤ vec_capacity self.old.journal }
         ensures way { Leads IsRunning (GoesOn result) (seen_run L.seen_tx L.seen_closed L.seen_rx self.old) (seen_run L.seen_tx L.seen_closed L.seen_rx self.new) }
@@ -191,6 +194,7 @@ impl<L: Lane, D: Diner> Running<L, D> {
         requires running { ForSome IsRunning (seen_run L.seen_tx L.seen_closed L.seen_rx self.old) }
         requires ready { IsReady D.room_left self.old }
         requires may { can_by_itself self.old.core EventKind.Begin ≡ true }
+        requires next { IsNext (Some EventKind.Begin) self.old.core }
         requires room { vec_len self.old.journal + 2 ≤ vec_capacity self.old.journal }
         ensures way { Leads IsRunning IsRunning (seen_run L.seen_tx L.seen_closed L.seen_rx self.old) (seen_run L.seen_tx L.seen_closed L.seen_rx self.new) }
         ensures ready { IsReady D.room_left self.new }
@@ -264,6 +268,7 @@ impl<L: Lane, D: Diner> Running<L, D> {
     fn hear<R: Wait>(&mut self, rt: &R) -> Result<(), Stop>
         requires running { ForSome IsRunning (seen_run L.seen_tx L.seen_closed L.seen_rx self.old) }
         requires bell { self.old.bell.degree ≡ vec_len self.old.ports }
+        requires quiet { IsNext None self.old.core }
         ensures way { Leads IsRunning (GoesOn result) (seen_run L.seen_tx L.seen_closed L.seen_rx self.old) (seen_run L.seen_tx L.seen_closed L.seen_rx self.new) }
         ensures same { SameMeals self.old self.new }
     {
@@ -280,6 +285,7 @@ impl<L: Lane, D: Diner> Running<L, D> {
         requires running { ForSome IsRunning (seen_run L.seen_tx L.seen_closed L.seen_rx self.old) }
         requires place { i < length self.old.core.places }
         requires not_closed { ForEachState self.old.core (λ plan state. has_close (traffic_at state i).taken ≡ false) }
+        requires quiet { IsNext None self.old.core }
         ensures way { Leads IsRunning (GoesOn result) (seen_run L.seen_tx L.seen_closed L.seen_rx self.old) (seen_run L.seen_tx L.seen_closed L.seen_rx self.new) }
         ensures same { SameMeals self.old self.new }
     {
@@ -292,6 +298,7 @@ impl<L: Lane, D: Diner> Running<L, D> {
         requires running { ForSome IsRunning (seen_run L.seen_tx L.seen_closed L.seen_rx self.old) }
         requires place { i < length self.old.core.places }
         requires not_closed { ForEachState self.old.core (λ plan state. has_close (traffic_at state i).taken ≡ false) }
+        requires quiet { IsNext None self.old.core }
         requires room { vec_len self.old.journal < vec_capacity self.old.journal }
         ensures way { Leads IsRunning (GoesOn result) (seen_run L.seen_tx L.seen_closed L.seen_rx self.old) (seen_run L.seen_tx L.seen_closed L.seen_rx self.new) }
         ensures same { SameMeals self.old self.new }

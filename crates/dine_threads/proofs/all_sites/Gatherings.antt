@@ -313,7 +313,7 @@ module _ {Lane Tx Closed Rx Identity D : Type 0} {live : Tx → SeenEnd Identity
           no_stray = left.ended.no_stray (ap hands_back none);
           has_no_job_left = elim (or_cases (left.state.ate == job_count plan s) left.state.has_quit (and_parts _ _ (and_parts _ _ (left.ended.finished none)).0).1) [
             | inl all_eaten ↦ inl (left.ended.ate ∙ eqb-true left.state.ate (job_count plan s) all_eaten)
-            | inr quit ↦ inr ((left.ended.keeps.has_dropped quit).0, sym (quit_told plan s end.0.journal.items left.state (left.ended.did_all none)) ∙ quit)
+            | inr quit ↦ inr ((left.ended.keeps.has_dropped quit).0, sym (quit_told plan s end.0.journal.items left.state (left.ended.did_all none).by_journal) ∙ quit)
           ];
         })
 

@@ -13,7 +13,7 @@ use Rattle.dine_rules.specs.JoinedEnds.{AccountsForFork, AccountsForToken, AreFo
 use Rattle.dine_rules.specs.declared.events.EventKind.{EventKind}
 use Rattle.dine_rules.specs.declared.phase.Phase.{Phase}
 use Rattle.dine_rules.specs.declared.phase.Phase.TheVariants.{Thinking, Hungry, Eating}
-use Rattle.dine_rules.specs.Journals.{IsJournal, journal_of}
+use Rattle.dine_rules.specs.Journals.{journal_of}
 use Rattle.dine_rules.specs.Local.{LocalState, Traffic, edge_at, is_thinking, no_traffic, traffic_at}
 use Rattle.dine_rules.specs.Steps.{fork_by, fork_with, hand_fork_at}
 use Rattle.dine_rules.specs.Values.{TellsValues, hand_value, value_by}
@@ -33,7 +33,8 @@ use Rattle.dine_threads.specs.declared.slots.Spot.{Spot}
 use Rattle.dine_threads.specs.private.Collecting.{AreLinksLeft, forks_left, found, laid, out_of, rows_left}
 use Rattle.dine_threads.specs.Gathered.{IsClosedWhole, low_traffic, high_traffic, traffic_of, no_link}
 use Rattle.dine_threads.specs.Headline.{AllJoined, AreTokensOf, IsHeadline, ate_of, log_in_hand}
-use Rattle.dine_threads.specs.Journals.{AreJournals, state_left}
+use Rattle.dine_site.specs.Doings.{HasActed}
+use Rattle.dine_threads.specs.Journals.{HaveActed, state_left}
 use Rattle.dine_site.specs.Ports.{SeenPort, seen_port, seen_ports}
 use Rattle.dine_threads.specs.private.Spots.{low_spot, high_spot}
 use Rattle.dine_threads.specs.private.Wirings.{AreWired, port_at}
@@ -180,15 +181,15 @@ module _ {Lane Tx Closed Rx Identity D : Type 0} {live : Tx → SeenEnd Identity
       (λ i within. let inside : i < length (edges_of plan s) = omega (arith, within, left.ended.keeps.every_place) in
       did_at s end at i inside ∙ sym (get_or-map (traffic_of plan links s) (edges_of plan s) i 0 no_traffic inside)))
 
-  -- so the journal of each site leads to what its links tell
-  pub journals_stand : AreJournals plan ates links (map (λ (out : SiteOut D). out.journal.items) (map out_of ends))
-  journals_stand s is_site =
+  -- so the journal of each site leads to what its links tell, each event in its turn
+  pub all_acted : HaveActed plan ates links (map (λ (out : SiteOut D). out.journal.items) (map out_of ends))
+  all_acted s is_site =
       let end = end_of all s is_site in
       let did = (left_at all s end.0 end.1).left.ended.did_all (no_fault s end.0 end.1) in
       let journal : journal_of (map (λ (out : SiteOut D). out.journal.items) (map out_of ends)) s ≡ end.0.journal.items =
       get_or_from_slice_get _ s end.0.journal.items [] (slice_get-map (λ (out : SiteOut D). out.journal.items) (map out_of ends) s ∙ ap (option_map (λ (out : SiteOut D). out.journal.items)) (slice_get-map out_of ends s ∙ ap (option_map out_of) end.1)) in
-      subst (λ (kinds : List EventKind). IsJournal plan s kinds (state_left plan ates links s)) (sym journal)
-      (subst (IsJournal plan s end.0.journal.items) (state_is s end.0 end.1) did)
+      subst (λ (kinds : List EventKind). HasActed plan s kinds (state_left plan ates links s)) (sym journal)
+      (subst (HasActed plan s end.0.journal.items) (state_is s end.0 end.1) did)
 
   module _ (fork_law : (plan : SeenPlan) (s i : ℕ) (state : LocalState) → KeepsStreams plan s state → i < length (edges_of plan s) → AccountsForFork plan s (edge_at plan s i) state.ate (traffic_at state i))
       (token_law : (plan : SeenPlan) (s i : ℕ) (state : LocalState) → IsPlan plan → KeepsStreams plan s state → i < length (edges_of plan s) → AccountsForToken plan s (edge_at plan s i) (traffic_at state i))

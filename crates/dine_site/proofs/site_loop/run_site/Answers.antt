@@ -105,7 +105,7 @@ returns-in-Ok-clause-heeds g c =
     let first = calls c.args.diner in
     let start = subst (λ (site : Running _ _ _ _ _). IsHeeding site.core.resigns (site.core.must_quit || site.core.has_quit) (nat_lt site.core.ate site.core.due) first (calls site.diner)) (sym c.new-site.ensures) (heeds_fresh plan c.args.core first fresh) in
     let core = c.work.new.self.core in
-    let told = done.0.has.stands.has_quit ∙ quit_told plan core.site c.work.new.self.journal.items done.0.state done.0.did in
+    let told = done.0.has.stands.has_quit ∙ quit_told plan core.site c.work.new.self.journal.items done.0.state done.0.did.by_journal in
     let heeds = heeds_end core.resigns core.must_quit core.has_quit (nat_lt core.ate core.due) c.work.new.self.journal.items first (calls c.work.new.self.diner) (c.work.ensures.heeds first start) told in
     heeds_as core.resigns c.args.core.resigns c.work.new.self.journal.items c.end.result.journal.items first (calls c.work.new.self.diner) (calls c.end.result.diner)
     (sym (c.work.ensures.resigns ∙ ap (λ (site : Running _ _ _ _ _). site.core.resigns) c.new-site.ensures)) c.end.ensures.journal (ap calls c.end.ensures.diner) heeds

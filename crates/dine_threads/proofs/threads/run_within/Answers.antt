@@ -6,11 +6,11 @@ use Rattle.dine_threads.specs.Brokens.{AllClosedEarly, AreStatesLeft}
 use Rattle.dine_threads.specs.private.Collecting.{out_of, rows_left}
 use Rattle.dine_threads.specs.Gathered.{AreFinishedOuts, AreOutsOf, IsClosedWhole, IsLowestFault}
 use Rattle.dine_threads.specs.Headline.{AllJoined, AreTokensOf, IsHeadline}
-use Rattle.dine_threads.specs.Journals.{AreJournals}
+use Rattle.dine_threads.specs.Journals.{HaveActed}
 use Rattle.dine_threads.specs.private.Wirings.{AreWired}
 use Rattle.dine_threads.proofs.all_sites.Brokens.{all_closed_early, all_joined, states_left}
 use Rattle.dine_threads.proofs.all_sites.Gatherings.{AreAllLeft, left_of_children, ends_are_whole, still_wired, links_by_edge, links_are_whole, outs_are_finished, outs_of_diners, none_found, lowest_found}
-use Rattle.dine_threads.proofs.all_sites.Headlines.{headline, journals_stand, tokens_stand}
+use Rattle.dine_threads.proofs.all_sites.Headlines.{headline, all_acted, tokens_stand}
 use Rattle.dine_threads.proofs.threads.run_within.Goals as goal
 
 pub collect-forks-requires-clause-whole : goal.collect-forks-requires-clause-whole
@@ -90,8 +90,8 @@ returns-clause-fault g c =
 pub returns-in-None-clause-journals : goal.returns-in-None-clause-journals
 returns-in-None-clause-journals g c =
     let links = vec_items c.collect-forks.result.2 in
-    subst (λ (outs : List (SiteOut _)). AreJournals c.args.plan.now (map (λ (out : SiteOut _). out.ate) outs) links (map (λ (out : SiteOut _). out.journal.items) outs)) (sym c.collect-forks.ensures.sites)
-    (journals_stand (ended_well g c) (no_fault g c) links c.collect-forks.ensures.links (wired g c))
+    subst (λ (outs : List (SiteOut _)). HaveActed c.args.plan.now (map (λ (out : SiteOut _). out.ate) outs) links (map (λ (out : SiteOut _). out.journal.items) outs)) (sym c.collect-forks.ensures.sites)
+    (all_acted (ended_well g c) (no_fault g c) links c.collect-forks.ensures.links (wired g c))
 
 pub returns-then-len-sites : goal.returns-then-len-sites
 returns-then-len-sites g c = record {

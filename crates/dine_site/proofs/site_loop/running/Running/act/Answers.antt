@@ -1,7 +1,7 @@
-use Rattle.std.proofs.Common.{◌≡◌, Result, Err, true, sym, ◌∙◌, subst, rules}
+use Rattle.std.proofs.Common.{◌≡◌, Result, Err, Some, true, sym, ◌∙◌, subst, rules}
 use Rattle.dine_core.specs.Core.{SeenCore}
 use Rattle.dine_core.specs.NextEvent.{can_by_itself}
-use Rattle.dine_site.specs.Running.{GoesOn, seen_run}
+use Rattle.dine_site.specs.Running.{GoesOn, IsNext, seen_run}
 use Rattle.dine_site.proofs.one_site.Same.{eats_same, heeds_same}
 use Rattle.dine_site.proofs.site_loop.running.Running.act.Goals as goal
 
@@ -29,6 +29,9 @@ perform-requires-clause-ready g c κs ls = c.make_room.ensures.ready c.requires.
 
 pub perform-requires-clause-may : goal.perform-requires-clause-may
 perform-requires-clause-may g c κs ls = subst (λ (core : SeenCore). can_by_itself core c.args.kind ≡ true) (sym c.make_room.ensures.core) c.requires.may
+
+pub perform-requires-clause-next : goal.perform-requires-clause-next
+perform-requires-clause-next g c κs ls = subst (λ (core : SeenCore). IsNext (Some c.args.kind) core) (sym c.make_room.ensures.core) c.requires.next
 
 pub returns : goal.returns
 returns g c =

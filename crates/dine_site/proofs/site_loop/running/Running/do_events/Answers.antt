@@ -1,7 +1,9 @@
-use Rattle.std.proofs.Common.{◌≡◌, Result, Err, length, refl, sym, ◌∙◌, subst, rules}
+use Rattle.std.proofs.Common.{◌≡◌, Result, Err, None, length, refl, sym, ◌∙◌, subst, rules}
+use Rattle.std.specs.Prelude.{OnOk}
 use Rattle.std.specs.List.{range_with_len}
 use Rattle.dine_core.specs.NextEvent.{can_by_itself, own_kinds}
-use Rattle.dine_site.specs.Running.{GoesOn, seen_run}
+use Rattle.dine_site.specs.declared.site_loop.running.Stop.{Stop}
+use Rattle.dine_site.specs.Running.{GoesOn, IsNext, seen_run}
 use Rattle.dine_site.proofs.lists.Lists.{found_passes}
 use Rattle.dine_site.proofs.site_loop.running.Running.do_events.Goals as goal
 
@@ -9,6 +11,9 @@ pub act-requires-clause-may : goal.act-requires-clause-may
 act-requires-clause-may g c κs ls =
     let core = c.loop.self.core in
     found_passes (can_by_itself core) (own_kinds (range_with_len 0 (length core.places))) c.in-Some-next_event.kind (sym c.in-Some-next_event.ensures.next)
+
+pub act-requires-clause-next : goal.act-requires-clause-next
+act-requires-clause-next g c κs ls plan state keeps stands = sym (c.in-Some-next_event.ensures.by_lists plan state keeps stands)
 
 pub loop-init : goal.loop-init
 loop-init g c = record {
@@ -37,6 +42,7 @@ returns-in_err-act-in-Some-next_event g c =
       way = λ plan given running.
           subst (λ (result : Result _ _). GoesOn result plan given (seen_run g.L.Lane.seen_tx g.L.Lane.seen_closed g.L.Lane.seen_rx c.act.new.self)) (sym is) (c.in_err-act-in-Some-next_event.ensures.way plan given (was.way plan given running));
       ready = did.ready;
+      quiet = subst (λ (result : Result (Unit {0}) Stop). OnOk result (IsNext None c.act.new.self.core)) (sym is) tt;
       eats = λ first eaten. did.eats first (was.eats first eaten);
       heeds = λ first heeding. did.heeds first (was.heeds first heeding);
       resigns = did.resigns ∙ was.resigns;
@@ -46,7 +52,7 @@ returns-in_err-act-in-Some-next_event g c =
 pub returns-in-None-next_event : goal.returns-in-None-next_event
 returns-in-None-next_event g c =
     let was = c.loop.invariant in
-    record { way = was.way; ready = was.ready; eats = was.eats; heeds = was.heeds; resigns = was.resigns; site = was.site }
+    record { way = was.way; ready = was.ready; quiet = λ plan state keeps stands. sym (c.in-None-next_event.ensures.by_lists plan state keeps stands); eats = was.eats; heeds = was.heeds; resigns = was.resigns; site = was.site }
 
 pub loop-preserved : goal.loop-preserved
 loop-preserved g c =

@@ -17,7 +17,7 @@ byte_of false = refl
 pub returns-clause-way : goal.returns-clause-way
 returns-clause-way g c plan given running =
     let run : SeenRun g.L.Lane.Identity = seen_run g.L.Lane.seen_tx g.L.Lane.seen_closed g.L.Lane.seen_rx c.args.self.now in
-    eat_runs plan given run c.journals_grow_by_each_event.ensures.event (not c.is_ok-ok.result) c.begin-meal.new.self c.end.new.self c.begin-meal.result.forks c.push_reserved.new.self.items c.push_reserved-2.new.self.items c.push_reserved.ensures.items c.push_reserved-2.ensures.items c.begin-meal.ensures.step c.begin-meal.ensures.in_hand c.end.ensures.step running
+    eat_runs plan given run c.journals_grow_by_each_event.ensures.event (not c.is_ok-ok.result) c.begin-meal.new.self c.end.new.self c.begin-meal.result.forks c.push_reserved.new.self.items c.push_reserved-2.new.self.items c.push_reserved.ensures.items c.push_reserved-2.ensures.items c.begin-meal.ensures.step c.begin-meal.ensures.in_hand c.end.ensures.step c.requires.next running
 
 pub returns-clause-eats : goal.returns-clause-eats
 returns-clause-eats g c first eaten =

@@ -1,4 +1,4 @@
-use Rattle.std.proofs.Common.{◌≡◌, ◌||◌, true, None, refl, subst, sym, ap, arith}
+use Rattle.std.proofs.Common.{◌≡◌, ◌||◌, true, Some, None, refl, subst, sym, ap, arith}
 use Rattle.std.proofs.lemmas.Bool.{and_parts, or_left}
 use Rattle.std.specs.Prelude.{nat_lt}
 use Rattle.dine_core.specs.Core.{SeenCore}
@@ -12,7 +12,7 @@ use Rattle.dine_rules.specs.declared.events.EventKind.{EventKind}
 use Rattle.dine_rules.specs.declared.events.EventKind.TheVariants as event
 use Rattle.dine_rules.specs.declared.letters.Letter.{Letter}
 use Rattle.dine_rules.specs.declared.letters.Letter.TheVariants as letter
-use Rattle.dine_site.specs.Running.{SeenRun, IsHeeding, seen_run}
+use Rattle.dine_site.specs.Running.{SeenRun, IsHeeding, IsNext, seen_run}
 use Rattle.dine_core.specs.Standing.{CorePuts}
 use Rattle.dine_rules.specs.Steps.{Give, Ask, Done, Close}
 use Rattle.dine_site.proofs.one_site.AtPlaces.{opens-give, opens-ask, opens-done, opens-close, putting}
@@ -26,7 +26,7 @@ pub put-requires-clause-putting : goal.put-requires-clause-putting
 put-requires-clause-putting g c κs ls =
     let p = c.requires.running in
     let run : SeenRun g.L.Lane.Identity = seen_run g.L.Lane.seen_tx g.L.Lane.seen_closed g.L.Lane.seen_rx c.args.self.now in
-    (p.0, p.1, putting p.0 p.1 c.in-Give.i (Give c.in-Give.i) c.give-letter.result (opens-give c.in-Give.i) c.journals_grow_by_each_event.ensures.event (event.Give c.in-Give.i) refl run c.give-letter.new.self c.push_reserved.new.self.items c.push_reserved.ensures.items c.give-letter.ensures.step p.2)
+    (p.0, p.1, putting p.0 p.1 c.in-Give.i (Give c.in-Give.i) c.give-letter.result (opens-give c.in-Give.i) c.journals_grow_by_each_event.ensures.event (event.Give c.in-Give.i) refl refl run c.give-letter.new.self c.push_reserved.new.self.items c.push_reserved.ensures.items c.give-letter.ensures.step (subst (λ (kind : EventKind). IsNext (Some kind) c.args.self.now.core) c.in-Give.is c.requires.next) p.2)
 
 pub returns-in-Give : goal.returns-in-Give
 returns-in-Give g c =
@@ -34,7 +34,7 @@ returns-in-Give g c =
     let core = c.args.self.now.core in
     let same = same_but_place c.args.self.now c.put.new.self c.in-Give.i (record (place_at core c.in-Give.i) { fork = Away }) c.give-letter.new.self c.push_reserved.new.self c.give-letter.ensures.core c.put.ensures.same in
     record {
-      way = λ plan given running. c.put.ensures.way plan given (putting plan given c.in-Give.i (Give c.in-Give.i) c.give-letter.result (opens-give c.in-Give.i) c.journals_grow_by_each_event.ensures.event (event.Give c.in-Give.i) refl run c.give-letter.new.self c.push_reserved.new.self.items c.push_reserved.ensures.items c.give-letter.ensures.step running);
+      way = λ plan given running. c.put.ensures.way plan given (putting plan given c.in-Give.i (Give c.in-Give.i) c.give-letter.result (opens-give c.in-Give.i) c.journals_grow_by_each_event.ensures.event (event.Give c.in-Give.i) refl refl run c.give-letter.new.self c.push_reserved.new.self.items c.push_reserved.ensures.items c.give-letter.ensures.step (subst (λ (kind : EventKind). IsNext (Some kind) c.args.self.now.core) c.in-Give.is c.requires.next) running);
       ready = ready_same c.args.self.now c.put.new.self same g.D.Diner.room_left c.requires.ready;
       eats = eats_same c.args.self.now c.put.new.self same g.D.Diner.calls g.D.Diner.marks g.D.Diner.fits;
       heeds = heeds_same c.args.self.now c.put.new.self same g.D.Diner.calls;
@@ -46,7 +46,7 @@ pub put-requires-in-Ask-clause-putting : goal.put-requires-in-Ask-clause-putting
 put-requires-in-Ask-clause-putting g c κs ls =
     let p = c.requires.running in
     let run : SeenRun g.L.Lane.Identity = seen_run g.L.Lane.seen_tx g.L.Lane.seen_closed g.L.Lane.seen_rx c.args.self.now in
-    (p.0, p.1, putting p.0 p.1 c.in-Ask.i (Ask c.in-Ask.i) c.ask-letter.result (opens-ask c.in-Ask.i) c.journals_grow_by_each_event.ensures.event (event.Ask c.in-Ask.i) refl run c.ask-letter.new.self c.push_reserved-in-Ask.new.self.items c.push_reserved-in-Ask.ensures.items c.ask-letter.ensures.step p.2)
+    (p.0, p.1, putting p.0 p.1 c.in-Ask.i (Ask c.in-Ask.i) c.ask-letter.result (opens-ask c.in-Ask.i) c.journals_grow_by_each_event.ensures.event (event.Ask c.in-Ask.i) refl refl run c.ask-letter.new.self c.push_reserved-in-Ask.new.self.items c.push_reserved-in-Ask.ensures.items c.ask-letter.ensures.step (subst (λ (kind : EventKind). IsNext (Some kind) c.args.self.now.core) c.in-Ask.is c.requires.next) p.2)
 
 pub returns-in-Ask : goal.returns-in-Ask
 returns-in-Ask g c =
@@ -54,7 +54,7 @@ returns-in-Ask g c =
     let core = c.args.self.now.core in
     let same = same_but_place c.args.self.now c.put-in-Ask.new.self c.in-Ask.i (record (place_at core c.in-Ask.i) { token = None }) c.ask-letter.new.self c.push_reserved-in-Ask.new.self c.ask-letter.ensures.core c.put-in-Ask.ensures.same in
     record {
-      way = λ plan given running. c.put-in-Ask.ensures.way plan given (putting plan given c.in-Ask.i (Ask c.in-Ask.i) c.ask-letter.result (opens-ask c.in-Ask.i) c.journals_grow_by_each_event.ensures.event (event.Ask c.in-Ask.i) refl run c.ask-letter.new.self c.push_reserved-in-Ask.new.self.items c.push_reserved-in-Ask.ensures.items c.ask-letter.ensures.step running);
+      way = λ plan given running. c.put-in-Ask.ensures.way plan given (putting plan given c.in-Ask.i (Ask c.in-Ask.i) c.ask-letter.result (opens-ask c.in-Ask.i) c.journals_grow_by_each_event.ensures.event (event.Ask c.in-Ask.i) refl refl run c.ask-letter.new.self c.push_reserved-in-Ask.new.self.items c.push_reserved-in-Ask.ensures.items c.ask-letter.ensures.step (subst (λ (kind : EventKind). IsNext (Some kind) c.args.self.now.core) c.in-Ask.is c.requires.next) running);
       ready = ready_same c.args.self.now c.put-in-Ask.new.self same g.D.Diner.room_left c.requires.ready;
       eats = eats_same c.args.self.now c.put-in-Ask.new.self same g.D.Diner.calls g.D.Diner.marks g.D.Diner.fits;
       heeds = heeds_same c.args.self.now c.put-in-Ask.new.self same g.D.Diner.calls;
@@ -66,7 +66,7 @@ pub put-requires-in-Done-clause-putting : goal.put-requires-in-Done-clause-putti
 put-requires-in-Done-clause-putting g c κs ls =
     let p = c.requires.running in
     let run : SeenRun g.L.Lane.Identity = seen_run g.L.Lane.seen_tx g.L.Lane.seen_closed g.L.Lane.seen_rx c.args.self.now in
-    (p.0, p.1, putting p.0 p.1 c.in-Done.i (Done c.in-Done.i) c.done-letter.result (opens-done c.in-Done.i) c.journals_grow_by_each_event.ensures.event (event.Done c.in-Done.i) refl run c.done-letter.new.self c.push_reserved-in-Done.new.self.items c.push_reserved-in-Done.ensures.items c.done-letter.ensures.step p.2)
+    (p.0, p.1, putting p.0 p.1 c.in-Done.i (Done c.in-Done.i) c.done-letter.result (opens-done c.in-Done.i) c.journals_grow_by_each_event.ensures.event (event.Done c.in-Done.i) refl refl run c.done-letter.new.self c.push_reserved-in-Done.new.self.items c.push_reserved-in-Done.ensures.items c.done-letter.ensures.step (subst (λ (kind : EventKind). IsNext (Some kind) c.args.self.now.core) c.in-Done.is c.requires.next) p.2)
 
 pub returns-in-Done : goal.returns-in-Done
 returns-in-Done g c =
@@ -74,7 +74,7 @@ returns-in-Done g c =
     let core = c.args.self.now.core in
     let same = same_but_place c.args.self.now c.put-in-Done.new.self c.in-Done.i (record (place_at core c.in-Done.i) { done_put = true }) c.done-letter.new.self c.push_reserved-in-Done.new.self c.done-letter.ensures.core c.put-in-Done.ensures.same in
     record {
-      way = λ plan given running. c.put-in-Done.ensures.way plan given (putting plan given c.in-Done.i (Done c.in-Done.i) c.done-letter.result (opens-done c.in-Done.i) c.journals_grow_by_each_event.ensures.event (event.Done c.in-Done.i) refl run c.done-letter.new.self c.push_reserved-in-Done.new.self.items c.push_reserved-in-Done.ensures.items c.done-letter.ensures.step running);
+      way = λ plan given running. c.put-in-Done.ensures.way plan given (putting plan given c.in-Done.i (Done c.in-Done.i) c.done-letter.result (opens-done c.in-Done.i) c.journals_grow_by_each_event.ensures.event (event.Done c.in-Done.i) refl refl run c.done-letter.new.self c.push_reserved-in-Done.new.self.items c.push_reserved-in-Done.ensures.items c.done-letter.ensures.step (subst (λ (kind : EventKind). IsNext (Some kind) c.args.self.now.core) c.in-Done.is c.requires.next) running);
       ready = ready_same c.args.self.now c.put-in-Done.new.self same g.D.Diner.room_left c.requires.ready;
       eats = eats_same c.args.self.now c.put-in-Done.new.self same g.D.Diner.calls g.D.Diner.marks g.D.Diner.fits;
       heeds = heeds_same c.args.self.now c.put-in-Done.new.self same g.D.Diner.calls;
@@ -87,7 +87,7 @@ close-requires-in-Close-clause-putting g c κs ls =
     let p = c.requires.running in
     let run : SeenRun g.L.Lane.Identity = seen_run g.L.Lane.seen_tx g.L.Lane.seen_closed g.L.Lane.seen_rx c.args.self.now in
     let puts : CorePuts c.in-Close.i (Close c.in-Close.i) c.args.self.now.core c.close.new.self letter.Close = subst (λ (l : Letter). CorePuts c.in-Close.i (Close c.in-Close.i) c.args.self.now.core c.close.new.self l) c.close.ensures.letter c.close.ensures.step in
-    (p.0, p.1, putting p.0 p.1 c.in-Close.i (Close c.in-Close.i) letter.Close (opens-close c.in-Close.i) c.journals_grow_by_each_event.ensures.event (event.Close c.in-Close.i) refl run c.close.new.self c.push_reserved-in-Close.new.self.items c.push_reserved-in-Close.ensures.items puts p.2)
+    (p.0, p.1, putting p.0 p.1 c.in-Close.i (Close c.in-Close.i) letter.Close (opens-close c.in-Close.i) c.journals_grow_by_each_event.ensures.event (event.Close c.in-Close.i) refl refl run c.close.new.self c.push_reserved-in-Close.new.self.items c.push_reserved-in-Close.ensures.items puts (subst (λ (kind : EventKind). IsNext (Some kind) c.args.self.now.core) c.in-Close.is c.requires.next) p.2)
 
 pub returns-in-Close : goal.returns-in-Close
 returns-in-Close g c =
@@ -96,7 +96,7 @@ returns-in-Close g c =
     let core = c.args.self.now.core in
     let same = same_but_place c.args.self.now c.close-in-Close.new.self c.in-Close.i (record (place_at core c.in-Close.i) { close_put = true }) c.close.new.self c.push_reserved-in-Close.new.self c.close.ensures.core c.close-in-Close.ensures.same in
     record {
-      way = λ plan given running. c.close-in-Close.ensures.way plan given (putting plan given c.in-Close.i (Close c.in-Close.i) letter.Close (opens-close c.in-Close.i) c.journals_grow_by_each_event.ensures.event (event.Close c.in-Close.i) refl run c.close.new.self c.push_reserved-in-Close.new.self.items c.push_reserved-in-Close.ensures.items puts running);
+      way = λ plan given running. c.close-in-Close.ensures.way plan given (putting plan given c.in-Close.i (Close c.in-Close.i) letter.Close (opens-close c.in-Close.i) c.journals_grow_by_each_event.ensures.event (event.Close c.in-Close.i) refl refl run c.close.new.self c.push_reserved-in-Close.new.self.items c.push_reserved-in-Close.ensures.items puts (subst (λ (kind : EventKind). IsNext (Some kind) c.args.self.now.core) c.in-Close.is c.requires.next) running);
       ready = ready_same c.args.self.now c.close-in-Close.new.self same g.D.Diner.room_left c.requires.ready;
       eats = eats_same c.args.self.now c.close-in-Close.new.self same g.D.Diner.calls g.D.Diner.marks g.D.Diner.fits;
       heeds = heeds_same c.args.self.now c.close-in-Close.new.self same g.D.Diner.calls;
@@ -110,7 +110,7 @@ returns-in-Hungry g c =
     let new : Running _ _ _ _ _ = record c.args.self.now { core = c.hungry.new.self; journal = c.push_reserved-in-Hungry.new.self } in
     let same = same_but_phase c.args.self.now phase.Hungry c.hungry.new.self c.push_reserved-in-Hungry.new.self c.hungry.ensures.hungry in
     record {
-      way = λ plan given running. hungry_runs plan given run c.journals_grow_by_each_event.ensures.event c.hungry.new.self c.push_reserved-in-Hungry.new.self.items c.push_reserved-in-Hungry.ensures.items c.hungry.ensures.step running;
+      way = λ plan given running. hungry_runs plan given run c.journals_grow_by_each_event.ensures.event c.hungry.new.self c.push_reserved-in-Hungry.new.self.items c.push_reserved-in-Hungry.ensures.items c.hungry.ensures.step (subst (λ (kind : EventKind). IsNext (Some kind) c.args.self.now.core) c.in-Hungry.is c.requires.next) running;
       ready = ready_same c.args.self.now new same g.D.Diner.room_left c.requires.ready;
       eats = eats_same c.args.self.now new same g.D.Diner.calls g.D.Diner.marks g.D.Diner.fits;
       heeds = heeds_same c.args.self.now new same g.D.Diner.calls;
@@ -121,7 +121,7 @@ returns-in-Hungry g c =
 pub returns-in-Quit-clause-way : goal.returns-in-Quit-clause-way
 returns-in-Quit-clause-way g c plan given running =
     let run : SeenRun g.L.Lane.Identity = seen_run g.L.Lane.seen_tx g.L.Lane.seen_closed g.L.Lane.seen_rx c.args.self.now in
-    quit_runs plan given run c.journals_grow_by_each_event.ensures.event c.quit.new.self c.push_reserved-in-Quit.new.self.items c.push_reserved-in-Quit.ensures.items c.quit.ensures.step running
+    quit_runs plan given run c.journals_grow_by_each_event.ensures.event c.quit.new.self c.push_reserved-in-Quit.new.self.items c.push_reserved-in-Quit.ensures.items c.quit.ensures.step (subst (λ (kind : EventKind). IsNext (Some kind) c.args.self.now.core) c.in-Quit.is c.requires.next) running
 
 pub returns-in-Quit-clause-heeds : goal.returns-in-Quit-clause-heeds
 returns-in-Quit-clause-heeds g c first heeding =
@@ -137,6 +137,9 @@ returns-in-Begin g c = let ate = c.eat.ensures in record { way = ate.way; ready 
 
 pub eat-requires-clause-running : goal.eat-requires-clause-running
 eat-requires-clause-running g c κs ls = c.requires.running
+
+pub eat-requires-clause-next : goal.eat-requires-clause-next
+eat-requires-clause-next g c κs ls = subst (λ (kind : EventKind). IsNext (Some kind) c.args.self.now.core) c.in-Begin.is c.requires.next
 
 pub eat-requires-clause-ready : goal.eat-requires-clause-ready
 eat-requires-clause-ready g c κs ls = c.requires.ready

@@ -39,7 +39,7 @@ returns-in-Ok-take-clause-way g c plan given running =
     let within : c.args.i < length items = omega (arith, c.requires.place, running.has.places, length-map items f) in
     let at = seen_at f items c.args.i c.index_mut.result.now within c.index_mut.ensures.value in
     let ports = seen_set f items c.args.i c.take.new.self (taken_on c.in-Ok.letter (f c.index_mut.result.now)) c.in-Ok.ensures in
-    let runs = take_runs plan given run c.journals_grow_by_each_event.ensures.event c.args.i c.in-Ok.letter c.take-in-Ok.new.self c.push_reserved.new.self.items c.push_reserved.ensures.items c.requires.place c.in-Ok-take.ensures.step running (f c.index_mut.result.now) at in
+    let runs = take_runs plan given run c.journals_grow_by_each_event.ensures.event c.args.i c.in-Ok.letter c.take-in-Ok.new.self c.push_reserved.new.self.items c.push_reserved.ensures.items c.requires.place c.in-Ok-take.ensures.step c.requires.quiet running (f c.index_mut.result.now) at in
     subst (λ (ps : List (SeenPort g.L.Lane.Identity)). IsRunning plan given (record { core = c.take-in-Ok.new.self; ports = ps; bell = run.bell; journal = c.push_reserved.new.self.items })) (sym ports) runs
 
 pub returns-in-Err-take-clause-way : goal.returns-in-Err-take-clause-way

@@ -55,6 +55,9 @@ hear-requires-clause-running g c κs ls =
 pub hear-requires-clause-bell : goal.hear-requires-clause-bell
 hear-requires-clause-bell g c κs ls = c.in_ok-do_events.ensures.ready.bell
 
+pub hear-requires-clause-quiet : goal.hear-requires-clause-quiet
+hear-requires-clause-quiet g c κs ls = c.in_ok-do_events.ensures.quiet
+
 pub returns-in_err-hear : goal.returns-in_err-hear
 returns-in_err-hear g c =
     let was = c.loop.invariant in

@@ -1,0 +1,13 @@
+//! Laws over the definitions alone. Each function does nothing: its contract is the law.
+
+ghost use Rattle.std.specs.Prelude.{◌≡◌, ℕ, List, length};
+ghost use Rattle.dine_graph.specs.Plan.{SeenPlan};
+ghost use Rattle.dine_rules.specs.Local.{LocalState};
+ghost use Rattle.dine_rules.specs.Steps.{Step};
+ghost use Rattle.dine_site.specs.Doings.{AreInTurn, brought_in};
+
+/// What a site does is fixed by the letters that it takes and by how its meals turn out: two lists of steps that have
+/// these alike, each step in its turn from one state, are the same as far as the shorter one goes.
+pub fn letters_and_outcomes_fix_the_steps()
+    ensures fixed { (plan : SeenPlan) (s : ℕ) (state : LocalState) (steps others : List Step) → AreInTurn plan s state steps → AreInTurn plan s state others → length steps ≡ length others → brought_in steps ≡ brought_in others → steps ≡ others }
+{}
