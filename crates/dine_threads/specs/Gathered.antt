@@ -1,5 +1,5 @@
 -- What is gathered when all sites of a plan have joined: the links by edge, and of each site its meals and its diner.
-use Rattle.std.specs.Prelude.{◌≡◌, ◌≢◌, ◌⊎◌, ℕ, ◌+◌, ◌*◌, ◌<◌, ◌≤◌, ◌==◌, Bool, true, false, List, [], length, slice_get, slice_index_or, Some, None, if◌then◌else◌}
+use Rattle.std.specs.Prelude.{◌≡◌, ◌≢◌, ◌⊎◌, ℕ, ◌+◌, ◌*◌, ◌<◌, ◌≤◌, ◌==◌, ◌||◌, Bool, true, false, List, [], length, slice_get, slice_index_or, Some, None, if◌then◌else◌}
 use Rattle.dine_graph.specs.Plan.{SeenPlan, site_count, edge_count, job_count, lo_of, hi_of, resigns}
 use Rattle.dine_rules.specs.Local.{Traffic}
 use Rattle.dine_rules.specs.Streams.{is_close_last, IsClosedInOrder}
@@ -45,10 +45,11 @@ pub record IsTakenInOrder (link : SeenLink) : Type 0 where
   pub prefix : IsLink link
   pub nothing_after_close : is_close_last link.put ≡ true
 
--- All that was put was taken, and it is closed in order.
+-- All that was put was taken, it is closed in order, and it refused nothing.
 pub record IsClosedWhole (link : SeenLink) : Type 0 where
   pub taken : link.taken ≡ link.put
   pub in_order : IsClosedInOrder link.put
+  pub unrefused : (link.put_refused || link.take_refused) ≡ false
 
 module _ {D : Type 0} (calls : D → List Call) (marks : D → List Bool) (fits : List Bool → ℕ → Bool → Bool) (plan : SeenPlan) where
   -- A site with the diner that was handed in for it: the diner was called for the meals 1 to `ate` in order. If the

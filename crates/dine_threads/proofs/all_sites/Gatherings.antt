@@ -2,7 +2,7 @@
 use Rattle.std.proofs.Common.{◌≡◌, ◌⊎◌, ℕ, zero, suc, ◌+◌, ◌*◌, ◌<◌, ◌==◌, ◌&&◌, ◌++◌, Bool, true, false, List, [], ◌∷◌, All, length, map, get_or, slice_get, Option, Some, None, is_some, option_map, option_to_list, if◌then◌else◌, refl, sym, ◌∙◌, ap, subst, inl, inr, arith}
 use Rattle.std.specs.declared.thread.PromisedHandle.{PromisedHandle}
 use Rattle.std.specs.List.{AllZip, position, range_with_len}
-use Rattle.std.proofs.lemmas.Bool.{and_parts, eqb-true, or_cases, true≢false, false≢true}
+use Rattle.std.proofs.lemmas.Bool.{and_parts, eqb-true, or_cases, or_from, true≢false, false≢true}
 use Rattle.std.proofs.lemmas.List.{length-map, append-nil}
 use Rattle.std.proofs.lemmas.List.Elements.{All-append, All-cons}
 use Rattle.std.proofs.lemmas.List.Quantifiers.{position-Some}
@@ -232,6 +232,8 @@ module _ {Lane Tx Closed Rx Identity D : Type 0} {live : Tx → SeenEnd Identity
   pub record IsDoneAt (port : SeenPort Identity) : Type 0 where
     pub put : IsClosedInOrder port.tx.letters
     pub taken : has_close port.rx.letters ≡ true
+    pub put_unrefused : port.tx.refused ≡ false
+    pub take_unrefused : port.rx.refused ≡ false
 
   -- the place of a port that a site left is one of its state
   pub place_of_port : (s : ℕ) (end : SiteEnd Lane D Tx Closed Rx) (i : ℕ) (port : SeenPort Identity) (at : slice_get ends s ≡ Some end) → slice_get (seen_ports live shut taking end.ports.items) i ≡ Some port
@@ -267,15 +269,20 @@ module _ {Lane Tx Closed Rx Identity D : Type 0} {live : Tx → SeenEnd Identity
       let done_here = and_parts _ _ put_here.0 in
       let lawful = (left.ended.keeps.places i within).put_lawful in
       let last = ends_in_close (traffic_at state i).put lawful.close_last put_here.1 in
+      let there = links_there (seen_ports live shut taking end.ports.items) i port stands in
+      let unrefused = left.ended.unrefused no_fault i within in
       record {
         put = subst IsClosedInOrder (sym (put_at s end i port at no_fault stands)) (record { orderly = orderly_when_done (traffic_at state i).put done_here.0 lawful.close_last; before_close = last.0; ends_in_close = last.1 });
         taken = ap has_close (taken_at s end i port at no_fault stands) ∙ closed_here.1;
+        put_unrefused = ap (λ (l : OnLinks). l.put_refused) (sym there) ∙ unrefused.0;
+        take_unrefused = ap (λ (l : OnLinks). l.take_refused) (sym there) ∙ unrefused.1;
       }
 
   whole_link : (link : SeenLink) (from to : SeenPort Identity) → link ≡ link_of from.tx to.rx → IsDoneAt from → IsDoneAt to → IsTakenToClose link → IsClosedWhole link
   whole_link link from to is put_done taken_done to_close = record {
     taken = to_close (ap (λ (l : SeenLink). has_close l.taken) is ∙ taken_done.taken);
     in_order = subst IsClosedInOrder (sym (ap (λ (l : SeenLink). l.put) is)) put_done.put;
+    unrefused = or_from link.put_refused link.take_refused (ap (λ (l : SeenLink). l.put_refused) is ∙ put_done.put_unrefused) (ap (λ (l : SeenLink). l.take_refused) is ∙ taken_done.take_unrefused);
   }
 
   -- what stands for a site in what is gathered, and what it left
