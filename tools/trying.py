@@ -123,6 +123,11 @@ def in_a_line(name, fault):
     return (f"{name}: FAILED: {fault}", False) if fault else (f"{name}: ok", True)
 
 
+def skip(name, why):
+    """Returns a try as `counted` takes it, of what this machine can't do. verify prints its line again at its end."""
+    return f"{name}: skipped: {why}", None
+
+
 def tried(name, wanted, words, **how):
     """Returns a try of the program, whose answer to the words is to be the one that is wanted."""
     return in_a_line(name, difference(wanted, answer_of(words, **how)))
@@ -134,13 +139,16 @@ def a_line_each(tool, faults):
 
 
 def counted(tries, skipped=0):
-    """Prints what is told of each try, where that is anything, and last the count. A try is that text and whether all was right. Returns
-    the exit status."""
+    """Prints what is told of each try, where that is anything, and last the count. A try is that text and whether all was right, which is
+    None for one that is skipped. Returns the exit status."""
     passed = failed = 0
     for text, is_right in tries:
         if text:
             print(text, flush=True)
-        passed, failed = passed + is_right, failed + (not is_right)
+        if is_right is None:
+            skipped += 1
+        else:
+            passed, failed = passed + is_right, failed + (not is_right)
     return ended(passed, failed, skipped)
 
 
