@@ -198,6 +198,7 @@ static char kinds[MOST_SITES];
 static unsigned char copies[COPY_SIZE * MOST_SITES] __attribute__((aligned(4096)));
 static uint16_t site_at[MOST_CODE]; // of each byte of the code, 0 where no site begins
 
+// At a site: a point, and then the copy of the instruction. At a single step: a point if it was the last one.
 static void on_trap(int number, siginfo_t *info, void *context) {
     (void)number;
     int error = errno;
