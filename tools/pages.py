@@ -14,7 +14,7 @@ from trying import HOME, paths, text_of
 LINES = 60
 LIMITS = {"docs/ARCHITECTURE.md": 12 * 1024, "docs/DECISIONS.md": 8 * 1024}
 LISTED = "## Proof files"
-NO_LEMMAS = {"Lib", "Answers", "Invariants"}
+NO_LEMMAS = {"Lib", "Answers", "Invariants", "Proof", "Send"}
 LINE = re.compile(r"^- ([\w/]+): \S", re.M)
 QUOTED = re.compile(r"(?<!`)`([^`\n]+)`(?!`)")
 NAME = re.compile(r"[A-Za-z_]\w*(?:::[A-Za-z_]\w*)*")

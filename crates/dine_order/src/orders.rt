@@ -3,7 +3,8 @@ ghost use Rattle.std.specs.Prelude.{◌≡◌, ◌≢◌, IfErr, IfOk, length, r
 ghost use Rattle.dine_graph.specs.Plan.{site_count};
 ghost use Rattle.dine_rules.specs.Journals.{IsLowestFirst, IsWholeOrder};
 ghost use Rattle.dine_rules.specs.Outcomes.{NoSiteResigns};
-ghost use Rattle.dine_order.specs.Orders.{FirstLeft, OrderFaultIs, lists_in, plan_shown};
+ghost use Rattle.dine_rules.specs.Shown.{plan_shown};
+ghost use Rattle.dine_order.specs.Orders.{FirstLeft, OrderFaultIs, lists_in};
 ghost use Rattle.dine_order.specs.declared.orders.OrderFault.TheVariants.{CountDiffers, Memory};
 
 mod outcomes;

@@ -10,3 +10,4 @@ pub mod Ways
 pub mod Stops
 pub mod Ends
 pub mod Leaving
+pub mod Times

@@ -2,6 +2,7 @@ pub mod Doings
 pub mod Diners
 pub mod CallLogs
 pub mod Ports
+pub mod Times
 pub mod Endings
 pub mod SiteEnds
 pub mod FaultWords

@@ -24,6 +24,8 @@ use Rattle.dine_link.specs.Links.{SeenEnd}
 use Rattle.dine_site.specs.Diners.{HasEaten}
 use Rattle.dine_site.specs.Doings.{HasActed, HasDone}
 use Rattle.dine_site.specs.Ports.{HasRung, IsUnrefused, SeenPort, SameLinks, PutsFit, seen_ports}
+use Rattle.dine_clock.specs.Moments.{last_moment}
+use Rattle.dine_site.specs.Times.{IsTimed, late_at, none_late}
 use Rattle.dine_site.specs.Endings.{IsBreached, IsLost, breached_at, hands_back, links_at, refused_at}
 use Rattle.dine_site.specs.SiteEnds.{HasBellRefused}
 
@@ -146,6 +148,14 @@ module _ {Lane Tx Closed Rx Identity Diner : Type 0} (live : Tx → SeenEnd Iden
   -- what is seen of a site on its way
   abbrev pub seen_run : Running Lane Diner Tx Closed Rx → SeenRun Identity
   seen_run run = record { core = run.core; ports = seen_ports live shut taking run.ports.items; bell = run.bell; journal = run.journal.items }
+
+  -- the moments of its events fit its link ends
+  abbrev pub IsTimedRun : Running Lane Diner Tx Closed Rx → Type 0
+  IsTimedRun run = IsTimed none_late run.clock.events run.journal.items (seen_ports live shut taking run.ports.items)
+
+  -- the same, but for the letter of the last event, which is on its way out at this place
+  abbrev pub IsTimedBut : ℕ → Running Lane Diner Tx Closed Rx → Type 0
+  IsTimedBut i run = IsTimed (late_at i (last_moment run.clock.events)) run.clock.events run.journal.items (seen_ports live shut taking run.ports.items)
 
 -- the last of these calls failed
 abbrev pub last_failed : List Call → Bool

@@ -1,5 +1,6 @@
 -- What is gathered when all sites of a plan have joined: the links by edge, and of each site its meals and its diner.
 use Rattle.std.specs.Prelude.{◌≡◌, ◌≢◌, ◌⊎◌, ℕ, ◌+◌, ◌*◌, ◌<◌, ◌≤◌, ◌==◌, ◌||◌, Bool, true, false, List, [], length, slice_get, slice_index_or, Some, None, if◌then◌else◌}
+use mathlib.Core.List.{IsPrefix}
 use Rattle.dine_graph.specs.Plan.{SeenPlan, site_count, edge_count, job_count, lo_of, hi_of, resigns}
 use Rattle.dine_rules.specs.Local.{Traffic}
 use Rattle.dine_rules.specs.Streams.{is_close_last, IsClosedInOrder}
@@ -10,7 +11,7 @@ use Rattle.dine_site.specs.Diners.{HasEaten, HeedsFailures, tells_quit}
 
 -- the link past the end of the list
 abbrev pub no_link : SeenLink
-no_link = record { edge = 0; from = 0; put = []; taken = []; put_refused = false; take_refused = false }
+no_link = record { edge = 0; from = 0; put = []; taken = []; put_at = []; taken_at = []; put_refused = false; take_refused = false }
 
 -- the link from the lower end of an edge
 abbrev pub link_from_low : List SeenLink → ℕ → SeenLink
@@ -44,6 +45,7 @@ traffic_of plan links s edge = if lo_of plan edge == s then low_traffic links ed
 pub record IsTakenInOrder (link : SeenLink) : Type 0 where
   pub prefix : IsLink link
   pub nothing_after_close : is_close_last link.put ≡ true
+  pub moments : IsPrefix link.taken_at link.put_at
 
 -- All that was put was taken, it is closed in order, and it refused nothing.
 pub record IsClosedWhole (link : SeenLink) : Type 0 where

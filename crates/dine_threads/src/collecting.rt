@@ -149,6 +149,7 @@ fn take_out<L: Lane, D: Diner>(
         forks,
         tokens,
         journal,
+        clock: _,
         ports,
         bell: _,
         stray,

@@ -10,6 +10,7 @@ ghost use Rattle.dine_threads.specs.private.Seats.{AreSeatsOf, IsReady, LeavesSe
 ghost use Rattle.dine_site.specs.SiteEnds.{IsLeft};
 
 use crate::opening::Stand;
+use dine_clock::Clock;
 use dine_core::{Packed, SiteCore, site};
 use dine_graph::Plan;
 use dine_link::{Bell, Gate, Lane};
@@ -57,6 +58,7 @@ fn not_started<L: Lane, D: Diner>(
     ensures left { (plan : SeenPlan) → IsFreshFor plan core → IsLeft plan core.site (seen_ports L.seen_tx L.seen_closed L.seen_rx ports.items) (seen_site_end L.seen_tx L.seen_closed L.seen_rx result) }
     ensures eaten { HasEaten D.calls D.marks D.fits result.ate result.failed diner result.diner }
     ensures heeds { HeedsFailures core.resigns result.journal.items (D.calls diner) (D.calls result.diner) }
+    ensures fault { result.fault ≡ Some SiteFault.NotStarted }
 {
     laws::streams_are_kept();
     laws::letters_cut_short_are_in_order();
@@ -70,6 +72,7 @@ fn not_started<L: Lane, D: Diner>(
         forks: parts.forks,
         tokens: parts.tokens,
         journal: Vec::new(alloc),
+        clock: Clock::start(),
         ports,
         bell,
         stray: None,

@@ -2,7 +2,8 @@
 ghost use Rattle.std.specs.Prelude.{◌≡◌, IfOk, length};
 ghost use Rattle.dine_graph.specs.Plan.{site_count};
 ghost use Rattle.dine_world.specs.Worlds.{lists_of};
-ghost use Rattle.dine_order.specs.Orders.{lists_in, noted, shown_by, shown_in};
+ghost use Rattle.dine_rules.specs.Shown.{shown_by, shown_in};
+ghost use Rattle.dine_order.specs.Orders.{lists_in, noted};
 
 use dine_core::EventKind;
 use dine_graph::Plan;

@@ -6,7 +6,8 @@ ghost use Rattle.dine_rules.specs.World.{start};
 ghost use Rattle.dine_rules.specs.declared.events.Event.{Event};
 ghost use Rattle.dine_rules.specs.declared.events.EventKind.{EventKind};
 ghost use Rattle.dine_world.specs.Worlds.{IsWorldOf, SeenWorld};
-ghost use Rattle.dine_order.specs.Orders.{FindsNext, IsFound, IsSearched, IsSearching, kind_at, lists_in, plan_shown, receiver_of};
+ghost use Rattle.dine_rules.specs.Shown.{plan_shown};
+ghost use Rattle.dine_order.specs.Orders.{FindsNext, IsFound, IsSearched, IsSearching, kind_at, lists_in, receiver_of};
 
 use dine_core::{Event, EventKind};
 use dine_graph::Plan;

@@ -2,6 +2,7 @@
 use Rattle.std.proofs.Common.{◌≡◌, ℕ, Bool, ◌||◌, List, refl, sym, ap, ap₂, ◌∙◌, arith}
 use Rattle.std.specs.Prelude.{nat_lt}
 use Rattle.std.specs.Global.{Vec}
+use Rattle.dine_clock.specs.declared.clock.Clock.{Clock}
 use Rattle.dine_core.specs.Core.{SeenCore}
 use Rattle.dine_core.specs.Places.{with_place}
 use Rattle.dine_core.specs.declared.site.places.Place.{Place}
@@ -32,8 +33,8 @@ module _ {Lane Tx Closed Rx Diner : Type 0} (old new : Running Lane Diner Tx Clo
 
 module _ {Lane Tx Closed Rx Diner : Type 0} (old new : Running Lane Diner Tx Closed Rx) where
   -- where only a place of the core was written, and the journal, and then nothing of the meals changed
-  pub same_but_place : (i : ℕ) (place : Place) (core : SeenCore) (journal : Vec EventKind) → core ≡ with_place i place old.core → SameMeals (record old { core = core; journal = journal }) new → SameMeals old new
-  same_but_place i place core journal is same = record {
+  pub same_but_place : (i : ℕ) (place : Place) (core : SeenCore) (journal : Vec EventKind) (clock : Clock) → core ≡ with_place i place old.core → SameMeals (record old { core = core; journal = journal; clock = clock }) new → SameMeals old new
+  same_but_place i place core journal clock is same = record {
     site = same.site ∙ ap (λ (x : SeenCore). x.site) is;
     due = same.due ∙ ap (λ (x : SeenCore). x.due) is;
     ate = same.ate ∙ ap (λ (x : SeenCore). x.ate) is;
@@ -47,8 +48,8 @@ module _ {Lane Tx Closed Rx Diner : Type 0} (old new : Running Lane Diner Tx Clo
   }
 
 -- where only the phase of the core was written, and the journal
-pub same_but_phase : {Lane Tx Closed Rx Diner : Type 0} (old : Running Lane Diner Tx Closed Rx) (phase : Phase) (core : SeenCore) (journal : Vec EventKind) → core ≡ record old.core { phase = phase } → SameMeals old (record old { core = core; journal = journal })
-same_but_phase old phase core journal is = record {
+pub same_but_phase : {Lane Tx Closed Rx Diner : Type 0} (old : Running Lane Diner Tx Closed Rx) (phase : Phase) (core : SeenCore) (journal : Vec EventKind) (clock : Clock) → core ≡ record old.core { phase = phase } → SameMeals old (record old { core = core; journal = journal; clock = clock })
+same_but_phase old phase core journal clock is = record {
   site = ap (λ (x : SeenCore). x.site) is;
   due = ap (λ (x : SeenCore). x.due) is;
   ate = ap (λ (x : SeenCore). x.ate) is;

@@ -10,11 +10,12 @@ ghost use Rattle.dine_link.specs.Closing.{is_close};
 ghost use Rattle.dine_link.specs.Waking.{seen_wants};
 ghost use Rattle.dine_site.specs.Ports.{ChangesAt, SendsClose, SeenPort, seen_ports};
 ghost use Rattle.dine_site.specs.SiteEnds.{IsSiteEnd};
-ghost use Rattle.dine_site.specs.Running.{ClosedBelow, EatsOn, ForSome, GoesOn, GoesToEnd, HasStopped, HeedsOn, IsNext, IsPutting, IsReady, IsRunning, Leads, MayEnd, SameMeals, StaysStopped, seen_run};
+ghost use Rattle.dine_site.specs.Running.{IsTimedBut, IsTimedRun, ClosedBelow, EatsOn, ForSome, GoesOn, GoesToEnd, HasStopped, HeedsOn, IsNext, IsPutting, IsReady, IsRunning, Leads, MayEnd, SameMeals, StaysStopped, seen_run};
 
 use crate::diner::Diner;
 use crate::port::{Closed, Port, Sent};
 use crate::site_end::{SiteEnd, SiteFault, Stray};
+use dine_clock::{Clock, Stamp};
 use dine_core::SiteCore;
 use dine_link::{Bell, Lane, Lost, Wants};
 use dine_rules::{EventKind, Letter, laws};
@@ -35,6 +36,7 @@ pub struct Running<L: Lane, D: Diner> {
     diner: D,
     failed: u32,
     journal: Vec<EventKind>,
+    clock: Clock,
 }
 
 impl<L: Lane, D: Diner> Running<L, D> {
@@ -44,8 +46,9 @@ impl<L: Lane, D: Diner> Running<L, D> {
         bell: Bell,
         diner: D,
         journal: Vec<EventKind>,
+        clock: Clock,
     ) -> Running<L, D>
-        ensures { result ≡ record { core = core; ports = ports; bell = bell; diner = diner; failed = 0; journal = journal } }
+        ensures { result ≡ record { core = core; ports = ports; bell = bell; diner = diner; failed = 0; journal = journal; clock = clock } }
     {
         Running {
             core,
@@ -54,6 +57,7 @@ impl<L: Lane, D: Diner> Running<L, D> {
             diner,
             failed: 0,
             journal,
+            clock,
         }
     }
 
@@ -66,6 +70,7 @@ impl<L: Lane, D: Diner> Running<L, D> {
         ensures heeds { HeedsOn D.calls self.old self.new }
         ensures resigns { self.new.core.resigns ≡ self.old.core.resigns }
         ensures site { self.new.core.site ≡ self.old.core.site }
+        ensures timed { OnOk result (IsTimedRun L.seen_tx L.seen_closed L.seen_rx self.old → IsTimedRun L.seen_tx L.seen_closed L.seen_rx self.new) }
     {
         for _ in rt.forever() {
             self.do_events(rt)?;
@@ -88,6 +93,7 @@ impl<L: Lane, D: Diner> Running<L, D> {
         ensures heeds { HeedsOn D.calls self.old self.new }
         ensures resigns { self.new.core.resigns ≡ self.old.core.resigns }
         ensures site { self.new.core.site ≡ self.old.core.site }
+        ensures timed { OnOk result (IsTimedRun L.seen_tx L.seen_closed L.seen_rx self.old → IsTimedRun L.seen_tx L.seen_closed L.seen_rx self.new) }
     {
         for _ in rt.forever() {
             match self.core.next_event() {
@@ -110,6 +116,7 @@ impl<L: Lane, D: Diner> Running<L, D> {
         ensures heeds { HeedsOn D.calls self.old self.new }
         ensures resigns { self.new.core.resigns ≡ self.old.core.resigns }
         ensures site { self.new.core.site ≡ self.old.core.site }
+        ensures timed { OnOk result (IsTimedRun L.seen_tx L.seen_closed L.seen_rx self.old → IsTimedRun L.seen_tx L.seen_closed L.seen_rx self.new) }
     {
         self.make_room(if kind == EventKind::Begin { 2 } else { 1 })?;
         self.perform(rt, kind)
@@ -124,6 +131,7 @@ impl<L: Lane, D: Diner> Running<L, D> {
         ensures core { self.new.core ≡ self.old.core }
         ensures bell { self.new.bell ≡ self.old.bell }
         ensures same { SameMeals self.old self.new }
+        ensures timed { IsTimedRun L.seen_tx L.seen_closed L.seen_rx self.old → IsTimedRun L.seen_tx L.seen_closed L.seen_rx self.new }
     {
         match self.journal.reserve(entries) {
             Ok(()) => Ok(()),
@@ -148,27 +156,32 @@ impl<L: Lane, D: Diner> Running<L, D> {
         ensures heeds { HeedsOn D.calls self.old self.new }
         ensures resigns { self.new.core.resigns ≡ self.old.core.resigns }
         ensures site { self.new.core.site ≡ self.old.core.site }
+        ensures timed { OnOk result (IsTimedRun L.seen_tx L.seen_closed L.seen_rx self.old → IsTimedRun L.seen_tx L.seen_closed L.seen_rx self.new) }
     {
         laws::journals_grow_by_each_event();
         match kind {
             EventKind::Give(i) => {
                 let letter = self.core.give(i);
                 self.journal.push_reserved(EventKind::Give(i));
+                self.clock = self.clock.after(&EventKind::Give(i), &Stamp::first());
                 self.put(rt, i, letter)
             }
             EventKind::Ask(i) => {
                 let letter = self.core.ask(i);
                 self.journal.push_reserved(EventKind::Ask(i));
+                self.clock = self.clock.after(&EventKind::Ask(i), &Stamp::first());
                 self.put(rt, i, letter)
             }
             EventKind::Done(i) => {
                 let letter = self.core.done(i);
                 self.journal.push_reserved(EventKind::Done(i));
+                self.clock = self.clock.after(&EventKind::Done(i), &Stamp::first());
                 self.put(rt, i, letter)
             }
             EventKind::Close(i) => {
                 let _ = self.core.close(i);
                 self.journal.push_reserved(EventKind::Close(i));
+                self.clock = self.clock.after(&EventKind::Close(i), &Stamp::first());
                 self.close(rt, i)
             }
             EventKind::Begin => {
@@ -178,11 +191,13 @@ impl<L: Lane, D: Diner> Running<L, D> {
             EventKind::Hungry => {
                 self.core.hungry();
                 self.journal.push_reserved(EventKind::Hungry);
+                self.clock = self.clock.after(&EventKind::Hungry, &Stamp::first());
                 Ok(())
             }
             EventKind::Quit => {
                 self.core.quit();
                 self.journal.push_reserved(EventKind::Quit);
+                self.clock = self.clock.after(&EventKind::Quit, &Stamp::first());
                 Ok(())
             }
             EventKind::End | EventKind::Take(_) => unreachable!(),
@@ -202,14 +217,17 @@ impl<L: Lane, D: Diner> Running<L, D> {
         ensures heeds { HeedsOn D.calls self.old self.new }
         ensures resigns { self.new.core.resigns ≡ self.old.core.resigns }
         ensures site { self.new.core.site ≡ self.old.core.site }
+        ensures timed { IsTimedRun L.seen_tx L.seen_closed L.seen_rx self.old → IsTimedRun L.seen_tx L.seen_closed L.seen_rx self.new }
     {
         laws::journals_grow_by_each_event();
         let meal = self.core.begin();
         self.journal.push_reserved(EventKind::Begin);
+        self.clock = self.clock.after(&EventKind::Begin, &Stamp::first());
         let ok = self.diner.eat(meal.k(), &meal).is_ok();
         self.failed += u32::from(!ok);
         self.core.end(meal, !ok);
         self.journal.push_reserved(EventKind::End);
+        self.clock = self.clock.after(&EventKind::End, &Stamp::first());
     }
 
     // Puts a letter other than Close, and rings.
@@ -218,9 +236,11 @@ impl<L: Lane, D: Diner> Running<L, D> {
         requires letter { is_close letter ≡ false }
         ensures way { Leads (IsPutting i letter) (GoesOn result) (seen_run L.seen_tx L.seen_closed L.seen_rx self.old) (seen_run L.seen_tx L.seen_closed L.seen_rx self.new) }
         ensures same { SameMeals self.old self.new }
+        ensures timed { OnOk result (IsTimedBut L.seen_tx L.seen_closed L.seen_rx i self.old → IsTimedRun L.seen_tx L.seen_closed L.seen_rx self.new) }
     {
         laws::few_letters_are_put();
-        match self.ports[i as usize].put(rt, letter) {
+        let stamp = self.clock.last();
+        match self.ports[i as usize].put(rt, letter, stamp) {
             Sent::Heard => Ok(()),
             Sent::Unheard => Err(self.lost_bell()),
             Sent::Refused(letter) => Err(Stop {
@@ -235,9 +255,11 @@ impl<L: Lane, D: Diner> Running<L, D> {
         requires putting { ForSome (IsPutting i Letter.Close) (seen_run L.seen_tx L.seen_closed L.seen_rx self.old) }
         ensures way { Leads (IsPutting i Letter.Close) (GoesOn result) (seen_run L.seen_tx L.seen_closed L.seen_rx self.old) (seen_run L.seen_tx L.seen_closed L.seen_rx self.new) }
         ensures same { SameMeals self.old self.new }
+        ensures timed { OnOk result (IsTimedBut L.seen_tx L.seen_closed L.seen_rx i self.old → IsTimedRun L.seen_tx L.seen_closed L.seen_rx self.new) }
     {
         laws::few_letters_are_put();
-        match close_at(rt, &mut self.ports, i as usize) {
+        let stamp = self.clock.last();
+        match close_at(rt, &mut self.ports, i as usize, stamp) {
             Closed::Heard => Ok(()),
             Closed::Unheard => Err(self.lost_bell()),
             Closed::Refused => Err(Stop {
@@ -271,6 +293,7 @@ impl<L: Lane, D: Diner> Running<L, D> {
         requires quiet { IsNext None self.old.core }
         ensures way { Leads IsRunning (GoesOn result) (seen_run L.seen_tx L.seen_closed L.seen_rx self.old) (seen_run L.seen_tx L.seen_closed L.seen_rx self.new) }
         ensures same { SameMeals self.old self.new }
+        ensures timed { OnOk result (IsTimedRun L.seen_tx L.seen_closed L.seen_rx self.old → IsTimedRun L.seen_tx L.seen_closed L.seen_rx self.new) }
     {
         let wants = self.wants();
         match self.bell.wait_for(rt, wants) {
@@ -288,6 +311,7 @@ impl<L: Lane, D: Diner> Running<L, D> {
         requires quiet { IsNext None self.old.core }
         ensures way { Leads IsRunning (GoesOn result) (seen_run L.seen_tx L.seen_closed L.seen_rx self.old) (seen_run L.seen_tx L.seen_closed L.seen_rx self.new) }
         ensures same { SameMeals self.old self.new }
+        ensures timed { OnOk result (IsTimedRun L.seen_tx L.seen_closed L.seen_rx self.old → IsTimedRun L.seen_tx L.seen_closed L.seen_rx self.new) }
     {
         self.make_room(1)?;
         self.take_noted(rt, i)
@@ -302,13 +326,15 @@ impl<L: Lane, D: Diner> Running<L, D> {
         requires room { vec_len self.old.journal < vec_capacity self.old.journal }
         ensures way { Leads IsRunning (GoesOn result) (seen_run L.seen_tx L.seen_closed L.seen_rx self.old) (seen_run L.seen_tx L.seen_closed L.seen_rx self.new) }
         ensures same { SameMeals self.old self.new }
+        ensures timed { OnOk result (IsTimedRun L.seen_tx L.seen_closed L.seen_rx self.old → IsTimedRun L.seen_tx L.seen_closed L.seen_rx self.new) }
     {
         laws::few_letters_are_taken();
         laws::journals_grow_by_each_event();
         match self.ports[i as usize].take(rt) {
-            Ok(letter) => match self.core.take(i, letter) {
+            Ok((letter, stamp)) => match self.core.take(i, letter) {
                 Ok(()) => {
                     self.journal.push_reserved(EventKind::Take(i));
+                    self.clock = self.clock.after(&EventKind::Take(i), &stamp);
                     Ok(())
                 }
                 Err((letter, breach)) => Err(Stop {
@@ -349,7 +375,7 @@ impl<L: Lane, D: Diner> Running<L, D> {
         let Some(_) = self.core.break_off(i) else {
             return;
         };
-        let _ = close_at(rt, &mut self.ports, i as usize);
+        let _ = close_at(rt, &mut self.ports, i as usize, Stamp::first());
     }
 
     // What the site leaves.
@@ -369,7 +395,10 @@ impl<L: Lane, D: Diner> Running<L, D> {
         ensures ate { result.ate ≡ self.core.ate }
         ensures failed { result.failed ≡ self.failed }
         ensures journal { result.journal.items ≡ self.journal.items }
+        ensures clock { result.clock.events ≡ self.clock.events }
+        ensures left { result.ports.items ≡ self.ports.items }
         ensures diner { result.diner ≡ self.diner }
+        ensures told { result.fault ≡ fault }
     {
         laws::letters_cut_short_are_in_order();
         let Running {
@@ -379,6 +408,7 @@ impl<L: Lane, D: Diner> Running<L, D> {
             diner,
             failed,
             journal,
+            clock,
         } = self;
         let site = core.site();
         let ate = core.ate();
@@ -391,6 +421,7 @@ impl<L: Lane, D: Diner> Running<L, D> {
             forks: parts.forks,
             tokens: parts.tokens,
             journal,
+            clock,
             ports,
             bell,
             stray,
@@ -400,15 +431,15 @@ impl<L: Lane, D: Diner> Running<L, D> {
 }
 
 // Puts Close at place i, where the end is live, and rings. Where the link refuses it, the end stays live.
-fn close_at<R: Wait, L: Lane>(rt: &R, ports: &mut Vec<Port<L>>, i: usize) -> Closed
+fn close_at<R: Wait, L: Lane>(rt: &R, ports: &mut Vec<Port<L>>, i: usize, stamp: Stamp) -> Closed
     requires place { i < vec_len ports.old }
     requires live { IfSome (slice_get (seen_ports L.seen_tx L.seen_closed L.seen_rx ports.old.items) i) (λ port. port.is_live ≡ true) }
     requires room { IfSome (slice_get (seen_ports L.seen_tx L.seen_closed L.seen_rx ports.old.items) i) (λ port. length port.tx.letters < 2 ^ 61) }
     ensures count { vec_len ports.new ≡ vec_len ports.old }
-    ensures closed { ChangesAt i (λ old new. SendsClose old new result) (seen_ports L.seen_tx L.seen_closed L.seen_rx ports.old.items) (seen_ports L.seen_tx L.seen_closed L.seen_rx ports.new.items) }
+    ensures closed { ChangesAt i (λ old new. SendsClose stamp.at old new result) (seen_ports L.seen_tx L.seen_closed L.seen_rx ports.old.items) (seen_ports L.seen_tx L.seen_closed L.seen_rx ports.new.items) }
 {
     // The last port stands in for this one until it comes back: an end has to be owned to be closed.
-    let (port, closed) = ports.swap_remove(i).close(rt);
+    let (port, closed) = ports.swap_remove(i).close(rt, stamp);
     let last = ports.len();
     ports.push_reserved(port);
     ports.swap(i, last);

@@ -57,7 +57,7 @@ use Rattle.dine_threads.proofs.lists.Writes.{same_spot}
 -- ---- forks in slots
 
 -- something is there, or nothing
-there_or_none : {X : Type 0} (o : Option X) → (o ≡ None) ⊎ ((x : X) × (o ≡ Some x))
+pub there_or_none : {X : Type 0} (o : Option X) → (o ≡ None) ⊎ ((x : X) × (o ≡ Some x))
 there_or_none None = inl refl
 there_or_none (Some x) = inr (x, refl)
 
@@ -300,7 +300,7 @@ module _ {Lane Tx Closed Rx Identity D : Type 0} {live : Tx → SeenEnd Identity
   left_by s = (state_left s).1
 
   -- the port of a site at a place
-  stands_at : (spot : Spot) (port : SeenPort Identity) (end : SiteEnd Lane D Tx Closed Rx) → slice_get ends spot.site ≡ Some end → port_at (rows_left live shut taking ends) spot ≡ Some port
+  pub stands_at : (spot : Spot) (port : SeenPort Identity) (end : SiteEnd Lane D Tx Closed Rx) → slice_get ends spot.site ≡ Some end → port_at (rows_left live shut taking ends) spot ≡ Some port
       → slice_get (seen_ports live shut taking end.ports.items) spot.at ≡ Some port
   stands_at spot port end at is = sym (ap (λ row. slice_get row spot.at) (row_of (λ (e : SiteEnd Lane D Tx Closed Rx). seen_ports live shut taking e.ports.items) ends spot.site end at)) ∙ is
 
@@ -328,7 +328,7 @@ module _ {Lane Tx Closed Rx Identity D : Type 0} {live : Tx → SeenEnd Identity
   spot_across s i = record { site = neighbour_at plan s i; at = place_of plan (neighbour_at plan s i) (edge_at plan s i) }
 
   -- The ports at a place and at its other end, with their two links, each taken in order.
-  record ArePortsAt (s i : ℕ) : Type 0 where
+  pub record ArePortsAt (s i : ℕ) : Type 0 where
     pub near : SeenPort Identity
     pub far : SeenPort Identity
     pub at_near : port_at (rows_left live shut taking ends) (record { site = s; at = i }) ≡ Some near
@@ -337,7 +337,7 @@ module _ {Lane Tx Closed Rx Identity D : Type 0} {live : Tx → SeenEnd Identity
     pub goes : IsTakenInOrder (link_of near.tx far.rx)
     pub has : links_of plan links s i ≡ on_links near
 
-  ports_at : (s i : ℕ) → i < length (edges_of plan s) → ArePortsAt s i
+  pub ports_at : (s i : ℕ) → i < length (edges_of plan s) → ArePortsAt s i
   ports_at s i inside =
       let edge = edge_at plan s i in
       let p = placed plan s i all.is_plan inside in

@@ -39,6 +39,7 @@ use Rattle.dine_site.specs.Ports.{SeenPort, SameLinks, seen_port, seen_ports}
 use Rattle.dine_threads.specs.private.Seats.{AreSeatsOf, IsReady, LeavesSeat, seat_of, seen_site_end}
 use Rattle.dine_site.specs.Endings.{OnLinks, breached_at, hands_back}
 use Rattle.dine_site.specs.SiteEnds.{IsLeft}
+use Rattle.dine_site.specs.Times.{IsTimed, none_late}
 use Rattle.dine_threads.specs.private.Setups.{IsSetUp, rows_of_seats}
 use Rattle.dine_threads.specs.private.Spots.{low_spot, high_spot}
 use Rattle.dine_threads.specs.private.Wirings.{AreWired, port_at}
@@ -138,6 +139,7 @@ module _ {Lane Tx Closed Rx Identity D : Type 0} {live : Tx → SeenEnd Identity
     pub at : slice_get seats s ≡ Some seat
     pub left : IsLeft plan s (seen_ports live shut taking seat.ports.items) (seen_site_end live shut taking end)
     pub eaten : HasEaten calls marks fits end.ate end.failed seat.diner end.diner
+    pub timed : end.fault ≡ None → IsTimed none_late end.clock.events end.journal.items (seen_ports live shut taking end.ports.items)
     pub heeds : HeedsFailures (resigns plan s) end.journal.items (calls seat.diner) (calls end.diner)
     pub degree : length end.ports.items ≡ length (edges_of plan s)
 
@@ -154,13 +156,14 @@ module _ {Lane Tx Closed Rx Identity D : Type 0} {live : Tx → SeenEnd Identity
         at = pair.1;
         left = left;
         eaten = pair.2.eaten;
+        timed = pair.2.timed;
         heeds = subst (λ (does : Bool). HeedsFailures does end.journal.items (calls seat.diner) (calls end.diner)) (here.0.stands.resigns ∙ ap (resigns plan) here.1) pair.2.heeds;
         degree =
             sym (length-map end.ports.items (seen_port live shut taking)) ∙ left.count ∙ length-map seat.ports.items (seen_port live shut taking)
             ∙ ready_here.ports ∙ here.0.stands.degree ∙ length-map (edges_of plan seat.packed.site) (λ edge. no_traffic) ∙ ap (λ n. length (edges_of plan n)) here.1;
       }
 
-  ends_count : length ends ≡ site_count plan
+  pub ends_count : length ends ≡ site_count plan
   ends_count = AllZip-long (LeavesSeat live shut taking calls marks fits) seats ends all.left ∙ all.count
 
   -- each site of the plan left something

@@ -39,7 +39,7 @@ use Rattle.dine_site.specs.Ports.{SeenPort, seen_port, seen_ports}
 use Rattle.dine_threads.specs.private.Spots.{low_spot, high_spot}
 use Rattle.dine_threads.specs.private.Wirings.{AreWired, port_at}
 use Rattle.dine_threads.proofs.all_sites.Collected.{length-laid}
-use Rattle.dine_threads.proofs.all_sites.Gatherings.{AreAllLeft, end_for, end_of, forks_each, forks_of_all, left_at, put_at, row_of, taken_at}
+use Rattle.dine_threads.proofs.all_sites.Gatherings.{AreAllLeft, end_for, end_of, ends_count, forks_each, forks_of_all, left_at, put_at, row_of, taken_at}
 use Rattle.dine_site.proofs.one_site.Letters.{same_traffic}
 use Rattle.dine_threads.proofs.all_sites.Laid.{IsFilled, IsIn, IsOnly, found_edges, found_get, in_first, in_here, in_second, in_where, laid_puts}
 use Rattle.dine_site.proofs.lists.Seen.{there_is}
@@ -190,6 +190,14 @@ module _ {Lane Tx Closed Rx Identity D : Type 0} {live : Tx → SeenEnd Identity
       get_or_from_slice_get _ s end.0.journal.items [] (slice_get-map (λ (out : SiteOut D). out.journal.items) (map out_of ends) s ∙ ap (option_map (λ (out : SiteOut D). out.journal.items)) (slice_get-map out_of ends s ∙ ap (option_map out_of) end.1)) in
       subst (λ (kinds : List EventKind). HasActed plan s kinds (state_left plan ates links s)) (sym journal)
       (subst (HasActed plan s end.0.journal.items) (state_is s end.0 end.1) did)
+
+  -- there is one journal for each site
+  pub journals_count : length (map (λ (out : SiteOut D). out.journal.items) (map out_of ends)) ≡ site_count plan
+  journals_count = length-map (map out_of ends) (λ (out : SiteOut D). out.journal.items) ∙ length-map ends out_of ∙ ends_count all
+
+  -- no site ate more often than it has jobs
+  pub ate_few : (s : ℕ) → s < site_count plan → ate_of plan ates links s ≤ job_count plan s
+  ate_few s is_site = let end = end_of all s is_site in omega (arith, (left_at all s end.0 end.1).left.ended.keeps.ate_within, ate_is s end.0 end.1)
 
   module _ (fork_law : (plan : SeenPlan) (s i : ℕ) (state : LocalState) → KeepsStreams plan s state → i < length (edges_of plan s) → AccountsForFork plan s (edge_at plan s i) state.ate (traffic_at state i))
       (token_law : (plan : SeenPlan) (s i : ℕ) (state : LocalState) → IsPlan plan → KeepsStreams plan s state → i < length (edges_of plan s) → AccountsForToken plan s (edge_at plan s i) (traffic_at state i))

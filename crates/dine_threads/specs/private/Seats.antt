@@ -1,5 +1,5 @@
 -- What moves into the thread of a site, and what the thread leaves.
-use Rattle.std.specs.Prelude.{◌≡◌, ℕ, ◌≤◌, Bool, false, List, All, length, slice_get, Some}
+use Rattle.std.specs.Prelude.{◌≡◌, ℕ, ◌≤◌, Bool, false, List, All, length, slice_get, Some, None}
 use Rattle.dine_graph.specs.Plan.{SeenPlan}
 use Rattle.std.specs.declared.thread.PromisedHandle.{PromisedHandle}
 use Rattle.dine_core.specs.Standing.{IsFresh, IsFreshFor}
@@ -10,6 +10,7 @@ use Rattle.dine_threads.specs.declared.seats.Seat.{Seat}
 use Rattle.dine_site.specs.declared.site_end.SiteEnd.{SiteEnd}
 use Rattle.dine_site.specs.Diners.{HasEaten, HeedsFailures}
 use Rattle.dine_site.specs.Ports.{IsFreshPort, seen_ports}
+use Rattle.dine_site.specs.Times.{IsTimed, none_late}
 use Rattle.dine_site.specs.SiteEnds.{SeenSiteEnd, IsLeft}
 
 -- the seat that a thread was given
@@ -45,6 +46,7 @@ module _ {Lane Tx Closed Rx Identity D : Type 0} (live : Tx → SeenEnd Identity
   pub record LeavesSeat (calls : D → List Call) (marks : D → List Bool) (fits : List Bool → ℕ → Bool → Bool) (seat : Seat Lane D Tx Closed Rx) (end : SiteEnd Lane D Tx Closed Rx) : Type 0 where
     pub left : (plan : SeenPlan) → IsFreshFor plan seat.packed → IsLeft plan seat.packed.site (seen_ports live shut taking seat.ports.items) (seen_site_end end)
     pub eaten : HasEaten calls marks fits end.ate end.failed seat.diner end.diner
+    pub timed : end.fault ≡ None → IsTimed none_late end.clock.events end.journal.items (seen_ports live shut taking end.ports.items)
     pub heeds : HeedsFailures seat.packed.resigns end.journal.items (calls seat.diner) (calls end.diner)
 
 -- each site in order has a core that is fresh for the plan

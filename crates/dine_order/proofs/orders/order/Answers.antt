@@ -1,6 +1,7 @@
 use Rattle.std.proofs.Common.{sym, ◌∙◌}
 use Rattle.std.proofs.lemmas.List.{length-map}
-use Rattle.dine_order.specs.Orders.{OrderFaultIs, lists_in, plan_shown}
+use Rattle.dine_rules.specs.Shown.{plan_shown}
+use Rattle.dine_order.specs.Orders.{OrderFaultIs, lists_in}
 use Rattle.dine_order.proofs.Answering.{memory_told}
 use Rattle.dine_order.proofs.Shown.{counted_too, sites_shown}
 use Rattle.dine_order.proofs.orders.order.Goals as goal

@@ -1,8 +1,10 @@
 use Rattle.std.proofs.Common.{◌≡◌, ℕ, Bool, ◌||◌, length, refl, sym, ◌∙◌, ap, ap₂, subst, arith}
 use Rattle.std.specs.Prelude.{nat_lt}
 use Rattle.std.proofs.lemmas.List.{length-map}
-use Rattle.dine_site.specs.Ports.{seen_port, seen_ports}
-use Rattle.dine_site.specs.Running.{IsHeeding, IsRunning, seen_run}
+use Rattle.std.proofs.lemmas.Option.{get_or_from_slice_get, slice_get_within}
+use Rattle.dine_site.proofs.one_site.Times.{starts}
+use Rattle.dine_site.specs.Ports.{IsFreshPort, seen_port, seen_ports}
+use Rattle.dine_site.specs.Running.{IsHeeding, IsRunning, IsTimedRun, seen_run}
 use Rattle.dine_site.specs.declared.site_loop.running.Running.{Running}
 use Rattle.dine_site.specs.SiteEnds.{IsSiteEnd}
 use Rattle.dine_site.proofs.one_site.Meals.{eaten_nothing, eaten_same}
@@ -130,3 +132,11 @@ returns-in-Err-clause-heeds g c =
     let heeds = heeds_end core.resigns core.must_quit core.has_quit (nat_lt core.ate core.due) c.break_off.new.self.journal.items first (calls c.break_off.new.self.diner) heeding told in
     heeds_as core.resigns c.args.core.resigns c.break_off.new.self.journal.items c.end-in-Err.result.journal.items first (calls c.break_off.new.self.diner) (calls c.end-in-Err.result.diner)
     (sym (same.resigns ∙ c.work.ensures.resigns ∙ ap (λ (site : Running _ _ _ _ _). site.core.resigns) c.new-site.ensures)) c.end-in-Err.ensures.journal (ap calls c.end-in-Err.ensures.diner) heeds
+
+pub returns-in-Ok-clause-timed : goal.returns-in-Ok-clause-timed
+returns-in-Ok-clause-timed g c = λ none.
+    let ports = seen_ports g.L.Lane.seen_tx g.L.Lane.seen_closed g.L.Lane.seen_rx c.args.ports.items in
+    let begun : IsTimedRun g.L.Lane.seen_tx g.L.Lane.seen_closed g.L.Lane.seen_rx c.new-site.result = subst (λ (site : Running _ _ _ _ _). IsTimedRun g.L.Lane.seen_tx g.L.Lane.seen_closed g.L.Lane.seen_rx site) (sym c.new-site.ensures)
+    (starts c.start.result.events c.new.result.items ports c.start.ensures c.new.ensures.items
+    (λ i port at. subst IsFreshPort (get_or_from_slice_get ports i port port at) (c.requires.unused i port (slice_get_within ports i port at)))) in
+    rw (c.end.ensures.clock, c.end.ensures.journal, c.end.ensures.left) (c.in-Ok.ensures.timed begun)

@@ -74,8 +74,8 @@ loop-pair-preserved g c =
           ∙ sym (links_left-push live shut taking c.loop-pair.yielded c.in-Some.pair);
       in_order =
           all_two_more IsTakenInOrder old mid new c.reconcile.result c.reconcile-in-loop-pair.result c.push_reserved.ensures.items c.push_reserved-in-loop-pair.ensures.items was.in_order
-          (record { prefix = goes.prefix; nothing_after_close = goes.close_last })
-          (record { prefix = comes.prefix; nothing_after_close = comes.close_last });
+          (record { prefix = goes.prefix; nothing_after_close = goes.close_last; moments = goes.moments })
+          (record { prefix = comes.prefix; nothing_after_close = comes.close_last; moments = comes.moments });
       whole =
           all_two_more IsTakenToClose old mid new c.reconcile.result c.reconcile-in-loop-pair.result c.push_reserved.ensures.items c.push_reserved-in-loop-pair.ensures.items was.whole
           (λ closed. goes.whole (sym (ap (λ (l : SeenLink). has_close l.taken) goes.lists) ∙ closed))

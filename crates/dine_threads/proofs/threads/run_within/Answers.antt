@@ -6,11 +6,14 @@ use Rattle.dine_threads.specs.Brokens.{AllClosedEarly, AreStatesLeft}
 use Rattle.dine_threads.specs.private.Collecting.{out_of, rows_left}
 use Rattle.dine_threads.specs.Gathered.{AreFinishedOuts, AreOutsOf, IsClosedWhole, IsLowestFault}
 use Rattle.dine_threads.specs.Headline.{AllJoined, AreTokensOf, IsHeadline}
-use Rattle.dine_threads.specs.Journals.{HaveActed}
+use Rattle.dine_threads.specs.Journals.{HaveActed, HaveOrder}
 use Rattle.dine_threads.specs.private.Wirings.{AreWired}
 use Rattle.dine_threads.proofs.all_sites.Brokens.{all_closed_early, all_joined, states_left}
 use Rattle.dine_threads.proofs.all_sites.Gatherings.{AreAllLeft, left_of_children, ends_are_whole, still_wired, links_by_edge, links_are_whole, outs_are_finished, outs_of_diners, none_found, lowest_found}
-use Rattle.dine_threads.proofs.all_sites.Headlines.{headline, all_acted, tokens_stand}
+use Rattle.dine_threads.proofs.all_sites.Headlines.{headline, all_acted, ate_few, journals_count, tokens_stand}
+use Rattle.dine_threads.proofs.all_sites.Ordered.{order_of_run}
+use Rattle.dine_rules.specs.Timed.{AreTimed}
+use Rattle.dine_threads.proofs.all_sites.Timings.{all_timed}
 use Rattle.dine_threads.proofs.threads.run_within.Goals as goal
 
 pub collect-forks-requires-clause-whole : goal.collect-forks-requires-clause-whole
@@ -38,8 +41,10 @@ wired g c = still_wired (ended_well g c) c.in-Ok.ensures.wired
 closed : (g : _) (c : goal.After-drop-gate-in-None g) → All IsClosedWhole (vec_items c.collect-forks.result.2)
 closed g c = links_are_whole (ended_well g c) (no_fault g c) (vec_items c.collect-forks.result.2) c.collect-forks.ensures.links (wired g c) c.collect-forks.ensures.whole
 
-pub returns-in-None-clause-headline : goal.returns-in-None-clause-headline
-returns-in-None-clause-headline g c =
+-- the headline, by the ends that the sites left
+headline_left : (g : _) (c : goal.After-drop-gate-in-None g)
+    → IsHeadline c.args.plan.now (map (λ (out : SiteOut _). out.ate) (map out_of (vec_items c.join_all.new.ends))) (vec_items c.collect-forks.result.2) (vec_items c.collect-forks.result.0)
+headline_left g c =
     let left = ended_well g c in
     let accounts = c.kept_streams_account_for_fork_and_token.ensures in
     let whole = c.joined_ends_have_one_whole_fork_and_one_token.ensures in
@@ -47,8 +52,11 @@ returns-in-None-clause-headline g c =
     let links = vec_items c.collect-forks.result.2 in
     let joined = all_joined left links c.collect-forks.ensures.links (wired g c) c.collect-forks.ensures.in_order (links_by_edge left links c.collect-forks.ensures.links (wired g c)) in
     let whole_run = headline left (no_fault g c) links c.collect-forks.ensures.links (wired g c) accounts.fork accounts.token whole.fork whole.token values.low values.high (closed g c) joined in
-    subst (λ (outs : List (SiteOut _)). IsHeadline c.args.plan.now (map (λ (out : SiteOut _). out.ate) outs) links (vec_items c.collect-forks.result.0)) (sym c.collect-forks.ensures.sites)
-    (subst (IsHeadline c.args.plan.now (map (λ (out : SiteOut _). out.ate) (map out_of (vec_items c.join_all.new.ends))) links) (sym c.collect-forks.ensures.forks) whole_run)
+    subst (IsHeadline c.args.plan.now (map (λ (out : SiteOut _). out.ate) (map out_of (vec_items c.join_all.new.ends))) links) (sym c.collect-forks.ensures.forks) whole_run
+
+pub returns-in-None-clause-headline : goal.returns-in-None-clause-headline
+returns-in-None-clause-headline g c =
+    subst (λ (outs : List (SiteOut _)). IsHeadline c.args.plan.now (map (λ (out : SiteOut _). out.ate) outs) (vec_items c.collect-forks.result.2) (vec_items c.collect-forks.result.0)) (sym c.collect-forks.ensures.sites) (headline_left g c)
 
 pub returns-in-None-clause-tokens : goal.returns-in-None-clause-tokens
 returns-in-None-clause-tokens g c =
@@ -99,6 +107,8 @@ returns-then-len-sites g c = record {
   finished = tt;
   headline = tt;
   journals = tt;
+  timed = tt;
+  ordered = tt;
   tokens = tt;
   sites = tt;
   fault = (c.len-then-len-sites.ensures, refl, λ same. omega (arith, same, c.if-len-sites.true, c.len.ensures, c.sites.ensures.count));
@@ -111,6 +121,8 @@ returns-in_default g c = record {
   finished = tt;
   headline = tt;
   journals = tt;
+  timed = tt;
+  ordered = tt;
   tokens = tt;
   sites = tt;
   fault = omega (arith, c.if-len-sites.false, c.len.ensures, c.sites.ensures.count);
@@ -123,6 +135,8 @@ returns-in-Some g c = record {
   finished = tt;
   headline = tt;
   journals = tt;
+  timed = tt;
+  ordered = tt;
   tokens = tt;
   sites = tt;
   fault = (omega (arith, c.if-len-sites.false, c.len.ensures, c.sites.ensures.count), omega (arith, rw c.in-Some.is at c.start_all-refused.ensures.some, c.in-Ok.ensures.count));
@@ -158,3 +172,26 @@ returns-clause-sites g c = tt
 
 pub returns-clause-limit : goal.returns-clause-limit
 returns-clause-limit g c few = omega (arith, few, rw c.in_default-refused.is at c.start_all-refused.ensures.all_within, c.in-Ok.ensures.count)
+
+pub returns-in-None-clause-timed : goal.returns-in-None-clause-timed
+returns-in-None-clause-timed g c =
+    let links = vec_items c.collect-forks.result.2 in
+    subst (λ (outs : List (SiteOut _)). AreTimed c.args.plan.now (map (λ (out : SiteOut _). out.journal.items) outs)) (sym c.collect-forks.ensures.sites)
+    (all_timed (ended_well g c) links c.collect-forks.ensures.links (wired g c) c.collect-forks.ensures.in_order (no_fault g c))
+
+pub returns-clause-timed : goal.returns-clause-timed
+returns-clause-timed g c = tt
+
+pub returns-in-None-clause-ordered : goal.returns-in-None-clause-ordered
+returns-in-None-clause-ordered g c =
+    let left = ended_well g c in
+    let links = vec_items c.collect-forks.result.2 in
+    let outs : List (SiteOut _) = map out_of (vec_items c.join_all.new.ends) in
+    let acted = all_acted left (no_fault g c) links c.collect-forks.ensures.links (wired g c) in
+    let times = all_timed left links c.collect-forks.ensures.links (wired g c) c.collect-forks.ensures.in_order (no_fault g c) in
+    subst (λ (outs : List (SiteOut _)). HaveOrder c.args.plan.now (map (λ (out : SiteOut _). out.journal.items) outs)) (sym c.collect-forks.ensures.sites)
+    (order_of_run c.args.plan.now (map (λ (out : SiteOut _). out.ate) outs) links left.is_plan (vec_items c.collect-forks.result.0) (headline_left g c) (map (λ (out : SiteOut _). out.journal.items) outs)
+    (λ s is_site. (acted s is_site).by_journal) (ate_few left (no_fault g c) links c.collect-forks.ensures.links (wired g c)) (journals_count left (no_fault g c) links c.collect-forks.ensures.links (wired g c)) times)
+
+pub returns-clause-ordered : goal.returns-clause-ordered
+returns-clause-ordered g c = tt

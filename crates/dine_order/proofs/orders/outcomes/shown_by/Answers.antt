@@ -6,7 +6,8 @@ use Rattle.dine_graph.specs.Plan.{job_count}
 use Rattle.dine_rules.specs.declared.events.EventKind.{EventKind}
 use Rattle.dine_rules.specs.Journals.{journal_of}
 use Rattle.dine_world.specs.Worlds.{lists_of}
-use Rattle.dine_order.specs.Orders.{lists_in, shown_in}
+use Rattle.dine_rules.specs.Shown.{shown_in}
+use Rattle.dine_order.specs.Orders.{lists_in}
 use Rattle.dine_order.proofs.orders.outcomes.shown_by.Goals as goal
 
 -- the journal that is read is that of the site

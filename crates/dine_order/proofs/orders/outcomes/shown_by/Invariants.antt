@@ -3,7 +3,8 @@ use Rattle.std.specs.List.{range_with_len}
 use Rattle.dine_graph.specs.Plan.{job_count, site_count}
 use Rattle.dine_rules.specs.Journals.{journal_of}
 use Rattle.dine_world.specs.Worlds.{lists_of}
-use Rattle.dine_order.specs.Orders.{lists_in, shown_in}
+use Rattle.dine_rules.specs.Shown.{shown_in}
+use Rattle.dine_order.specs.Orders.{lists_in}
 use Rattle.dine_order.proofs.orders.outcomes.shown_by.Given as goal
 
 -- what the journals of the sites so far show, and room for the others

@@ -1,6 +1,7 @@
 use Rattle.std.proofs.Common.{◌-◌, length}
 use Rattle.dine_rules.specs.Bound.{bound_of}
-use Rattle.dine_order.specs.Orders.{IsSearching, lists_in, plan_shown}
+use Rattle.dine_rules.specs.Shown.{plan_shown}
+use Rattle.dine_order.specs.Orders.{IsSearching, lists_in}
 use Rattle.dine_order.proofs.orders.placing.place_all.Given as goal
 
 abbrev pub invariant-loop-event : goal.invariant-loop-event

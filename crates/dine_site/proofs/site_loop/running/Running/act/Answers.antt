@@ -1,7 +1,10 @@
 use Rattle.std.proofs.Common.{◌≡◌, Result, Err, Some, true, sym, ◌∙◌, subst, rules}
 use Rattle.dine_core.specs.Core.{SeenCore}
 use Rattle.dine_core.specs.NextEvent.{can_by_itself}
-use Rattle.dine_site.specs.Running.{GoesOn, IsNext, seen_run}
+use Rattle.std.specs.Prelude.{OnOk}
+use Rattle.dine_site.specs.declared.site_loop.running.Stop.{Stop}
+use Rattle.dine_site.specs.Running.{GoesOn, IsNext, IsTimedRun, seen_run}
+use Rattle.dine_site.proofs.one_site.Times.{on_ok}
 use Rattle.dine_site.proofs.one_site.Same.{eats_same, heeds_same}
 use Rattle.dine_site.proofs.site_loop.running.Running.act.Goals as goal
 
@@ -17,6 +20,7 @@ returns-in_err-make_room g c =
       heeds = heeds_same c.args.self.now c.make_room.new.self had.same g.D.Diner.calls;
       resigns = had.same.resigns;
       site = had.same.site;
+      timed = subst (λ (result : Result (Unit {0}) Stop). OnOk result (IsTimedRun g.L.Lane.seen_tx g.L.Lane.seen_closed g.L.Lane.seen_rx c.args.self.now → IsTimedRun g.L.Lane.seen_tx g.L.Lane.seen_closed g.L.Lane.seen_rx c.make_room.new.self)) (sym is) tt;
     }
 
 pub perform-requires-clause-running : goal.perform-requires-clause-running
@@ -44,6 +48,7 @@ returns g c =
       heeds = λ first heeding. did.heeds first (heeds_same c.args.self.now c.make_room.new.self same g.D.Diner.calls first heeding);
       resigns = did.resigns ∙ same.resigns;
       site = did.site ∙ same.site;
+      timed = on_ok c.perform.result (λ goes timed. goes (c.make_room.ensures.timed timed)) did.timed;
     }
 
 pub perform-requires-clause-room_for_end : goal.perform-requires-clause-room_for_end

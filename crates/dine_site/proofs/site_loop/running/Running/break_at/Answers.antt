@@ -36,7 +36,7 @@ returns-clause-way g c stray cause plan given stopped =
     let there = there_is run.ports c.args.i within in
     let sent = of_there _ (slice_get run.ports c.args.i) there.0 there.1 c.close_at.ensures.closed in
     subst (λ (ps : List (SeenPort g.L.Lane.Identity)). IsStopped stray cause plan given (record { core = c.break_off.new.self; ports = ps; bell = run.bell; journal = run.journal })) (sym sent.2)
-    (break_sends plan given run stray cause stopped c.args.i c.break_off.new.self puts there.0 there.1 sent.0 c.close_at.result sent.1)
+    (break_sends plan given run stray cause stopped c.args.i c.break_off.new.self puts there.0 there.1 c.first.result.at sent.0 c.close_at.result sent.1)
 
 pub returns-clause-closed : goal.returns-clause-closed
 returns-clause-closed g c =

@@ -3,7 +3,7 @@ use Rattle.std.specs.Prelude.{OnOk}
 use Rattle.std.specs.List.{range_with_len}
 use Rattle.dine_core.specs.NextEvent.{can_by_itself, own_kinds}
 use Rattle.dine_site.specs.declared.site_loop.running.Stop.{Stop}
-use Rattle.dine_site.specs.Running.{GoesOn, IsNext, seen_run}
+use Rattle.dine_site.specs.Running.{GoesOn, IsNext, IsTimedRun, seen_run}
 use Rattle.dine_site.proofs.lists.Lists.{found_passes}
 use Rattle.dine_site.proofs.site_loop.running.Running.do_events.Goals as goal
 
@@ -23,6 +23,7 @@ loop-init g c = record {
   heeds = λ first heeding. heeding;
   resigns = refl;
   site = refl;
+  timed = λ timed. timed;
 }
 
 pub act-requires-clause-running : goal.act-requires-clause-running
@@ -47,12 +48,13 @@ returns-in_err-act-in-Some-next_event g c =
       heeds = λ first heeding. did.heeds first (was.heeds first heeding);
       resigns = did.resigns ∙ was.resigns;
       site = did.site ∙ was.site;
+      timed = subst (λ (result : Result (Unit {0}) Stop). OnOk result (IsTimedRun g.L.Lane.seen_tx g.L.Lane.seen_closed g.L.Lane.seen_rx c.args.self.now → IsTimedRun g.L.Lane.seen_tx g.L.Lane.seen_closed g.L.Lane.seen_rx c.act.new.self)) (sym is) tt;
     }
 
 pub returns-in-None-next_event : goal.returns-in-None-next_event
 returns-in-None-next_event g c =
     let was = c.loop.invariant in
-    record { way = was.way; ready = was.ready; quiet = λ plan state keeps stands. sym (c.in-None-next_event.ensures.by_lists plan state keeps stands); eats = was.eats; heeds = was.heeds; resigns = was.resigns; site = was.site }
+    record { way = was.way; ready = was.ready; quiet = λ plan state keeps stands. sym (c.in-None-next_event.ensures.by_lists plan state keeps stands); eats = was.eats; heeds = was.heeds; resigns = was.resigns; site = was.site; timed = was.timed }
 
 pub loop-preserved : goal.loop-preserved
 loop-preserved g c =
@@ -65,4 +67,5 @@ loop-preserved g c =
       heeds = λ first heeding. did.heeds first (was.heeds first heeding);
       resigns = did.resigns ∙ was.resigns;
       site = did.site ∙ was.site;
+      timed = λ timed. c.in_ok-act-in-Some-next_event.ensures.timed (was.timed timed);
     }

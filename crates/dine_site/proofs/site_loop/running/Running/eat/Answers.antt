@@ -1,7 +1,11 @@
 use mir.Val.{bool_byte}
-use Rattle.std.proofs.Common.{◌≡◌, Bool, true, false, not, ◌&&◌, ◌||◌, ◌+◌, ℕ, refl, sym, ◌∙◌, ap, subst}
+use Rattle.std.proofs.Common.{◌≡◌, Bool, true, false, not, ◌&&◌, ◌||◌, ◌+◌, ℕ, refl, sym, ◌∙◌, ap, subst, arith}
+use Rattle.dine_rules.specs.declared.events.EventKind.TheVariants as event
+use Rattle.dine_site.specs.Ports.{seen_ports}
 use Rattle.std.proofs.lemmas.Bool.{and_parts}
 use Rattle.std.specs.Prelude.{nat_lt}
+use Rattle.dine_clock.specs.Moments.{last_moment}
+use Rattle.dine_site.proofs.one_site.Times.{alone}
 use Rattle.dine_site.specs.Running.{SeenRun, IsHeeding, seen_run}
 use Rattle.dine_core.specs.Core.{SeenCore}
 use Rattle.dine_core.specs.Places.{begun, drops_jobs, ended}
@@ -46,3 +50,9 @@ returns-clause-resigns g c = ap (λ (core : SeenCore). core.resigns) c.end.ensur
 
 pub returns-clause-site : goal.returns-clause-site
 returns-clause-site g c = ap (λ (core : SeenCore). core.site) c.end.ensures.core ∙ ap (λ (core : SeenCore). core.site) c.begin-meal.ensures.core
+
+pub returns-clause-timed : goal.returns-clause-timed
+returns-clause-timed g c = λ timed.
+    let ports = seen_ports g.L.Lane.seen_tx g.L.Lane.seen_closed g.L.Lane.seen_rx c.args.self.now.ports.items in
+    let first = alone c.args.self.now.clock.events c.args.self.now.journal.items ports event.Begin (last_moment c.args.self.now.clock.events + c.first.result.at + 1) (omega arith) timed c.push_reserved.new.self.items c.push_reserved.ensures.items c.after-self.result.events c.after-self.ensures refl in
+    alone c.after-self.result.events c.push_reserved.new.self.items ports event.End (last_moment c.after-self.result.events + c.first-2.result.at + 1) (omega arith) first c.push_reserved-2.new.self.items c.push_reserved-2.ensures.items c.after-self-2.result.events c.after-self-2.ensures refl

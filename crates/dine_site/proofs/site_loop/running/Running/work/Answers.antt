@@ -1,5 +1,7 @@
 use Rattle.std.proofs.Common.{◌≡◌, Result, Err, refl, sym, ◌∙◌, subst, rules}
-use Rattle.dine_site.specs.Running.{GoesToEnd, seen_run}
+use Rattle.std.specs.Prelude.{OnOk}
+use Rattle.dine_site.specs.declared.site_loop.running.Stop.{Stop}
+use Rattle.dine_site.specs.Running.{GoesToEnd, IsTimedRun, seen_run}
 use Rattle.dine_site.proofs.one_site.Same.{ready_same, eats_same, heeds_same}
 use Rattle.dine_site.proofs.site_loop.running.Running.work.Goals as goal
 
@@ -11,6 +13,7 @@ loop-init g c = record {
   heeds = λ first heeding. heeding;
   resigns = refl;
   site = refl;
+  timed = λ timed. timed;
 }
 
 pub do_events-requires-clause-running : goal.do_events-requires-clause-running
@@ -33,6 +36,7 @@ returns-in_err-do_events g c =
       heeds = λ first heeding. did.heeds first (was.heeds first heeding);
       resigns = did.resigns ∙ was.resigns;
       site = did.site ∙ was.site;
+      timed = subst (λ (result : Result (Unit {0}) Stop). OnOk result (IsTimedRun g.L.Lane.seen_tx g.L.Lane.seen_closed g.L.Lane.seen_rx c.args.self.now → IsTimedRun g.L.Lane.seen_tx g.L.Lane.seen_closed g.L.Lane.seen_rx c.do_events.new.self)) (sym is) tt;
     }
 
 pub returns-then-is_finished : goal.returns-then-is_finished
@@ -45,6 +49,7 @@ returns-then-is_finished g c =
       heeds = λ first heeding. did.heeds first (was.heeds first heeding);
       resigns = did.resigns ∙ was.resigns;
       site = did.site ∙ was.site;
+      timed = λ timed. c.in_ok-do_events.ensures.timed (was.timed timed);
     }
 
 pub hear-requires-clause-running : goal.hear-requires-clause-running
@@ -72,6 +77,7 @@ returns-in_err-hear g c =
       heeds = λ first heeding. heeds_same c.do_events.new.self c.hear.new.self same g.D.Diner.calls first (did.heeds first (was.heeds first heeding));
       resigns = same.resigns ∙ did.resigns ∙ was.resigns;
       site = same.site ∙ did.site ∙ was.site;
+      timed = subst (λ (result : Result (Unit {0}) Stop). OnOk result (IsTimedRun g.L.Lane.seen_tx g.L.Lane.seen_closed g.L.Lane.seen_rx c.args.self.now → IsTimedRun g.L.Lane.seen_tx g.L.Lane.seen_closed g.L.Lane.seen_rx c.hear.new.self)) (sym is) tt;
     }
 
 pub loop-preserved : goal.loop-preserved
@@ -86,4 +92,5 @@ loop-preserved g c =
       heeds = λ first heeding. heeds_same c.do_events.new.self c.hear.new.self same g.D.Diner.calls first (did.heeds first (was.heeds first heeding));
       resigns = same.resigns ∙ did.resigns ∙ was.resigns;
       site = same.site ∙ did.site ∙ was.site;
+      timed = λ timed. c.in_ok-hear.ensures.timed (c.in_ok-do_events.ensures.timed (was.timed timed));
     }

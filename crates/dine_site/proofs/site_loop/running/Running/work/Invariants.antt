@@ -1,5 +1,5 @@
 use Rattle.std.proofs.Common.{◌≡◌}
-use Rattle.dine_site.specs.Running.{EatsOn, HeedsOn, IsReady, IsRunning, Leads, seen_run}
+use Rattle.dine_site.specs.Running.{EatsOn, HeedsOn, IsReady, IsRunning, IsTimedRun, Leads, seen_run}
 use Rattle.dine_site.proofs.site_loop.running.Running.work.Given as goal
 
 abbrev pub invariant-loop : goal.invariant-loop
@@ -10,4 +10,5 @@ invariant-loop g l = record {
   heeds : HeedsOn g.D.Diner.calls l.initial.self l.self;
   resigns : l.self.core.resigns ≡ l.initial.self.core.resigns;
   site : l.self.core.site ≡ l.initial.self.core.site;
+  timed : IsTimedRun g.L.Lane.seen_tx g.L.Lane.seen_closed g.L.Lane.seen_rx l.initial.self → IsTimedRun g.L.Lane.seen_tx g.L.Lane.seen_closed g.L.Lane.seen_rx l.self;
 }
