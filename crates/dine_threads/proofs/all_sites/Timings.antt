@@ -1,5 +1,5 @@
 -- The events of all journals have moments that fit, where no site tells a fault.
-use Rattle.std.proofs.Common.{◌≡◌, Bool, ℕ, zero, suc, ◌<◌, List, [], ◌∷◌, ◌++◌, All, length, map, get_or, slice_get, Option, Some, None, option_map, unwrap_or, sym, ◌∙◌, ap, subst, inl, inr, arith}
+use Rattle.std.proofs.Common.{◌≡◌, ℕ, zero, suc, ◌<◌, List, [], ◌∷◌, ◌++◌, All, length, map, get_or, slice_get, Option, Some, None, option_map, unwrap_or, sym, ◌∙◌, ap, subst, inl, inr, arith}
 use Rattle.std.proofs.lemmas.List.{append-nil, length-map}
 use Rattle.std.proofs.lemmas.Option.{slice_get-map, unwrap_or-slice_get}
 use Rattle.dine_graph.specs.Plan.{SeenPlan, edges_of, site_count}
@@ -7,8 +7,7 @@ use Rattle.dine_rules.specs.declared.events.EventKind.{EventKind}
 use Rattle.dine_rules.specs.Local.{edge_at, neighbour_at}
 use Rattle.dine_rules.specs.World.{place_of}
 use Rattle.dine_rules.proofs.links.Across.{across}
-use Rattle.dine_link.specs.Links.{SeenEnd, SeenLink}
-use Rattle.dine_site.specs.declared.diner.Call.{Call}
+use Rattle.dine_link.specs.Links.{SeenLink}
 use Rattle.dine_site.specs.declared.site_end.SiteEnd.{SiteEnd}
 use Rattle.dine_site.specs.Ports.{seen_ports}
 use Rattle.dine_rules.specs.Timed.{AreTimed, Rise, is_put_at, is_take_at, moments_of}
