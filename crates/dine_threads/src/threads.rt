@@ -84,8 +84,8 @@ fn set_up<L: Lane, D: Diner>(
 /// memory is refused; with `Thread` where a thread is refused, and then those that were started have ended and no
 /// letter moved, though no clause says so; and with `Broken` where a site ended with a fault, with all that was found:
 /// at most one fork of each edge, and each breach that a site tells is a Close that came early.
-pub fn run<L: Lane + 'static, D: Diner + 'static, R: Threads + Wait + Copy + Send + 'static>(
-    rt: &R,
+pub fn run<L: Lane + 'static, D: Diner + 'static>(
+    rt: &(impl Threads + Wait + Copy + Send + 'static),
     alloc: Global,
     plan: &Plan,
     diners: Vec<D>,
@@ -99,15 +99,15 @@ where
     ensures ok { IfOk result (IsRun D.Diner plan.now diners) }
     ensures fault { IfErr result (FaultIs D.Diner plan.now diners) }
 {
-    run_within::<L, D, R>(rt, alloc, plan, diners, MAX_SITES)
+    run_within::<L, D>(rt, alloc, plan, diners, MAX_SITES)
 }
 
 /// As [`run`], with at most `threads` threads. Where the plan has more sites, nothing is run: the first site that would
 /// need one thread more is told as `Thread`, or one before it that was refused its thread.
 ///
 /// Differing diners come first, and then want of memory. It may wait, since the threads that were started are joined.
-pub fn run_within<L: Lane + 'static, D: Diner + 'static, R: Threads + Wait + Copy + Send + 'static>(
-    rt: &R,
+pub fn run_within<L: Lane + 'static, D: Diner + 'static>(
+    rt: &(impl Threads + Wait + Copy + Send + 'static),
     alloc: Global,
     plan: &Plan,
     diners: Vec<D>,
