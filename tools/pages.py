@@ -47,9 +47,9 @@ def faults_of_crate(crate):
     return faults
 
 
-def is_there(path):
-    """A file or folder of this name is at the top, or in some crate, or is one of its modules."""
-    return any(map(paths, [path, f"crates/*/{path}", f"crates/*/src/{path}", f"crates/*/src/{path}.rt", f"crates/*/specs/{path}"]))
+def is_there(path, page):
+    """A file or folder of this name is at the top, beside the page, or in some crate, or is one of its modules."""
+    return any(map(paths, [path, os.path.join(os.path.dirname(page), path), f"crates/*/{path}", f"crates/*/src/{path}", f"crates/*/src/{path}.rt", f"crates/*/specs/{path}"]))
 
 
 def target_of(page, link):
@@ -86,9 +86,11 @@ def faults_of_names(page, text, words):
         if NAME.fullmatch(quoted):
             faults += [f"{page}: nothing is named {name}" for name in quoted.split("::") if name not in words]
         elif PATH.fullmatch(quoted) and not STANDS_FOR.search(quoted):
-            if not is_there(path):
+            if any(f"/{target}".endswith(f"/{path}") or target.startswith(f"{path}/") for target in targets):
+                continue
+            if not is_there(path, page):
                 faults.append(f"{page}: there is no {quoted}")
-            elif not path.endswith("/") and not any(f"/{target}".endswith(f"/{path}") or target.startswith(f"{path}/") for target in targets):
+            elif not path.endswith("/"):
                 faults.append(f"{page}: {quoted} is no link")
     return faults
 
