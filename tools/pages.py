@@ -2,7 +2,7 @@
 
 Each crate has a README. A word in backticks on a page is a word of the sources, and a path in backticks is a file that is there, except
 paths with a word that stands for others, such as NAME. A file that a page names is the target of a link on that page. A link leads to a
-file or a folder that is there, and to a heading that is there if it has a `#`. What is in a fence, indented, or written by another tool is not
+file or a folder that is there, and to a heading that is there if it has a `#`. A folder and a module may be named without a link. What is in a fence, indented, or written by another tool is not
 looked at. Each file of lemmas in a crate's proofs/ begins with a comment that says what it proves, and is declared by a file above it."""
 import os
 import re
@@ -90,7 +90,7 @@ def faults_of_names(page, text, words):
                 continue
             if not is_there(path, page):
                 faults.append(f"{page}: there is no {quoted}")
-            elif not path.endswith("/"):
+            elif "." in os.path.basename(path) or Path(HOME, path).is_file():
                 faults.append(f"{page}: {quoted} is no link")
     return faults
 
