@@ -126,7 +126,7 @@ def a_line_each(tool, faults):
     return "\n".join(f"{tool}: {fault}" for fault in faults), not faults
 
 
-def counted(tries):
+def counted(tries, skipped=0):
     """Prints what is told of each try, where that is anything, and last the count. A try is that text and whether all was right. Returns
     the exit status."""
     passed = failed = 0
@@ -134,7 +134,7 @@ def counted(tries):
         if text:
             print(text, flush=True)
         passed, failed = passed + is_right, failed + (not is_right)
-    return ended(passed, failed)
+    return ended(passed, failed, skipped)
 
 
 def is_current(program):
@@ -166,7 +166,8 @@ def try_program(tool, tries, *others):
     sys.exit(counted(tries))
 
 
-def ended(passed, failed):
-    """Prints the count, and returns the exit status: 0 where something was tried and nothing failed."""
-    print(f"{passed} passed, {failed} failed")
+def ended(passed, failed, skipped=0):
+    """Prints the count, and returns the exit status: 0 where something was tried and nothing failed. What this machine can't do is skipped,
+    and counts as neither."""
+    print(f"{passed} passed, {failed} failed" + (f", {skipped} skipped" if skipped else ""))
     return 0 if passed and not failed else 1
