@@ -4,7 +4,7 @@ ghost use Rattle.dine_graph.specs.Plan.{job_count, site_count};
 ghost use Rattle.dine_threads.specs.private.Collecting.{IsRoomFor};
 ghost use Rattle.dine_threads.specs.private.Setups.{IsSetUp};
 ghost use Rattle.dine_threads.specs.Headline.{FallsShort, FaultIs};
-ghost use Rattle.dine_threads.specs.Runs.{HaveRoom, IsRun};
+ghost use Rattle.dine_threads.specs.Runs.{HaveRoom, HaveSites, IsRun};
 
 use crate::collecting::{Room, RoomOf, collect, first_fault, make_room};
 use crate::gathered::{Gathered, RunFault};
@@ -56,6 +56,7 @@ fn set_up<L: Lane, D: Diner>(
 ) -> Result<Setup<L, D>, AllocError>
     requires diners { vec_len diners ≡ site_count plan.now }
     requires rooms { (s : _) (diner : _) → slice_get diners.items s ≡ Some diner → job_count plan.now s ≤ D.room_left diner }
+    requires expected { (s : _) (diner : _) → slice_get diners.items s ≡ Some diner → D.expects diner plan.now s }
     ensures { IfOk result (IsSetUp L.Lane D.Diner plan.now diners.items) }
 {
     let gate = Arc::new(alloc, Gate::new())?;
@@ -94,6 +95,7 @@ where
     L::ClosedTx: 'static,
     L::Rx: 'static,
     requires room { HaveRoom D.Diner plan.now diners }
+    requires expected { HaveSites D.Diner plan.now diners }
     ensures ok { IfOk result (IsRun D.Diner plan.now diners) }
     ensures fault { IfErr result (FaultIs D.Diner plan.now diners) }
 {
@@ -116,6 +118,7 @@ where
     L::ClosedTx: 'static,
     L::Rx: 'static,
     requires room { HaveRoom D.Diner plan.now diners }
+    requires expected { HaveSites D.Diner plan.now diners }
     ensures ok { IfOk result (IsRun D.Diner plan.now diners) }
     ensures fault { IfErr result (FaultIs D.Diner plan.now diners) }
     ensures limit { threads < site_count plan.now → FallsShort threads result }
