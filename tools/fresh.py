@@ -1,8 +1,9 @@
-"""Says whether a program was built from the sources as they are now. What counts is what the sources contain, and not their times.
+"""Says whether a program was built from the sources as they are now. What counts is what the sources contain, and not
+their times.
 
-Beside a program there are two files. NAME.made has a sum of the sources that it was built from and of the program itself. NAME.seen has the
-output of tools/seen at the last time when the two were compared: as long as tools/seen prints the same, nothing was touched since then, and
-./dine need not read the sources again."""
+Beside a program there are two files. NAME.made has a sum of the sources that it was built from and of the program
+itself. NAME.seen has the output of tools/seen at the last time when the two were compared: as long as tools/seen prints
+the same, nothing was touched since then, and ./dine need not read the sources again."""
 import hashlib
 import os
 import subprocess
@@ -51,7 +52,8 @@ def replace(path, text):
 
 
 def is_current(name, program):
-    """Returns whether a program is there and is the one that was built from the sources as they are. Notes that for ./dine."""
+    """Returns whether a program is there and is the one that was built from the sources as they are. Notes that for
+    ./dine."""
     try:
         noted = Path(f"{program}.made").read_text("utf-8")
     except OSError:

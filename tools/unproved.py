@@ -1,5 +1,5 @@
-"""Builds a program without any proof, for a first look and for tools that try many programs. `rt try` compiles a program, runs it once and
-throws it away; here it is caught while it runs."""
+"""Builds a program without any proof, for a first look and for tools that try many programs. `rt try` compiles a
+program, runs it once and throws it away; here it is caught while it runs."""
 import contextlib
 import glob
 import os
@@ -23,18 +23,21 @@ def catch(room):
 
 
 def build_unproved(crate, to):
-    """Builds the program of the crate in this folder without any proof, and puts it at this path. The program has to run a plan that it reads
-    from its standard input, as dine_cli and dine_trace do. Returns 0 and an empty text, or else a status that is not 0 and the output of
-    `rt try`."""
+    """Builds the program of the crate in this folder without any proof, and puts it at this path. The program has to
+    run a plan that it reads from its standard input, as dine_cli and dine_trace do. Returns 0 and an empty text, or
+    else a status that is not 0 and the output of `rt try`."""
     name = os.path.basename(crate)
     os.makedirs(os.path.dirname(to), exist_ok=True)
-    with tempfile.TemporaryDirectory(dir=os.path.dirname(to)) as room, open(f"{room}/said", "w+", encoding="utf-8", errors="replace") as said:
+    words = ["rt", "try", name, "--", RUN.get(name, "run")]
+    how = {"encoding": "utf-8", "errors": "replace"}
+    with tempfile.TemporaryDirectory(dir=os.path.dirname(to)) as room, open(f"{room}/said", "w+", **how) as said:
         with open(f"{room}/plan", "w+", encoding="utf-8") as plan:
             plan.write(BUSY)
             plan.seek(0)
             how = {"cwd": crate, "env": {**os.environ, "TMPDIR": room}, "stdin": plan, "stdout": said, "stderr": said}
-            # A second signal, from the terminal, would stop rt try in the middle of ending what it began: it gets a session of its own.
-            with subprocess.Popen([*BOUND, "rt", "try", name, "--", RUN.get(name, "run")], start_new_session=True, **how) as ran:
+            # A second signal, from the terminal, would stop rt try in the middle of ending what it began: it gets a
+            # session of its own.
+            with subprocess.Popen([*BOUND, *words], start_new_session=True, **how) as ran:
                 while ran.poll() is None:
                     catch(room)
                     time.sleep(0.02)
