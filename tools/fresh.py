@@ -4,6 +4,7 @@ their times.
 Beside a program there are two files. NAME.made has a sum of the sources that it was built from and of the program
 itself. NAME.seen has the output of tools/seen at the last time when the two were compared: as long as tools/seen prints
 the same, nothing was touched since then, and ./dine need not read the sources again."""
+import fcntl
 import hashlib
 import os
 import subprocess
@@ -49,6 +50,14 @@ def replace(path, text):
     """Writes a file so that it is there whole or not at all."""
     Path(f"{path}.new").write_text(text, "utf-8")
     os.replace(f"{path}.new", path)
+
+
+def lock(folder):
+    """Waits until no other process holds this folder, and holds it until the number that it returns is closed."""
+    os.makedirs(folder, exist_ok=True)
+    held = os.open(folder, os.O_RDONLY)
+    fcntl.flock(held, fcntl.LOCK_EX)
+    return held
 
 
 def is_current(name, program):

@@ -3,14 +3,14 @@ program, runs it once and throws it away; here it is caught while it runs."""
 import contextlib
 import glob
 import os
+import shutil
 import subprocess
-import tempfile
 import time
 
 from trying import BOUND
 
 # What the program is run with when it is caught: a plan whose one site is at work for a second or two.
-BUSY = "version = 1\n[[site]]\nname = \"a\"\njobs = [" + "{ name = \"x\", turns = 1000000 }, " * 20 + "]\n"
+BUSY = "version = 1\n[[site]]\nname = \"a\"\njobs = [" + "{ name = \"x\", turns = 1000000 }, " * 30 + "]\n"
 RUN = {"dine_trace": "--run"}
 
 
@@ -27,10 +27,12 @@ def build_unproved(crate, to):
     run a plan that it reads from its standard input, as dine_cli and dine_trace do. Returns 0 and an empty text, or
     else a status that is not 0 and the output of `rt try`."""
     name = os.path.basename(crate)
-    os.makedirs(os.path.dirname(to), exist_ok=True)
     words = ["rt", "try", name, "--", RUN.get(name, "run")]
-    how = {"encoding": "utf-8", "errors": "replace"}
-    with tempfile.TemporaryDirectory(dir=os.path.dirname(to)) as room, open(f"{room}/said", "w+", **how) as said:
+    # What a build that was stopped has left there goes.
+    room = f"{os.path.dirname(to)}/building"
+    shutil.rmtree(room, ignore_errors=True)
+    os.makedirs(room)
+    with open(f"{room}/said", "w+", encoding="utf-8", errors="replace") as said:
         with open(f"{room}/plan", "w+", encoding="utf-8") as plan:
             plan.write(BUSY)
             plan.seek(0)
@@ -42,7 +44,9 @@ def build_unproved(crate, to):
                     catch(room)
                     time.sleep(0.02)
         said.seek(0)
-        if ran.returncode == 0 and os.path.isfile(f"{room}/caught"):
-            os.replace(f"{room}/caught", to)
-            return 0, ""
-        return ran.returncode or 1, said.read()
+        text = said.read()
+    is_caught = ran.returncode == 0 and os.path.isfile(f"{room}/caught")
+    if is_caught:
+        os.replace(f"{room}/caught", to)
+    shutil.rmtree(room)
+    return (0, "") if is_caught else (ran.returncode or 1, text)
