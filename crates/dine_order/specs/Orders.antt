@@ -1,6 +1,5 @@
 -- The search for one order of the journals, and what is answered where there is none.
-use Rattle.std.specs.Prelude.{◌≡◌, ◌≢◌, ℕ, zero, suc, ◌<◌, ◌≤◌, Bool, true, false, List, length, map, slice_get, slice_index_or, slice_set, Option, Some, None, option_and_then}
-use Rattle.std.specs.Global.{Vec}
+use Rattle.std.specs.Prelude.{◌≡◌, ◌≢◌, ℕ, zero, suc, ◌<◌, ◌≤◌, Bool, true, false, List, length, slice_get, slice_index_or, slice_set, Option, Some, None, option_and_then}
 use Rattle.dine_graph.specs.Plan.{SeenPlan, site_count}
 use Rattle.dine_rules.specs.declared.events.Event.{Event}
 use Rattle.dine_rules.specs.declared.events.EventKind.{EventKind}
@@ -11,10 +10,6 @@ use Rattle.dine_rules.specs.Journals.{IsFrontOf, IsLowestFirst, IsOrderOf, IsPla
 use Rattle.dine_world.specs.Worlds.{IsWorldOf, SeenWorld}
 use Rattle.dine_order.specs.declared.orders.OrderFault.{OrderFault}
 use Rattle.dine_order.specs.declared.orders.OrderFault.TheVariants.{CountDiffers, Stuck, NotClosed, Memory}
-
--- the journals, as lists
-abbrev pub lists_in : List (Vec EventKind) → List (List EventKind)
-lists_in journals = map (λ journal. journal.items) journals
 
 -- ---- the outcomes that journals show
 
