@@ -2,8 +2,8 @@
 use Rattle.std.specs.Prelude.{◌≡◌, ℕ, zero, suc, ◌+◌, ◌-◌, ◌*◌, map, sum}
 use Rattle.std.specs.List.{range_with_len}
 use Rattle.dine_graph.specs.Plan.{SeenPlan, site_count, job_count}
-use Rattle.dine_example.specs.declared.Books.{Books}
-use Rattle.dine_example.specs.declared.TheConstants.{START}
+use Rattle.dine_tellers.specs.declared.Books.{Books}
+use Rattle.dine_tellers.specs.declared.TheConstants.{START}
 
 -- the site before, which is the last one for the first
 abbrev pub before : SeenPlan → ℕ → ℕ

@@ -9,8 +9,8 @@ use Rattle.dine_run.specs.Diners.{HasEaten, HasLastFailed}
 use Rattle.dine_run.specs.Gathered.{AreFinishedOuts, AreOutsOf}
 use Rattle.dine_site.specs.declared.diner.Call.{Call}
 use Rattle.dine_threads.specs.declared.gathered.SiteOut.{SiteOut}
-use Rattle.dine_example.specs.Tellers.{AreFresh, HaveSent}
-use Rattle.dine_example.specs.declared.teller.Teller.{Teller}
+use Rattle.dine_tellers.specs.Tellers.{AreFresh, HaveSent}
+use Rattle.dine_tellers.specs.declared.teller.Teller.{Teller}
 
 there_is : {A : Type 0} (xs : List A) (i : ℕ) → i < length xs → (x : A) × (slice_get xs i ≡ Some x)
 there_is [] i h = absurd (omega (arith, h))

@@ -1,8 +1,8 @@
 use Rattle.std.proofs.Common.{◌≡◌, ℕ, Some, slice_get, vec_len, vec_items}
 use Rattle.dine_graph.specs.Plan.{job_count}
 use Rattle.dine_run.specs.CallLogs.{no_calls}
-use Rattle.dine_example.specs.declared.teller.Teller.{Teller}
-use Rattle.dine_example.proofs.open_tellers.Given as goal
+use Rattle.dine_tellers.specs.declared.teller.Teller.{Teller}
+use Rattle.dine_tellers.proofs.open_tellers.Given as goal
 
 abbrev pub invariant-loop-site : goal.invariant-loop-site
 invariant-loop-site l = record {

@@ -3,8 +3,8 @@ use Rattle.std.proofs.Common.{◌≡◌, ℕ, zero, suc, ◌+◌, ◌-◌, ◌<�
 use Rattle.std.specs.List.{range_with_len}
 use Rattle.std.proofs.lemmas.List.FromFn.{map-range_with_len_more}
 use Rattle.dine_graph.specs.Plan.{SeenPlan, job_count}
-use Rattle.dine_example.specs.Balances.{before, balance_of}
-use Rattle.dine_example.specs.declared.TheConstants.{START}
+use Rattle.dine_tellers.specs.Balances.{before, balance_of}
+use Rattle.dine_tellers.specs.declared.TheConstants.{START}
 
 pub before_next : (plan : SeenPlan) (s : ℕ) → before plan (s + 1) ≡ s
 before_next plan s = ap (before plan) (add-one s)

@@ -1,6 +1,6 @@
 use Rattle.std.proofs.Common.{◌≡◌, [], Some, slice_get, subst, vec_items}
-use Rattle.dine_example.proofs.Transfers.{have_sent}
-use Rattle.dine_example.proofs.settle.Goals as goal
+use Rattle.dine_tellers.proofs.Transfers.{have_sent}
+use Rattle.dine_tellers.proofs.settle.Goals as goal
 
 pub books_of-requires-clause-sent : goal.books_of-requires-clause-sent
 books_of-requires-clause-sent g c s out at =

@@ -3,9 +3,9 @@ use Rattle.std.specs.List.{range_with_len}
 use Rattle.std.proofs.lemmas.Grind.{common_steps}
 use Rattle.std.proofs.lemmas.Option.{slice_get-get_or}
 use Rattle.dine_graph.specs.Plan.{job_count, site_count}
-use Rattle.dine_example.specs.Balances.{before, balance_of}
-use Rattle.dine_example.proofs.Sums.{before_next, before_some, next_balances}
-use Rattle.dine_example.proofs.books_of.Goals as goal
+use Rattle.dine_tellers.specs.Balances.{before, balance_of}
+use Rattle.dine_tellers.proofs.Sums.{before_next, before_some, next_balances}
+use Rattle.dine_tellers.proofs.books_of.Goals as goal
 
 pub loop-site-preserved : goal.loop-site-preserved
 loop-site-preserved c =

@@ -3,7 +3,7 @@ use Rattle.std.specs.Prelude.{◌≡◌, ℕ, List, Some, length, slice_get}
 use Rattle.dine_graph.specs.Plan.{SeenPlan, site_count, job_count}
 use Rattle.dine_run.specs.CallLogs.{no_calls}
 use Rattle.dine_threads.specs.declared.gathered.SiteOut.{SiteOut}
-use Rattle.dine_example.specs.declared.teller.Teller.{Teller}
+use Rattle.dine_tellers.specs.declared.teller.Teller.{Teller}
 
 -- The tellers before the run: one for each site, not yet called, with room for its jobs.
 pub record AreFresh (plan : SeenPlan) (tellers : List Teller) : Type 0 where

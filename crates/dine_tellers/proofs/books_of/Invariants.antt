@@ -2,9 +2,9 @@ use Rattle.std.proofs.Common.{◌≡◌, ◌+◌, ◌-◌, ◌*◌, map, vec_ite
 use Rattle.std.specs.Prelude.{sum}
 use Rattle.std.specs.List.{range_with_len}
 use Rattle.dine_graph.specs.Plan.{site_count, job_count}
-use Rattle.dine_example.specs.Balances.{before, balance_of}
-use Rattle.dine_example.specs.declared.TheConstants.{START}
-use Rattle.dine_example.proofs.books_of.Given as goal
+use Rattle.dine_tellers.specs.Balances.{before, balance_of}
+use Rattle.dine_tellers.specs.declared.TheConstants.{START}
+use Rattle.dine_tellers.proofs.books_of.Given as goal
 
 abbrev pub invariant-loop-site : goal.invariant-loop-site
 invariant-loop-site l = record {

@@ -1,8 +1,8 @@
 use Rattle.std.proofs.Common.{◌∙◌, length, ap, arith}
 use Rattle.std.proofs.lemmas.List.FromFn.{length-map-range_with_len}
 use Rattle.dine_graph.specs.Plan.{site_count}
-use Rattle.dine_example.specs.Balances.{balance_of}
-use Rattle.dine_example.proofs.tell_books.Goals as goal
+use Rattle.dine_tellers.specs.Balances.{balance_of}
+use Rattle.dine_tellers.proofs.tell_books.Goals as goal
 
 pub index-requires : goal.index-requires
 index-requires g c =
