@@ -21,7 +21,7 @@ use Rattle.dine_rules.proofs.journals.Shown.{all_long, own_is, own_long}
 pub use Rattle.dine_rules.proofs.journals.Shown.{sites_shown}
 use Rattle.dine_world.specs.Worlds.{AreOutcomesFor}
 use Rattle.dine_rules.specs.Shown.{plan_shown, shown_by, shown_in}
-use Rattle.dine_order.specs.Orders.{lists_in, noted, receiver_by, receiver_of}
+use Rattle.dine_order.specs.Orders.{noted, receiver_by, receiver_of}
 
 -- ---- an event more of a journal
 
@@ -179,5 +179,6 @@ module _ (plan : SeenPlan) (journals : List (List EventKind)) where
       ∙ ap (λ (v : ℕ). record (fork_by other edge log) { value = v }) (value-same log (value_of plan edge))
 
 -- there is a journal for each site of the plan and of that plan
-pub counted_too : (plan : SeenPlan) (journals : List (Vec EventKind)) → length journals ≡ site_count plan → length (lists_in journals) ≡ site_count (plan_shown plan (lists_in journals))
-counted_too plan journals count = length-map journals (λ (journal : Vec EventKind). journal.items) ∙ count ∙ sym (sites_shown plan (lists_in journals))
+pub counted_too : {J : Type 0} (plan : SeenPlan) (events : J → List EventKind) (journals : List J) → length journals ≡ site_count plan
+    → length (map events journals) ≡ site_count (plan_shown plan (map events journals))
+counted_too plan events journals count = length-map journals events ∙ count ∙ sym (sites_shown plan (map events journals))

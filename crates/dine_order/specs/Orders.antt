@@ -12,10 +12,6 @@ use Rattle.dine_world.specs.Worlds.{IsWorldOf, SeenWorld}
 use Rattle.dine_order.specs.declared.orders.OrderFault.{OrderFault}
 use Rattle.dine_order.specs.declared.orders.OrderFault.TheVariants.{CountDiffers, Stuck, NotClosed, Memory}
 
--- the journals, as lists
-abbrev pub lists_in : List (Vec EventKind) → List (List EventKind)
-lists_in journals = map (λ journal. journal.items) journals
-
 -- ---- the outcomes that journals show
 
 -- the outcomes, where the last of so many meals failed: where there was one, and the site has a job of its number

@@ -3,6 +3,7 @@ use dine_link::LinkEnd;
 use dine_rules::EventKind;
 use dine_site::{Diner, SiteFault, Stray};
 use dine_token::{Fork, Token};
+use std::convert::AsSlice;
 
 /// What a site left: how many meals it began and how many of their jobs failed, its diner, the tokens in its hands in
 /// edge order, its journal, which has each event that it did in its order, and, where it ended before it did all, the
@@ -17,6 +18,15 @@ pub struct SiteOut<D: Diner> {
     pub journal: Vec<EventKind>,
     pub stray: Option<Stray>,
     pub fault: Option<SiteFault>,
+}
+
+/// The journal, for calls that read journals where they are.
+impl<D: Diner> AsSlice<EventKind> for SiteOut<D> {
+    ghost items = { λ out. out.journal.items };
+
+    fn as_slice(&self) -> &[EventKind] {
+        self.journal.as_slice()
+    }
 }
 
 /// All that is gathered where every site did all: the forks by edge, the sites by number, and the links by edge, that

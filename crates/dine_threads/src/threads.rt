@@ -4,7 +4,6 @@ ghost use Rattle.dine_graph.specs.Plan.{job_count, site_count};
 ghost use Rattle.dine_threads.specs.Gathered.{AreFinishedOuts, AreOutsOf, IsClosedWhole};
 ghost use Rattle.dine_threads.specs.private.Collecting.{IsRoomFor};
 ghost use Rattle.dine_threads.specs.private.Setups.{IsSetUp};
-ghost use Rattle.dine_rules.specs.Timed.{AreTimed};
 ghost use Rattle.dine_threads.specs.Journals.{HaveActed, HaveOrder};
 ghost use Rattle.dine_threads.specs.Headline.{AllJoined, AreTokensOf, FallsShort, FaultIs, IsHeadline};
 
@@ -100,7 +99,6 @@ where
     ensures finished { IfOk result (λ gathered. AreFinishedOuts plan.now gathered.sites.items) }
     ensures headline { IfOk result (λ gathered. IsHeadline plan.now (map (λ out. out.ate) gathered.sites.items) gathered.links.items gathered.forks.items) }
     ensures journals { IfOk result (λ gathered. HaveActed plan.now (map (λ out. out.ate) gathered.sites.items) gathered.links.items (map (λ out. out.journal.items) gathered.sites.items)) }
-    ensures timed { IfOk result (λ gathered. AreTimed plan.now (map (λ out. out.journal.items) gathered.sites.items)) }
     ensures ordered { IfOk result (λ gathered. HaveOrder plan.now (map (λ out. out.journal.items) gathered.sites.items)) }
     ensures tokens { IfOk result (λ gathered. AreTokensOf plan.now gathered.links.items gathered.sites.items) }
     ensures sites { IfOk result (λ gathered. AreOutsOf D.calls D.marks D.fits plan.now diners.items gathered.sites.items) }
@@ -129,7 +127,6 @@ where
     ensures finished { IfOk result (λ gathered. AreFinishedOuts plan.now gathered.sites.items) }
     ensures headline { IfOk result (λ gathered. IsHeadline plan.now (map (λ out. out.ate) gathered.sites.items) gathered.links.items gathered.forks.items) }
     ensures journals { IfOk result (λ gathered. HaveActed plan.now (map (λ out. out.ate) gathered.sites.items) gathered.links.items (map (λ out. out.journal.items) gathered.sites.items)) }
-    ensures timed { IfOk result (λ gathered. AreTimed plan.now (map (λ out. out.journal.items) gathered.sites.items)) }
     ensures ordered { IfOk result (λ gathered. HaveOrder plan.now (map (λ out. out.journal.items) gathered.sites.items)) }
     ensures tokens { IfOk result (λ gathered. AreTokensOf plan.now gathered.links.items gathered.sites.items) }
     ensures sites { IfOk result (λ gathered. AreOutsOf D.calls D.marks D.fits plan.now diners.items gathered.sites.items) }

@@ -12,7 +12,6 @@ use Rattle.dine_threads.proofs.all_sites.Brokens.{all_closed_early, all_joined, 
 use Rattle.dine_threads.proofs.all_sites.Gatherings.{AreAllLeft, left_of_children, ends_are_whole, still_wired, links_by_edge, links_are_whole, outs_are_finished, outs_of_diners, none_found, lowest_found}
 use Rattle.dine_threads.proofs.all_sites.Headlines.{headline, all_acted, ate_few, journals_count, tokens_stand}
 use Rattle.dine_threads.proofs.all_sites.Ordered.{order_of_run}
-use Rattle.dine_rules.specs.Timed.{AreTimed}
 use Rattle.dine_threads.proofs.all_sites.Timings.{all_timed}
 use Rattle.dine_threads.proofs.threads.run_within.Goals as goal
 
@@ -107,7 +106,6 @@ returns-then-len-sites g c = record {
   finished = tt;
   headline = tt;
   journals = tt;
-  timed = tt;
   ordered = tt;
   tokens = tt;
   sites = tt;
@@ -121,7 +119,6 @@ returns-in_default g c = record {
   finished = tt;
   headline = tt;
   journals = tt;
-  timed = tt;
   ordered = tt;
   tokens = tt;
   sites = tt;
@@ -135,7 +132,6 @@ returns-in-Some g c = record {
   finished = tt;
   headline = tt;
   journals = tt;
-  timed = tt;
   ordered = tt;
   tokens = tt;
   sites = tt;
@@ -172,15 +168,6 @@ returns-clause-sites g c = tt
 
 pub returns-clause-limit : goal.returns-clause-limit
 returns-clause-limit g c few = omega (arith, few, rw c.in_default-refused.is at c.start_all-refused.ensures.all_within, c.in-Ok.ensures.count)
-
-pub returns-in-None-clause-timed : goal.returns-in-None-clause-timed
-returns-in-None-clause-timed g c =
-    let links = vec_items c.collect-forks.result.2 in
-    subst (λ (outs : List (SiteOut _)). AreTimed c.args.plan.now (map (λ (out : SiteOut _). out.journal.items) outs)) (sym c.collect-forks.ensures.sites)
-    (all_timed (ended_well g c) links c.collect-forks.ensures.links (wired g c) c.collect-forks.ensures.in_order (no_fault g c))
-
-pub returns-clause-timed : goal.returns-clause-timed
-returns-clause-timed g c = tt
 
 pub returns-in-None-clause-ordered : goal.returns-in-None-clause-ordered
 returns-in-None-clause-ordered g c =
