@@ -1,1 +1,2 @@
-pub mod JobsSeated
+pub mod Runs
+pub mod Faults

@@ -1,21 +1,24 @@
 //! What is left of a run of jobs, and why there may be nothing left.
 ghost use Rattle.std.specs.Prelude.{◌≡◌, Some};
+ghost use Rattle.dine_jobs.specs.Faults.{jobs_cause_words};
 
 use crate::job::{Failure, Job};
 use dine_rules::EventKind;
 use dine_site::{Call, CallLog};
 use dine_threads::RunCause;
 use dine_token::Fork;
+use std::convert::AsSlice;
 use std::error::Error;
 use std::fmt;
 
-/// What is left of a site: its job, the record of its calls, and of each job that failed why.
+/// What is left of a site: its job, the record of its calls, of each job that failed why, and its journal, which has each
+/// event that it did, in order. `order` puts the journals of all sites into one list.
 #[derive(Drop)]
 pub struct SiteDone<J: Drop, F: Drop> {
     pub job: J,
     pub log: CallLog,
-    /// The jobs that failed, in order.
     pub failures: Vec<Failure<F>>,
+    pub journal: Vec<EventKind>,
 }
 
 impl<J: Drop, F: Drop> SiteDone<J, F> {
@@ -27,15 +30,22 @@ impl<J: Drop, F: Drop> SiteDone<J, F> {
     }
 }
 
+/// The journal, for calls that read journals where they are.
+impl<J: Drop, F: Drop> AsSlice<EventKind> for SiteDone<J, F> {
+    ghost items = { λ left. left.journal.items };
+
+    fn as_slice(&self) -> &[EventKind] {
+        self.journal.as_slice()
+    }
+}
+
 /// What is left of a run of jobs.
 #[derive(Drop)]
 pub struct Done<T: Drop, J: Job<T>> {
     /// The values, by edge.
     pub values: Vec<T>,
-    /// The jobs, by site.
+    /// What each site left, by site.
     pub sites: Vec<SiteDone<J, J::Fault>>,
-    /// The events that each site did, in its order, by site. `order` puts them into one list.
-    pub journals: Vec<Vec<EventKind>>,
     /// The forks, by edge, each with its log.
     pub forks: Vec<Fork>,
     /// How often a value was not free: 0, unless a job opened a value that it had open.
@@ -70,6 +80,8 @@ pub struct JobsFault<T: Drop, J: Drop> {
 /// `run refused: values differ`, `run refused: jobs differ`, `out of memory`, the words of the run's cause, or
 /// `a thread kept the values`.
 impl fmt::Display for JobsCause {
+    ghost output = { λ cause. Some (jobs_cause_words cause) };
+
     fn fmt<W: fmt::Write>(&self, f: &mut fmt::Formatter<W>) -> fmt::Result {
         match self {
             JobsCause::ValuesDiffer => f.write_str("run refused: values differ"),
@@ -85,6 +97,8 @@ impl Error for JobsCause {}
 
 /// The words of the cause.
 impl<T: Drop, J: Drop> fmt::Display for JobsFault<T, J> {
+    ghost output = { λ fault. Some (jobs_cause_words fault.cause) };
+
     fn fmt<W: fmt::Write>(&self, f: &mut fmt::Formatter<W>) -> fmt::Result {
         write!(f, "{}", self.cause)
     }

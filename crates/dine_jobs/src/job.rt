@@ -7,7 +7,7 @@ use crate::table::Table;
 /// site.
 pub trait Job<T: Drop>: Drop + Send {
     /// Why a job failed: a type of the caller's own, or `JobFault` if there is nothing to say.
-    type Fault: Drop + Send;
+    type Fault: Drop + Send + 'static;
 
     // What one call of `run` may do: the job before it, the number of the meal, whether the call returned Ok, and the
     // job after it. A job of which nothing is to be proved leaves it out.

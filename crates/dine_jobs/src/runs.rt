@@ -1,6 +1,12 @@
 //! Runs of jobs over values.
-ghost use Rattle.std.specs.Prelude.{◌≡◌, IfOk, vec_len};
+ghost use Rattle.std.specs.Prelude.{◌≡◌, ◌≤◌, ◌⊎◌, IfErr, IfOk, List, Some, length, map, slice_get, vec_capacity, vec_len};
+ghost use Rattle.std.specs.Arc.{arc_value};
 ghost use Rattle.dine_graph.specs.Plan.{edge_count, site_count};
+ghost use Rattle.dine_link.specs.Links.{SeenLink};
+ghost use Rattle.dine_threads.specs.Headline.{IsHeadline};
+ghost use Rattle.dine_threads.specs.Journals.{HaveOrder};
+ghost use Rattle.dine_jobs.specs.Faults.{AreAsMany, IsFaultOf};
+ghost use Rattle.dine_jobs.specs.Runs.{AreDoneBy};
 
 use crate::done::{Done, JobsCause, JobsFault, SiteDone};
 use crate::given::Given;
@@ -9,7 +15,6 @@ use crate::seated::{Seated, seat_all};
 use crate::values::Values;
 use dine_graph::Plan;
 use dine_link::{ChannelLane, Lane, RingLane};
-use dine_rules::EventKind;
 use dine_threads::{Gathered, RunCause, SiteOut, run};
 use std::alloc::{AllocError, Global};
 use std::marker::Brand;
@@ -41,6 +46,12 @@ where
     T: Drop + Send + 'static,
     J: Job<T> + 'static,
     R: Threads + Wait + Copy + Send + 'static,
+    ensures many { IfOk result (λ _. AreAsMany plan.now values jobs) }
+    ensures values { IfOk result (λ done. vec_len done.values ≡ edge_count plan.now) }
+    ensures jobs { IfOk result (λ done. AreDoneBy J.after plan.now jobs.items done.sites.items) }
+    ensures forks { IfOk result (λ done. (links : List SeenLink) × IsHeadline plan.now (map (λ site. length site.log.calls) done.sites.items) links done.forks.items) }
+    ensures ordered { IfOk result (λ done. HaveOrder plan.now (map (λ site. site.journal.items) done.sites.items)) }
+    ensures fault { IfErr result (IsFaultOf plan.now values jobs) }
 {
     if values.len() != plan.edges() as usize {
         let cause = JobsCause::ValuesDiffer;
@@ -70,6 +81,14 @@ where
     J: Job<T> + 'static,
     K: Given<J> + Send + 'static,
     R: Threads + Wait + Copy + Send + 'static,
+    requires values { vec_len values ≡ edge_count plan.now }
+    requires jobs { vec_len jobs ≡ site_count plan.now }
+    requires given { jobs.items ≡ K.given }
+    ensures values { IfOk result (λ done. vec_len done.values ≡ edge_count plan.now) }
+    ensures jobs { IfOk result (λ done. AreDoneBy J.after plan.now jobs.items done.sites.items) }
+    ensures forks { IfOk result (λ done. (links : List SeenLink) × IsHeadline plan.now (map (λ site. length site.log.calls) done.sites.items) links done.forks.items) }
+    ensures ordered { IfOk result (λ done. HaveOrder plan.now (map (λ site. site.journal.items) done.sites.items)) }
+    ensures fault { IfErr result (IsFaultOf plan.now values jobs) }
 {
     let (values, spare) = match Values::lock(alloc, values) {
         Ok(locked) => locked,
@@ -79,36 +98,35 @@ where
         Ok(values) => values,
         Err(failed) => return Err(give_back(alloc, JobsCause::Memory, failed.value.unlock(spare))),
     };
-    let (Ok(diners), Ok(lists)) = (
+    let (Ok(diners), Ok(room)) = (
         seat_all::<T, J, K>(alloc, plan, jobs, &values),
-        open_lists(alloc, plan),
+        Vec::with_capacity(alloc, plan.sites() as usize),
     ) else {
         return Err(take_back(alloc, JobsCause::Memory, values, spare));
     };
     let cause = match run::<L, Seated<T, J, K>, R>(rt, alloc, plan, diners) {
-        Ok(gathered) => return finish(alloc, gathered, lists, values, spare),
+        Ok(gathered) => return finish(alloc, gathered, room, values, spare),
         Err(fault) => JobsCause::Run(RunCause::from(&fault)),
     };
     Err(take_back(alloc, cause, values, spare))
-}
-
-// Room for what each site leaves.
-fn open_lists<S: Drop>(alloc: Global, plan: &Plan) -> Result<(Vec<S>, Vec<Vec<EventKind>>), AllocError> {
-    let sites = Vec::with_capacity(alloc, plan.sites() as usize)?;
-    let journals = Vec::with_capacity(alloc, plan.sites() as usize)?;
-    Ok((sites, journals))
 }
 
 // What is left of a run that went well. No site has the values any more.
 fn finish<T: Drop + Send, J: Job<T>, K: Given<J> + Send>(
     alloc: Global,
     gathered: Gathered<Seated<T, J, K>>,
-    lists: (Vec<SiteDone<J, J::Fault>>, Vec<Vec<EventKind>>),
+    room: Vec<SiteDone<J, J::Fault>>,
     values: Arc<Values<T>, Global>,
     spare: Vec<T>,
-) -> Result<Done<T, J>, JobsFault<T, J>> {
+) -> Result<Done<T, J>, JobsFault<T, J>>
+    requires sites { (vec_len room ≡ 0) × (vec_len gathered.sites ≤ vec_capacity room) }
+    requires spare { (vec_len spare ≡ 0) × (vec_len (arc_value values).cells ≤ vec_capacity spare) }
+    ensures values { IfOk result (λ done. vec_len done.values ≡ vec_len (arc_value values).cells) }
+    ensures left { IfOk result (λ done. (done.sites.items ≡ map (λ out. record { job = out.diner.job; log = out.diner.log; failures = out.diner.failures; journal = out.journal }) gathered.sites.items) × (done.forks ≡ gathered.forks)) }
+    ensures kept { IfErr result (λ fault. fault.cause ≡ JobsCause.Kept) }
+{
     let Gathered { forks, sites, .. } = gathered;
-    let (sites, journals) = leave_all(sites, lists.0, lists.1);
+    let sites = leave_all(sites, room);
     let Some(values) = Arc::into_inner(values) else {
         return Err(give_back(alloc, JobsCause::Kept, spare));
     };
@@ -117,31 +135,32 @@ fn finish<T: Drop + Send, J: Job<T>, K: Given<J> + Send>(
     Ok(Done {
         values,
         sites,
-        journals,
         forks,
         missed,
     })
 }
 
-// What each site leaves, put into lists with room for it.
+// What each site leaves, put into a list with room for it.
 fn leave_all<T: Drop + Send, J: Job<T>, K: Given<J> + Send>(
     outs: Vec<SiteOut<Seated<T, J, K>>>,
     mut sites: Vec<SiteDone<J, J::Fault>>,
-    mut journals: Vec<Vec<EventKind>>,
-) -> (Vec<SiteDone<J, J::Fault>>, Vec<Vec<EventKind>>) {
+) -> Vec<SiteDone<J, J::Fault>>
+    requires empty { vec_len sites ≡ 0 }
+    requires room { vec_len outs ≤ vec_capacity sites }
+    ensures { result.items ≡ map (λ out. record { job = out.diner.job; log = out.diner.log; failures = out.diner.failures; journal = out.journal }) outs.items }
+{
     for out in outs {
-        let SiteOut {
-            diner, journal, ..
-        } = out;
-        let (job, log, failures) = diner.leave();
-        sites.push_reserved(SiteDone { job, log, failures });
-        journals.push_reserved(journal);
+        let SiteOut { diner, journal, .. } = out;
+        sites.push_reserved(diner.leave(journal));
     }
-    (sites, journals)
+    sites
 }
 
 // A fault that hands the values back.
-fn give_back<T: Drop, J: Drop>(alloc: Global, cause: JobsCause, values: Vec<T>) -> JobsFault<T, J> {
+fn give_back<T: Drop, J: Drop>(alloc: Global, cause: JobsCause, values: Vec<T>) -> JobsFault<T, J>
+    ensures cause { result.cause ≡ cause }
+    ensures values { result.values ≡ values }
+{
     let jobs = Vec::new(alloc);
     JobsFault {
         cause,
@@ -156,7 +175,11 @@ fn take_back<T: Drop, J: Drop>(
     cause: JobsCause,
     values: Arc<Values<T>, Global>,
     spare: Vec<T>,
-) -> JobsFault<T, J> {
+) -> JobsFault<T, J>
+    requires empty { vec_len spare ≡ 0 }
+    requires room { vec_len (arc_value values).cells ≤ vec_capacity spare }
+    ensures { (result.cause ≡ JobsCause.Kept) ⊎ ((result.cause ≡ cause) × (vec_len result.values ≡ vec_len (arc_value values).cells)) }
+{
     match Arc::into_inner(values) {
         Some(values) => give_back(alloc, cause, values.unlock(spare)),
         None => give_back(alloc, JobsCause::Kept, spare),
@@ -175,6 +198,12 @@ where
     T: Drop + Send + 'static,
     J: Job<T> + 'static,
     R: Threads + Wait + Copy + Send + 'static,
+    ensures many { IfOk result (λ _. AreAsMany plan.now values jobs) }
+    ensures values { IfOk result (λ done. vec_len done.values ≡ edge_count plan.now) }
+    ensures jobs { IfOk result (λ done. AreDoneBy J.after plan.now jobs.items done.sites.items) }
+    ensures forks { IfOk result (λ done. (links : List SeenLink) × IsHeadline plan.now (map (λ site. length site.log.calls) done.sites.items) links done.forks.items) }
+    ensures ordered { IfOk result (λ done. HaveOrder plan.now (map (λ site. site.journal.items) done.sites.items)) }
+    ensures fault { IfErr result (IsFaultOf plan.now values jobs) }
 {
     run_jobs::<RingLane, T, J, R>(rt, alloc, plan, values, jobs)
 }
@@ -191,6 +220,12 @@ where
     T: Drop + Send + 'static,
     J: Job<T> + 'static,
     R: Threads + Wait + Copy + Send + 'static,
+    ensures many { IfOk result (λ _. AreAsMany plan.now values jobs) }
+    ensures values { IfOk result (λ done. vec_len done.values ≡ edge_count plan.now) }
+    ensures jobs { IfOk result (λ done. AreDoneBy J.after plan.now jobs.items done.sites.items) }
+    ensures forks { IfOk result (λ done. (links : List SeenLink) × IsHeadline plan.now (map (λ site. length site.log.calls) done.sites.items) links done.forks.items) }
+    ensures ordered { IfOk result (λ done. HaveOrder plan.now (map (λ site. site.journal.items) done.sites.items)) }
+    ensures fault { IfErr result (IsFaultOf plan.now values jobs) }
 {
     run_jobs::<ChannelLane, T, J, R>(rt, alloc, plan, values, jobs)
 }

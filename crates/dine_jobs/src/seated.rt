@@ -1,12 +1,16 @@
 //! The diner that does the jobs of a site.
-ghost use Rattle.std.specs.Prelude.{◌≡◌, ◌+◌, ◌≤◌, IfOk, Some, [], map, slice_get, true, vec_capacity, vec_len};
+ghost use Rattle.std.specs.Prelude.{◌≡◌, ◌+◌, ◌≤◌, IfOk, Some, false, replicate, slice_get, true, vec_capacity, vec_len};
 ghost use Rattle.dine_graph.specs.Plan.{job_count, site_count};
+ghost use Rattle.dine_site.specs.CallLogs.{no_calls};
+ghost use Rattle.dine_jobs.specs.Runs.{HasRun, failed_numbers, numbers_of};
 
+use crate::done::SiteDone;
 use crate::given::Given;
 use crate::job::{Failure, Job};
 use crate::table::Table;
 use crate::values::Values;
 use dine_graph::Plan;
+use dine_rules::EventKind;
 use dine_site::{CallLog, Diner, JobFault};
 use dine_token::Meal;
 use std::alloc::{AllocError, Global};
@@ -23,15 +27,25 @@ pub struct Seated<T: Drop, J: Job<T>, K: Given<J>> {
     site: u32,
     values: Arc<Values<T>, Global>,
     given: PhantomData<K>,
+    ghost room: { vec_len failures + log.room ≤ vec_capacity failures },
+    ghost failed: { numbers_of failures.items ≡ failed_numbers log.calls },
+    ghost ran: { (first : J) → slice_get K.given site ≡ Some first → ∥ HasRun J.after first log.calls job ∥₁ },
 }
 
 impl<T: Drop, J: Job<T>, K: Given<J>> Seated<T, J, K> {
     // What is left once it has done its jobs. It lets the values go.
-    pub(crate) fn leave(self) -> (J, CallLog, Vec<Failure<J::Fault>>) {
+    pub(crate) fn leave(self, journal: Vec<EventKind>) -> SiteDone<J, J::Fault>
+        ensures { result ≡ record { job = self.job; log = self.log; failures = self.failures; journal = journal } }
+    {
         let Seated {
             job, log, failures, ..
         } = self;
-        (job, log, failures)
+        SiteDone {
+            job,
+            log,
+            failures,
+            journal,
+        }
     }
 }
 
@@ -42,19 +56,25 @@ pub(crate) fn seat_all<T: Drop, J: Job<T>, K: Given<J>>(
     jobs: Vec<J>,
     values: &Arc<Values<T>, Global>,
 ) -> Result<Vec<Seated<T, J, K>>, AllocError>
+    requires many { vec_len jobs ≡ site_count plan.now }
+    requires given { jobs.items ≡ K.given }
+    ensures many { IfOk result (λ diners. vec_len diners ≡ site_count plan.now) }
+    ensures sites { IfOk result (λ diners. (s : _) (diner : _) → slice_get diners.items s ≡ Some diner → diner.site ≡ s) }
+    ensures logs { IfOk result (λ diners. (s : _) (diner : _) → slice_get diners.items s ≡ Some diner → diner.log ≡ no_calls (job_count plan.now s)) }
 {
     let mut diners = Vec::with_capacity(alloc, plan.sites() as usize)?;
     let mut waiting = jobs.into_iter();
     for site in 0..plan.sites() {
-        let Some(job) = waiting.next() else {
-            break;
-        };
+        let log = CallLog::open(alloc, plan.jobs(site))?;
+        let failures = Vec::with_capacity(alloc, plan.jobs(site) as usize)?;
+        let values = Arc::try_clone(values)?;
+        let job = waiting.next().unwrap();
         diners.push_reserved(Seated {
             job,
-            log: CallLog::open(alloc, plan.jobs(site))?,
-            failures: Vec::with_capacity(alloc, plan.jobs(site) as usize)?,
+            log,
+            failures,
             site,
-            values: Arc::try_clone(values)?,
+            values,
             given: PhantomData,
         });
     }
@@ -64,7 +84,8 @@ pub(crate) fn seat_all<T: Drop, J: Job<T>, K: Given<J>>(
 impl<T: Drop + Send, J: Job<T>, K: Given<J> + Send> Diner for Seated<T, J, K> {
     ghost calls = { λ diner. diner.log.calls };
 
-    ghost marks = { λ diner. [] };
+    // The number of its site, as so many marks: no call changes them.
+    ghost marks = { λ diner. replicate diner.site false };
 
     ghost fits = { λ marks k ok. true };
 

@@ -1,5 +1,5 @@
 //! A value for each edge.
-ghost use Rattle.std.specs.Prelude.{◌≡◌, ◌≤◌, IfOk, IsErrOf, vec_capacity, vec_len};
+ghost use Rattle.std.specs.Prelude.{◌≡◌, ◌≤◌, IfErr, IfOk, vec_capacity, vec_len};
 
 use crate::table::OpenFault;
 use std::alloc::{AllocError, Global};
@@ -18,6 +18,10 @@ impl<T: Drop> Values<T> {
     // The values by edge, each in its lock. They come with the list that held them, which is empty now and has the
     // capacity for them all.
     pub(crate) fn lock(alloc: Global, values: Vec<T>) -> Result<(Values<T>, Vec<T>), Vec<T>>
+        ensures cells { IfOk result (λ locked. vec_len locked.0.cells ≡ vec_len values) }
+        ensures empty { IfOk result (λ locked. vec_len locked.1 ≡ 0) }
+        ensures room { IfOk result (λ locked. vec_len values ≤ vec_capacity locked.1) }
+        ensures back { IfErr result (λ back. back ≡ values) }
     {
         let (Ok(mut cells), Ok(spare)) = (
             Vec::with_capacity(alloc, values.len()),
@@ -51,6 +55,9 @@ impl<T: Drop> Values<T> {
 
     // Takes all values out, by edge, into a list with capacity for them.
     pub(crate) fn unlock(self, mut spare: Vec<T>) -> Vec<T>
+        requires empty { vec_len spare ≡ 0 }
+        requires room { vec_len self.cells ≤ vec_capacity spare }
+        ensures { vec_len result ≡ vec_len self.cells }
     {
         let Values { cells, .. } = self;
         for cell in cells {
