@@ -13,6 +13,7 @@ use Rattle.dine_link.specs.declared.lane.TxEnd.TheVariants.{Live, Shut}
 use Rattle.dine_link.specs.Lanes.{seen_end}
 use Rattle.dine_link.specs.Bells.{SeenRinger, after_refused_ring, after_ring}
 use Rattle.dine_link.specs.Links.{SeenEnd, after_refusal, with_letter_at}
+use Rattle.dine_link.specs.declared.lane.Lane.{Ghosts}
 
 -- A port: the end that the site puts in, whether more can be put in it, the end that it takes from, and the ringer of
 -- the neighbour's bell.
@@ -28,13 +29,13 @@ is_live_end (Live tx) = true
 is_live_end (Shut tx) = false
 
 -- a port, by what is seen of the ends of its lane; and the ports of all places
-module _ {Lane Tx Closed Rx Identity : Type 0} (live : Tx → SeenEnd Identity) (shut : Closed → SeenEnd Identity) (taking : Rx → SeenEnd Identity) where
+module _ {Lane Tx Closed Rx : Type 0} (lane : Ghosts Lane Tx Closed Rx) where
   -- a port, by what is seen of the ends of its lane
-  abbrev pub seen_port : Port Lane Tx Closed Rx → SeenPort Identity
-  seen_port port = record { tx = seen_end live shut port.tx; is_live = is_live_end port.tx; rx = taking port.rx; ringer = port.ringer }
+  abbrev pub seen_port : Port Lane Tx Closed Rx → SeenPort lane.Identity
+  seen_port port = record { tx = seen_end lane.seen_tx lane.seen_closed port.tx; is_live = is_live_end port.tx; rx = lane.seen_rx port.rx; ringer = port.ringer }
 
   -- the ports of all places, in order
-  abbrev pub seen_ports : List (Port Lane Tx Closed Rx) → List (SeenPort Identity)
+  abbrev pub seen_ports : List (Port Lane Tx Closed Rx) → List (SeenPort lane.Identity)
   seen_ports ports = map seen_port ports
 
 module _ {Identity : Type 0} where

@@ -42,8 +42,8 @@ impl<L: Lane> Port<L> {
     pub(crate) fn put<R: Wait>(&mut self, rt: &R, letter: Letter, stamp: Stamp) -> Sent
         requires live { is_live_end self.old.tx ≡ true }
         requires letter { is_close letter ≡ false }
-        requires room { length (seen_port L.seen_tx L.seen_closed L.seen_rx self.old).tx.letters < 2 ^ 61 }
-        ensures { Sends stamp.at letter (seen_port L.seen_tx L.seen_closed L.seen_rx self.old) (seen_port L.seen_tx L.seen_closed L.seen_rx self.new) result }
+        requires room { length (seen_port L.Lane self.old).tx.letters < 2 ^ 61 }
+        ensures { Sends stamp.at letter (seen_port L.Lane self.old) (seen_port L.Lane self.new) result }
     {
         let kind = letter.kind();
         let put = match &mut self.tx {
@@ -62,8 +62,8 @@ impl<L: Lane> Port<L> {
     // Puts Close, where the end is live, and rings. Where the link refuses it, the end stays live.
     pub(crate) fn close<R: Wait>(self, rt: &R, stamp: Stamp) -> (Port<L>, Closed)
         requires live { is_live_end self.tx ≡ true }
-        requires room { length (seen_port L.seen_tx L.seen_closed L.seen_rx self).tx.letters < 2 ^ 61 }
-        ensures { SendsClose stamp.at (seen_port L.seen_tx L.seen_closed L.seen_rx self) (seen_port L.seen_tx L.seen_closed L.seen_rx result.0) result.1 }
+        requires room { length (seen_port L.Lane self).tx.letters < 2 ^ 61 }
+        ensures { SendsClose stamp.at (seen_port L.Lane self) (seen_port L.Lane result.0) result.1 }
     {
         let Port { tx, rx, ringer } = self;
         let TxEnd::Live(tx) = tx else { unreachable!() };
@@ -85,11 +85,11 @@ impl<L: Lane> Port<L> {
 
     // Takes the next letter, where Close was not taken.
     pub(crate) fn take<R: Wait>(&mut self, rt: &R) -> Result<(Letter, Stamp), Lost>
-        requires open { has_close (seen_port L.seen_tx L.seen_closed L.seen_rx self.old).rx.letters ≡ false }
-        requires room { length (seen_port L.seen_tx L.seen_closed L.seen_rx self.old).rx.letters < 2 ^ 61 }
+        requires open { has_close (seen_port L.Lane self.old).rx.letters ≡ false }
+        requires room { length (seen_port L.Lane self.old).rx.letters < 2 ^ 61 }
         ensures { MatchResult result
-            (λ got. seen_port L.seen_tx L.seen_closed L.seen_rx self.new ≡ taken_on got.1.at got.0 (seen_port L.seen_tx L.seen_closed L.seen_rx self.old))
-            (λ _. seen_port L.seen_tx L.seen_closed L.seen_rx self.new ≡ untaken_on (seen_port L.seen_tx L.seen_closed L.seen_rx self.old)) }
+            (λ got. seen_port L.Lane self.new ≡ taken_on got.1.at got.0 (seen_port L.Lane self.old))
+            (λ _. seen_port L.Lane self.new ≡ untaken_on (seen_port L.Lane self.old)) }
     {
         L::take_at(rt, &mut self.rx)
     }
@@ -97,8 +97,8 @@ impl<L: Lane> Port<L> {
     // Rings the neighbour's bell for a letter of that kind.
     fn ring<R: Wait>(&mut self, rt: &R, kind: Kind4) -> Result<(), Lost>
         ensures { MatchResult result
-            (λ _. seen_port L.seen_tx L.seen_closed L.seen_rx self.new ≡ rung_on (seen_port L.seen_tx L.seen_closed L.seen_rx self.old))
-            (λ _. seen_port L.seen_tx L.seen_closed L.seen_rx self.new ≡ unrung_on (seen_port L.seen_tx L.seen_closed L.seen_rx self.old)) }
+            (λ _. seen_port L.Lane self.new ≡ rung_on (seen_port L.Lane self.old))
+            (λ _. seen_port L.Lane self.new ≡ unrung_on (seen_port L.Lane self.old)) }
     {
         self.ringer.ring_for(rt, kind)
     }

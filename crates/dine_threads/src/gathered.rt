@@ -29,8 +29,8 @@ impl<D: Diner> AsSlice<EventKind> for SiteOut<D> {
     }
 }
 
-/// All that is gathered where every site did all: the forks by edge, the sites by number, and the links by edge, that
-/// from the lower end first.
+/// All that is gathered when all sites have joined: the forks that were found in their hands, by edge, which is one for
+/// each edge if every site did all; the sites by number; and the links by edge, the one from the lower end first.
 #[derive(Drop)]
 pub struct Gathered<D: Diner> {
     pub forks: Vec<Fork>,
@@ -38,13 +38,8 @@ pub struct Gathered<D: Diner> {
     pub links: Vec<LinkEnd>,
 }
 
-/// The same where some site ended with a fault. The forks are those that were found in the sites' hands, by edge.
-#[derive(Drop)]
-pub struct Joined<D: Diner> {
-    pub forks: Vec<Fork>,
-    pub sites: Vec<SiteOut<D>>,
-    pub links: Vec<LinkEnd>,
-}
+/// What is gathered if some site ended with a fault.
+pub type Joined<D> = Gathered<D>;
 
 /// Why a run gathers nothing, or not all.
 #[derive(Drop)]

@@ -1,14 +1,13 @@
 //! All sites of a plan, each on its thread, from the start to what is gathered.
-ghost use Rattle.std.specs.Prelude.{◌≡◌, ◌<◌, ◌≤◌, All, IfErr, IfOk, Some, map, slice_get, vec_capacity, vec_len};
+ghost use Rattle.std.specs.Prelude.{◌≡◌, ◌<◌, ◌≤◌, IfErr, IfOk, Some, slice_get, vec_capacity, vec_len};
 ghost use Rattle.dine_graph.specs.Plan.{job_count, site_count};
-ghost use Rattle.dine_threads.specs.Gathered.{AreFinishedOuts, AreOutsOf, IsClosedWhole};
 ghost use Rattle.dine_threads.specs.private.Collecting.{IsRoomFor};
 ghost use Rattle.dine_threads.specs.private.Setups.{IsSetUp};
-ghost use Rattle.dine_threads.specs.Journals.{HaveActed, HaveOrder};
-ghost use Rattle.dine_threads.specs.Headline.{AllJoined, AreTokensOf, FallsShort, FaultIs, IsHeadline};
+ghost use Rattle.dine_threads.specs.Headline.{FallsShort, FaultIs};
+ghost use Rattle.dine_threads.specs.Runs.{HaveRoom, IsRun};
 
 use crate::collecting::{Room, RoomOf, collect, first_fault, make_room};
-use crate::gathered::{Gathered, Joined, RunFault};
+use crate::gathered::{Gathered, RunFault};
 use crate::opening::open_all;
 use crate::seats::{Child, Seat, join_all, seat_all, start_all};
 use dine_graph::Plan;
@@ -57,7 +56,7 @@ fn set_up<L: Lane, D: Diner>(
 ) -> Result<Setup<L, D>, AllocError>
     requires diners { vec_len diners ≡ site_count plan.now }
     requires rooms { (s : _) (diner : _) → slice_get diners.items s ≡ Some diner → job_count plan.now s ≤ D.room_left diner }
-    ensures { IfOk result (IsSetUp L.seen_tx L.seen_closed L.seen_rx D.room_left plan.now diners.items) }
+    ensures { IfOk result (IsSetUp L.Lane D.Diner plan.now diners.items) }
 {
     let gate = Arc::new(alloc, Gate::new())?;
     let mut seats = Vec::with_capacity(alloc, plan.sites() as usize)?;
@@ -94,15 +93,9 @@ where
     L::Tx: 'static,
     L::ClosedTx: 'static,
     L::Rx: 'static,
-    requires room { vec_len diners ≡ site_count plan.now → (s : _) (diner : _) → slice_get diners.items s ≡ Some diner → job_count plan.now s ≤ D.room_left diner }
-    ensures many { IfOk result (λ _. vec_len diners ≡ site_count plan.now) }
-    ensures finished { IfOk result (λ gathered. AreFinishedOuts plan.now gathered.sites.items) }
-    ensures headline { IfOk result (λ gathered. IsHeadline plan.now (map (λ out. out.ate) gathered.sites.items) gathered.links.items gathered.forks.items) }
-    ensures journals { IfOk result (λ gathered. HaveActed plan.now (map (λ out. out.ate) gathered.sites.items) gathered.links.items (map (λ out. out.journal.items) gathered.sites.items)) }
-    ensures ordered { IfOk result (λ gathered. HaveOrder plan.now (map (λ out. out.journal.items) gathered.sites.items)) }
-    ensures tokens { IfOk result (λ gathered. AreTokensOf plan.now gathered.links.items gathered.sites.items) }
-    ensures sites { IfOk result (λ gathered. AreOutsOf D.calls D.marks D.fits plan.now diners.items gathered.sites.items) }
-    ensures fault { IfErr result (FaultIs D.calls D.marks D.fits plan.now diners) }
+    requires room { HaveRoom D.Diner plan.now diners }
+    ensures ok { IfOk result (IsRun D.Diner plan.now diners) }
+    ensures fault { IfErr result (FaultIs D.Diner plan.now diners) }
 {
     run_within::<L, D, R>(rt, alloc, plan, diners, MAX_SITES)
 }
@@ -122,15 +115,9 @@ where
     L::Tx: 'static,
     L::ClosedTx: 'static,
     L::Rx: 'static,
-    requires room { vec_len diners ≡ site_count plan.now → (s : _) (diner : _) → slice_get diners.items s ≡ Some diner → job_count plan.now s ≤ D.room_left diner }
-    ensures many { IfOk result (λ _. vec_len diners ≡ site_count plan.now) }
-    ensures finished { IfOk result (λ gathered. AreFinishedOuts plan.now gathered.sites.items) }
-    ensures headline { IfOk result (λ gathered. IsHeadline plan.now (map (λ out. out.ate) gathered.sites.items) gathered.links.items gathered.forks.items) }
-    ensures journals { IfOk result (λ gathered. HaveActed plan.now (map (λ out. out.ate) gathered.sites.items) gathered.links.items (map (λ out. out.journal.items) gathered.sites.items)) }
-    ensures ordered { IfOk result (λ gathered. HaveOrder plan.now (map (λ out. out.journal.items) gathered.sites.items)) }
-    ensures tokens { IfOk result (λ gathered. AreTokensOf plan.now gathered.links.items gathered.sites.items) }
-    ensures sites { IfOk result (λ gathered. AreOutsOf D.calls D.marks D.fits plan.now diners.items gathered.sites.items) }
-    ensures fault { IfErr result (FaultIs D.calls D.marks D.fits plan.now diners) }
+    requires room { HaveRoom D.Diner plan.now diners }
+    ensures ok { IfOk result (IsRun D.Diner plan.now diners) }
+    ensures fault { IfErr result (FaultIs D.Diner plan.now diners) }
     ensures limit { threads < site_count plan.now → FallsShort threads result }
 {
     laws::kept_streams_account_for_fork_and_token();
@@ -174,7 +161,7 @@ where
         }),
         Some(site) => Err(RunFault::Broken {
             site,
-            joined: Joined {
+            joined: Gathered {
                 forks,
                 sites,
                 links,

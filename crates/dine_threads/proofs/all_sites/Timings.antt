@@ -1,5 +1,5 @@
 -- The events of all journals have moments that fit, where no site tells a fault.
-use Rattle.std.proofs.Common.{◌≡◌, Bool, ℕ, zero, suc, ◌<◌, List, [], ◌∷◌, ◌++◌, All, length, map, get_or, slice_get, Option, Some, None, option_map, unwrap_or, sym, ◌∙◌, ap, subst, inl, inr, arith}
+use Rattle.std.proofs.Common.{◌≡◌, ℕ, zero, suc, ◌<◌, List, [], ◌∷◌, ◌++◌, All, length, map, get_or, slice_get, Option, Some, None, option_map, unwrap_or, sym, ◌∙◌, ap, subst, inl, inr, arith}
 use Rattle.std.proofs.lemmas.List.{append-nil, length-map}
 use Rattle.std.proofs.lemmas.Option.{slice_get-map, unwrap_or-slice_get}
 use Rattle.dine_graph.specs.Plan.{SeenPlan, edges_of, site_count}
@@ -7,8 +7,7 @@ use Rattle.dine_rules.specs.declared.events.EventKind.{EventKind}
 use Rattle.dine_rules.specs.Local.{edge_at, neighbour_at}
 use Rattle.dine_rules.specs.World.{place_of}
 use Rattle.dine_rules.proofs.links.Across.{across}
-use Rattle.dine_link.specs.Links.{SeenEnd, SeenLink}
-use Rattle.dine_site.specs.declared.diner.Call.{Call}
+use Rattle.dine_link.specs.Links.{SeenLink}
 use Rattle.dine_site.specs.declared.site_end.SiteEnd.{SiteEnd}
 use Rattle.dine_site.specs.Ports.{seen_ports}
 use Rattle.dine_rules.specs.Timed.{AreTimed, Rise, is_put_at, is_take_at, moments_of}
@@ -20,6 +19,8 @@ use Rattle.dine_threads.specs.private.Wirings.{AreWired}
 use Rattle.dine_threads.specs.Gathered.{IsTakenInOrder}
 use Rattle.dine_threads.proofs.all_sites.Gatherings.{AreAllLeft, end_of, ends_count, left_at, row_of}
 use Rattle.dine_threads.proofs.all_sites.Brokens.{ports_at, stands_at, there_or_none}
+use Rattle.dine_link.specs.declared.lane.Lane.{Ghosts}
+use Rattle.dine_site.specs.declared.diner.Diner as diners
 
 later_than_more : (later xs ys : List ℕ) → length later ≡ length xs → AreLater later xs → AreLater later (xs ++ ys)
 later_than_more [] xs ys many h n put taken p t = absurd cc
@@ -27,10 +28,10 @@ later_than_more (x ∷ later) [] ys many h n put taken p t = absurd (omega arith
 later_than_more (x ∷ later) (y ∷ xs) ys many h zero put taken p t = h zero put taken p t
 later_than_more (x ∷ later) (y ∷ xs) ys many h (suc n) put taken p t = later_than_more later xs ys (omega arith) (λ k. h (suc k)) n put taken p t
 
-module _ {Lane Tx Closed Rx Identity D : Type 0} {live : Tx → SeenEnd Identity} {shut : Closed → SeenEnd Identity} {taking : Rx → SeenEnd Identity}
-    {calls : D → List Call} {marks : D → List Bool} {fits : List Bool → ℕ → Bool → Bool} {room : D → ℕ} {plan : SeenPlan}
-    {seats : List (Seat Lane D Tx Closed Rx)} {ends : List (SiteEnd Lane D Tx Closed Rx)} (all : AreAllLeft live shut taking calls marks fits room plan seats ends)
-    (links : List SeenLink) (are_left : AreLinksLeft plan (rows_left live shut taking ends) links) (are_wired : AreWired plan (rows_left live shut taking ends)) (in_order : All IsTakenInOrder links) where
+module _ {Lane Tx Closed Rx D : Type 0} {lane : Ghosts Lane Tx Closed Rx}
+    {eater : diners.Ghosts D} {plan : SeenPlan}
+    {seats : List (Seat Lane D Tx Closed Rx)} {ends : List (SiteEnd Lane D Tx Closed Rx)} (all : AreAllLeft lane eater plan seats ends)
+    (links : List SeenLink) (are_left : AreLinksLeft plan (rows_left lane ends) links) (are_wired : AreWired plan (rows_left lane ends)) (in_order : All IsTakenInOrder links) where
   -- So the events of all journals have moments that fit, where no site tells a fault.
   module _ (no_fault : (s : ℕ) (end : SiteEnd Lane D Tx Closed Rx) → slice_get ends s ≡ Some end → end.fault ≡ None) where
     clocks : List (List (EventKind × ℕ))
@@ -40,7 +41,7 @@ module _ {Lane Tx Closed Rx Identity D : Type 0} {live : Tx → SeenEnd Identity
     unfolding clocks
     clock_at s end at = row_of (λ (e : SiteEnd Lane D Tx Closed Rx). e.clock.events) ends s end at
 
-    timed_at_site : (s : ℕ) (end : SiteEnd Lane D Tx Closed Rx) → slice_get ends s ≡ Some end → IsTimed none_late end.clock.events end.journal.items (seen_ports live shut taking end.ports.items)
+    timed_at_site : (s : ℕ) (end : SiteEnd Lane D Tx Closed Rx) → slice_get ends s ≡ Some end → IsTimed none_late end.clock.events end.journal.items (seen_ports lane end.ports.items)
     timed_at_site s end at = (left_at all s end at).timed (no_fault s end at)
 
     later_at : (s i n put taken : ℕ) → s < site_count plan → i < length (edges_of plan s)

@@ -20,7 +20,7 @@ loop-site-preserved g c =
     let lists = map g.J.AsSlice.items c.args.journals.now in
     let s = c.loop-site.site in
     let within : s < length c.args.journals.now = omega (arith, c.loop-site-test.true, c.requires, c.sites-site-end.ensures.count) in
-    let journal = c.as_slice-journal.ensures.value ∙ journal_at g.J.AsSlice.items c.args.journals.now s c.index-journals-site.result _ within c.index-journals-site.is in
+    let journal = c.as_slice-journal.ensures ∙ journal_at g.J.AsSlice.items c.args.journals.now s c.index-journals-site.result _ within c.index-journals-site.is in
     record {
       so_far = ap lists_of c.push_reserved.ensures.items ∙ map-append (λ (own : Vec Bool). own.items) c.loop-site.fails.items (c.in_ok-shown_in.field-0 ∷ [])
           ∙ ap₂ (λ (xs : List (List Bool)) (x : List Bool). xs ++ x ∷ []) kept.so_far (c.in_ok-shown_in.ensures ∙ ap₂ shown_in c.jobs.ensures.count journal)
