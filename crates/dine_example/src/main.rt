@@ -4,8 +4,8 @@
 //! 1. **Make a plan.** Whoever shares something needs an edge, and the value of the edge is what they share: here the
 //!    balance of an account. A site's jobs are counted beforehand.
 //! 2. **Write a job.** `run` is called once for each job of the site, while the site holds the forks of all its edges.
-//!    So `open_with` lends it the account that it shares with a neighbour. Nobody else can open it meanwhile, there is no
-//!    lock to take in order, and no value can be reached outside a meal.
+//!    So `open_with` lends it the account that it shares with a neighbour. Nobody else has it open meanwhile, there is
+//!    no order of locks to think of, and no value can be reached outside a job.
 //! 3. **Say why a job failed** by an error of your own. A site that resigns drops its other jobs then.
 //! 4. **Call `on_rings`** with the values by edge and the jobs by site. Both come back, with each failure.
 #![tactic(auto)]
@@ -16,7 +16,9 @@ use std::alloc::{AllocError, Global};
 use thiserror::Error;
 
 const TELLERS: u32 = 20;
+
 const JOBS: u32 = 100;
+
 const START: u64 = 500;
 
 /// Why a transfer was refused.
@@ -47,7 +49,10 @@ impl Job<u64> for Teller {
         let mut to = table.open_with(self.after)?;
         let Some(less) = from.checked_sub(amount) else {
             let there = *from;
-            return Err(Refused::Short { there, wanted: amount });
+            return Err(Refused::Short {
+                there,
+                wanted: amount,
+            });
         };
         *to = to.checked_add(amount).ok_or(Refused::Full(amount))?;
         *from = less;
@@ -96,9 +101,10 @@ fn main(rt: HostRuntime) -> Result<()> {
     let accounts = Vec::from_elem(alloc, START, TELLERS as usize)?;
     let done = on_rings(&rt, alloc, &plan, accounts, hire(alloc)?)?;
     for (n, site) in (0..TELLERS).zip(done.sites.as_slice()) {
-        eprintln!(rt; "teller {n} did {} transfers", site.calls().len())?;
-        for failure in site.failures.as_slice() {
-            eprintln!(rt; "transfer {} of teller {n}: {}", failure.k, failure.fault)?;
+        let (did, refused) = (site.calls().len(), site.failures.len());
+        eprintln!(rt; "teller {n} tried {did} transfers, of which {refused} were refused")?;
+        if let Some(failure) = site.failures.first() {
+            eprintln!(rt; "  the first is number {}: {}", failure.k, failure.fault)?;
         }
     }
     let mut total = 0u64;

@@ -9,8 +9,11 @@ use dine_run::{Job, JobFault, Place, Plan, PlanBuilder, PlanFault, SiteId, Table
 use std::alloc::{AllocError, Global};
 
 const WIDE: u32 = 4;
+
 const CELLS: usize = 16;
+
 const MEALS: u32 = 40;
+
 const HEAT: u32 = 1_000_000;
 
 #[derive(Drop)]

@@ -10,9 +10,10 @@ use Rattle.dine_site.proofs.lists.Seen.{there_is}
 use Rattle.dine_site.specs.CallLogs.{SeenCallLog, no_calls}
 use Rattle.dine_site.specs.Diners.{HasLastFailed, StopsAtFailed, meals_called}
 use Rattle.dine_site.specs.declared.diner.Call.{Call}
+use Rattle.dine_site.specs.declared.diner.Diner as diners
 use Rattle.dine_threads.specs.Gathered.{AreFinishedOuts, AreOutsOf, IsFinishedOut, IsOutOf}
 use Rattle.dine_threads.specs.declared.gathered.SiteOut.{SiteOut}
-use Rattle.dine_jobs.specs.Runs.{AreDoneBy, HasRun, IsDoneBy, failed_numbers, numbers_of}
+use Rattle.dine_jobs.specs.JobRuns.{AreDoneBy, HasRun, IsDoneBy, failed_numbers, numbers_of}
 use Rattle.dine_jobs.specs.declared.done.SiteDone.{SiteDone}
 use Rattle.dine_jobs.specs.declared.job.Failure.{Failure}
 
@@ -33,38 +34,30 @@ length-count_from (suc n) first = ap suc (length-count_from n (first + 1))
 
 module _ {D J F : Type 0} (after : J → ℕ → Bool → J → Type 0) (plan : SeenPlan) (given : List J) (job_of : D → J) (log_of : D → SeenCallLog) (failures_of : D → Vec (Failure F)) (site_of : D → ℕ)
     (ran : (d : D) (first : J) → slice_get given (site_of d) ≡ Some first → ∥ HasRun after first (log_of d).calls (job_of d) ∥₁)
-    (failed : (d : D) → numbers_of (failures_of d).items ≡ failed_numbers (log_of d).calls) where
-  abbrev pub calls_of : D → List Call
-  calls_of d = (log_of d).calls
-
-  abbrev pub marks_of : D → List Bool
-  marks_of d = replicate (site_of d) false
-
-  abbrev pub fits_all : List Bool → ℕ → Bool → Bool
-  fits_all marks k ok = true
-
+    (failed : (d : D) → numbers_of (failures_of d).items ≡ failed_numbers (log_of d).calls)
+    (eater : diners.Ghosts D) (calls_are : (d : D) → eater.calls d ≡ (log_of d).calls) (marks_are : (d : D) → eater.marks d ≡ replicate (site_of d) false) where
   abbrev pub left_by : SiteOut D → SiteDone J F
   left_by out = record { job = job_of out.diner; log = log_of out.diner; failures = failures_of out.diner; journal = out.journal }
 
   -- the diner had as many calls as its site ate meals, and they are those since the run began
-  called : (s : ℕ) (diner : D) (out : SiteOut D) → log_of diner ≡ no_calls (job_count plan s) → (is : IsOutOf calls_of marks_of fits_all plan s diner out) → (calls_of out.diner ≡ is.eaten.added) × (length (calls_of out.diner) ≡ out.ate)
+  called : (s : ℕ) (diner : D) (out : SiteOut D) → log_of diner ≡ no_calls (job_count plan s) → (is : IsOutOf eater plan s diner out) → ((log_of out.diner).calls ≡ is.eaten.added) × (length (log_of out.diner).calls ≡ out.ate)
   called s diner out fresh is =
       let added = is.eaten.added in
-      let all : calls_of out.diner ≡ added = is.eaten.called ∙ ap (λ (log : SeenCallLog). log.calls ++ added) fresh in
+      let all : (log_of out.diner).calls ≡ added = sym (calls_are out.diner) ∙ is.eaten.called ∙ ap (λ calls. calls ++ added) (calls_are diner ∙ ap (λ (log : SeenCallLog). log.calls) fresh) in
       (all, ap length all ∙ sym (length-map added (λ (call : Call). call.k)) ∙ ap length is.eaten.in_order ∙ length-count_from out.ate 1)
 
-  done_at : (s : ℕ) (diner : D) (first : J) (out : SiteOut D) → log_of diner ≡ no_calls (job_count plan s) → site_of diner ≡ s → slice_get given s ≡ Some first → IsOutOf calls_of marks_of fits_all plan s diner out → IsFinishedOut plan s out → IsDoneBy after plan s first (left_by out)
+  done_at : (s : ℕ) (diner : D) (first : J) (out : SiteOut D) → log_of diner ≡ no_calls (job_count plan s) → site_of diner ≡ s → slice_get given s ≡ Some first → IsOutOf eater plan s diner out → IsFinishedOut plan s out → IsDoneBy after plan s first (left_by out)
   done_at s diner first out fresh here at is finished =
-      let none : calls_of diner ≡ [] = ap (λ (log : SeenCallLog). log.calls) fresh in
+      let none : eater.calls diner ≡ [] = calls_are diner ∙ ap (λ (log : SeenCallLog). log.calls) fresh in
       let is_called = called s diner out fresh is in
-      let still : site_of out.diner ≡ s = sym (length-replicate (site_of out.diner) false) ∙ ap length is.eaten.marked ∙ length-replicate (site_of diner) false ∙ here in
+      let still : site_of out.diner ≡ s = sym (length-replicate (site_of out.diner) false) ∙ ap length (sym (marks_are out.diner) ∙ is.eaten.marked ∙ marks_are diner) ∙ length-replicate (site_of diner) false ∙ here in
       record {
         in_order = ap meals_called is_called.0 ∙ is.eaten.in_order ∙ sym (ap (count_from 1) is_called.1);
         all = elim finished.has_no_job_left [
           | inl whole ↦ inl (is_called.1 ∙ whole)
-          | inr quit ↦ inr (quit.0, subst (λ before. HasLastFailed before (calls_of out.diner)) none (is.heeds.quits quit.1))
+          | inr quit ↦ inr (quit.0, subst (HasLastFailed []) (calls_are out.diner) (subst (λ before. HasLastFailed before (eater.calls out.diner)) none (is.heeds.quits quit.1)))
         ];
-        stops = λ resigns. subst (λ before. StopsAtFailed before (calls_of out.diner)) none (is.heeds.stops resigns);
+        stops = λ resigns. subst (StopsAtFailed []) (calls_are out.diner) (subst (λ before. StopsAtFailed before (eater.calls out.diner)) none (is.heeds.stops resigns));
         ran = ran out.diner first (ap (slice_get given) still ∙ at);
         failures = failed out.diner;
       }
@@ -73,7 +66,7 @@ module _ {D J F : Type 0} (after : J → ℕ → Bool → J → Type 0) (plan : 
       (fresh : (s : ℕ) (d : D) → slice_get diners s ≡ Some d → log_of d ≡ no_calls (job_count plan s))
       (here : (s : ℕ) (d : D) → slice_get diners s ≡ Some d → site_of d ≡ s)
       (many : length diners ≡ site_count plan)
-      (are : AreOutsOf calls_of marks_of fits_all plan diners outs) where
+      (are : AreOutsOf eater plan diners outs) where
     pub done_by : AreFinishedOuts plan outs → AreDoneBy after plan given (map left_by outs)
     done_by finished = record {
       count = length-map outs left_by ∙ are.count;
@@ -86,8 +79,8 @@ module _ {D J F : Type 0} (after : J → ℕ → Bool → J → Type 0) (plan : 
     -- the meals of each site are the calls of its job
     pub meals_left : map (λ (out : SiteOut D). out.ate) outs ≡ map (λ (left : SiteDone J F). length left.log.calls) (map left_by outs)
     meals_left =
-        map_same (λ (out : SiteOut D). out.ate) (λ (out : SiteOut D). length (calls_of out.diner)) outs
+        map_same (λ (out : SiteOut D). out.ate) (λ (out : SiteOut D). length (log_of out.diner).calls) outs
         (λ s out at.
-            let diner = there_is diners s (omega (arith, slice_get_within outs s out at, are.count, many)) in
-            sym (called s diner.0 out (fresh s diner.0 diner.1) (are.each s diner.0 out diner.1 at)).1)
+        let diner = there_is diners s (omega (arith, slice_get_within outs s out at, are.count, many)) in
+        sym (called s diner.0 out (fresh s diner.0 diner.1) (are.each s diner.0 out diner.1 at)).1)
         ∙ sym (map-map (λ (left : SiteDone J F). length left.log.calls) left_by outs)

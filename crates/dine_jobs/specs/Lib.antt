@@ -1,2 +1,2 @@
-pub mod Runs
-pub mod Faults
+pub mod JobRuns
+pub mod JobFaults

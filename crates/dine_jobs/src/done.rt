@@ -1,6 +1,6 @@
 //! What is left of a run of jobs, and why there may be nothing left.
 ghost use Rattle.std.specs.Prelude.{◌≡◌, Some};
-ghost use Rattle.dine_jobs.specs.Faults.{jobs_cause_words};
+ghost use Rattle.dine_jobs.specs.JobFaults.{jobs_cause_words};
 
 use crate::job::{Failure, Job};
 use dine_rules::EventKind;
@@ -11,8 +11,8 @@ use std::convert::AsSlice;
 use std::error::Error;
 use std::fmt;
 
-/// What is left of a site: its job, the record of its calls, of each job that failed why, and its journal, which has each
-/// event that it did, in order. `order` puts the journals of all sites into one list.
+/// What is left of a site: its job, the record of its calls, of each job that failed why, and its journal, which has
+/// each event that it did, in order. `order` puts the journals of all sites into one list.
 #[derive(Drop)]
 pub struct SiteDone<J: Drop, F: Drop> {
     pub job: J,

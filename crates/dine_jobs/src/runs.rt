@@ -1,12 +1,9 @@
 //! Runs of jobs over values.
-ghost use Rattle.std.specs.Prelude.{◌≡◌, ◌≤◌, ◌⊎◌, IfErr, IfOk, List, Some, length, map, slice_get, vec_capacity, vec_len};
+ghost use Rattle.std.specs.Prelude.{◌≡◌, ◌≤◌, ◌⊎◌, IfErr, IfOk, map, vec_capacity, vec_len};
 ghost use Rattle.std.specs.Arc.{arc_value};
 ghost use Rattle.dine_graph.specs.Plan.{edge_count, site_count};
-ghost use Rattle.dine_link.specs.Links.{SeenLink};
-ghost use Rattle.dine_threads.specs.Headline.{IsHeadline};
-ghost use Rattle.dine_threads.specs.Journals.{HaveOrder};
-ghost use Rattle.dine_jobs.specs.Faults.{AreAsMany, IsFaultOf};
-ghost use Rattle.dine_jobs.specs.Runs.{AreDoneBy};
+ghost use Rattle.dine_jobs.specs.JobFaults.{IsFaultOf};
+ghost use Rattle.dine_jobs.specs.JobRuns.{IsDoneRun};
 
 use crate::done::{Done, JobsCause, JobsFault, SiteDone};
 use crate::given::Given;
@@ -46,20 +43,24 @@ where
     T: Drop + Send + 'static,
     J: Job<T> + 'static,
     R: Threads + Wait + Copy + Send + 'static,
-    ensures many { IfOk result (λ _. AreAsMany plan.now values jobs) }
-    ensures values { IfOk result (λ done. vec_len done.values ≡ edge_count plan.now) }
-    ensures jobs { IfOk result (λ done. AreDoneBy J.after plan.now jobs.items done.sites.items) }
-    ensures forks { IfOk result (λ done. (links : List SeenLink) × IsHeadline plan.now (map (λ site. length site.log.calls) done.sites.items) links done.forks.items) }
-    ensures ordered { IfOk result (λ done. HaveOrder plan.now (map (λ site. site.journal.items) done.sites.items)) }
+    ensures ok { IfOk result (IsDoneRun J.after plan.now values jobs) }
     ensures fault { IfErr result (IsFaultOf plan.now values jobs) }
 {
     if values.len() != plan.edges() as usize {
         let cause = JobsCause::ValuesDiffer;
-        return Err(JobsFault { cause, values, jobs });
+        return Err(JobsFault {
+            cause,
+            values,
+            jobs,
+        });
     }
     if jobs.len() != plan.sites() as usize {
         let cause = JobsCause::JobsDiffer;
-        return Err(JobsFault { cause, values, jobs });
+        return Err(JobsFault {
+            cause,
+            values,
+            jobs,
+        });
     }
     run_given::<L, T, J, Brand, R>(rt, alloc, plan, values, jobs)
 }
@@ -84,10 +85,7 @@ where
     requires values { vec_len values ≡ edge_count plan.now }
     requires jobs { vec_len jobs ≡ site_count plan.now }
     requires given { jobs.items ≡ K.given }
-    ensures values { IfOk result (λ done. vec_len done.values ≡ edge_count plan.now) }
-    ensures jobs { IfOk result (λ done. AreDoneBy J.after plan.now jobs.items done.sites.items) }
-    ensures forks { IfOk result (λ done. (links : List SeenLink) × IsHeadline plan.now (map (λ site. length site.log.calls) done.sites.items) links done.forks.items) }
-    ensures ordered { IfOk result (λ done. HaveOrder plan.now (map (λ site. site.journal.items) done.sites.items)) }
+    ensures ok { IfOk result (IsDoneRun J.after plan.now values jobs) }
     ensures fault { IfErr result (IsFaultOf plan.now values jobs) }
 {
     let (values, spare) = match Values::lock(alloc, values) {
@@ -198,11 +196,7 @@ where
     T: Drop + Send + 'static,
     J: Job<T> + 'static,
     R: Threads + Wait + Copy + Send + 'static,
-    ensures many { IfOk result (λ _. AreAsMany plan.now values jobs) }
-    ensures values { IfOk result (λ done. vec_len done.values ≡ edge_count plan.now) }
-    ensures jobs { IfOk result (λ done. AreDoneBy J.after plan.now jobs.items done.sites.items) }
-    ensures forks { IfOk result (λ done. (links : List SeenLink) × IsHeadline plan.now (map (λ site. length site.log.calls) done.sites.items) links done.forks.items) }
-    ensures ordered { IfOk result (λ done. HaveOrder plan.now (map (λ site. site.journal.items) done.sites.items)) }
+    ensures ok { IfOk result (IsDoneRun J.after plan.now values jobs) }
     ensures fault { IfErr result (IsFaultOf plan.now values jobs) }
 {
     run_jobs::<RingLane, T, J, R>(rt, alloc, plan, values, jobs)
@@ -220,11 +214,7 @@ where
     T: Drop + Send + 'static,
     J: Job<T> + 'static,
     R: Threads + Wait + Copy + Send + 'static,
-    ensures many { IfOk result (λ _. AreAsMany plan.now values jobs) }
-    ensures values { IfOk result (λ done. vec_len done.values ≡ edge_count plan.now) }
-    ensures jobs { IfOk result (λ done. AreDoneBy J.after plan.now jobs.items done.sites.items) }
-    ensures forks { IfOk result (λ done. (links : List SeenLink) × IsHeadline plan.now (map (λ site. length site.log.calls) done.sites.items) links done.forks.items) }
-    ensures ordered { IfOk result (λ done. HaveOrder plan.now (map (λ site. site.journal.items) done.sites.items)) }
+    ensures ok { IfOk result (IsDoneRun J.after plan.now values jobs) }
     ensures fault { IfErr result (IsFaultOf plan.now values jobs) }
 {
     run_jobs::<ChannelLane, T, J, R>(rt, alloc, plan, values, jobs)

@@ -2,7 +2,7 @@
 ghost use Rattle.std.specs.Prelude.{◌≡◌, ◌+◌, ◌≤◌, IfOk, Some, false, replicate, slice_get, true, vec_capacity, vec_len};
 ghost use Rattle.dine_graph.specs.Plan.{job_count, site_count};
 ghost use Rattle.dine_site.specs.CallLogs.{no_calls};
-ghost use Rattle.dine_jobs.specs.Runs.{HasRun, failed_numbers, numbers_of};
+ghost use Rattle.dine_jobs.specs.JobRuns.{HasRun, failed_numbers, numbers_of};
 
 use crate::done::SiteDone;
 use crate::given::Given;
@@ -38,7 +38,10 @@ impl<T: Drop, J: Job<T>, K: Given<J>> Seated<T, J, K> {
         ensures { result ≡ record { job = self.job; log = self.log; failures = self.failures; journal = journal } }
     {
         let Seated {
-            job, log, failures, ..
+            job,
+            log,
+            failures,
+            ..
         } = self;
         SiteDone {
             job,

@@ -8,6 +8,7 @@ use std::test::Fail;
 use std::thread::Threads;
 
 const SITES: u32 = 5;
+
 const JOBS: u32 = 7;
 
 // Notes the site and the number of each call, and fails at each third job.
@@ -52,7 +53,9 @@ fn is_right(rt: &impl Abort, alloc: Global, n: u32, site: &SiteDone<Witness, Thi
     for k in 1..meals.saturating_add(1) {
         seen.push((SiteId(n), k)).expect(rt, "memory");
         if k % 3 == 0 {
-            failed.push((k, Third(k.wrapping_mul(k)))).expect(rt, "memory");
+            failed
+                .push((k, Third(k.wrapping_mul(k))))
+                .expect(rt, "memory");
         }
     }
     assert_eq!(rt; site.job.seen.as_slice(), seen.as_slice());
@@ -76,7 +79,12 @@ fn are_right(rt: &impl Abort, alloc: Global, done: Done<(), Witness>, first: u32
 }
 
 // A run over rings and one over channels.
-fn both<R: Threads + Wait + Abort + Copy + Send + 'static>(rt: &R, alloc: Global, plan: &Plan, first: u32) -> Result<(), Fail> {
+fn both<R: Threads + Wait + Abort + Copy + Send + 'static>(
+    rt: &R,
+    alloc: Global,
+    plan: &Plan,
+    first: u32,
+) -> Result<(), Fail> {
     let values = no_values(alloc, plan)?;
     let done = on_rings(rt, alloc, plan, values, witnesses(rt, alloc, plan))?;
     are_right(rt, alloc, done, first);

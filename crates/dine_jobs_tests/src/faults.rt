@@ -26,7 +26,14 @@ fn numbers(rt: &impl Abort, alloc: Global, n: u32) -> Vec<u32> {
 }
 
 // The fault has this cause and these words, and hands back so many values and jobs, in order.
-fn hands_back(rt: &impl Abort, alloc: Global, fault: JobsFault<u32, Idle>, cause: JobsCause, words: &str, sizes: (u32, u32)) {
+fn hands_back(
+    rt: &impl Abort,
+    alloc: Global,
+    fault: JobsFault<u32, Idle>,
+    cause: JobsCause,
+    words: &str,
+    sizes: (u32, u32),
+) {
     assert_eq!(rt; fault.cause, cause);
     let told = fault.to_string(alloc).expect(rt, "memory");
     assert_eq!(rt; told.as_str(), words);

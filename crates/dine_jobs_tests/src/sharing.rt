@@ -9,8 +9,11 @@ use std::test::Fail;
 use std::thread;
 
 const RUNS: u32 = 200;
+
 const SITES: u32 = 8;
+
 const JOBS: u32 = 50;
+
 const NUMBERS: usize = 64;
 
 // Adds one to each number of each of its values, in steps that another thread would spoil.

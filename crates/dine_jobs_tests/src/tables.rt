@@ -30,7 +30,12 @@ fn edges_of(site: SiteId) -> &'static [(u32, u32)] {
 
 // Opens the value at a place in each way, one after the other. The value is the number of its edge. While it is open it
 // can't be opened again.
-fn opens(table: &Table<'_, u32>, place: Place, edge: EdgeId, neighbour: SiteId) -> Result<bool, OpenFault> {
+fn opens(
+    table: &Table<'_, u32>,
+    place: Place,
+    edge: EdgeId,
+    neighbour: SiteId,
+) -> Result<bool, OpenFault> {
     let by_place = *table.open(place)?;
     let by_edge = *table.open_edge(edge)?;
     let by_neighbour = *table.open_with(neighbour)?;

@@ -1,5 +1,5 @@
-//! A first caller of `dine_run`, to start one of your own from: units go round a ring of accounts, and none is lost or
-//! made up.
+//! A caller of `dine_run` with a diner of its own, of which all is proved: units go round a ring of accounts, and none
+//! is lost or made up.
 //!
 //! 1. **Write a plan.** A text names the sites, the jobs of each and the edges, and `read_plan` reads it. Sites that
 //!    share something need an edge. Here a site takes from its own account and pays into that of the next site. So each

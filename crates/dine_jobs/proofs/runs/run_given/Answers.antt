@@ -1,6 +1,6 @@
 -- What the run says of each site's diner, said of its job.
-use Rattle.std.proofs.Common.{◌≡◌, ℕ, List, MatchResult, IfErr, IfOk, Ok, Err, Result, Some, length, map, slice_get, sym, ◌∙◌, ap, subst, inl, inr, arith, vec_len}
-use Rattle.std.proofs.lemmas.Result.{IfErr-weaker, IfOk-weaker}
+use Rattle.std.proofs.Common.{◌≡◌, ℕ, List, IfErr, IfOk, Ok, Err, Result, Some, length, map, refl, slice_get, sym, ◌∙◌, ap, subst, inl, inr, arith, vec_len}
+use Rattle.std.proofs.lemmas.Result.{IfErr-weaker}
 use Rattle.std.proofs.lemmas.Simd.{map-map}
 use Rattle.dine_graph.specs.Plan.{job_count, site_count}
 use Rattle.dine_link.specs.Links.{SeenLink}
@@ -9,8 +9,8 @@ use Rattle.dine_site.specs.CallLogs.{SeenCallLog}
 use Rattle.dine_threads.specs.Headline.{IsHeadline}
 use Rattle.dine_threads.specs.Journals.{HaveOrder}
 use Rattle.dine_threads.specs.declared.gathered.SiteOut.{SiteOut}
-use Rattle.dine_jobs.specs.Faults.{AreAsMany, TellsCause}
-use Rattle.dine_jobs.specs.Runs.{AreDoneBy}
+use Rattle.dine_jobs.specs.JobFaults.{AreAsMany, TellsCause}
+use Rattle.dine_jobs.specs.JobRuns.{AreDoneBy}
 use Rattle.dine_jobs.specs.declared.done.Done.{Done}
 use Rattle.dine_jobs.specs.declared.done.JobsCause.{JobsCause}
 use Rattle.dine_jobs.specs.declared.done.SiteDone.{SiteDone}
@@ -18,51 +18,47 @@ use Rattle.dine_jobs.specs.declared.seated.Seated.{Seated}
 use Rattle.dine_jobs.proofs.Sites.{done_by, meals_left}
 use Rattle.dine_jobs.proofs.runs.run_given.Goals as goal
 
+-- what two facts of a value give together
+both_ok : {X E : Type 0} {P Q S : X → Type 0} (r : Result X E) → ((x : X) → P x → Q x → S x) → IfOk r P → IfOk r Q → IfOk r S
+both_ok (Ok x) both p q = both x p q
+both_ok (Err e) both p q = tt
+
 pub run-requires-clause-room : goal.run-requires-clause-room
 run-requires-clause-room g c κs within = λ many s diner at. omega (arith, ap (λ (log : SeenCallLog). log.room) (c.in-Ok-Ok.ensures.logs s diner at))
 
-pub returns-in-Ok-run-clause-values : goal.returns-in-Ok-run-clause-values
-returns-in-Ok-run-clause-values g c =
-    let cells = ap (λ values. vec_len values.cells) c.in-Ok-new.ensures.ok ∙ c.in-Ok.ensures.cells ∙ c.requires.values in
-    IfOk-weaker c.finish.result _ _ (λ done is. is ∙ cells) c.finish.ensures.values
-
-pub returns-in-Ok-run-clause-jobs : goal.returns-in-Ok-run-clause-jobs
-returns-in-Ok-run-clause-jobs g c =
+pub returns-in-Ok-run-clause-ok : goal.returns-in-Ok-run-clause-ok
+returns-in-Ok-run-clause-ok g c =
     let Diner = Seated g.row.T.Denot g.row.J.Denot g.row.K.Denot g.row.J-Fault.Denot g.J.Job g.K.Given in
+    let Left = SiteDone g.row.J.Denot g.row.J-Fault.Denot in
+    let left : SiteOut Diner → Left = λ out. record { job = out.diner.job; log = out.diner.log; failures = out.diner.failures; journal = out.journal } in
+    let journal : Left → List EventKind = λ site. site.journal.items in
     let plan = c.args.plan.now in
     let jobs = c.args.jobs.items in
     let diners = c.in-Ok-Ok.diners.items in
-    let outs = c.in-Ok-run.gathered.sites.items in
-    let many : length diners ≡ site_count plan = omega (arith, c.in-Ok-Ok.ensures.many, c.in-Ok-Ok.diners.ok.0) in
-    let all = done_by g.J.Job.after plan jobs (λ (d : Diner). d.job) (λ (d : Diner). d.log) (λ (d : Diner). d.failures) (λ (d : Diner). d.site)
-        (λ d first at. d.ran first (ap (λ given. slice_get given d.site) (sym c.requires.given) ∙ at)) (λ d. d.failed) diners outs c.in-Ok-Ok.ensures.logs c.in-Ok-Ok.ensures.sites many c.in-Ok-run.ensures.sites c.in-Ok-run.ensures.finished in
-    IfOk-weaker c.finish.result _ _ (λ done is. subst (AreDoneBy g.J.Job.after plan jobs) (sym is.0) all) c.finish.ensures.left
-
-pub returns-in-Ok-run-clause-forks : goal.returns-in-Ok-run-clause-forks
-returns-in-Ok-run-clause-forks g c =
-    let Diner = Seated g.row.T.Denot g.row.J.Denot g.row.K.Denot g.row.J-Fault.Denot g.J.Job g.K.Given in
-    let plan = c.args.plan.now in
-    let jobs = c.args.jobs.items in
-    let diners = c.in-Ok-Ok.diners.items in
+    let run = c.in-Ok-run.ensures.ok in
     let outs = c.in-Ok-run.gathered.sites.items in
     let links = c.in-Ok-run.gathered.links.items in
+    let cells = ap (λ values. vec_len values.cells) c.in-Ok-new.ensures.ok ∙ c.in-Ok.ensures.cells ∙ c.requires.values in
     let many : length diners ≡ site_count plan = omega (arith, c.in-Ok-Ok.ensures.many, c.in-Ok-Ok.diners.ok.0) in
-    let meals = meals_left g.J.Job.after plan jobs (λ (d : Diner). d.job) (λ (d : Diner). d.log) (λ (d : Diner). d.failures) (λ (d : Diner). d.site)
-        (λ d first at. d.ran first (ap (λ given. slice_get given d.site) (sym c.requires.given) ∙ at)) (λ d. d.failed) diners outs c.in-Ok-Ok.ensures.logs c.in-Ok-Ok.ensures.sites many c.in-Ok-run.ensures.sites in
-    IfOk-weaker c.finish.result _ _
-    (λ done is. (
+    let ran = λ (d : Diner) (first : g.row.J.Denot) (at : slice_get jobs d.site ≡ Some first). d.ran first (ap (λ given. slice_get given d.site) (sym c.requires.given) ∙ at) in
+    let all = done_by g.J.Job.after plan jobs (λ (d : Diner). d.job) (λ (d : Diner). d.log) (λ (d : Diner). d.failures) (λ (d : Diner). d.site) ran (λ (d : Diner). d.failed) _ (λ d. refl) (λ d. refl)
+    diners outs c.in-Ok-Ok.ensures.logs c.in-Ok-Ok.ensures.sites many run.sites run.finished in
+    let meals = meals_left g.J.Job.after plan jobs (λ (d : Diner). d.job) (λ (d : Diner). d.log) (λ (d : Diner). d.failures) (λ (d : Diner). d.site) ran (λ (d : Diner). d.failed) _ (λ d. refl) (λ d. refl)
+    diners outs c.in-Ok-Ok.ensures.logs c.in-Ok-Ok.ensures.sites many run.sites in
+    both_ok c.finish.result
+    (λ done values_back is. record {
+      many = (c.requires.values, c.requires.jobs);
+      values_back = values_back ∙ cells;
+      sites = subst (AreDoneBy g.J.Job.after plan jobs) (sym is.0) all;
+      forks = (
         links,
-        subst (λ ates. IsHeadline plan ates links done.forks.items) (meals ∙ ap (map (λ (left : SiteDone g.row.J.Denot g.row.J-Fault.Denot). length left.log.calls)) (sym is.0))
-            (subst (λ forks. IsHeadline plan (map (λ (out : SiteOut Diner). out.ate) outs) links forks.items) (sym is.1) c.in-Ok-run.ensures.headline),
-    ))
+        subst (λ ates. IsHeadline plan ates links done.forks.items) (meals ∙ ap (map (λ (site : Left). length site.log.calls)) (sym is.0))
+            (subst (λ forks. IsHeadline plan (map (λ (out : SiteOut Diner). out.ate) outs) links forks.items) (sym is.1) run.headline),
+      );
+      ordered = subst (HaveOrder plan) (sym (ap (map journal) is.0 ∙ map-map journal left outs)) run.ordered;
+    })
+    c.finish.ensures.values
     c.finish.ensures.left
-
-pub returns-in-Ok-run-clause-ordered : goal.returns-in-Ok-run-clause-ordered
-returns-in-Ok-run-clause-ordered g c =
-    let Diner = Seated g.row.T.Denot g.row.J.Denot g.row.K.Denot g.row.J-Fault.Denot g.J.Job g.K.Given in
-    let left : SiteOut Diner → SiteDone g.row.J.Denot g.row.J-Fault.Denot = λ out. record { job = out.diner.job; log = out.diner.log; failures = out.diner.failures; journal = out.journal } in
-    let journal : SiteDone g.row.J.Denot g.row.J-Fault.Denot → List EventKind = λ site. site.journal.items in
-    IfOk-weaker c.finish.result _ _ (λ done is. subst (HaveOrder c.args.plan.now) (sym (ap (map journal) is.0 ∙ map-map journal left c.in-Ok-run.gathered.sites.items)) c.in-Ok-run.ensures.ordered) c.finish.ensures.left
 
 pub returns-in-Ok-run-clause-fault : goal.returns-in-Ok-run-clause-fault
 returns-in-Ok-run-clause-fault g c =

@@ -6,7 +6,7 @@ use Rattle.dine_graph.specs.Plan.{job_count}
 use Rattle.dine_site.specs.CallLogs.{SeenCallLog, no_calls}
 use Rattle.dine_threads.proofs.lists.Zips.{mapped_split}
 use Rattle.dine_threads.proofs.all_sites.Collected.{each_more}
-use Rattle.dine_jobs.specs.Runs.{HasRun, failed_numbers, numbers_of}
+use Rattle.dine_jobs.specs.JobRuns.{HasRun, failed_numbers, numbers_of}
 use Rattle.dine_jobs.specs.declared.seated.Seated.{Seated}
 use Rattle.dine_jobs.proofs.Lists.{at_place}
 use Rattle.dine_jobs.proofs.seated.seat_all.Goals as goal

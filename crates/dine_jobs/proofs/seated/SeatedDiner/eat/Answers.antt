@@ -2,7 +2,7 @@
 use Rattle.std.proofs.Common.{◌≡◌, ℕ, Bool, true, false, List, [], ◌∷◌, ◌++◌, is_ok, map, sym, ◌∙◌, ap, subst, arith}
 use Rattle.std.proofs.lemmas.List.{map-append}
 use Rattle.dine_token.specs.Meal.{SeenMeal}
-use Rattle.dine_jobs.specs.Runs.{numbers_of}
+use Rattle.dine_jobs.specs.JobRuns.{numbers_of}
 use Rattle.dine_jobs.proofs.Calls.{failed_ill, failed_well, ran_more}
 use Rattle.dine_jobs.proofs.seated.SeatedDiner.eat.Goals as goal
 

@@ -1,9 +1,14 @@
--- What the jobs of a run did, each in a row of meals.
+-- What the jobs of a run did, each in a row of meals, and what is left of the run.
 use Rattle.std.specs.Prelude.{◌≡◌, ◌⊎◌, ℕ, Bool, true, List, [], ◌∷◌, filter, length, map, not, slice_get, Some}
 use Rattle.dine_token.specs.Lawful.{count_from}
-use Rattle.dine_graph.specs.Plan.{SeenPlan, job_count, resigns, site_count}
+use Rattle.dine_graph.specs.Plan.{SeenPlan, edge_count, job_count, resigns, site_count}
+use Rattle.dine_link.specs.Links.{SeenLink}
 use Rattle.dine_site.specs.Diners.{HasLastFailed, StopsAtFailed, meals_called}
 use Rattle.dine_site.specs.declared.diner.Call.{Call}
+use Rattle.dine_threads.specs.Headline.{IsHeadline}
+use Rattle.dine_threads.specs.Journals.{HaveOrder}
+use Rattle.dine_jobs.specs.JobFaults.{AreAsMany}
+use Rattle.dine_jobs.specs.declared.done.Done.{Done}
 use Rattle.dine_jobs.specs.declared.done.SiteDone.{SiteDone}
 use Rattle.dine_jobs.specs.declared.job.Failure.{Failure}
 
@@ -35,3 +40,13 @@ module _ {J F : Type 0} (after : J → ℕ → Bool → J → Type 0) (plan : Se
   pub record AreDoneBy (given : List J) (left : List (SiteDone J F)) : Type 0 where
     pub count : length left ≡ site_count plan
     pub each : (s : ℕ) (job : J) (site : SiteDone J F) → slice_get given s ≡ Some job → slice_get left s ≡ Some site → IsDoneBy s job site
+
+-- What is left of a run of jobs that went well: there was a value for each edge and a job for each site, and so it is
+-- of what came back. Each job was done as `IsDoneBy` says, the forks have lawful logs of just these meals, and there is
+-- an order of the journals. What a job did to a value is not said, nor that a value was free when it was asked for.
+pub record IsDoneRun {T J F : Type 0} (after : J → ℕ → Bool → J → Type 0) (plan : SeenPlan) (values : Vec T) (jobs : Vec J) (done : Done T J F) : Type 0 where
+  pub many : AreAsMany plan values jobs
+  pub values_back : vec_len done.values ≡ edge_count plan
+  pub sites : AreDoneBy after plan jobs.items done.sites.items
+  pub forks : (links : List SeenLink) × IsHeadline plan (map (λ (left : SiteDone J F). length left.log.calls) done.sites.items) links done.forks.items
+  pub ordered : HaveOrder plan (map (λ (left : SiteDone J F). left.journal.items) done.sites.items)

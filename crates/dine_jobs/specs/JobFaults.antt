@@ -11,7 +11,8 @@ use Rattle.dine_jobs.specs.declared.done.JobsFault.{JobsFault}
 abbrev pub AreAsMany : {T J : Type 0} → SeenPlan → Vec T → Vec J → Type 0
 AreAsMany plan values jobs = (vec_len values ≡ edge_count plan) × (vec_len jobs ≡ site_count plan)
 
--- When each cause is told, and what is handed back with it. If a run was refused or failed, it is a value for each edge.
+-- When each cause is told, and what is handed back with it: if the run was refused memory or failed, a value for each
+-- edge.
 abbrev pub TellsCause : {T J : Type 0} → SeenPlan → Vec T → Vec J → JobsCause → JobsFault T J → Type 0
 TellsCause plan values jobs ValuesDiffer fault = (vec_len values ≢ edge_count plan) × (fault.values ≡ values) × (fault.jobs ≡ jobs)
 TellsCause plan values jobs JobsDiffer fault = (vec_len values ≡ edge_count plan) × (vec_len jobs ≢ site_count plan) × (fault.values ≡ values) × (fault.jobs ≡ jobs)
