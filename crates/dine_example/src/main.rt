@@ -13,6 +13,7 @@
 use anyhow::{Result, bail};
 use dine_run::{Job, OpenFault, Plan, PlanBuilder, PlanFault, SiteId, Table, on_rings};
 use std::alloc::{AllocError, Global};
+use std::time::Instant;
 use thiserror::Error;
 
 const TELLERS: u32 = 20;
@@ -99,7 +100,11 @@ fn main(rt: HostRuntime) -> Result<()> {
     let alloc = rt.alloc();
     let plan = ring(alloc)?;
     let accounts = Vec::from_elem(alloc, START, TELLERS as usize)?;
-    let done = on_rings(&rt, alloc, &plan, accounts, hire(alloc)?)?;
+    let tellers = hire(alloc)?;
+    let start = Instant::now(&rt)?;
+    let done = on_rings(&rt, alloc, &plan, accounts, tellers)?;
+    let took = start.elapsed(&rt)?;
+    eprintln!(rt; "the run took {} microseconds", took.as_micros())?;
     for (n, site) in (0..TELLERS).zip(done.sites.as_slice()) {
         let (did, refused) = (site.calls().len(), site.failures.len());
         eprintln!(rt; "teller {n} tried {did} transfers, of which {refused} were refused")?;

@@ -7,12 +7,13 @@ ghost use Rattle.std.specs.Prelude.{◌<◌};
 use anyhow::{Result, bail};
 use dine_run::{Job, JobFault, Place, Plan, PlanBuilder, PlanFault, SiteId, Table, on_rings};
 use std::alloc::{AllocError, Global};
+use std::time::Instant;
 
 const WIDE: u32 = 4;
 
 const CELLS: usize = 16;
 
-const MEALS: u32 = 40;
+const MEALS: u32 = 200;
 
 const HEAT: u32 = 1_000_000;
 
@@ -147,7 +148,10 @@ fn main(rt: HostRuntime) -> Result<()> {
     let plan = square(alloc)?;
     let strips = strips_of(alloc, &plan)?;
     let tiles = tiles_of(alloc, &plan)?;
+    let start = Instant::now(&rt)?;
     let done = on_rings(&rt, alloc, &plan, strips, tiles)?;
+    let took = start.elapsed(&rt)?;
+    eprintln!(rt; "the run took {} microseconds", took.as_micros())?;
     let mut total = 0u64;
     for site in done.sites {
         if !site.failures.is_empty() {

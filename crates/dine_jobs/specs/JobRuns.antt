@@ -1,5 +1,6 @@
 -- What the jobs of a run did, each in a row of meals, and what is left of the run.
-use Rattle.std.specs.Prelude.{◌≡◌, ◌⊎◌, ℕ, Bool, true, List, [], ◌∷◌, filter, length, map, not, slice_get, Some}
+use Rattle.std.specs.Prelude.{◌≡◌, ◌⊎◌, ℕ, Bool, true, List, [], ◌∷◌, filter, length, map, not, slice_get, vec_len, Some}
+use Rattle.std.specs.Global.{Vec}
 use Rattle.dine_token.specs.Lawful.{count_from}
 use Rattle.dine_graph.specs.Plan.{SeenPlan, edge_count, job_count, resigns, site_count}
 use Rattle.dine_link.specs.Links.{SeenLink}

@@ -1,6 +1,8 @@
 // Each job is done once, with its own number, and its answer is kept as it is.
 use crate::plans::{band_of, resigning};
-use dine_run::{Done, Job, Plan, SiteDone, SiteId, Table, no_values, on_channels, on_rings};
+use dine_run::{
+    Done, EventKind, Job, Plan, SiteDone, SiteId, Table, no_values, on_channels, on_rings, order,
+};
 use std::alloc::Global;
 use std::process::Abort;
 use std::sync::Wait;
@@ -69,13 +71,22 @@ fn is_right(rt: &impl Abort, alloc: Global, n: u32, site: &SiteDone<Witness, Thi
     }
 }
 
-// All sites did all their jobs, but for site 0, which did so many.
-fn are_right(rt: &impl Abort, alloc: Global, done: Done<(), Witness>, first: u32) {
-    assert_eq!(rt; done.sites.len(), SITES as usize);
-    assert_eq!(rt; done.missed, 0);
-    for (n, site) in (0..SITES).zip(done.sites.as_slice()) {
+// All sites did all their jobs, but for site 0, which did so many. There is an order of what they did, with each meal.
+fn are_right(rt: &impl Abort, alloc: Global, plan: &Plan, done: Done<(), Witness>, first: u32) {
+    assert_eq!(rt;
+        (done.sites.len(), done.values.len()),
+        (plan.sites() as usize, plan.edges() as usize)
+    );
+    assert_eq!(rt; (done.forks.len(), done.missed), (plan.edges() as usize, 0));
+    for (n, site) in (0..64u32).zip(done.sites.as_slice()) {
         is_right(rt, alloc, n, site, if n == 0 { first } else { JOBS });
     }
+    let events = order(alloc, plan, done.sites.as_slice()).expect(rt, "an order");
+    let begun = events
+        .iter()
+        .filter(|event| event.kind == EventKind::Begin)
+        .count();
+    assert_eq!(rt; begun, first.wrapping_add((SITES - 1) * JOBS) as usize);
 }
 
 // A run over rings and one over channels.
@@ -87,10 +98,10 @@ fn both<R: Threads + Wait + Abort + Copy + Send + 'static>(
 ) -> Result<(), Fail> {
     let values = no_values(alloc, plan)?;
     let done = on_rings(rt, alloc, plan, values, witnesses(rt, alloc, plan))?;
-    are_right(rt, alloc, done, first);
+    are_right(rt, alloc, plan, done, first);
     let values = no_values(alloc, plan)?;
     let done = on_channels(rt, alloc, plan, values, witnesses(rt, alloc, plan))?;
-    are_right(rt, alloc, done, first);
+    are_right(rt, alloc, plan, done, first);
     Ok(())
 }
 
