@@ -28,8 +28,8 @@ use std::thread::Threads;
 /// `ValuesDiffer` if there are not as many values as edges, and then `JobsDiffer` if there are not as many jobs as
 /// sites; both are handed back. `Memory` if an allocation fails before the first thread starts. `Run` if the run
 /// itself fails. The values are handed back with each.
-pub fn run_jobs<L, T, J, R>(
-    rt: &R,
+pub fn run_jobs<L, T, J>(
+    rt: &(impl Threads + Wait + Copy + Send + 'static),
     alloc: Global,
     plan: &Plan,
     values: Vec<T>,
@@ -42,7 +42,6 @@ where
     L::Rx: 'static,
     T: Drop + Send + 'static,
     J: Job<T> + 'static,
-    R: Threads + Wait + Copy + Send + 'static,
     ensures ok { IfOk result (IsDoneRun J.after plan.now values jobs) }
     ensures fault { IfErr result (IsFaultOf plan.now values jobs) }
 {
@@ -62,12 +61,12 @@ where
             jobs,
         });
     }
-    run_given::<L, T, J, Brand, R>(rt, alloc, plan, values, jobs)
+    run_given::<L, T, J, Brand>(rt, alloc, plan, values, jobs)
 }
 
 // The same, for as many values as edges and as many jobs as sites.
-fn run_given<L, T, J, K, R>(
-    rt: &R,
+fn run_given<L, T, J, K>(
+    rt: &(impl Threads + Wait + Copy + Send + 'static),
     alloc: Global,
     plan: &Plan,
     values: Vec<T>,
@@ -81,7 +80,6 @@ where
     T: Drop + Send + 'static,
     J: Job<T> + 'static,
     K: Given<J> + Send + 'static,
-    R: Threads + Wait + Copy + Send + 'static,
     requires values { vec_len values ≡ edge_count plan.now }
     requires jobs { vec_len jobs ≡ site_count plan.now }
     requires given { jobs.items ≡ K.given }
@@ -102,7 +100,7 @@ where
     ) else {
         return Err(take_back(alloc, JobsCause::Memory, values, spare));
     };
-    let cause = match run::<L, Seated<T, J, K>, R>(rt, alloc, plan, diners) {
+    let cause = match run::<L, Seated<T, J, K>>(rt, alloc, plan, diners) {
         Ok(gathered) => return finish(alloc, gathered, room, values, spare),
         Err(fault) => JobsCause::Run(RunCause::from(&fault)),
     };
@@ -185,8 +183,8 @@ fn take_back<T: Drop, J: Drop>(
 }
 
 /// [`run_jobs`] with letters over rings, which is the faster kind of links.
-pub fn on_rings<T, J, R>(
-    rt: &R,
+pub fn on_rings<T, J>(
+    rt: &(impl Threads + Wait + Copy + Send + 'static),
     alloc: Global,
     plan: &Plan,
     values: Vec<T>,
@@ -195,16 +193,15 @@ pub fn on_rings<T, J, R>(
 where
     T: Drop + Send + 'static,
     J: Job<T> + 'static,
-    R: Threads + Wait + Copy + Send + 'static,
     ensures ok { IfOk result (IsDoneRun J.after plan.now values jobs) }
     ensures fault { IfErr result (IsFaultOf plan.now values jobs) }
 {
-    run_jobs::<RingLane, T, J, R>(rt, alloc, plan, values, jobs)
+    run_jobs::<RingLane, T, J>(rt, alloc, plan, values, jobs)
 }
 
 /// [`run_jobs`] with letters over channels: the end of a link is told if the other end is gone.
-pub fn on_channels<T, J, R>(
-    rt: &R,
+pub fn on_channels<T, J>(
+    rt: &(impl Threads + Wait + Copy + Send + 'static),
     alloc: Global,
     plan: &Plan,
     values: Vec<T>,
@@ -213,11 +210,10 @@ pub fn on_channels<T, J, R>(
 where
     T: Drop + Send + 'static,
     J: Job<T> + 'static,
-    R: Threads + Wait + Copy + Send + 'static,
     ensures ok { IfOk result (IsDoneRun J.after plan.now values jobs) }
     ensures fault { IfErr result (IsFaultOf plan.now values jobs) }
 {
-    run_jobs::<ChannelLane, T, J, R>(rt, alloc, plan, values, jobs)
+    run_jobs::<ChannelLane, T, J>(rt, alloc, plan, values, jobs)
 }
 
 /// The values of jobs that share nothing: one for each edge, each of no bytes.
