@@ -1,5 +1,5 @@
 -- One site more, and what is left at the end.
-use Rattle.std.proofs.Common.{◌≡◌, ◌++◌, [], List, map, ap, sym, ◌∙◌, arith, vec_items}
+use Rattle.std.proofs.Common.{◌≡◌, ◌++◌, [], List, map, ap, ◌∙◌, arith, vec_items}
 use Rattle.std.specs.Vec.Iter.{into_iter_items}
 use Rattle.std.proofs.lemmas.List.{nil_from_length}
 use Rattle.dine_threads.proofs.all_sites.Collected.{moved_as, none_left}

@@ -1,9 +1,8 @@
 -- What the run says of each site's diner, said of its job.
-use Rattle.std.proofs.Common.{◌≡◌, ℕ, List, IfErr, IfOk, Ok, Err, Result, Some, length, map, refl, slice_get, sym, ◌∙◌, ap, subst, inl, inr, arith, vec_len}
+use Rattle.std.proofs.Common.{◌≡◌, List, IfOk, Ok, Err, Result, Some, length, map, refl, slice_get, sym, ◌∙◌, ap, subst, inl, inr, arith, vec_len}
 use Rattle.std.proofs.lemmas.Result.{IfErr-weaker}
 use Rattle.std.proofs.lemmas.Simd.{map-map}
-use Rattle.dine_graph.specs.Plan.{job_count, site_count}
-use Rattle.dine_link.specs.Links.{SeenLink}
+use Rattle.dine_graph.specs.Plan.{site_count}
 use Rattle.dine_rules.specs.declared.events.EventKind.{EventKind}
 use Rattle.dine_site.specs.CallLogs.{SeenCallLog}
 use Rattle.dine_threads.specs.Headline.{IsHeadline}
@@ -11,7 +10,6 @@ use Rattle.dine_threads.specs.Journals.{HaveOrder}
 use Rattle.dine_threads.specs.declared.gathered.SiteOut.{SiteOut}
 use Rattle.dine_jobs.specs.JobFaults.{AreAsMany, TellsCause}
 use Rattle.dine_jobs.specs.JobRuns.{AreDoneBy}
-use Rattle.dine_jobs.specs.declared.done.Done.{Done}
 use Rattle.dine_jobs.specs.declared.done.JobsCause.{JobsCause}
 use Rattle.dine_jobs.specs.declared.done.SiteDone.{SiteDone}
 use Rattle.dine_jobs.specs.declared.seated.Seated.{Seated}

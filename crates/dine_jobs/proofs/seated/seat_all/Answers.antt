@@ -1,5 +1,5 @@
 -- One diner more.
-use Rattle.std.proofs.Common.{◌≡◌, ◌∙◌, List, length, map, slice_get, refl, sym, ap, subst, arith, vec_items}
+use Rattle.std.proofs.Common.{◌≡◌, ◌∙◌, length, map, slice_get, refl, sym, ap, subst, arith, vec_items}
 use Rattle.std.specs.Vec.Iter.{into_iter_items}
 use Rattle.std.proofs.lemmas.List.{length-map}
 use Rattle.dine_graph.specs.Plan.{job_count}

@@ -1,5 +1,5 @@
 -- The diner keeps one call more.
-use Rattle.std.proofs.Common.{◌≡◌, ℕ, Bool, true, false, List, [], ◌∷◌, ◌++◌, is_ok, map, sym, ◌∙◌, ap, subst, arith}
+use Rattle.std.proofs.Common.{is_ok, ◌∙◌, ap, arith}
 use Rattle.std.proofs.lemmas.List.{map-append}
 use Rattle.dine_token.specs.Meal.{SeenMeal}
 use Rattle.dine_jobs.specs.JobRuns.{numbers_of}
