@@ -21,8 +21,8 @@ whole_meal plan state core meal stands keeps is = record {
       let mapped = length-map meal.forks edge_of in
       same_number_lists (map edge_of meal.forks) (edges_of plan core.site) (omega (arith, mapped, is.count, stands.degree, keeps.every_place))
       (λ k h.
-          let within : k < length meal.forks = omega (arith, h, mapped) in
-          let placed : k < length core.places = omega (arith, within, is.count) in
-          get_or-map_at edge_of meal.forks k 0 no_fork within ∙ (is.forks k no_fork placed).fits.edge ∙ ap (λ (place : Place). place.edge) (stands.places k no_place placed))
+      let within : k < length meal.forks = omega (arith, h, mapped) in
+      let placed : k < length core.places = omega (arith, within, is.count) in
+      get_or-map_at edge_of meal.forks k 0 no_fork within ∙ (is.forks k no_fork placed).fits.edge ∙ ap (λ (place : Place). place.edge) (stands.places k no_place placed))
       ∙ ap (edges_of plan) (sym is.site);
 }
