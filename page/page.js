@@ -1,89 +1,111 @@
-// The page: its buttons and keys, what it says of a state, and its address. Each state comes from the program, by
-// schedule.js.
+// The page: what it has in mind, its buttons, and what it shows of a state. Each state comes from the program.
 
+import { Acts, Player } from "./acts.js";
+import { addressOf, momentOf } from "./address.js";
 import { Course } from "./course.js";
-import { Picture, between, drawLegend, element, outline } from "./picture.js";
-import { LEARNT, Schedule, ask, choicesOf, drawn } from "./schedule.js";
+import { EnabledList } from "./enabled.js";
+import { Keys, openMenu } from "./keys.js";
+import { LessonPanel } from "./lessons.js";
+import { between, drawLegend, setAttribute, setOff, setText, textElement } from "./marks.js";
+import { OWN, keep, keepLesson, kept, ownLesson, saveFile, tomlOf } from "./moments.js";
+import { NaiveTable } from "./naive.js";
+import { OwnPlan } from "./own.js";
+import { Picture, mealsOf } from "./picture.js";
+import { programOf, Refused } from "./program.js";
+import { Quiz } from "./quiz.js";
+import { refusalOf } from "./refusals.js";
+import { Schedule, drawn } from "./schedule.js";
+import { otherEnd } from "./sentences.js";
+import { EdgeTable, SiteTable } from "./tables.js";
+import { showTicks } from "./ticks.js";
+import { Why } from "./why.js";
 
-// How many acts may wait for their turn, so that a key that is held down does not run ahead.
-const WAITING = 12;
-// How long an address gets, in characters, with a plan of one's own in it.
-const ADDRESS = 12000;
-// After how many milliseconds the run is drawn again, while it is learnt what its events were.
-const REDRAWN = 250;
 const START = "all forks are dirty, at the lower ends of their edges; the tokens are at the higher ends";
-const DIGITS = /^[0-9]+(,[0-9]+)*$/;
+// With more sites than this a picture has one site in focus.
+const MANY = 16;
+// How long the page waits before it writes its address, in milliseconds.
+const QUIET = 150;
 
 const found = (name) => document.getElementById(name);
 const main = document.querySelector("main");
-const picture = new Picture(found("picture"));
+
+// What the page has in mind: the program that it asks, the plans and lessons that are offered, the schedule that is
+// shown, the site that was clicked, and the moment of a lesson.
+const mind = {
+  program: null, plans: new Map(), first: null, lessons: [], schedule: null, selected: null, lesson: null, moment: 0,
+  naive: null, room: { width: 600, height: 400, rem: 1 }, wanted: "", left: 0,
+};
+
+// ---- The parts of the page
+
+const acts = new Acts({ busy: main, told: (fault) => { if (fault) pause(); tell(fault ? fault.message : ""); }, note: tell });
+const player = new Player({ button: found("play"), step: () => acts.do(step), rate });
+const picture = new Picture(found("picture"), (site) => select(site === mind.selected ? null : site));
+const naivePicture = new Picture(found("naive-picture"), () => {});
 const course = new Course({
-  names: found("course-names"), svg: found("course"), scroll: found("course-scroll"), jump: (count) => jump(() => count),
+  names: found("course-names"), scroll: found("course-scroll"), inside: found("course-inside"), view: found("course-view"),
+  svg: found("course"), veil: found("course-veil"), cursor: found("course-cursor"), jump: (place) => scrub(place),
+  hint: (text) => setText(found("course-hint"), text),
+});
+const enabledList = new EnabledList({
+  list: found("enabled"), many: found("many"), step: found("step"), choose: (number) => paused(() => choose(number))(),
+  light: (site, edge) => picture.light(site, edge),
+});
+const why = new Why({
+  heading: found("why-name"), box: found("why"), close: found("unselect"), choose: (number) => paused(() => choose(number))(),
+});
+const quiz = new Quiz({ form: found("quiz"), checked: () => showEnabled(mind.schedule.state) });
+const siteTable = new SiteTable(found("sites"), (site) => select(site === mind.selected ? null : site));
+const edgeTable = new EdgeTable(found("edges"));
+const ownPlan = new OwnPlan({ dialog: found("own-plan"), text: found("text"), fault: found("own-fault"), open: openWritten });
+const lessonPanel = new LessonPanel({
+  panel: found("lesson"), count: found("moment-count"), title: found("moment-title"), note: found("moment-note"),
+  question: found("question"), previous: found("previous"), next: found("next"), save: found("save"), remove: found("remove"),
 });
 
-let offered = new Map();
-// The path of the plan that the server was begun with.
-let first = null;
-let schedule = null;
-// The text of the plan that was asked for last, which may be refused.
-let wanted = "";
-let timer = null;
-let isPlaying = false;
-
-// ---- One act after the other
-
-let tail = Promise.resolve();
-let waiting = 0;
-
-// Does the work once all before it is done, and tells of its fault.
-function act(work) {
-  if (waiting >= WAITING) return tail;
-  waiting += 1;
-  main.setAttribute("aria-busy", "true");
-  tail = tail.then(work).then(() => tell(""), (fault) => {
-    pause();
-    tell(fault.message);
-  }).finally(() => {
-    waiting -= 1;
-    if (waiting === 0) main.setAttribute("aria-busy", "false");
-  });
-  return tail;
-}
-
 function tell(line) {
-  found("fault").textContent = line;
+  setText(found("fault"), line);
   found("fault").hidden = line === "";
 }
 
-// ---- What the buttons do
+// ---- Steps
 
 function choose(number) {
-  return act(async () => {
-    if (number >= schedule.state.enabled.length) return;
-    await schedule.choose(number);
+  return acts.do(async () => {
+    if (number >= mind.schedule.state.enabled.length) return;
+    await mind.schedule.choose(number);
     show();
   });
 }
 
 function chooseRandom() {
-  return act(async () => {
-    const count = schedule.state.enabled.length;
+  return acts.do(async () => {
+    const count = mind.schedule.state.enabled.length;
     if (count === 0) return;
-    await schedule.choose(drawn(seed(), schedule.at, count));
+    await mind.schedule.choose(drawn(seed(), mind.schedule.at, count));
     show();
   });
 }
 
 function jump(count) {
   pause();
-  return act(async () => {
+  return acts.do(async () => {
+    const { schedule } = mind;
     await schedule.go(between(0, count(schedule), schedule.list.length));
     show();
   });
 }
 
-// Does the event that follows, and stops playing where there is none.
+// Goes along with a pointer that is dragged over the timeline: only to where it is last.
+function scrub(place) {
+  mind.scrubbed = place;
+  if (acts.waiting === 0) jump(() => mind.scrubbed);
+  else if (acts.waiting === 1) jump(() => mind.scrubbed);
+}
+
+// Does the event that follows, and stops playing if there is none.
 async function step() {
+  const { schedule } = mind;
   const number = schedule.next(found("pick").value, seed());
   if (number === null) {
     pause();
@@ -94,38 +116,19 @@ async function step() {
   if (schedule.next("first", 0) === null) pause();
 }
 
-async function playOn() {
-  if (!isPlaying) return;
-  const begun = performance.now();
-  await act(step);
-  if (isPlaying) timer = setTimeout(playOn, Math.max(0, 1000 / rate() - (performance.now() - begun)));
-}
-
-function play() {
-  if (isPlaying) {
-    pause();
-    return;
-  }
-  isPlaying = true;
-  found("play").textContent = "Pause";
-  playOn();
-}
-
 function pause() {
-  isPlaying = false;
-  clearTimeout(timer);
-  found("play").textContent = "Play";
+  player.pause();
 }
 
 // Runs the plan on threads, and plays what they did.
 function runOnThreads() {
   pause();
-  return act(async () => {
-    const choices = choicesOf(await ask("/run", "", schedule.plan));
-    await schedule.open(choices, false);
-    schedule.isOfThreads = true;
+  return acts.do(async () => {
+    const list = await mind.program.run(mind.schedule.plan);
+    await mind.schedule.open(list, 0);
+    mind.schedule.isOfThreads = true;
     show();
-    play();
+    player.play();
   });
 }
 
@@ -138,8 +141,10 @@ function rate() {
 }
 
 function showRate() {
-  found("rate").textContent = `${Number(rate().toPrecision(2))}/s`;
+  setText(found("rate"), `${Number(rate().toPrecision(2))}/s`);
+  setAttribute(found("speed"), "aria-valuetext", `${Number(rate().toPrecision(2))} events a second`);
   document.documentElement.style.setProperty("--move", `${Math.min(350, 800 / rate())}ms`);
+  noteAddress();
 }
 
 function quicker(by) {
@@ -149,27 +154,48 @@ function quicker(by) {
 
 // ---- Plans
 
-// Shows a plan from its start, or after the choices.
-async function open(path, plan, choices = []) {
-  wanted = plan;
-  const opened = new Schedule(path, plan);
-  await opened.open(choices, true);
+// Shows a plan after the choices, of which `at` are done.
+async function open({ path, plan, list = [], at = null, isOfThreads = false }) {
+  mind.wanted = plan;
+  const opened = new Schedule(mind.program, path, plan);
+  const left = await opened.open(list, at);
   pause();
-  schedule = opened;
+  opened.isOfThreads = isOfThreads;
+  Object.assign(mind, { schedule: opened, selected: null, left, hub: hubSite(opened.state), naive: new NaiveTable(opened.state) });
   if (path === null) offerOwn();
   found("plans").value = path ?? "";
-  found("about").textContent = aboutOf(plan);
+  setText(found("about"), aboutOf(plan));
+  found("focus-switch").hidden = opened.state.sites.length <= MANY;
+  siteTable.open(opened.state);
+  edgeTable.open(opened.state);
   openPicture();
   show();
 }
 
-// What a plan says of itself: its first line, where that is a comment.
+// What a plan says of itself: the comment that it begins with, up to what is tried of it.
 function aboutOf(plan) {
-  return /^# (.*)$/.exec(plan.split("\n")[0])?.[1] ?? "";
+  const lines = plan.split("\n");
+  const end = lines.findIndex((line) => !line.startsWith("# ") || /^# [a-z][^>]*> /.test(line));
+  return lines.slice(0, end < 0 ? lines.length : end).map((line) => line.slice(2)).join(" ");
+}
+
+// The site that is in focus, or null if all are shown.
+function focusOf() {
+  if (mind.schedule.state.sites.length <= MANY || !found("focus").checked) return null;
+  return mind.selected ?? mind.hub;
+}
+
+// The first of the sites that have the most edges.
+function hubSite({ sites, edges }) {
+  const counts = sites.map((_, site) => edges.filter(({ ends }) => ends.includes(site)).length);
+  return counts.indexOf(Math.max(...counts));
 }
 
 function openPicture() {
-  picture.open(schedule.state, found("picture").parentElement.clientWidth);
+  const { state } = mind.schedule;
+  mind.focus = focusOf();
+  picture.open(state, mind.room, mind.focus);
+  naivePicture.open(mind.naive.state(), mind.room, mind.focus);
   drawLegend(found("legend"), picture.size);
 }
 
@@ -179,151 +205,253 @@ function offerOwn() {
 
 function openOffered() {
   const path = found("plans").value;
-  return act(async () => {
-    if (path !== "") await open(path, offered.get(path));
+  return acts.do(async () => {
+    if (path === "") return;
+    leaveLesson();
+    const run = mind.program.isRecorded ? mind.program.runs.find((it, place) => (it.plan ?? `run ${place + 1}`) === path) : null;
+    await open({ path, plan: mind.plans.get(path), list: run?.events.done ?? [], at: 0 });
   });
 }
 
-function writeOwn() {
-  pause();
-  found("text").value = wanted;
-  found("own-fault").textContent = "";
-  found("own-plan").showModal();
-}
-
-// Shows the plan that was written, or below it why it is none.
-function useOwn() {
-  return act(async () => {
+// Opens the plan that was written. Returns the line of its refusal, or null.
+async function openWritten(plan) {
+  let refused = null;
+  await acts.do(async () => {
     try {
-      await open(null, found("text").value);
-      found("own-plan").close();
+      leaveLesson();
+      await open({ path: null, plan });
     } catch (fault) {
-      found("own-fault").textContent = fault.message;
+      refused = fault.message;
     }
   });
+  return refused;
+}
+
+// ---- Lessons
+
+function lessonOf(path) {
+  return path === OWN ? ownLesson() : mind.lessons.find((it) => it.path === path) ?? null;
+}
+
+function leaveLesson() {
+  Object.assign(mind, { lesson: null, moment: 0 });
+  found("lessons").value = "";
+}
+
+// Opens a moment of the lesson: its schedule, and its note.
+function openMoment(place) {
+  pause();
+  return acts.do(async () => {
+    const { lesson } = mind;
+    if (!lesson || place < 0 || place >= lesson.moments.length) return;
+    mind.moment = place;
+    await openScheduleOf(lesson.moments[place]);
+  });
+}
+
+async function openScheduleOf(moment) {
+  const choices = moment.choices ? moment.choices.split(",").map(Number) : [];
+  const run = mind.program.isRecorded ? mind.program.runs[moment.run] : null;
+  const list = run ? run.events.done : choices;
+  await open({ path: moment.plan ?? null, plan: moment.text, list, at: moment.at ?? choices.length });
+  const site = mind.schedule.state.sites.findIndex(({ name }) => name === moment.site);
+  if (moment.hide !== undefined) found("predict").checked = moment.hide;
+  if (moment.naive !== undefined) found("naive").checked = moment.naive;
+  if (site >= 0) mind.selected = site;
+  if (site >= 0 || moment.naive !== undefined) openPicture();
+  show();
+}
+
+function openLesson() {
+  const lesson = lessonOf(found("lessons").value);
+  mind.lesson = lesson;
+  if (!lesson || lesson.moments.length === 0) {
+    show();
+    return null;
+  }
+  return openMoment(0);
+}
+
+function offerLessons() {
+  const menu = found("lessons");
+  const items = mind.lessons.map(({ path, title }) => new Option(title, path));
+  const own = ownLesson();
+  if (!mind.program.isRecorded) items.push(new Option(own.title, OWN));
+  menu.replaceChildren(new Option("none", ""), ...items);
+  menu.value = mind.lesson?.path ?? "";
+}
+
+// Asks for the words of the moment that is shown.
+function writeMoment() {
+  pause();
+  const { state, at } = mind.schedule;
+  found("keep-title").value = at === 0 ? "The start" : state.last?.words ?? `After event ${at}`;
+  found("keep-dialog").showModal();
+  found("keep-title").select();
+}
+
+// Keeps the moment that is shown, at the end of the reader's own lesson.
+function keepMoment() {
+  const { path, plan, list, at } = mind.schedule;
+  const isOffered = path !== null && mind.plans.get(path) === plan;
+  const words = { title: found("keep-title").value.trim() || `Event ${at}`, note: found("keep-note").value.trim() };
+  const lesson = ownLesson();
+  lesson.moments.push({ plan: isOffered ? path : null, text: plan, choices: list.join(","), at, ...words });
+  keepLesson(lesson);
+  found("keep-note").value = "";
+  found("keep-dialog").close();
+  Object.assign(mind, { lesson, moment: lesson.moments.length - 1 });
+  offerLessons();
+  show();
+}
+
+function removeMoment() {
+  const lesson = ownLesson();
+  lesson.moments.splice(mind.moment, 1);
+  keepLesson(lesson);
+  Object.assign(mind, { lesson, moment: Math.max(0, Math.min(mind.moment, lesson.moments.length - 1)) });
+  if (lesson.moments.length) openMoment(mind.moment);
+  else show();
 }
 
 // ---- The address
 
-let address = null;
+let noting = null;
 
 function noteAddress() {
-  clearTimeout(address);
-  address = setTimeout(() => {
-    const choices = schedule.list.slice(0, schedule.at).join(",");
-    const own = `#text=${encodeURIComponent(schedule.plan)}&choices=${choices}`;
-    const named = `#plan=${encodeURIComponent(schedule.path).replaceAll("%2F", "/")}&choices=${choices}`;
-    if (schedule.path !== null || own.length <= ADDRESS) history.replaceState(null, "", schedule.path === null ? own : named);
-  }, 150);
+  clearTimeout(noting);
+  noting = setTimeout(async () => {
+    if (!mind.schedule || mind.program.isRecorded) return;
+    const { path, plan, list, at, isOfThreads } = mind.schedule;
+    const how = { by: found("pick").value, seed: seed(), speed: Number(found("speed").value) };
+    const lesson = mind.lesson && mind.lesson.path !== OWN ? mind.lesson.path : null;
+    const address = await addressOf({ path, plan, list, at, isOfThreads, ...how, lesson, moment: mind.moment });
+    history.replaceState(null, "", address || location.pathname);
+    found("too-long").hidden = address !== "";
+  }, QUIET);
 }
 
-// Shows what the address says, or else the plan that the server was begun with.
+// Shows what the address says, or else the plan or the lesson that the server was begun with.
 function openAddress() {
-  return act(async () => {
-    const said = new URLSearchParams(location.hash.slice(1));
-    const choices = said.get("choices") ?? "";
-    const path = said.get("plan") ?? first;
-    if (choices !== "" && !DIGITS.test(choices)) throw new Error(`the choices of the address are no list: ${choices}`);
-    if (said.has("text")) {
-      await open(null, said.get("text"), choicesOf(choices));
-    } else if (!offered.has(path)) {
-      throw new Error(`there is no plan ${path} here`);
-    } else {
-      await open(path, offered.get(path), choicesOf(choices));
+  return acts.do(async () => {
+    const said = await momentOf(location.hash);
+    if (said.by) found("pick").value = said.by;
+    if (said.seed !== null) found("seed").value = said.seed;
+    if (said.speed !== null) found("speed").value = said.speed;
+    showRate();
+    const path = said.path ?? mind.first;
+    if (said.plan === null && !mind.plans.has(path)) throw new Error(`there is no plan ${path} here`);
+    const lesson = said.lesson ? lessonOf(said.lesson) : null;
+    Object.assign(mind, { lesson, moment: between(0, said.moment, Math.max(0, (lesson?.moments.length ?? 0) - 1)) });
+    found("lessons").value = lesson?.path ?? "";
+    if (lesson?.moments.length && said.path === null && said.plan === null) {
+      await openScheduleOf(lesson.moments[mind.moment]);
+      return;
     }
+    const plan = said.plan ?? mind.plans.get(path);
+    await open({ ...said, path: said.plan === null ? path : null, plan });
   });
 }
 
 // ---- What the page says of a state
 
 function show() {
+  const { schedule } = mind;
   const { state } = schedule;
+  const last = schedule.at === 0 ? null : state.last ?? null;
+  if (focusOf() !== mind.focus) openPicture();
   picture.show(state);
-  showTold(state);
+  picture.mark(last);
+  picture.select(mind.selected);
+  picture.light(null, null);
+  showTold(state, last);
+  setText(found("order"), orderText(state));
+  showTicks(found("ticks"), state);
   showEnabled(state);
+  why.show(state, mind.selected, shownSites(state), isPredicting());
   showCount(state);
   showLogs(state);
-  showSites(state);
-  showEdges(state);
+  siteTable.show(state, last, mind.selected);
+  edgeTable.show(state, last);
   showCourse();
-  learn(schedule);
+  showNaive();
+  lessonPanel.show(mind.lesson, mind.moment, mind.lesson?.path === OWN);
   noteAddress();
 }
 
-// Learns what the events of the choices were, and draws them as they are known.
-function learn(learning) {
-  let last = performance.now();
-  const more = (isAll) => {
-    if (learning !== schedule || (!isAll && performance.now() - last < REDRAWN)) return;
-    showCourse();
-    last = performance.now();
-  };
-  learning.learn(more).catch((fault) => {
-    learning.learnt = null;
-    tell(fault.message);
-  });
+function select(site) {
+  mind.selected = site;
+  if (focusOf() !== mind.focus) openPicture();
+  show();
 }
 
-function showTold(state) {
+// The sites that the picture shows.
+function shownSites(state) {
+  return mind.focus === null ? [...state.sites.keys()] : [...picture.sites.keys()];
+}
+
+function isPredicting() {
+  return found("predict").checked && !quiz.isChecked && mind.schedule.state.enabled.length > 0;
+}
+
+function showTold(state, last) {
   const [words, rule] = found("told").children;
-  const last = schedule.events[schedule.at - 1];
-  const isOver = state.enabled.length === 0;
-  words.textContent = schedule.at === 0 ? "The start" : last?.words ?? `After event ${schedule.at}`;
-  rule.textContent = schedule.at === 0 ? START : last?.rule ?? "";
-  if (isOver) rule.textContent += `${rule.textContent ? "; " : ""}no event is enabled any more`;
+  const { at } = mind.schedule;
+  setText(words, at === 0 ? "The start" : last?.words ?? `After event ${at}`);
+  const parts = [at === 0 ? START : last?.rule ?? ""];
+  if (state.enabled.length === 0) parts.push(`no event is enabled any more: this is the end${failedText(state)}`);
+  if (mind.left) parts.push(`${mind.left} of the choices in the address name no event of this plan, and were left out`);
+  setText(rule, parts.filter(Boolean).join("; "));
+}
+
+function failedText(state) {
+  const failed = state.sites.filter((site) => site.failed?.length).map((site) => `${site.name} had a failed meal`);
+  const quit = state.sites.filter((site) => site.quit).map((site) => `${site.name} quit`);
+  return [...failed, ...quit].map((it) => `; ${it}`).join("");
+}
+
+// The order of the sites by which precedence has no cycle.
+function orderText(state) {
+  if (!state.order) return "";
+  return `Order: ${state.order.map((site) => state.sites[site].name).join(" → ")}. Each arrow goes along it, so no cycle.`;
 }
 
 function showEnabled(state) {
-  const list = found("enabled");
-  const focused = [...list.querySelectorAll("button")].indexOf(document.activeElement);
-  const next = schedule.at < schedule.list.length ? schedule.list[schedule.at] : null;
-  list.replaceChildren(...state.enabled.map((event) => enabledItem(event, event.number === next)));
-  if (state.enabled.length === 0) list.append(textElement("li", "none: nothing is left to do", "none"));
-  found("many").textContent = state.enabled.length ? state.enabled.length : "";
-  picture.light(null, null);
-  if (focused >= 0) (list.querySelectorAll("button")[focused] ?? found("step")).focus();
-}
-
-function enabledItem(event, isNext) {
-  const item = document.createElement("li");
-  const button = document.createElement("button");
-  button.type = "button";
-  button.dataset.number = event.number;
-  button.classList.toggle("next", isNext);
-  const light = () => picture.light(event.site, event.edge);
-  button.addEventListener("click", () => choose(event.number));
-  for (const kind of ["pointerenter", "focus"]) button.addEventListener(kind, light);
-  for (const kind of ["pointerleave", "blur"]) button.addEventListener(kind, () => picture.light(null, null));
-  button.append(textElement("kbd", event.number), textElement("span", event.words, "words"), textElement("small", event.rule));
-  item.append(button);
-  return item;
-}
-
-function textElement(name, text, kind = "") {
-  const made = document.createElement(name);
-  made.textContent = text;
-  if (kind) made.className = kind;
-  return made;
+  const asks = found("predict").checked && state.enabled.length > 0;
+  if (asks) quiz.show(state, seed(), `${mind.schedule.version} ${mind.schedule.at} ${mind.schedule.path}`);
+  else quiz.hide();
+  found("quiz").hidden = !asks;
+  found("enabled").hidden = isPredicting();
+  setText(found("enabled-name"), isPredicting() ? "What may happen next?" : "May happen next");
+  const { at, list } = mind.schedule;
+  const sites = new Set(shownSites(state));
+  const events = mind.focus === null ? state.enabled : state.enabled.filter((event) => sites.has(event.site));
+  enabledList.show(isPredicting() ? [] : events, at < list.length ? list[at] : null, state.enabled.length);
+  if (isPredicting()) setText(found("many"), "");
 }
 
 function showCount(state) {
-  found("count").textContent = `event ${state.events} of at most ${state.bound}`;
-  found("progress").max = Math.max(state.bound, 1);
-  found("progress").value = state.events;
-  found("back").disabled = found("reset").disabled = schedule.at === 0;
-  for (const name of ["step", "play", "first", "random"]) found(name).disabled = state.enabled.length === 0;
+  const { schedule } = mind;
+  const isOver = state.enabled.length === 0;
+  setText(found("count"), isOver ? `event ${state.events}, the end; at most ${state.bound}` : `event ${state.events} of at most ${state.bound}`);
+  found("progress").max = Math.max(isOver ? state.events : state.bound, 1);
+  found("progress").value = state.events || (isOver ? 1 : 0);
+  for (const name of ["back", "reset"]) setOff(found(name), schedule.at === 0);
+  const hasNext = schedule.next("first", 0) !== null;
+  for (const name of ["step", "play"]) setOff(found(name), !hasNext);
+  for (const name of ["first", "random"]) setOff(found(name), isOver || mind.program.isRecorded);
 }
 
 function showLogs(state) {
-  found("logs").textContent = [...state.logs, `events ${state.events} of ${state.bound}`].join("\n");
-  const done = schedule.list.slice(0, schedule.at).join(",");
-  const words = done ? `replay --choices ${done}` : "replay";
-  found("line").textContent = `./dine ${words} < ${quoted(schedule.path ?? "plan.toml")}`;
-  const own = schedule.path === null ? "Save the text of your plan as plan.toml. " : "";
-  found("line-note").textContent = `${own}It does these events, and then the first enabled one until there is none.`;
-  const rest = schedule.list.slice(schedule.at).join(",");
-  const parts = [textElement("b", done || "none"), textElement("span", rest && `${done ? "," : " then "}${rest}`)];
-  found("choices").replaceChildren(...parts);
+  const { list, at, path } = mind.schedule;
+  setText(found("logs"), [...state.logs, `events ${state.events} of ${state.bound}`].join("\n"));
+  const done = list.slice(0, at).join(",");
+  setText(found("line"), `./dine ${done ? `replay --choices ${done}` : "replay"} < ${quoted(path ?? "plan.toml")}`);
+  const own = path === null ? "Save the text of your plan as plan.toml. " : "";
+  setText(found("line-note"), `${own}It does these events, and then the first enabled one until there is none.`);
+  const rest = list.slice(at).join(",");
+  setText(found("choices").firstChild, done || "none");
+  setText(found("choices").lastChild, rest && `${done ? "," : " then "}${rest}`);
 }
 
 // A path as a shell reads it.
@@ -331,56 +459,50 @@ function quoted(path) {
   return /^[\w./-]+$/.test(path) ? path : `'${path.replaceAll("'", "'\\''")}'`;
 }
 
-function rowOf(cells) {
-  const row = document.createElement("tr");
-  for (const cell of cells) {
-    const made = document.createElement("td");
-    made.append(...[cell].flat());
-    row.append(made);
-  }
-  return row;
-}
-
-function showSites(state) {
-  found("sites").tBodies[0].replaceChildren(...state.sites.map((site) => {
-    const svg = element("svg", { viewBox: "-10 -10 20 20", width: 16, height: 16, "aria-hidden": "true" });
-    const group = element("g", { class: `site ${site.phase}` }, svg);
-    element("path", { class: "shape", d: outline(site.phase, 7) }, group);
-    return rowOf([site.name, [svg, ` ${site.phase}`], `${site.eaten} of ${site.jobs}${site.resigns ? ", resigns at a fault" : ""}`]);
-  }));
-}
-
-function showEdges(state) {
-  const name = (site) => state.sites[site].name;
-  const where = (place) => ("at" in place ? `at ${name(place.at)}` : `on its way to ${name(place.to)}`);
-  found("edges").tBodies[0].replaceChildren(...state.edges.map((edge, number) => {
-    const ends = edge.ends.map((site, turn) => [`${name(site)} `, textElement("i", edge.roles[turn], edge.roles[turn])]);
-    return rowOf([String(number), ...ends, `${edge.dirty ? "dirty" : "clean"}, ${where(edge.fork)}`, where(edge.token)]);
-  }));
-}
-
 function showCourse() {
-  const { list, at, events, state } = schedule;
-  course.draw(state.sites, events, list.length);
-  course.show(at);
-  found("course-name").textContent = schedule.isOfThreads ? "What the threads did" : "The run so far";
-  found("course-note").textContent = courseNote();
-  showTold(state);
+  const { schedule } = mind;
+  course.draw(schedule);
+  course.show(schedule.at);
+  setText(found("course-name"), schedule.isOfThreads ? "What the threads did" : "The run so far");
+  setText(found("course-note"), courseNote());
+  const slider = found("course-scroll");
+  setAttribute(slider, "aria-valuemax", schedule.list.length);
+  setAttribute(slider, "aria-valuenow", schedule.at);
+  setAttribute(slider, "aria-valuetext", `event ${schedule.at} of ${schedule.list.length}`);
 }
 
 function courseNote() {
-  const { list, at, isOfThreads, state } = schedule;
-  const count = `${list.length} ${list.length === 1 ? "event" : "events"}`;
-  if (list.length > LEARNT) return `${count}; the first ${LEARNT} are drawn`;
+  const { list, at, isOfThreads, state } = mind.schedule;
+  const count = `${list.length.toLocaleString("en")} ${list.length === 1 ? "event" : "events"}`;
   if (isOfThreads) {
     const threads = state.sites.length === 1 ? "One thread" : `${state.sites.length} threads, one for each site,`;
-    return `${threads} did these ${count}. They are played in one order that fits. Run again for another.`;
+    return `${threads} did these ${count}. They are played in one order that fits.`;
   }
-  if (list.length === 0) return "A bar will be a meal, a thin line a hungry site that waits, an arrow a fork on its way.";
-  return at < list.length ? `${count}, of which ${list.length - at} were taken back` : count;
+  if (list.length === 0) return "A bar is a meal, a thin line a hungry site that waits, an arrow a fork on its way.";
+  return at < list.length ? `${count}, of which ${(list.length - at).toLocaleString("en")} are still to come` : count;
 }
 
-// ---- Keys and buttons
+function showNaive() {
+  const isShown = found("naive").checked;
+  found("naive-side").hidden = !isShown;
+  for (const name of ["real-name", "real-told"]) found(name).hidden = !isShown;
+  if (!isShown) return;
+  mind.naive.go(mind.schedule.at);
+  naivePicture.show(mind.naive.state());
+  setText(found("real-told"), realText(mind.schedule.state));
+  setText(found("naive-told"), mind.naive.told());
+  setAttribute(found("naive-told"), "class", mind.naive.isCaught() ? "caught" : "");
+}
+
+// What the rules have come to, beside what happens without them.
+function realText({ sites, enabled }) {
+  const meals = sites.reduce((sum, site) => sum + mealsOf(site), 0);
+  const ended = `${meals} ${meals === 1 ? "meal has" : "meals have"} ended`;
+  if (enabled.length === 0) return `The end: all is done. ${ended}.`;
+  return `No deadlock: ${enabled.length} ${enabled.length === 1 ? "event" : "events"} may happen next. ${ended}.`;
+}
+
+// ---- Buttons
 
 async function copyLine() {
   try {
@@ -398,11 +520,17 @@ function turnTheme() {
   const isDark = getComputedStyle(root).colorScheme === "dark"
     || (!root.dataset.theme && matchMedia("(prefers-color-scheme: dark)").matches);
   root.dataset.theme = isDark ? "light" : "dark";
+  keep("dine-theme", root.dataset.theme);
 }
 
-const back = () => jump((it) => it.at - 1);
-const reset = () => jump(() => 0);
-const turnPick = () => { found("pick").value = found("pick").value === "first" ? "random" : "first"; };
+// The picture as large as the window, and back.
+function turnLarge() {
+  const isLarge = document.body.classList.toggle("large");
+  setAttribute(found("large"), "aria-pressed", isLarge);
+}
+
+// Turns a switch, as a click on it does.
+const turn = (name) => () => found(name).click();
 
 // Pauses, and then does the work.
 const paused = (work) => () => {
@@ -410,66 +538,125 @@ const paused = (work) => () => {
   return work();
 };
 
+const back = () => jump((it) => it.at - 1);
+
 const BUTTONS = {
-  reset, back, play, first: paused(() => choose(0)), random: paused(chooseRandom), step: paused(() => act(step)),
-  threads: runOnThreads, own: writeOwn, use: useOwn, copy: copyLine, theme: turnTheme, help: () => found("keys").showModal(),
+  reset: () => jump(() => 0), back, play: () => player.play(), step: paused(() => acts.do(step)),
+  first: paused(() => choose(0)), random: paused(chooseRandom), threads: runOnThreads, own: () => { pause(); ownPlan.show(mind.wanted); },
+  use: () => ownPlan.use(), again: () => ownPlan.again(mind.schedule?.plan ?? ""), copy: copyLine, theme: turnTheme, large: turnLarge,
+  help: () => found("keys").showModal(), unselect: () => select(null), "zoom-in": () => course.zoom(2), "zoom-out": () => course.zoom(0.5),
+  "zoom-all": () => course.zoomOut(), previous: () => openMoment(mind.moment - 1), next: () => openMoment(mind.moment + 1),
+  leave: () => { leaveLesson(); show(); }, keep: writeMoment, "keep-it": keepMoment, remove: removeMoment,
+  save: () => saveFile("lesson.toml", tomlOf(mind.lesson)),
 };
 
 // What can be done before there is a plan.
-const WITHOUT_PLAN = new Set(["own", "use", "theme", "help"]);
+const WITHOUT_PLAN = new Set(["own", "use", "theme", "help", "large"]);
+// What a page without a server leaves out.
+const WITH_PROGRAM = ["own", "threads", "first", "random", "keep", "how-steps"];
 
 const KEYS = {
-  ArrowRight: BUTTONS.step, ArrowLeft: back, Home: reset, End: () => jump((it) => it.list.length), " ": play,
-  f: BUTTONS.first, r: BUTTONS.random, "+": () => quicker(0.5), "=": () => quicker(0.5), "-": () => quicker(-0.5), g: turnPick,
-  s: () => found("seed").select(), t: runOnThreads, p: () => found("plans").focus(), o: writeOwn, c: copyLine, d: turnTheme,
-  "?": BUTTONS.help,
+  ArrowRight: BUTTONS.step, ArrowLeft: back, Home: BUTTONS.reset, End: () => jump((it) => it.list.length), " ": BUTTONS.play,
+  PageDown: BUTTONS.next, PageUp: BUTTONS.previous, Escape: escape, f: BUTTONS.first, r: BUTTONS.random, "+": () => quicker(0.5),
+  "=": () => quicker(0.5), "-": () => quicker(-0.5), g: () => turnPick(), s: () => found("seed").select(), t: runOnThreads,
+  p: () => openMenu(found("plans")), l: () => openMenu(found("lessons")), o: BUTTONS.own, c: copyLine, d: turnTheme,
+  v: turnLarge, w: turn("ranks"), q: turn("predict"), n: turn("naive"), k: writeMoment, "?": BUTTONS.help,
 };
 
-function hear(event) {
-  const { key, target } = event;
-  if (event.ctrlKey || event.metaKey || event.altKey || document.querySelector("dialog[open]")) return;
-  if (target.closest("input, select, textarea")) {
-    if (key === "Escape" || key === "Enter") target.blur();
-    return;
-  }
-  if (target.closest("button") && (key === " " || key === "Enter")) return;
-  const does = /^[0-9]$/.test(key) ? paused(() => choose(Number(key))) : KEYS[key.length === 1 ? key.toLowerCase() : key];
-  if (!does || !(schedule || /^[od?]$/i.test(key))) return;
+function escape() {
+  if (document.body.classList.contains("large")) turnLarge();
+  else if (mind.selected !== null) select(null);
+}
+
+function turnPick() {
+  found("pick").value = found("pick").value === "first" ? "random" : "first";
+  noteAddress();
+}
+
+function doButton(name) {
+  const button = found(name);
+  if (button.getAttribute("aria-disabled") === "true") return;
+  if (mind.schedule || WITHOUT_PLAN.has(name)) BUTTONS[name]();
+}
+
+// Goes along the timeline by a tenth, if it has the focus and there is no lesson for these keys.
+function leap(event) {
+  const way = { PageDown: 1, PageUp: -1 }[event.key];
+  if (!way) return;
   event.preventDefault();
-  does();
+  event.stopPropagation();
+  jump((it) => it.at + way * Math.max(1, Math.round(it.list.length / 10)));
 }
 
 function listen() {
-  for (const [name, does] of Object.entries(BUTTONS)) {
-    found(name).addEventListener("click", () => { if (schedule || WITHOUT_PLAN.has(name)) does(); });
-  }
+  for (const name of Object.keys(BUTTONS)) found(name).addEventListener("click", () => doButton(name));
+  // A key whose button is out of use does nothing either.
+  const can = (does) => () => { if (mind.schedule || does === BUTTONS.own || does === turnTheme || does === BUTTONS.help) does(); };
+  const does = Object.fromEntries(Object.entries(KEYS).map(([key, it]) => [key, can(it)]));
+  new Keys({ does, choose: (number) => can(paused(() => choose(number)))(), hasLetters: () => found("letters").checked });
   found("plans").addEventListener("change", openOffered);
+  found("lessons").addEventListener("change", openLesson);
+  found("pick").addEventListener("change", noteAddress);
+  found("seed").addEventListener("change", noteAddress);
   found("speed").addEventListener("input", showRate);
-  found("text").addEventListener("keydown", (event) => {
-    if (event.key === "Enter" && (event.ctrlKey || event.metaKey)) useOwn();
+  found("letters").addEventListener("change", () => keep("dine-letters", found("letters").checked ? "on" : "off"));
+  found("course-scroll").addEventListener("keydown", leap);
+  found("keep-form").addEventListener("submit", (event) => {
+    if (event.submitter?.value === "cancel") return;
+    event.preventDefault();
+    keepMoment();
   });
-  document.addEventListener("keydown", hear);
   addEventListener("hashchange", openAddress);
-  let width = 0;
-  new ResizeObserver(() => {
-    if (!schedule || main.clientWidth === width) return;
-    width = main.clientWidth;
+  for (const name of ["predict", "naive", "focus"]) found(name).addEventListener("change", () => mind.schedule && show());
+  found("ranks").addEventListener("change", showRanks);
+}
+
+function showRanks() {
+  found("real-side").classList.toggle("ranked", found("ranks").checked);
+  found("order").hidden = !found("ranks").checked;
+}
+
+// Draws the picture anew whenever its place has another size.
+function watchSize() {
+  const rem = parseFloat(getComputedStyle(document.documentElement).fontSize) / 16;
+  new ResizeObserver(([{ contentRect }]) => {
+    const { width, height } = contentRect;
+    if (width === 0 || (Math.abs(width - mind.room.width) < 1 && Math.abs(height - mind.room.height) < 1)) return;
+    mind.room = { width, height, rem };
+    if (!mind.schedule) return;
     openPicture();
     show();
-  }).observe(main);
+  }).observe(found("picture").parentElement);
 }
 
 async function begin() {
+  if (kept("dine-theme")) document.documentElement.dataset.theme = kept("dine-theme");
+  found("letters").checked = kept("dine-letters") !== "off";
+  found("choices").append(textElement("b", ""), textElement("span", ""));
+  mind.program = await programOf();
   showRate();
+  showRanks();
+  watchSize();
   listen();
-  const told = await (await fetch("/plans")).json();
-  first = told.first;
-  offered = new Map(told.plans.map((it) => [it.path, it.text]));
+  const told = await mind.program.plans();
+  Object.assign(mind, { first: told.first, lessons: told.lessons ?? [], plans: new Map(told.plans.map((it) => [it.path, it.text])) });
   const nameOf = (path) => path.replace(/^plans\/(.*)\.toml$/, "$1").replaceAll("_", " ");
-  for (const path of offered.keys()) found("plans").add(new Option(nameOf(path), path));
-  await openAddress();
+  for (const path of mind.plans.keys()) found("plans").add(new Option(nameOf(path), path));
+  if (mind.program.isRecorded) for (const name of WITH_PROGRAM) found(name).hidden = true;
+  offerLessons();
+  await openFirst(told);
+}
+
+// Opens the lesson or the plan that the page begins with.
+async function openFirst(told) {
+  if (told.lesson && location.hash.length < 2) {
+    found("lessons").value = told.lesson;
+    await openLesson();
+    return;
+  }
+  await (mind.program.isRecorded ? openOffered() : openAddress());
   // An address that shows nothing leaves the plan to be seen that the server was begun with, and its fault.
-  if (!schedule && wanted !== offered.get(first)) await open(first, offered.get(first));
+  if (!mind.schedule && mind.wanted !== mind.plans.get(mind.first)) await open({ path: mind.first, plan: mind.plans.get(mind.first) });
 }
 
 begin().catch((fault) => tell(fault.message));

@@ -1,0 +1,105 @@
+// The codes of the program in sentences: what a hungry site waits for, and why an event is not enabled.
+
+// What a hungry site waits for on an edge, with the neighbour there.
+const WAITS = {
+  not_asked: (it) => `it has not asked ${it} yet`,
+  request_sent: (it) => `its request to ${it} is on its way`,
+  may_give: (it) => `${it} was asked, and has to give up the dirty fork`,
+  eats: (it) => `${it} eats with the fork, and gives it after the meal`,
+  keeps_clean: (it) => `${it} keeps the fork clean: ${it} goes first`,
+  fork_sent: (it) => `the fork from ${it} is on its way`,
+  owes: (it) => `${it} asked for the dirty fork, and gets it first: ${it} goes first`,
+};
+
+const WHY_NOT = {
+  take: { no_letter: () => "no letter is on its way to it" },
+  give: {
+    closed: () => "it has closed the edge",
+    no_fork: () => "it does not hold the fork",
+    not_asked: (it) => `${it} has not asked for it`,
+    eating: () => "it eats with it, and gives it after the meal",
+    clean: () => "the fork is clean: a clean fork is kept until its holder has eaten (release rule)",
+  },
+  ask: {
+    closed: () => "it has closed the edge",
+    has_fork: () => "it holds the fork already",
+    asked: () => "the token is not here: it has asked already",
+    not_hungry: () => "it is not hungry: only a hungry site asks (request rule)",
+  },
+  done: {
+    said: () => "it has said so already",
+    jobs_left: () => "it has meals left",
+    eating: () => "it eats its last meal",
+  },
+  close: {
+    closed: () => "it has closed already",
+    not_said: () => "it has not said done",
+    not_heard: (it) => `${it} is not done, as far as it knows`,
+  },
+  end: { not_eating: () => "it does not eat" },
+  begin: { not_hungry: () => "it is not hungry", eating: () => "it eats already" },
+  quit: {
+    never_resigns: () => "the plan lets it go on after a failed meal",
+    no_fault: () => "no meal of it has failed",
+    eating: () => "it eats",
+    has_quit: () => "it has quit already",
+  },
+  hungry: {
+    hungry: () => "it is hungry already",
+    eating: () => "it eats",
+    must_quit: () => "its last meal failed, so it has to quit",
+    has_quit: () => "it has quit",
+    no_jobs: () => "it has no meal left",
+  },
+};
+
+// An event in words, whether it is enabled or not.
+const EVENTS = {
+  take: (site, it) => `${site} takes a letter of ${it}`,
+  give: (site, it) => `${site} gives ${it} their fork`,
+  ask: (site, it) => `${site} asks ${it} for their fork`,
+  done: (site, it) => `${site} says done to ${it}`,
+  close: (site, it) => `${site} closes to ${it}`,
+  end: (site) => `${site} ends its meal`,
+  begin: (site) => `${site} begins its meal`,
+  quit: (site) => `${site} quits`,
+  hungry: (site) => `${site} grows hungry`,
+};
+
+export function wordsOf(kind, site, neighbour = "") {
+  return EVENTS[kind](site, neighbour);
+}
+
+export function otherEnd(edge, site) {
+  return edge.ends[0] === site ? edge.ends[1] : edge.ends[0];
+}
+
+// What keeps a hungry site from eating, a sentence for each edge.
+export function waitsOf(state, site) {
+  return (state.sites[site].waits ?? []).map(({ from, why }) => (WAITS[why] ?? (() => why))(state.sites[from].name));
+}
+
+function reason(kind, code, neighbour) {
+  return (WHY_NOT[kind]?.[code] ?? (() => code))(neighbour);
+}
+
+// Why events of a site are not enabled: its own, and then those of each of its edges. Each has its kind, its edge, its
+// words and its reason.
+export function whyNot(state, site) {
+  const { name, why_not: own } = state.sites[site];
+  const found = [];
+  for (const [kind, code] of Object.entries(own ?? {})) {
+    if (code === null) continue;
+    const why = code === "waits" ? waitsOf(state, site).join("; ") : reason(kind, code, "");
+    found.push({ kind, edge: null, code, words: wordsOf(kind, name), why });
+  }
+  state.edges.forEach((edge, number) => {
+    if (!edge.ends.includes(site) || !edge.why_not) return;
+    const neighbour = state.sites[otherEnd(edge, site)].name;
+    for (const [kind, code] of Object.entries(edge.why_not[edge.ends.indexOf(site)])) {
+      if (code === null) continue;
+      found.push({ kind, edge: number, code, words: wordsOf(kind, name, neighbour), why: reason(kind, code, neighbour) });
+    }
+  });
+  return found;
+}

@@ -1,0 +1,45 @@
+// What is proved of every state, checked again in the state that is shown, from what the program tells of it.
+
+import { setAttribute, textElement } from "./marks.js";
+
+// No two neighbours eat.
+function areNeighboursApart({ sites, edges }) {
+  return edges.every(({ ends: [low, high] }) => sites[low].phase !== "eating" || sites[high].phase !== "eating");
+}
+
+// Each edge has one fork and one token: at one of its ends, or once in its links.
+function isEachOnce({ edges, links }, mark, letter) {
+  return edges.every((edge, number) => {
+    const sent = links.slice(2 * number, 2 * number + 2).flatMap((link) => link.letters).filter((it) => it === letter).length;
+    const held = edge[mark]?.at !== undefined ? 1 : 0;
+    return held + sent === 1 && (held === 0 || edge.ends.includes(edge[mark].at));
+  });
+}
+
+// The order has each site once, and of each edge the end that goes first before the other.
+function isOrderOf({ sites, edges, order }) {
+  const ranks = new Map((order ?? []).map((site, place) => [site, place]));
+  const other = ({ ends, preferred }) => (ends[0] === preferred ? ends[1] : ends[0]);
+  return ranks.size === sites.length && edges.every((edge) => ranks.get(edge.preferred) < ranks.get(other(edge)));
+}
+
+const TICKS = [
+  ["No two neighbours eat", areNeighboursApart],
+  ["One fork on each edge", (state) => isEachOnce(state, "fork", "fork")],
+  ["One token on each edge", (state) => isEachOnce(state, "token", "request")],
+  ["Precedence has no cycle", isOrderOf],
+  ["No more events than the bound", (state) => state.events <= state.bound],
+];
+
+export function ticksOf(state) {
+  return TICKS.map(([words, holds]) => ({ words, holds: holds(state) }));
+}
+
+export function showTicks(list, state) {
+  ticksOf(state).forEach(({ words, holds }, place) => {
+    const item = list.children[place] ?? list.appendChild(textElement("li", ""));
+    const text = `${holds ? "✓" : "✗"} ${words}`;
+    if (item.textContent !== text) item.textContent = text;
+    setAttribute(item, "class", holds ? "holds" : "broken");
+  });
+}
