@@ -2,16 +2,14 @@
 
 import { setText, textElement } from "./marks.js";
 
-// So long after the list has changed a press of a pointer is for the list before, in milliseconds.
-const LATE = 120;
-
 export class EnabledList {
   // `parts` has the list, the count, and what is done at a choice, and at a light.
   constructor(parts) {
     Object.assign(this, parts);
     this.items = [];
     this.events = [];
-    this.changed = 0;
+    // What the button said that a pointer was pressed on.
+    this.pressed = null;
     this.none = textElement("li", "none: nothing is left to do", "none");
   }
 
@@ -27,17 +25,18 @@ export class EnabledList {
       const event = this.events[place];
       if (event) this.light(event.site, event.edge);
     };
+    button.addEventListener("pointerdown", () => { this.pressed = this.events[place]?.words; });
     button.addEventListener("click", (event) => this.press(event, place));
     for (const kind of ["pointerenter", "focus"]) button.addEventListener(kind, light);
     for (const kind of ["pointerleave", "blur"]) button.addEventListener(kind, () => this.light(null, null));
     return { item, button, parts };
   }
 
-  // Does the event of a button. The second press of a double click, and one that comes with the change of the list,
-  // was for another event.
+  // Does the event of a button. The second press of a double click was for another event, and so was one during which
+  // the list has changed.
   press(event, place) {
-    const isLate = event.detail > 0 && performance.now() - this.changed < LATE;
-    if (event.detail > 1 || isLate || !this.events[place]) return;
+    const isByPointer = event.detail > 0;
+    if (event.detail > 1 || (isByPointer && this.pressed !== this.events[place]?.words) || !this.events[place]) return;
     this.choose(this.events[place].number);
   }
 
@@ -45,7 +44,6 @@ export class EnabledList {
   // not shown.
   show(events, next, total) {
     const focused = this.items.findIndex(({ button }) => button === document.activeElement);
-    if (events.some((event, place) => event.words !== this.events[place]?.words)) this.changed = performance.now();
     this.events = events;
     while (this.items.length < events.length) this.items.push(this.make());
     events.forEach((event, place) => {
