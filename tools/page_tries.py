@@ -691,4 +691,5 @@ def tries_of_page(seen):
     for name, times in PLAYED.items():
         for number in range(times):
             yield f"{name}, schedule {number}", partial(fault_of_schedule, seen, f"plans/{name}.toml", number)
+    yield "no word of unproved", lambda: "" if seen.count("#unproved[hidden]") else "the page says that it is unproved"
     yield "console", lambda: seen.browser.errors
