@@ -1,5 +1,5 @@
-// The timeline: a row for each site, a bar for each meal, a line for each wait, an arrow for each fork's move. Only what
-// is in view is drawn, so that it takes as long with many events as with few.
+// The timeline: a row for each site, a bar for each meal, a line for each wait, an arrow for each move of a fork. Only
+// what is in view is drawn, so that it takes as long with many events as with few.
 
 import { between, element, setAttribute, shortened } from "./marks.js";
 import { firstBehind, spanAt, spansOf } from "./spans.js";
@@ -71,7 +71,10 @@ export class Course {
   }
 
   measure() {
-    this.room = this.scroll.clientWidth;
+    const { clientWidth } = this.scroll;
+    // While the picture is as large as the window, there is no timeline.
+    if (clientWidth === 0) return;
+    this.room = clientWidth;
     if (!this.spans) return;
     this.fit();
     this.drawAll();

@@ -1,6 +1,6 @@
 // The list of enabled events, as buttons. The buttons stay while the list changes, so that the focus does too.
 
-import { setText, textElement } from "./marks.js";
+import { setOff, setText, textElement } from "./marks.js";
 
 export class EnabledList {
   // `parts` has the list, the count, and what is done at a choice, and at a light.
@@ -36,13 +36,14 @@ export class EnabledList {
   // the list has changed.
   press(event, place) {
     const isByPointer = event.detail > 0;
-    if (event.detail > 1 || (isByPointer && this.pressed !== this.events[place]?.words) || !this.events[place]) return;
-    this.choose(this.events[place].number);
+    const chosen = this.events[place];
+    if (!chosen || event.detail > 1 || (isByPointer && this.pressed !== chosen.words)) return;
+    if (this.items[place].button.getAttribute("aria-disabled") !== "true") this.choose(chosen.number);
   }
 
-  // Shows the events, of which the one numbered `next` is to follow. `total` is how many there are, with those that are
-  // not shown.
-  show(events, next, total) {
+  // Shows the events, of which the one numbered `next` is to follow, and is the only one that may if nothing else was
+  // recorded. `total` is how many there are, with those that are not shown.
+  show(events, { next, total, isRecorded }) {
     const focused = this.items.findIndex(({ button }) => button === document.activeElement);
     this.events = events;
     while (this.items.length < events.length) this.items.push(this.make());
@@ -52,6 +53,7 @@ export class EnabledList {
       setText(words, event.words);
       setText(rule, event.rule);
       button.classList.toggle("next", event.number === next);
+      setOff(button, isRecorded && event.number !== next);
     });
     this.place(events.length, total);
     setText(this.many, events.length < total ? `${events.length} of ${total}` : total || "");
@@ -62,7 +64,8 @@ export class EnabledList {
     while (this.list.children.length > count || this.list.lastChild === this.none) this.list.lastChild.remove();
     for (let place = this.list.children.length; place < count; place += 1) this.list.append(this.items[place].item);
     if (count === 0) {
-      setText(this.none, total ? "none of these sites: turn the focus off to see the others" : "none: nothing is left to do");
+      const elsewhere = "none of these sites: turn the focus off to see the others";
+      setText(this.none, total ? elsewhere : "none: nothing is left to do");
       this.list.append(this.none);
     }
   }

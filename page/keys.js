@@ -1,7 +1,6 @@
 // The keys. Arrows, Home, End and space step through the schedule wherever the focus is, except in a text; they never
 // change a menu or a slider.
 
-const STEPS = new Set(["ArrowLeft", "ArrowRight", "Home", "End", " "]);
 const UP_DOWN = new Set(["ArrowUp", "ArrowDown"]);
 
 // What the focus is on, as far as it matters to keys.
@@ -23,9 +22,9 @@ export function openMenu(menu) {
 }
 
 export class Keys {
-  // `does` has what each key does, and `choose` does the enabled event of a number.
-  constructor({ does, choose, hasLetters }) {
-    Object.assign(this, { does, choose, hasLetters });
+  // `does` does what a key does, if it does anything, and `hasLetters` says whether keys of one letter do.
+  constructor({ does, hasLetters }) {
+    Object.assign(this, { does, hasLetters });
     document.addEventListener("keydown", (event) => this.hear(event));
   }
 
@@ -53,10 +52,7 @@ export class Keys {
     // A key of one letter acts on what has the focus even if such keys are turned off: + and - on the slider.
     if (isLetter && !this.hasLetters() && !(kind === "slider" && "+-=".includes(key))) return;
     if (kind === "menu" && isLetter) return;
-    const does = /^[0-9]$/.test(key) ? () => this.choose(Number(key)) : this.does[isLetter ? key.toLowerCase() : key];
-    if (!does) return;
-    event.preventDefault();
-    if (STEPS.has(key) && event.repeat && key === " ") return;
-    does();
+    // Space that is held down does not play and pause in turn.
+    if ((key === " " && event.repeat) || this.does(isLetter ? key.toLowerCase() : key)) event.preventDefault();
   }
 }

@@ -69,6 +69,7 @@ export class LessonPanel {
     }
     const isRight = Number(chosen) === this.moment.answer;
     this.told.className = isRight ? "right" : "wrong";
-    this.told.textContent = isRight ? `✓ Right. ${this.moment.because ?? ""}` : "✗ Not so. Look at the picture again.";
+    const right = `✓ Right. ${this.moment.because ?? ""}`;
+    this.told.textContent = isRight ? right : "✗ Not so. Look at the picture again.";
   }
 }

@@ -2,11 +2,32 @@
 
 export const found = (name) => document.getElementById(name);
 
-// The program that is asked, the plans and lessons that are offered, the schedule that is shown, the site that was
-// clicked and the one in focus, and the moment of a lesson. `does` has what the parts of the page do when they are used.
 export const mind = {
-  program: null, plans: new Map(), first: null, lessons: [], schedule: null, selected: null, focus: null, hub: 0, lesson: null,
-  moment: 0, naive: null, room: { width: 600, height: 400, rem: 1 }, wanted: "", left: 0, does: {},
+  // The program that is asked, and the plans and lessons that it offers, the plans by their paths.
+  program: null,
+  plans: new Map(),
+  first: null,
+  lessons: [],
+  // The schedule that is shown, and how many of the choices that were asked for it left out.
+  schedule: null,
+  left: 0,
+  // The text of the plan that was asked for last, which may be refused.
+  wanted: "",
+  // The site that was clicked, the one in focus, and the one that has the most edges.
+  selected: null,
+  focus: null,
+  hub: 0,
+  // The lesson that is shown, and the number of its moment.
+  lesson: null,
+  moment: 0,
+  // The table without the rules.
+  naive: null,
+  // How large the picture may be, and how large the reader's letters are.
+  room: { width: 600, height: 400, rem: 1 },
+  // The place on the timeline that a pointer went to last.
+  scrubbed: 0,
+  // What the parts of the page do when they are used.
+  does: {},
 };
 
 export function seed() {

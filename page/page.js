@@ -8,9 +8,12 @@ import { keep, kept, saveFile, tomlOf } from "./moments.js";
 import { acts, course, ownPlan, player, tell } from "./parts.js";
 import { programOf } from "./program.js";
 import {
-  choose, chooseRandom, jump, leaveLesson, openOffered, openPlan, openWritten, pause, quicker, runOnThreads, scrub, showRate, step,
+  choose, chooseRandom, jump, leaveLesson, openOffered, openPlan, openWritten, pause, quicker, runOnThreads, scrub,
+  showRate, step,
 } from "./steps.js";
-import { keepMoment, lessonOf, offerLessons, openLesson, openMoment, openScheduleOf, removeMoment, writeMoment } from "./teach.js";
+import {
+  keepMoment, lessonOf, offerLessons, openLesson, openMoment, openScheduleOf, removeMoment, writeMoment,
+} from "./teach.js";
 import { noteAddress, openPicture, select, show } from "./view.js";
 
 async function copyLine() {
@@ -50,12 +53,33 @@ const paused = (work) => () => {
 const back = () => jump((it) => it.at - 1);
 
 const BUTTONS = {
-  reset: () => jump(() => 0), back, play: () => player.play(), step: paused(() => acts.do(step)),
-  first: paused(() => choose(0)), random: paused(chooseRandom), threads: runOnThreads, own: () => { pause(); ownPlan.show(mind.wanted); },
-  use: () => ownPlan.use(), again: () => ownPlan.again(mind.schedule?.plan ?? ""), copy: copyLine, theme: turnTheme, large: turnLarge,
-  help: () => found("keys").showModal(), unselect: () => select(null), "zoom-in": () => course.zoom(2), "zoom-out": () => course.zoom(0.5),
-  "zoom-all": () => course.zoomOut(), previous: () => openMoment(mind.moment - 1), next: () => openMoment(mind.moment + 1),
-  leave: () => { leaveLesson(); show(); }, keep: writeMoment, "keep-it": keepMoment, remove: removeMoment,
+  reset: () => jump(() => 0),
+  back,
+  step: paused(() => acts.do(step)),
+  play: () => player.play(),
+  first: paused(() => choose(0)),
+  random: paused(chooseRandom),
+  threads: runOnThreads,
+  own: paused(() => ownPlan.show(mind.wanted)),
+  use: () => ownPlan.use(),
+  again: () => ownPlan.again(mind.schedule?.plan ?? ""),
+  copy: copyLine,
+  theme: turnTheme,
+  large: turnLarge,
+  help: () => found("keys").showModal(),
+  unselect: () => select(null),
+  "zoom-in": () => course.zoom(2),
+  "zoom-out": () => course.zoom(0.5),
+  "zoom-all": () => course.zoomOut(),
+  previous: () => openMoment(mind.moment - 1),
+  next: () => openMoment(mind.moment + 1),
+  leave: () => {
+    leaveLesson();
+    show();
+  },
+  keep: writeMoment,
+  "keep-it": keepMoment,
+  remove: removeMoment,
   save: () => saveFile("lesson.toml", tomlOf(mind.lesson)),
 };
 
@@ -65,11 +89,33 @@ const WITHOUT_PLAN = new Set(["own", "use", "theme", "help", "large"]);
 const WITH_PROGRAM = ["own", "threads", "first", "random", "keep", "how-steps"];
 
 const KEYS = {
-  ArrowRight: BUTTONS.step, ArrowLeft: back, Home: BUTTONS.reset, End: () => jump((it) => it.list.length), " ": BUTTONS.play,
-  PageDown: BUTTONS.next, PageUp: BUTTONS.previous, Escape: escape, f: BUTTONS.first, r: BUTTONS.random, "+": () => quicker(0.5),
-  "=": () => quicker(0.5), "-": () => quicker(-0.5), g: () => turnPick(), s: () => found("seed").select(), t: runOnThreads,
-  p: () => openMenu(found("plans")), l: () => openMenu(found("lessons")), o: BUTTONS.own, c: copyLine, d: turnTheme,
-  v: turnLarge, w: turn("ranks"), q: turn("predict"), n: turn("naive"), k: writeMoment, "?": BUTTONS.help,
+  ArrowRight: BUTTONS.step,
+  ArrowLeft: back,
+  Home: BUTTONS.reset,
+  End: () => jump((it) => it.list.length),
+  " ": BUTTONS.play,
+  PageDown: BUTTONS.next,
+  PageUp: BUTTONS.previous,
+  Escape: escape,
+  f: BUTTONS.first,
+  r: BUTTONS.random,
+  "+": () => quicker(0.5),
+  "=": () => quicker(0.5),
+  "-": () => quicker(-0.5),
+  g: () => turnPick(),
+  s: () => found("seed").select(),
+  t: runOnThreads,
+  p: () => openMenu(found("plans")),
+  l: () => openMenu(found("lessons")),
+  o: BUTTONS.own,
+  c: copyLine,
+  d: turnTheme,
+  v: turnLarge,
+  w: turn("ranks"),
+  q: turn("predict"),
+  n: turn("naive"),
+  k: writeMoment,
+  "?": BUTTONS.help,
 };
 
 function escape() {
@@ -80,6 +126,19 @@ function escape() {
 function turnPick() {
   found("pick").value = found("pick").value === "first" ? "random" : "first";
   noteAddress();
+}
+
+// Does the enabled event of this number, as the reader asks for it.
+function press(number) {
+  return paused(() => choose(number))();
+}
+
+// Does what a key does. A figure does the enabled event of its number.
+function doKey(key) {
+  const does = /^[0-9]$/.test(key) ? () => press(Number(key)) : KEYS[key];
+  if (!does || !(mind.schedule || [BUTTONS.own, BUTTONS.theme, BUTTONS.help].includes(does))) return false;
+  does();
+  return true;
 }
 
 function doButton(name) {
@@ -99,10 +158,7 @@ function leap(event) {
 
 function listen() {
   for (const name of Object.keys(BUTTONS)) found(name).addEventListener("click", () => doButton(name));
-  // A key whose button is out of use does nothing either.
-  const can = (does) => () => { if (mind.schedule || does === BUTTONS.own || does === turnTheme || does === BUTTONS.help) does(); };
-  const does = Object.fromEntries(Object.entries(KEYS).map(([key, it]) => [key, can(it)]));
-  new Keys({ does, choose: (number) => can(paused(() => choose(number)))(), hasLetters: () => found("letters").checked });
+  new Keys({ does: doKey, hasLetters: () => found("letters").checked });
   found("plans").addEventListener("change", openOffered);
   found("lessons").addEventListener("change", openLesson);
   found("pick").addEventListener("change", noteAddress);
@@ -116,7 +172,9 @@ function listen() {
     keepMoment();
   });
   addEventListener("hashchange", openAddress);
-  for (const name of ["predict", "naive", "focus"]) found(name).addEventListener("change", () => mind.schedule && show());
+  for (const name of ["predict", "naive", "focus"]) {
+    found(name).addEventListener("change", () => mind.schedule && show());
+  }
   found("ranks").addEventListener("change", showRanks);
 }
 
@@ -139,7 +197,7 @@ function watchSize() {
 }
 
 async function begin() {
-  Object.assign(mind.does, { select, show, scrub, step, openWritten, press: (number) => paused(() => choose(number))() });
+  Object.assign(mind.does, { select, show, scrub, step, openWritten, press });
   if (kept("dine-theme")) document.documentElement.dataset.theme = kept("dine-theme");
   found("letters").checked = kept("dine-letters") !== "off";
   found("choices").append(textElement("b", ""), textElement("span", ""));
@@ -149,7 +207,8 @@ async function begin() {
   watchSize();
   listen();
   const told = await mind.program.plans();
-  Object.assign(mind, { first: told.first, lessons: told.lessons ?? [], plans: new Map(told.plans.map((it) => [it.path, it.text])) });
+  Object.assign(mind, { first: told.first, lessons: told.lessons ?? [] });
+  for (const { path, text } of told.plans) mind.plans.set(path, text);
   found("unproved").hidden = !told.unproved;
   const nameOf = (path) => path.replace(/^plans\/(.*)\.toml$/, "$1").replaceAll("_", " ");
   for (const path of mind.plans.keys()) found("plans").add(new Option(nameOf(path), path));
@@ -189,7 +248,8 @@ async function openFirst(told) {
   }
   await (mind.program.isRecorded ? openOffered() : openAddress());
   // An address that shows nothing leaves the plan to be seen that the server was begun with, and its fault.
-  if (!mind.schedule && mind.wanted !== mind.plans.get(mind.first)) await openPlan({ path: mind.first, plan: mind.plans.get(mind.first) });
+  const plan = mind.plans.get(mind.first);
+  if (!mind.schedule && mind.wanted !== plan) await openPlan({ path: mind.first, plan });
 }
 
 begin().catch((fault) => tell(fault.message));

@@ -40,8 +40,8 @@ export class Picture {
     this.svg.setAttribute("viewBox", `0 0 ${width} ${height}`);
     const isShown = ({ ends }) => focus === null || ends.includes(focus);
     this.numbers = [...state.edges.keys()].filter((edge) => isShown(state.edges[edge]));
-    const ends = new Set(focus === null ? state.sites.keys() : [focus, ...this.numbers.flatMap((it) => state.edges[it].ends)]);
-    const sites = [...ends].sort((one, other) => one - other);
+    const ends = focus === null ? state.sites.keys() : [focus, ...this.numbers.flatMap((it) => state.edges[it].ends)];
+    const sites = [...new Set(ends)].sort((one, other) => one - other);
     const edges = this.numbers.map((edge) => ({ ends: state.edges[edge].ends.map((site) => sites.indexOf(site)) }));
     const { places } = placesOf(sites.map((site) => state.sites[site]), edges, width, height);
     this.openMarks(state, sites, places, linesOf(places, edges));
@@ -53,7 +53,9 @@ export class Picture {
     this.lines = byEdge((line) => line);
     this.edges = byEdge((line, edge) => this.openEdge(line, edge, edges));
     this.lanes = byEdge(() => element("g", {}, lanes));
-    this.sites = new Map(sites.map((site, turn) => [site, this.openSite(places[turn], state.sites[site], site, drawn)]));
+    this.sites = new Map(sites.map((site, turn) => {
+      return [site, this.openSite(places[turn], state.sites[site], site, drawn)];
+    }));
     this.tokens = byEdge((line) => tokenMark(line.size, marks));
     this.forks = byEdge((line) => forkMark(line.size, marks));
     this.words = byEdge(() => element("g", {}, marks));
@@ -69,13 +71,15 @@ export class Picture {
     const at = pointOf(line, line.length / 2);
     const isNumbered = this.lines.size <= NUMBERED;
     const [begin, wide] = [isNumbered ? 8 : -3, between(5, line.size * 0.5, 13)];
-    const head = element("path", { class: "head", d: `M${begin},${-wide * 0.55}L${begin + wide},0L${begin},${wide * 0.55}Z` }, group);
+    const tip = `M${begin},${-wide * 0.55}L${begin + wide},0L${begin},${wide * 0.55}Z`;
+    const head = element("path", { class: "head", d: tip }, group);
     const label = isNumbered ? element("text", { x: at.x, y: at.y }, group) : null;
     return { group, title, head, label, at, key: null };
   }
 
   openSite(place, site, number, inside) {
-    const group = element("g", { class: "site", transform: `translate(${place.x},${place.y})`, "data-site": number }, inside);
+    const at = `translate(${place.x},${place.y})`;
+    const group = element("g", { class: "site", transform: at, "data-site": number }, inside);
     const halo = element("path", { class: "halo" }, group);
     const shape = element("path", { class: "shape" }, group);
     const title = element("title", {}, group);
@@ -98,7 +102,8 @@ export class Picture {
     if (radius < 7) return null;
     const isBeside = radius >= SITE.name;
     const far = isBeside ? 0.85 * radius + 5 : 0;
-    const badge = element("g", { class: `rank ${isBeside ? "beside" : "inside"}`, transform: `translate(${far},${-far})` }, group);
+    const kind = `rank ${isBeside ? "outside" : "inside"}`;
+    const badge = element("g", { class: kind, transform: `translate(${far},${-far})` }, group);
     if (isBeside) element("circle", { r: 10 }, badge);
     return element("text", { "font-size": isBeside ? 12 : Math.min(12, 1.25 * radius) }, badge);
   }
@@ -240,8 +245,10 @@ export class Picture {
 // What a picture shows, in words.
 function textOf(state) {
   if (state.sites.length <= 16) {
-    return state.sites.map((site) => `${site.name} ${doesWhat(site)}, ${mealsOf(site)} of ${site.jobs} meals`).join("; ");
+    const told = (site) => `${site.name} ${doesWhat(site)}, ${mealsOf(site)} of ${site.jobs} meals`;
+    return state.sites.map(told).join("; ");
   }
   const count = (phase) => state.sites.filter((site) => site.phase === phase).length;
-  return `${state.sites.length} sites: ${count("thinking")} thinking, ${count("hungry")} hungry, ${count("eating")} eating`;
+  const counts = ["thinking", "hungry", "eating"].map((phase) => `${count(phase)} ${phase}`);
+  return `${state.sites.length} sites: ${counts.join(", ")}`;
 }

@@ -37,12 +37,17 @@ function distancesFrom(begin, near) {
 function cellsBetween(left, right, near, edges) {
   const [one, two] = [distancesFrom(left, near), distancesFrom(right, near)];
   const wide = one[right];
-  const cells = near.map((_, site) => ({ x: (one[site] - two[site] + wide) / 2, y: (one[site] + two[site] - wide) / 2 }));
-  if (cells.some(({ x, y }) => !(Number.isInteger(x) && Number.isInteger(y) && x >= 0 && x <= wide && y >= 0))) return null;
+  const cells = near.map((_, site) => {
+    return { x: (one[site] - two[site] + wide) / 2, y: (one[site] + two[site] - wide) / 2 };
+  });
+  const isCell = ({ x, y }) => Number.isInteger(x) && Number.isInteger(y) && x >= 0 && x <= wide && y >= 0;
+  if (!cells.every(isCell)) return null;
   const high = Math.max(...cells.map(({ y }) => y));
   const areAll = new Set(cells.map(({ x, y }) => y * (wide + 1) + x)).size === cells.length;
   const isFull = cells.length === (wide + 1) * (high + 1) && edges.length === wide * (high + 1) + (wide + 1) * high;
-  const isNear = ({ ends: [low, top] }) => Math.abs(cells[low].x - cells[top].x) + Math.abs(cells[low].y - cells[top].y) === 1;
+  const isNear = ({ ends: [low, top] }) => {
+    return Math.abs(cells[low].x - cells[top].x) + Math.abs(cells[low].y - cells[top].y) === 1;
+  };
   return areAll && isFull && edges.every(isNear) ? cells : null;
 }
 
@@ -89,22 +94,27 @@ function radiusOf(count, far, hub, passes) {
   return between(SITE.least, Math.min(0.21 * Math.min(...apart, near), most), SITE.most);
 }
 
+// The radii of the ellipse. One of many sites is nearly a circle, since their names stand along its radius.
+function radiiOf(count, wide, high) {
+  if (count === 1) return { x: 0, y: 0 };
+  if (count === 2) return { x: Math.min(wide, 230), y: 0 };
+  const most = count > 12 ? 1.15 : 1.6;
+  return { x: Math.min(wide, most * high), y: Math.min(high, most * wide) };
+}
+
 // The places round an ellipse, or round the site in the middle of a star.
 function roundPlaces(sites, edges, width, height) {
   const hub = hubOf(sites.length, edges);
   const count = hub === null ? sites.length : sites.length - 1;
   const longest = Math.min(SHOWN, Math.max(...sites.map((site) => site.name.length)));
   // An edge that passes by one site is to leave space for it.
-  const passes = edges.some(({ ends: [low, high] }) => [2, count - 2].includes(high - low)) && hub === null && count > 4;
+  const isPassed = ({ ends: [low, high] }) => [2, count - 2].includes(high - low);
+  const passes = hub === null && count > 4 && edges.some(isPassed);
   let radius = SITE.most;
   let far = { x: 0, y: 0 };
   for (let turn = 0; turn < 6; turn += 1) {
     const edge = 1.26 * radius + 12 + (radius < SITE.name ? 4 + 6 * longest : 0);
-    const high = Math.max(20, height / 2 - edge);
-    const wide = Math.max(20, width / 2 - edge);
-    // A circle of many sites stays one, since their names stand along its radius.
-    const most = count > 12 ? 1.15 : 1.6;
-    far = count === 1 ? far : count === 2 ? { x: Math.min(wide, 230), y: 0 } : { x: Math.min(wide, most * high), y: Math.min(high, most * wide) };
+    far = radiiOf(count, Math.max(20, width / 2 - edge), Math.max(20, height / 2 - edge));
     radius = radiusOf(count, far, hub, passes);
   }
   let seat = 0;
@@ -155,7 +165,9 @@ export function linesOf(places, edges) {
   });
   const free = lines.map((line) => line.length - 1.2 * (line.from.radius + line.to.radius));
   // So wide are two edges of a site apart, where the marks are as far out as they may be.
-  const apart = lines.map((line) => 0.9 * line.length * Math.sin(Math.min(angles[line.low], angles[line.high], Math.PI) / 2));
+  const apart = lines.map((line) => {
+    return 0.9 * line.length * Math.sin(Math.min(angles[line.low], angles[line.high], Math.PI) / 2);
+  });
   const size = between(MARK.least, Math.min(Math.min(...free) / 4.4, Math.max(...apart)), MARK.most);
   for (const line of lines) {
     line.size = size;

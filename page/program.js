@@ -2,7 +2,7 @@
 // printed, and asks nobody.
 
 // A question that was refused, with the program's line.
-export class Refused extends Error {}
+class Refused extends Error {}
 
 async function answerOf(question, body) {
   let answer;
@@ -25,6 +25,11 @@ class Served {
 
   async plans() {
     return JSON.parse(await answerOf("/plans", null));
+  }
+
+  // The list that the schedule of a plan begins with.
+  listOf() {
+    return [];
   }
 
   // The states after so many choices of the list, for each of the rising places.
@@ -53,7 +58,12 @@ class Recorded {
 
   async plans() {
     const plans = this.runs.map(({ plan, text }, run) => ({ path: plan ?? `run ${run + 1}`, text, run }));
-    return { first: plans[0].path, plans, lessons: this.lesson ? [this.lesson] : [], lesson: this.lesson?.path ?? null };
+    const lessons = this.lesson ? [this.lesson] : [];
+    return { first: plans[0].path, plans, lessons, lesson: this.lesson?.path ?? null };
+  }
+
+  listOf(path) {
+    return this.runs.find(({ plan }, run) => (plan ?? `run ${run + 1}`) === path)?.events.done ?? [];
   }
 
   // The run that begins with this list.

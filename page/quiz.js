@@ -1,5 +1,5 @@
-// The question mode: the list of enabled events is hidden, the reader says which of some events may happen next, and the
-// answer is checked by what the program says of each.
+// The question mode: the list of enabled events is hidden, the reader says which of some events may happen next, and
+// the answer is checked by what the program says of each.
 
 import { textElement } from "./marks.js";
 import { drawn } from "./schedule.js";
@@ -21,13 +21,14 @@ function drawnOf(list, count, seed, place) {
 }
 
 // Some events that may happen in a state and some that may not, mixed.
-export function candidatesOf(state, seed) {
+function candidatesOf(state, seed) {
   const enabled = state.enabled.map(({ words, rule }) => ({ words, why: rule, isEnabled: true }));
   const asked = (it) => TELLING.has(it.code) && !(it.kind === "ask" && it.code === "eating");
   const others = state.sites.flatMap((_, site) => whyNot(state, site)).filter(asked);
   const may = drawnOf(enabled, ASKED.enabled, seed, state.events);
   const mayNot = drawnOf(others, ASKED.all - may.length, seed + 1, state.events);
-  return drawnOf([...may, ...mayNot.map(({ words, why }) => ({ words, why, isEnabled: false }))], ASKED.all, seed + 2, state.events);
+  const mixed = [...may, ...mayNot.map(({ words, why }) => ({ words, why, isEnabled: false }))];
+  return drawnOf(mixed, ASKED.all, seed + 2, state.events);
 }
 
 export class Quiz {

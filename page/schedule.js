@@ -88,10 +88,10 @@ export class Schedule {
   // The places to ask for together with this one: those that follow the way that the reader goes.
   placesAt(count) {
     const ahead = between(0, Math.floor(AHEAD.letters / this.letters), AHEAD.states);
+    if (Math.abs(count - this.at) !== 1) return [count];
     const [least, most] = count < this.at ? [count - ahead, count] : [count, count + ahead];
-    const isNear = Math.abs(count - this.at) === 1;
     const places = [];
-    for (let place = Math.max(0, isNear ? least : count); place <= Math.min(isNear ? most : count, this.list.length); place += 1) {
+    for (let place = Math.max(0, least); place <= Math.min(most, this.list.length); place += 1) {
       if (place === count || !this.states.has(place)) places.push(place);
     }
     return places;

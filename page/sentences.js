@@ -60,14 +60,14 @@ const EVENTS = {
   ask: (site, it) => `${site} asks ${it} for their fork`,
   done: (site, it) => `${site} says done to ${it}`,
   close: (site, it) => `${site} closes to ${it}`,
-  end: (site) => `${site} ends its meal`,
-  begin: (site) => `${site} begins its meal`,
+  end: (site, it, meals) => `${site} ends meal ${Math.max(1, meals)}`,
+  begin: (site, it, meals) => `${site} begins meal ${meals + 1}`,
   quit: (site) => `${site} quits`,
   hungry: (site) => `${site} grows hungry`,
 };
 
-export function wordsOf(kind, site, neighbour = "") {
-  return EVENTS[kind](site, neighbour);
+function wordsOf(kind, { name, eaten }, neighbour = "") {
+  return EVENTS[kind](name, neighbour, eaten);
 }
 
 export function otherEnd(edge, site) {
@@ -86,19 +86,20 @@ function reason(kind, code, neighbour) {
 // Why events of a site are not enabled: its own, and then those of each of its edges. Each has its kind, its edge, its
 // words and its reason.
 export function whyNot(state, site) {
-  const { name, why_not: own } = state.sites[site];
+  const { why_not: own } = state.sites[site];
   const found = [];
   for (const [kind, code] of Object.entries(own ?? {})) {
     if (code === null) continue;
     const why = code === "waits" ? waitsOf(state, site).join("; ") : reason(kind, code, "");
-    found.push({ kind, edge: null, code, words: wordsOf(kind, name), why });
+    found.push({ kind, edge: null, code, words: wordsOf(kind, state.sites[site]), why });
   }
   state.edges.forEach((edge, number) => {
     if (!edge.ends.includes(site) || !edge.why_not) return;
     const neighbour = state.sites[otherEnd(edge, site)].name;
     for (const [kind, code] of Object.entries(edge.why_not[edge.ends.indexOf(site)])) {
       if (code === null) continue;
-      found.push({ kind, edge: number, code, words: wordsOf(kind, name, neighbour), why: reason(kind, code, neighbour) });
+      const words = wordsOf(kind, state.sites[site], neighbour);
+      found.push({ kind, edge: number, code, words, why: reason(kind, code, neighbour) });
     }
   });
   return found;

@@ -88,7 +88,8 @@ export async function openPlan({ path, plan, list = [], at = null, isOfThreads =
   const left = await opened.open(list, at);
   pause();
   opened.isOfThreads = isOfThreads;
-  Object.assign(mind, { schedule: opened, selected: null, left, hub: hubSite(opened.state), naive: new NaiveTable(opened.state) });
+  const { state } = opened;
+  Object.assign(mind, { schedule: opened, selected: null, left, hub: hubSite(state), naive: new NaiveTable(state) });
   if (path === null) offerOwn();
   found("plans").value = path ?? "";
   setText(found("about"), aboutOf(plan));
@@ -107,7 +108,8 @@ function aboutOf(plan) {
 }
 
 function offerOwn() {
-  if (![...found("plans").options].some((option) => option.value === "")) found("plans").add(new Option("own plan", ""));
+  const { options } = found("plans");
+  if (![...options].some(({ value }) => value === "")) found("plans").add(new Option("own plan", ""));
 }
 
 export function openOffered() {
@@ -115,8 +117,7 @@ export function openOffered() {
   return acts.do(async () => {
     if (path === "") return;
     leaveLesson();
-    const run = mind.program.isRecorded ? mind.program.runs.find((it, place) => (it.plan ?? `run ${place + 1}`) === path) : null;
-    await openPlan({ path, plan: mind.plans.get(path), list: run?.events.done ?? [], at: 0 });
+    await openPlan({ path, plan: mind.plans.get(path), list: mind.program.listOf(path), at: 0 });
   });
 }
 

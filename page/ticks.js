@@ -10,7 +10,8 @@ function areNeighboursApart({ sites, edges }) {
 // Each edge has one fork and one token: at one of its ends, or once in its links.
 function isEachOnce({ edges, links }, mark, letter) {
   return edges.every((edge, number) => {
-    const sent = links.slice(2 * number, 2 * number + 2).flatMap((link) => link.letters).filter((it) => it === letter).length;
+    const letters = links.slice(2 * number, 2 * number + 2).flatMap((link) => link.letters);
+    const sent = letters.filter((it) => it === letter).length;
     const held = edge[mark]?.at !== undefined ? 1 : 0;
     return held + sent === 1 && (held === 0 || edge.ends.includes(edge[mark].at));
   });
@@ -31,7 +32,7 @@ const TICKS = [
   ["No more events than the bound", (state) => state.events <= state.bound],
 ];
 
-export function ticksOf(state) {
+function ticksOf(state) {
   return TICKS.map(([words, holds]) => ({ words, holds: holds(state) }));
 }
 

@@ -72,7 +72,8 @@ function failedText(state) {
 // The order of the sites by which precedence has no cycle.
 function orderText(state) {
   if (!state.order) return "";
-  return `Order: ${state.order.map((site) => state.sites[site].name).join(" → ")}. Each arrow goes along it, so no cycle.`;
+  const names = state.order.map((site) => state.sites[site].name);
+  return `Order: ${names.join(" → ")}. Each arrow goes along it, so no cycle.`;
 }
 
 function showEnabled(state) {
@@ -80,19 +81,24 @@ function showEnabled(state) {
   if (asks) quiz.show(state, seed(), `${mind.schedule.version} ${mind.schedule.at} ${mind.schedule.path}`);
   else quiz.hide();
   found("quiz").hidden = !asks;
+  // What each site waits for would give the answer away.
+  document.body.classList.toggle("asks", asks && mind.selected === null);
   found("enabled").hidden = isPredicting();
   setText(found("enabled-name"), isPredicting() ? "What may happen next?" : "May happen next");
   const { at, list } = mind.schedule;
   const sites = new Set(shownSites(state));
   const events = mind.focus === null ? state.enabled : state.enabled.filter((event) => sites.has(event.site));
-  enabledList.show(isPredicting() ? [] : events, at < list.length ? list[at] : null, state.enabled.length);
+  const next = at < list.length ? list[at] : null;
+  const { isRecorded } = mind.program;
+  enabledList.show(isPredicting() ? [] : events, { next, total: state.enabled.length, isRecorded });
   if (isPredicting()) setText(found("many"), "");
 }
 
 function showCount(state) {
   const { schedule } = mind;
   const isOver = state.enabled.length === 0;
-  setText(found("count"), isOver ? `event ${state.events}, the end; at most ${state.bound}` : `event ${state.events} of at most ${state.bound}`);
+  const most = `at most ${state.bound}`;
+  setText(found("count"), isOver ? `event ${state.events}, the end; ${most}` : `event ${state.events} of ${most}`);
   found("progress").max = Math.max(isOver ? state.events : state.bound, 1);
   found("progress").value = state.events || (isOver ? 1 : 0);
   for (const name of ["back", "reset"]) setOff(found(name), schedule.at === 0);

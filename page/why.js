@@ -26,16 +26,21 @@ function waitLines(state, sites) {
   });
 }
 
+function whereIs(fork, site, neighbour) {
+  if (fork.to === undefined) return `at ${neighbour}`;
+  return fork.to === site ? "on its way here" : `on its way to ${neighbour}`;
+}
+
 // What a site holds, and what it lacks, of each of its edges.
 function holdings(state, site) {
   const [holds, lacks] = [[], []];
   for (const edge of state.edges) {
     if (!edge.ends.includes(site)) continue;
     const name = state.sites[otherEnd(edge, site)].name;
-    const [fork, token] = [`the fork shared with ${name}`, `the token for ${name}`];
+    const fork = `the fork shared with ${name}`;
     if (edge.fork.at === site) holds.push(`${fork} (${edge.dirty ? "dirty" : "clean"})`);
-    else lacks.push(`${fork} (${edge.fork.to === undefined ? `at ${name}` : edge.fork.to === site ? "on its way here" : `on its way to ${name}`})`);
-    if (edge.token.at === site) holds.push(token);
+    else lacks.push(`${fork} (${whereIs(edge.fork, site, name)})`);
+    if (edge.token.at === site) holds.push(`the token for ${name}`);
   }
   return { holds, lacks };
 }
@@ -50,7 +55,8 @@ function precedenceOf(state, site) {
 }
 
 export class Why {
-  // `parts` has the heading, the box, the button that closes it, and what is done at a choice.
+  // `parts` has the heading, the box, the button that closes it, what is done at a choice, and whether there is no
+  // program to do it.
   constructor(parts) {
     Object.assign(this, parts);
     this.key = null;
@@ -70,8 +76,8 @@ export class Why {
   showWaits(state, sites) {
     this.heading.textContent = "Who waits, and for what";
     const lines = waitLines(state, sites);
-    const none = state.sites.some((site) => site.phase === "eating") ? "No site is hungry: who eats has all its forks." : "No site is hungry.";
-    this.box.replaceChildren(lines.length ? listOf(lines) : textElement("p", none), textElement("p", "Click a site for all that it holds and may do.", "note"));
+    const told = lines.length ? listOf(lines) : textElement("p", "No site is hungry.");
+    this.box.replaceChildren(told, textElement("p", "Click a site for all that it holds and may do.", "note"));
   }
 
   showSite(state, number, isHidden) {
@@ -91,13 +97,15 @@ export class Why {
   addEvents(state, number) {
     const may = state.enabled.filter((event) => event.site === number);
     this.box.append(textElement("h3", "May do now"));
-    this.box.append(may.length ? listOf(may.map((event) => this.eventItem(event))) : textElement("p", "nothing", "note"));
+    const items = may.map((event) => this.eventItem(event));
+    this.box.append(items.length ? listOf(items) : textElement("p", "nothing", "note"));
     this.box.append(textElement("h3", "May not"));
     const rest = whyNot(state, number).filter(({ kind }) => kind !== "take");
     this.box.append(listOf(rest.map(({ words, why }) => lineOf(words, `: ${why}`))));
   }
 
   eventItem(event) {
+    if (this.isRecorded()) return lineOf(event.words, ` ${event.rule}`);
     const item = document.createElement("li");
     const button = textElement("button", event.words, "inline");
     button.type = "button";
