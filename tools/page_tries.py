@@ -463,7 +463,7 @@ def faults_of_room(seen):
         small = seen.browser.value("document.querySelector('#picture').clientHeight")
         seen.press("v")
         large = seen.browser.value("document.querySelector('#picture').clientHeight")
-        if large < 0.7 * height or large < 1.3 * small or not seen.is_seen("#step"):
+        if large < max(0.7 * height, 1.2 * small) or not seen.is_seen("#step"):
             yield f"as large as the window it is {large} of {height}"
         seen.press("ArrowRight", "Escape")
         if seen.event() != 11 or seen.browser.value("document.querySelector('#picture').clientHeight") != small:
