@@ -40,6 +40,7 @@ export class Picture {
     this.svg.setAttribute("viewBox", `0 0 ${width} ${height}`);
     const isShown = ({ ends }) => focus === null || ends.includes(focus);
     this.numbers = [...state.edges.keys()].filter((edge) => isShown(state.edges[edge]));
+    this.hasValues = state.edges.some((edge) => (edge.value ?? null) !== null);
     const ends = focus === null ? state.sites.keys() : [focus, ...this.numbers.flatMap((it) => state.edges[it].ends)];
     const sites = [...new Set(ends)].sort((one, other) => one - other);
     const edges = this.numbers.map((edge) => ({ ends: state.edges[edge].ends.map((site) => sites.indexOf(site)) }));
@@ -70,11 +71,20 @@ export class Picture {
     const title = element("title", {}, group);
     const at = pointOf(line, line.length / 2);
     const isNumbered = this.lines.size <= NUMBERED;
-    const [begin, wide] = [isNumbered ? 8 : -3, between(5, line.size * 0.5, 13)];
+    const [begin, wide] = [isNumbered && !this.hasValues ? 8 : -3, between(5, line.size * 0.5, 13)];
     const tip = `M${begin},${-wide * 0.55}L${begin + wide},0L${begin},${wide * 0.55}Z`;
     const head = element("path", { class: "head", d: tip }, group);
-    const label = isNumbered ? element("text", { x: at.x, y: at.y }, group) : null;
+    const label = isNumbered ? element("text", this.hasValues ? this.valuePlace(line) : at, group) : null;
     return { group, title, head, label, at, key: null };
+  }
+
+  // A value is wider than a number, and stands beside the edge, on the outer side, where no letter is.
+  valuePlace(line) {
+    const far = line.size + 14;
+    const { width, height } = this.svg.viewBox.baseVal;
+    const sides = [far, -far].map((beside) => pointOf(line, line.length / 2, beside));
+    const [one, other] = sides.map(({ x, y }) => Math.hypot(x - width / 2, y - height / 2));
+    return sides[one > other ? 0 : 1];
   }
 
   openSite(place, site, number, inside) {
@@ -98,12 +108,16 @@ export class Picture {
   }
 
   // The place in the order of precedence: beside a large site, in a small one.
-  openRank({ radius }, group) {
+  openRank({ radius, angle }, group) {
     if (radius < 7) return null;
     const isBeside = radius >= SITE.name;
     const far = isBeside ? 0.85 * radius + 5 : 0;
+    // Outwards, where no edge is. The site in the middle of a star has edges all round.
+    const isLeft = Math.cos(angle) < -0.1;
+    const isLow = Math.sin(angle) > 0.1;
+    const [x, y] = angle === null ? [0, 0.6 * radius] : [isLeft ? -far : far, isLow ? far : -far];
     const kind = `rank ${isBeside ? "outside" : "inside"}`;
-    const badge = element("g", { class: kind, transform: `translate(${far},${-far})` }, group);
+    const badge = element("g", { class: kind, transform: `translate(${x},${y})` }, group);
     if (isBeside) element("circle", { r: 10 }, badge);
     return element("text", { "font-size": isBeside ? 12 : Math.min(12, 1.25 * radius) }, badge);
   }

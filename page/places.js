@@ -168,7 +168,7 @@ export function linesOf(places, edges) {
   const apart = lines.map((line) => {
     return 0.9 * line.length * Math.sin(Math.min(angles[line.low], angles[line.high], Math.PI) / 2);
   });
-  const size = between(MARK.least, Math.min(Math.min(...free) / 4.4, Math.max(...apart)), MARK.most);
+  const size = between(MARK.least, Math.min(Math.min(...free) / 5.2, Math.max(...apart)), MARK.most);
   for (const line of lines) {
     line.size = size;
     line.begin = [[line.low, line.from], [line.high, line.to]].map(([site, place]) => {

@@ -1,14 +1,14 @@
 // The codes of the program in sentences: what a hungry site waits for, and why an event is not enabled.
 
-// What a hungry site waits for on an edge, with the neighbour there.
+// What a hungry site waits for, with the names of the neighbours, and how one says a word of them.
 const WAITS = {
   not_asked: (it) => `it has not asked ${it} yet`,
-  request_sent: (it) => `its request to ${it} is on its way`,
-  may_give: (it) => `${it} was asked, and has to give up the dirty fork`,
-  eats: (it) => `${it} eats with the fork, and gives it after the meal`,
-  keeps_clean: (it) => `${it} keeps the fork clean: ${it} goes first`,
-  fork_sent: (it) => `the fork from ${it} is on its way`,
-  owes: (it) => `${it} asked for the dirty fork, and gets it first: ${it} goes first`,
+  request_sent: (it, of) => `its ${of("request")} to ${it} ${of("is", "are")} on ${of("its", "their")} way`,
+  may_give: (it, of) => `${it} ${of("was", "were")} asked, and ${of("has", "have")} to give up the dirty fork`,
+  eats: (it, of) => `${it} ${of("eats", "eat")} with the fork, and ${of("gives", "give")} it after the meal`,
+  keeps_clean: (it, of) => `${it} ${of("keeps", "keep")} the fork clean: ${it} ${of("goes", "go")} first`,
+  fork_sent: (it, of) => `the ${of("fork")} from ${it} ${of("is", "are")} on ${of("its", "their")} way`,
+  owes: (it, of) => `${it} asked for the dirty fork and ${of("gets", "get")} it: ${it} ${of("goes", "go")} first`,
 };
 
 const WHY_NOT = {
@@ -74,9 +74,21 @@ export function otherEnd(edge, site) {
   return edge.ends[0] === site ? edge.ends[1] : edge.ends[0];
 }
 
-// What keeps a hungry site from eating, a sentence for each edge.
+// Names as one lists them: a, b and c.
+function listed(names) {
+  return names.length < 2 ? names.join("") : `${names.slice(0, -1).join(", ")} and ${names.at(-1)}`;
+}
+
+// What keeps a hungry site from eating, a sentence for each kind of wait.
 export function waitsOf(state, site) {
-  return (state.sites[site].waits ?? []).map(({ from, why }) => (WAITS[why] ?? (() => why))(state.sites[from].name));
+  const names = new Map();
+  for (const { from, why } of state.sites[site].waits ?? []) {
+    names.set(why, [...(names.get(why) ?? []), state.sites[from].name]);
+  }
+  return [...names].map(([why, those]) => {
+    const of = (one, many = `${one}s`) => (those.length > 1 ? many : one);
+    return (WAITS[why] ?? (() => why))(listed(those), of);
+  });
 }
 
 function reason(kind, code, neighbour) {

@@ -5,7 +5,7 @@ import { found, mind, rate, seed } from "./mind.js";
 import { NaiveTable } from "./naive.js";
 import { acts, edgeTable, player, siteTable } from "./parts.js";
 import { Schedule, drawn } from "./schedule.js";
-import { MANY, hubSite, noteAddress, openPicture, show } from "./view.js";
+import { hubSite, isCrowded, noteAddress, openPicture, show } from "./view.js";
 
 export function choose(number) {
   return acts.do(async () => {
@@ -93,7 +93,8 @@ export async function openPlan({ path, plan, list = [], at = null, isOfThreads =
   if (path === null) offerOwn();
   found("plans").value = path ?? "";
   setText(found("about"), aboutOf(plan));
-  found("focus-switch").hidden = opened.state.sites.length <= MANY;
+  setAttribute(found("about"), "title", aboutOf(plan));
+  found("focus-switch").hidden = !isCrowded(state);
   siteTable.open(opened.state);
   edgeTable.open(opened.state);
   openPicture();

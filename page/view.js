@@ -9,8 +9,8 @@ import { mealsOf } from "./picture.js";
 import { showTicks } from "./ticks.js";
 
 const START = "all forks are dirty, at the lower ends of their edges; the tokens are at the higher ends";
-// With more sites than this a picture has one site in focus.
-export const MANY = 16;
+// With more sites or edges than these a picture has one site in focus.
+const MANY = { sites: 16, edges: 40 };
 // How long the page waits before it writes its address, in milliseconds.
 const QUIET = 150;
 
@@ -57,10 +57,12 @@ function showTold(state, last) {
   const [words, rule] = found("told").children;
   const { at } = mind.schedule;
   setText(words, at === 0 ? "The start" : last?.words ?? `After event ${at}`);
-  const parts = [at === 0 ? START : last?.rule ?? ""];
-  if (state.enabled.length === 0) parts.push(`no event is enabled any more: this is the end${failedText(state)}`);
+  const isOver = state.enabled.length === 0;
+  const end = `the end: no event is enabled any more${failedText(state)}`;
+  const parts = [isOver ? end : at === 0 ? START : last?.rule ?? ""];
   if (mind.left) parts.push(`${mind.left} of the choices in the address name no event of this plan, and were left out`);
   setText(rule, parts.filter(Boolean).join("; "));
+  setAttribute(rule, "title", rule.textContent);
 }
 
 function failedText(state) {
@@ -169,8 +171,12 @@ function realText({ sites, enabled }) {
 
 // The site that is in focus, or null if all are shown.
 function focusOf() {
-  if (mind.schedule.state.sites.length <= MANY || !found("focus").checked) return null;
+  if (!isCrowded(mind.schedule.state) || !found("focus").checked) return null;
   return mind.selected ?? mind.hub;
+}
+
+export function isCrowded({ sites, edges }) {
+  return sites.length > MANY.sites || edges.length > MANY.edges;
 }
 
 // The first of the sites that have the most edges.
