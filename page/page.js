@@ -14,11 +14,11 @@ import {
 import {
   keepMoment, lessonOf, offerLessons, openLesson, openMoment, openScheduleOf, removeMoment, writeMoment,
 } from "./teach.js";
-import { noteAddress, openPicture, select, show } from "./view.js";
+import { noteAddress, openPicture, select, shellLine, show } from "./view.js";
 
 async function copyLine() {
   try {
-    await navigator.clipboard.writeText(found("line").textContent);
+    await navigator.clipboard.writeText(shellLine());
     found("copy").textContent = "Copied";
   } catch {
     getSelection().selectAllChildren(found("line"));

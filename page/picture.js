@@ -4,8 +4,8 @@
 import { between, element, forkMark, outline, setAttribute, setText, shortened, tokenMark, wordMark } from "./marks.js";
 import { MARK, SHOWN, SITE, TURN, linesOf, placesOf, pointOf } from "./places.js";
 
-// Up to how many edges each has its number in the picture.
-const NUMBERED = 24;
+// Up to how many edges each has its number in the picture, and from which size of the marks on.
+const NUMBERED = { edges: 24, size: 12 };
 // The size that a picture is drawn for. It is drawn larger where there is space for it, with its letters.
 const DRAWN = { width: 600, height: 400 };
 // Which letter an event moves, and to which mark it belongs.
@@ -52,6 +52,7 @@ export class Picture {
     const [edges, lanes, drawn, marks] = [1, 2, 3, 4].map(() => element("g", {}, this.svg));
     const byEdge = (make) => new Map(this.numbers.map((edge, turn) => [edge, make(lines[turn], edge)]));
     this.lines = byEdge((line) => line);
+    this.isNumbered = lines.length <= NUMBERED.edges && (lines[0]?.size ?? 0) >= NUMBERED.size;
     this.edges = byEdge((line, edge) => this.openEdge(line, edge, edges));
     this.lanes = byEdge(() => element("g", {}, lanes));
     this.sites = new Map(sites.map((site, turn) => {
@@ -70,7 +71,7 @@ export class Picture {
     element("line", { x1: line.from.x, y1: line.from.y, x2: line.to.x, y2: line.to.y }, group);
     const title = element("title", {}, group);
     const at = pointOf(line, line.length / 2);
-    const isNumbered = this.lines.size <= NUMBERED;
+    const isNumbered = this.isNumbered;
     const [begin, wide] = [isNumbered && !this.hasValues ? 8 : -3, between(5, line.size * 0.5, 13)];
     const tip = `M${begin},${-wide * 0.55}L${begin + wide},0L${begin},${wide * 0.55}Z`;
     const head = element("path", { class: "head", d: tip }, group);
@@ -216,7 +217,7 @@ export class Picture {
     const lane = this.lanes.get(link.edge);
     const way = link.from < link.to ? 1 : -1;
     const apart = line.size * 0.95;
-    const beside = way * (line.size * 0.5 + (this.lines.size <= NUMBERED ? 7 : 3));
+    const beside = way * (line.size * 0.5 + (this.isNumbered ? 7 : 3));
     const middle = (line.begin[0] + line.length - line.begin[1]) / 2;
     const half = (link.letters.length * apart) / 2;
     const ends = [-half - 4, half + Math.min(8, apart)].map((far) => pointOf(line, middle + way * far, beside));

@@ -8,7 +8,7 @@ const KEPT = 300;
 const AHEAD = { states: 20, letters: 300000 };
 // The letter by which the program names a kind of event in a column.
 const KINDS = { hungry: "h", ask: "a", give: "g", begin: "b", end: "e", quit: "q", done: "d", close: "c" };
-const TAKEN = { request: "R", fork: "F", done: "D", close: "C" };
+const TAKEN = { request: "A", fork: "G", done: "D", close: "C" };
 
 // A number below `count` for this seed and place, the same each time.
 export function drawn(seed, place, count) {

@@ -20,7 +20,7 @@ export function spansOf(events, sites, edges) {
       begun.delete(site);
     } else if (kinds[place] === "g") {
       given.set(edge, { site, place });
-    } else if (kinds[place] === "F" && given.has(edge)) {
+    } else if (kinds[place] === "G" && given.has(edge)) {
       const { site: giver, place: from } = given.get(edge);
       spans.moves.push({ edge, site: giver, from, other: site, to: place });
       given.delete(edge);

@@ -11,6 +11,8 @@ import { showTicks } from "./ticks.js";
 const START = "all forks are dirty, at the lower ends of their edges; the tokens are at the higher ends";
 // With more sites or edges than these a picture has one site in focus.
 const MANY = { sites: 16, edges: 40 };
+// From how many letters on a line of choices is shown without its middle.
+const WHOLE = 4000;
 // How long the page waits before it writes its address, in milliseconds.
 const QUIET = 150;
 
@@ -109,16 +111,29 @@ function showCount(state) {
   for (const name of ["first", "random"]) setOff(found(name), isOver || mind.program.isRecorded);
 }
 
+// The line for a shell that leads to this state.
+export function shellLine() {
+  const { list, at, path } = mind.schedule;
+  const done = list.slice(0, at).join(",");
+  return `./dine ${done ? `replay --choices ${done}` : "replay"} < ${quoted(path ?? "plan.toml")}`;
+}
+
+// A text without its middle if it is long: to lay out the whole would cost more than all else in a step.
+function cut(text) {
+  return text.length <= WHOLE ? text : `${text.slice(0, WHOLE / 4)} … ${text.slice(-WHOLE / 4)}`;
+}
+
 function showLogs(state) {
   const { list, at, path } = mind.schedule;
   setText(found("logs"), [...state.logs, `events ${state.events} of ${state.bound}`].join("\n"));
   const done = list.slice(0, at).join(",");
-  setText(found("line"), `./dine ${done ? `replay --choices ${done}` : "replay"} < ${quoted(path ?? "plan.toml")}`);
+  setText(found("line"), cut(shellLine()));
   const own = path === null ? "Save the text of your plan as plan.toml. " : "";
-  setText(found("line-note"), `${own}It does these events, and then the first enabled one until there is none.`);
+  const note = found("line").textContent.includes("…") ? "Copy takes all of it. " : "";
+  setText(found("line-note"), `${note}${own}It does these events, and then the first enabled one until there is none.`);
   const rest = list.slice(at).join(",");
-  setText(found("choices").firstChild, done || "none");
-  setText(found("choices").lastChild, rest && `${done ? "," : " then "}${rest}`);
+  setText(found("choices").firstChild, cut(done) || "none");
+  setText(found("choices").lastChild, rest && `${done ? "," : " then "}${cut(rest)}`);
 }
 
 // A path as a shell reads it.

@@ -3,16 +3,20 @@ import json
 import os
 import random
 import re
+import subprocess
 import tempfile
 import tomllib
 import urllib.parse
+from contextlib import contextmanager
 from functools import partial
 
-from trying import HOME, paths, text_of
+from trying import HOME, answer_of, paths, text_of
 
 RING = "plan=plans/ring_of_five.toml"
 # All five are hungry, and all have asked.
 ASKED = "0,1,2,3,4,5,5,5,4,3"
+# The same, and then eight events more.
+WHOLE = f"{ASKED},0,0,0,0,0,0,0,0"
 LESSONS = "lessons/*.toml"
 # The plans that are played to their end, each so many times.
 PLAYED = {"pair": 5, "pair_asked_first": 2, "pair_one_sided": 2, "failing_job": 3, "resigning_site": 3, "balances": 1, "ring_of_five": 1}
@@ -289,6 +293,12 @@ def fault_of_threads(seen):
     seen.press("End")
     if ",".join(map(str, seen.choices())) != held:
         return "the address holds another run"
+    # Each meal stands in the logs of two forks.
+    logs = seen.text("#logs")
+    wanted = [logs.count("#") // 2, len(re.findall(r"\bto ", logs))]
+    drawn = [seen.browser.value(f"document.querySelector('#course .{it}').getAttribute('d').split('Z').length - 1") for it in ("meals", "heads")]
+    if drawn != wanted:
+        return f"{drawn} meals and moves are drawn, and {wanted} stand in the logs"
     return seen.fault_of_end()
 
 
@@ -427,6 +437,52 @@ def faults_of_quiz(seen):
         yield f"it says {seen.text('#quiz output')!r}"
     if seen.count("#quiz .wrong") != 1 or not seen.count("#enabled button"):
         yield "the wrong answer is not marked, or the list stays hidden"
+
+
+# ---- One file
+
+
+@contextmanager
+def exported(*words):
+    """A page in one file, that ./show has written."""
+    with tempfile.TemporaryDirectory(prefix="dine-export-") as folder:
+        path = f"{folder}/one.html"
+        told = answer_of([*words, "--export", path], program=f"{HOME}/show", cwd=HOME, stdin=subprocess.DEVNULL)
+        if told.status != 0:
+            raise OSError(f"show --export ends with {told}")
+        yield f"file://{path}"
+
+
+def faults_of_run_export(seen):
+    """A run in one file opens from a disk without a server, steps, and shows at each place what the served page shows."""
+    parts = ("#told", "#picture", "#why", "#order", "#ticks", "#logs", "#sites", "#edges")
+    shown = {}
+    with exported("plans/ring_of_five.toml", "--choices", WHOLE) as address:
+        seen.browser.open(address)
+        seen.browser.wait_for("document.querySelectorAll('#picture .site').length > 0")
+        for _ in range(14):
+            shown[seen.event()] = seen.said(parts)
+            seen.press("ArrowRight")
+        if seen.is_seen("#threads") or seen.count("#enabled button:not([aria-disabled=true])") != 1:
+            yield "it offers what needs the program"
+    for event, said in shown.items():
+        seen.open(f"{RING}&choices={WHOLE}&at={event}")
+        served = seen.said(parts)
+        yield from (f"at event {event} it shows {one}, wanted {other}" for one, other in zip(said, served) if one != other)
+
+
+def faults_of_lesson_export(seen, path):
+    """A lesson in one file goes through its moments."""
+    with exported(path) as address, open(f"{HOME}/{path}", "rb") as file:
+        moments = tomllib.load(file)["moment"]
+        seen.browser.open(address)
+        seen.browser.wait_for("document.querySelectorAll('#picture .site').length > 0")
+        for moment in moments:
+            choices = moment.get("choices", "")
+            wanted = moment["title"], len(choices.split(",")) if choices else 0
+            if (seen.text("#moment-title"), seen.event()) != wanted:
+                yield f"it shows {seen.text('#moment-title')!r} at event {seen.event()}, wanted {wanted}"
+            seen.press("PageDown")
 
 
 # ---- The naive table
@@ -676,6 +732,8 @@ def tries_of_page(seen):
         yield path, partial(faults_of_lesson, seen, path)
     yield "keeping a moment", partial(fault_of_keeping, seen)
     yield "questions", partial(faults_of_quiz, seen)
+    yield "a run in one file", partial(faults_of_run_export, seen)
+    yield "a lesson in one file", partial(faults_of_lesson_export, seen, "lessons/why_nobody_starves.toml")
     yield "the naive table", partial(faults_of_naive, seen)
     yield "a room", partial(faults_of_room, seen)
     yield "a grid", partial(faults_of_grid, seen)

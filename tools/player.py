@@ -7,6 +7,8 @@ import time
 from trying import HOME, Answer, difference, text_of
 
 IDLE = "document.querySelector('main')?.getAttribute('aria-busy') === 'false'"
+# Where the page says what a state is.
+PARTS = ("#told", "#picture", "#enabled", "#why", "#count", "#logs", "#line", "#sites", "#edges", "#order", "#ticks")
 # How long the page waits before it writes its address, and how long it may take, in seconds.
 QUIET, ADDRESS = 0.5, 5
 
@@ -74,9 +76,8 @@ class Seen:
         """What the program says of the state that is shown."""
         return self.ask(self.choices(), text_of(path))
 
-    def said(self):
-        """All that the page says of a state, its picture too. What follows in the list is left out."""
-        parts = ("#told", "#picture", "#enabled", "#why", "#count", "#logs", "#line", "#sites", "#edges", "#order", "#ticks")
+    def said(self, parts=PARTS):
+        """All that the page says of a state in these parts, its picture too. What follows in the list is left out."""
         found = [self.browser.value(f"document.querySelector('{it}').innerHTML") for it in parts]
         return [re.sub(r' class="([^"]*)"', sorted_classes, it) for it in found]
 
