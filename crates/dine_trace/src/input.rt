@@ -26,14 +26,12 @@ pub fn split_list(alloc: Global, bytes: &[u8]) -> Result<(Vec<u32>, &[u8]), Faul
 
 // How many bytes are before the first line feed, or in all where there is none.
 fn length_of_line(bytes: &[u8]) -> usize {
-    let mut length = 0;
-    for byte in bytes {
+    for (place, byte) in bytes.iter().enumerate() {
         if *byte == LINE_FEED {
-            break;
+            return place;
         }
-        length += 1;
     }
-    length
+    bytes.len()
 }
 
 // The bytes without the line feed that they begin with.

@@ -53,19 +53,33 @@ fn show<H: Threads + Wait + Copy + Send + 'static, R: Read, W: Write>(
     let asked = asked_of(alloc, words_of(alloc, given)?.as_slice())?;
     let bytes = read_input(alloc, input)?;
     match asked {
-        Asked::Of(form, Choices::Given(choices)) => {
-            let plan = plan_of(alloc, bytes.as_slice())?;
-            show_form(alloc, &plan, form, choices.as_slice(), output)
-        }
-        Asked::Of(form, Choices::InInput) => {
-            let (choices, rest) = split_list(alloc, bytes.as_slice())?;
-            let plan = plan_of(alloc, rest)?;
-            show_form(alloc, &plan, form, choices.as_slice(), output)
-        }
+        Asked::Of(form, choices) => show_of(alloc, bytes.as_slice(), form, choices, output),
         Asked::Run(links) => {
             let plan = plan_of(alloc, bytes.as_slice())?;
             let choices = choices_of_run(rt, alloc, &plan, links)?;
-            Ok(write_line(output, list_of(alloc, choices.as_slice())?.as_str())?)
+            write_line(output, list_of(alloc, choices.as_slice())?.as_str())?;
+            Ok(())
+        }
+    }
+}
+
+// Shows what is asked of the choices, and of the plan that the input is or has behind them.
+fn show_of<W: Write>(
+    alloc: Global,
+    bytes: &[u8],
+    form: Form,
+    choices: Choices,
+    output: &mut W,
+) -> Result<(), Fault> {
+    match choices {
+        Choices::Given(choices) => {
+            let plan = plan_of(alloc, bytes)?;
+            show_form(alloc, &plan, form, choices.as_slice(), output)
+        }
+        Choices::InInput => {
+            let (choices, rest) = split_list(alloc, bytes)?;
+            let plan = plan_of(alloc, rest)?;
+            show_form(alloc, &plan, form, choices.as_slice(), output)
         }
     }
 }

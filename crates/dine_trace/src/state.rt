@@ -170,15 +170,13 @@ fn go_to<'c>(
     place: usize,
     choices: &'c [u32],
 ) -> Result<&'c [u32], AllocError> {
-    let mut taken = 0;
-    for choice in choices {
+    for (taken, choice) in choices.iter().enumerate() {
         if past.done.len() >= place {
-            break;
+            return Ok(&choices[taken..]);
         }
         past.choose(plan, world, *choice)?;
-        taken += 1;
     }
-    Ok(&choices[taken..])
+    Ok(&[])
 }
 
 // The state of the world, without the choices that were done.
