@@ -465,6 +465,7 @@ async function begin() {
   const told = await (await fetch("/plans")).json();
   first = told.first;
   offered = new Map(told.plans.map((it) => [it.path, it.text]));
+  found("unproved").hidden = !told.unproved;
   const nameOf = (path) => path.replace(/^plans\/(.*)\.toml$/, "$1").replaceAll("_", " ");
   for (const path of offered.keys()) found("plans").add(new Option(nameOf(path), path));
   await openAddress();

@@ -31,9 +31,9 @@ class Browser:
     def __enter__(self):
         self.folder = tempfile.TemporaryDirectory(prefix="dine-browser-", ignore_cleanup_errors=True)
         (theirs, self.tell), (self.hear, mine) = os.pipe(), os.pipe()
-        # Chromium reads from 3 and writes to 4. The shell that puts them there becomes Chromium.
+        # Chromium reads from 3 and writes to 4. The shell that puts them there becomes Chromium. Not each sh takes numbers above 9.
         words = [chromium(), *WORDS, f"--user-data-dir={self.folder.name}", "about:blank"]
-        shell = ["sh", "-c", f'exec "$@" 3<&{theirs} 4>&{mine}', "sh", *words]
+        shell = ["bash", "-c", f'exec "$@" 3<&{theirs} 4>&{mine}', "bash", *words]
         how = {"stdin": subprocess.DEVNULL, "stdout": subprocess.DEVNULL, "stderr": subprocess.DEVNULL}
         self.child = subprocess.Popen(shell, pass_fds=(theirs, mine), **how)
         os.close(theirs)

@@ -1,0 +1,44 @@
+"""Builds a program without any proof, for a first look and for tools that try many programs. `rt try` compiles a program, runs it once and
+throws it away; here it is caught while it runs."""
+import contextlib
+import glob
+import os
+import subprocess
+import tempfile
+import time
+
+from trying import BOUND
+
+# What the program is run with when it is caught: a plan whose one site is at work for a second or two.
+BUSY = "version = 1\n[[site]]\nname = \"a\"\njobs = [" + "{ name = \"x\", turns = 1000000 }, " * 20 + "]\n"
+RUN = {"dine_trace": "--run"}
+
+
+def catch(room):
+    """Keeps the program that rt try runs below this folder, which lies there beside its standard input."""
+    for it in glob.glob(f"{room}/*/*/program"):
+        if os.path.isfile(f"{os.path.dirname(it)}/stdin") and not os.path.isfile(f"{room}/caught"):
+            with contextlib.suppress(FileNotFoundError):
+                os.link(it, f"{room}/caught")
+
+
+def build_unproved(crate, to):
+    """Builds the program of the crate in this folder, dine_cli or dine_trace, without any proof, and puts it there if that goes well.
+    Returns the status of `rt try`, which is 0 exactly if the program is there, and what it said."""
+    name = os.path.basename(crate)
+    os.makedirs(os.path.dirname(to), exist_ok=True)
+    with tempfile.TemporaryDirectory(dir=os.path.dirname(to)) as room, open(f"{room}/said", "w+", encoding="utf-8", errors="replace") as said:
+        with open(f"{room}/plan", "w+", encoding="utf-8") as plan:
+            plan.write(BUSY)
+            plan.seek(0)
+            how = {"cwd": crate, "env": {**os.environ, "TMPDIR": room}, "stdin": plan, "stdout": said, "stderr": said}
+            # A second signal, from the terminal, would stop rt try in the middle of ending what it began: it gets a session of its own.
+            with subprocess.Popen([*BOUND, "rt", "try", name, "--", RUN.get(name, "run")], start_new_session=True, **how) as ran:
+                while ran.poll() is None:
+                    catch(room)
+                    time.sleep(0.02)
+        said.seek(0)
+        if ran.returncode == 0 and os.path.isfile(f"{room}/caught"):
+            os.replace(f"{room}/caught", to)
+            return 0, ""
+        return ran.returncode or 1, said.read()
