@@ -5,9 +5,10 @@
 //! end of each edge is. After the last choice the first enabled event is done until there is none, and the last lines
 //! are those that `dine replay` prints.
 //!
-//! With `--json` the state after the choices, in one line; with `--events` all events of the choices; with `--states` a
-//! line for the state after each of so many of them as PLACES says. With `--run` it runs the plan on threads, and prints
-//! the LIST that goes as the run went. Where LIST is `-`, it is the first line of the input, and the plan is behind it.
+//! With `--json` the state after the choices, in one line; with `--events` all events of the choices; with `--states`
+//! a line for the state after each of so many of them as PLACES says. With `--run` it runs the plan on threads, and
+//! prints the LIST that goes as the run went. If LIST is `-`, it is the first line of the input, and the plan is behind
+//! it.
 //!
 //! usage: dine_trace [[--json | --events | --states PLACES] [LIST] | --run [--links channel|ring]] < PLAN
 #![tactic(auto)]

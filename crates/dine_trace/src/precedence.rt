@@ -1,5 +1,5 @@
 //! Which end of each edge has precedence, and an order of the sites that shows that precedence has no cycle.
-ghost use Rattle.std.specs.Prelude.{◌≡◌, IfOk, MatchOption, Unit, position};
+ghost use Rattle.std.specs.Prelude.{◌≡◌, IfOk, MatchOption, position};
 ghost use Rattle.std.specs.List.{range_with_len};
 ghost use Rattle.dine_rules.specs.World.{WorldState};
 ghost use Rattle.dine_rules.specs.Precedence.{preferred_end};
