@@ -1,8 +1,8 @@
-"""Knows of a built program whether it is made of the sources as they are now, by what they contain.
+"""Says whether a program was built from the sources as they are now. What counts is what the sources contain, and not their times.
 
-Beside a program lie two files. NAME.made has a sum of the sources that it was built from and of the program itself. NAME.seen has what
-tools/seen printed when the two were last compared: as long as it prints the same, nothing was touched since, and ./dine need not read the
-sources again."""
+Beside a program there are two files. NAME.made has a sum of the sources that it was built from and of the program itself. NAME.seen has the
+output of tools/seen at the last time when the two were compared: as long as tools/seen prints the same, nothing was touched since then, and
+./dine need not read the sources again."""
 import hashlib
 import os
 import subprocess

@@ -1,5 +1,6 @@
-"""What the tools that try things share: where all stands, a program's answer and how it differs from the one that is wanted, copies of
+"""What the tools that try things share: their arguments, where all stands, a program's answer and how it differs from the one that is wanted, copies of
 crates, and the lines and the count at the end."""
+import argparse
 import glob
 import os
 import shutil
@@ -20,6 +21,16 @@ BOUND = "import ctypes, os, sys; ctypes.CDLL(None).prctl(1, 15); os.getppid() ==
 BOUND = [sys.executable, "-ISc", BOUND, str(os.getpid())]
 # What is tried is the proved program, whatever the shell says.
 os.environ.pop("DINE_UNPROVED", None)
+
+
+class Words(argparse.ArgumentParser):
+    """The arguments of a tool, whose help is the text at the head of its file. A wrong one is refused in one line, with status 2."""
+
+    def __init__(self, text):
+        super().__init__(description=text, formatter_class=argparse.RawDescriptionHelpFormatter)
+
+    def error(self, message):
+        self.exit(2, f"{self.prog}: {message}; {' '.join(self.format_usage().split())}\n")
 
 
 def program_of(crate):
@@ -51,7 +62,7 @@ class Answer(NamedTuple):
 
 def answer_of(words, program=DINE, seconds=SECONDS, **how):
     """Runs a program with words, as subprocess.run takes `how`, and returns its answer."""
-    # Only what builds may take for ever, and begins programs of its own.
+    # A build has no limit, and starts programs of its own, which are to end with this one.
     bound = BOUND if seconds is None else []
     try:
         ran = subprocess.run([*bound, program, *words], capture_output=True, timeout=seconds, check=False, **how)
@@ -124,7 +135,7 @@ def in_a_line(name, fault):
 
 
 def skip(name, why):
-    """Returns a try as `counted` takes it, of what this machine can't do. verify prints its line again at its end."""
+    """Returns a try as `counted` takes it, of something that this machine can't do. verify prints its line again at its end."""
     return f"{name}: skipped: {why}", None
 
 

@@ -15,7 +15,7 @@ RUN = {"dine_trace": "--run"}
 
 
 def catch(room):
-    """Keeps the program that rt try runs below this folder, which lies there beside its standard input."""
+    """Keeps the program that rt try runs below this folder, where it is stored beside its standard input."""
     for it in glob.glob(f"{room}/*/*/program"):
         if os.path.isfile(f"{os.path.dirname(it)}/stdin") and not os.path.isfile(f"{room}/caught"):
             with contextlib.suppress(FileNotFoundError):
@@ -23,8 +23,9 @@ def catch(room):
 
 
 def build_unproved(crate, to):
-    """Builds the program of the crate in this folder, dine_cli or dine_trace, without any proof, and puts it there if that goes well.
-    Returns the status of `rt try`, which is 0 exactly if the program is there, and what it said."""
+    """Builds the program of the crate in this folder without any proof, and puts it at this path. The program has to run a plan that it reads
+    from its standard input, as dine_cli and dine_trace do. Returns 0 and an empty text, or else a status that is not 0 and the output of
+    `rt try`."""
     name = os.path.basename(crate)
     os.makedirs(os.path.dirname(to), exist_ok=True)
     with tempfile.TemporaryDirectory(dir=os.path.dirname(to)) as room, open(f"{room}/said", "w+", encoding="utf-8", errors="replace") as said:
