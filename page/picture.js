@@ -9,7 +9,7 @@ const NUMBERED = { edges: 24, size: 12 };
 // The size that a picture is drawn for. It is drawn larger where there is space for it, with its letters.
 const DRAWN = { width: 600, height: 400 };
 // Which letter an event moves, and to which mark it belongs.
-const MOVED = { fork: "forks", request: "tokens" };
+const MOVED = { fork: "forks", request: "tokens", done: "words", close: "words" };
 
 // What a site does, in a word or two.
 export function doesWhat(site) {

@@ -62,7 +62,7 @@ function showTold(state, last) {
   const isOver = state.enabled.length === 0;
   const end = `the end: no event is enabled any more${failedText(state)}`;
   const parts = [isOver ? end : at === 0 ? START : last?.rule ?? ""];
-  if (mind.left) parts.push(`${mind.left} of the choices in the address name no event of this plan, and were left out`);
+  if (mind.left) parts.push(`${mind.left} of the choices name no event here, and were left out`);
   setText(rule, parts.filter(Boolean).join("; "));
   setAttribute(rule, "title", rule.textContent);
 }

@@ -261,7 +261,7 @@ def fault_of_address(seen):
 
 def fault_of_left_out(seen):
     seen.open(f"{RING}&choices=1,9,9,1")
-    return "" if "2 of the choices in the address name no event" in seen.text("#told") else seen.text("#told")
+    return "" if "2 of the choices name no event here" in seen.text("#told") else seen.text("#told")
 
 
 def fault_of_packed(seen):
