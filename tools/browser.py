@@ -1,5 +1,6 @@
-"""A headless Chromium for the tools that try a page, by selenium. It does what a person can do: it presses keys, and clicks what is visible
-and not covered. On Debian both come by `apt-get install chromium chromium-driver python3-selenium`."""
+"""A headless Chromium for the tools that try a page, by selenium. It does what a person can do: it presses keys, and
+clicks what is visible and not covered. On Debian all of it comes by
+`apt-get install chromium chromium-driver python3-selenium`."""
 import importlib
 import shutil
 import sys
@@ -10,11 +11,14 @@ DEBIAN = "/usr/lib/python3/dist-packages"
 BROWSERS = ("chromium", "chromium-browser", "google-chrome")
 DRIVERS = ("chromedriver", "chromium.chromedriver")
 # A root user gets no sandbox from Chromium, and a container little shared memory.
-WORDS = ("--headless=new", "--no-sandbox", "--disable-dev-shm-usage", "--disable-gpu", "--no-first-run", "--hide-scrollbars")
-WORDS += ("--disable-background-networking", "--disable-component-update", "--disable-sync")
+WORDS = ("--headless=new", "--no-sandbox", "--disable-dev-shm-usage", "--disable-gpu", "--no-first-run")
+WORDS += ("--hide-scrollbars", "--disable-background-networking", "--disable-component-update", "--disable-sync")
 SECONDS = 30
-KEYS = {"ArrowLeft": "\ue012", "ArrowUp": "\ue013", "ArrowRight": "\ue014", "ArrowDown": "\ue015", "Home": "\ue011", "End": "\ue010"}
-KEYS |= {"PageUp": "\ue00e", "PageDown": "\ue00f", "Escape": "\ue00c", "Enter": "\ue007", "Tab": "\ue004", "Backspace": "\ue003"}
+# The keys by their names in JavaScript, as WebDriver types them.
+KEYS = {"ArrowLeft": "\ue012", "ArrowUp": "\ue013", "ArrowRight": "\ue014", "ArrowDown": "\ue015"}
+KEYS |= {"Home": "\ue011", "End": "\ue010", "PageUp": "\ue00e", "PageDown": "\ue00f"}
+KEYS |= {"Escape": "\ue00c", "Enter": "\ue007"}
+CONTROL, BACKSPACE = "\ue009", "\ue003"
 
 
 def path_of(names):
@@ -31,7 +35,9 @@ def missing():
             importlib.import_module("selenium")
         except ImportError:
             return "selenium is not installed"
-    return "Chromium is not installed" if not path_of(BROWSERS) else "" if path_of(DRIVERS) else "chromedriver is not installed"
+    if not path_of(BROWSERS):
+        return "Chromium is not installed"
+    return "" if path_of(DRIVERS) else "chromedriver is not installed"
 
 
 class BrowserFault(Exception):
@@ -96,7 +102,7 @@ class Browser:
             time.sleep(0.01)
 
     def click(self, where, times=1):
-        """Moves the pointer to what is there, scrolled into view, and clicks it. It fails if that is hidden, or if another thing covers it."""
+        """Scrolls what is there into view and clicks it. It fails if that is hidden, or if another thing covers it."""
 
         def does():
             found = self.driver.find_element(self.by, where)
@@ -131,7 +137,7 @@ class Browser:
 
         def does():
             chain = self.chains(self.driver, duration=0)
-            chain.key_down("\ue009").send_keys("a").key_up("\ue009").send_keys("\ue003").send_keys(text).perform()
+            chain.key_down(CONTROL).send_keys("a").key_up(CONTROL).send_keys(BACKSPACE).send_keys(text).perform()
 
         self.guarded(does)
 
@@ -139,7 +145,16 @@ class Browser:
         """Gives the page a size in points and a colour scheme, light or dark."""
         size = {"width": width, "height": height, "deviceScaleFactor": 1, "mobile": False}
         self.driver.execute_cdp_cmd("Emulation.setDeviceMetricsOverride", size)
-        self.driver.execute_cdp_cmd("Emulation.setEmulatedMedia", {"features": [{"name": "prefers-color-scheme", "value": scheme}]})
+        media = {"features": [{"name": "prefers-color-scheme", "value": scheme}]}
+        self.driver.execute_cdp_cmd("Emulation.setEmulatedMedia", media)
+
+    def download_to(self, folder):
+        """Has what is saved put into a folder."""
+        self.driver.execute_cdp_cmd("Browser.setDownloadBehavior", {"behavior": "allow", "downloadPath": folder})
+
+    def tree(self):
+        """Returns the nodes of the page as a screen reader gets them."""
+        return self.driver.execute_cdp_cmd("Accessibility.getFullAXTree", {})["nodes"]
 
     def picture(self, path):
         """Writes a picture of what the window shows, a PNG."""

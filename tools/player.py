@@ -7,6 +7,9 @@ import time
 from trying import HOME, Answer, difference, text_of
 
 IDLE = "document.querySelector('main')?.getAttribute('aria-busy') === 'false'"
+RING = "plan=plans/ring_of_five.toml"
+# The choices by which on that plan all five are hungry, and all have asked.
+ASKED = "0,1,2,3,4,5,5,5,4,3"
 # Where the page says what a state is.
 PARTS = ("#told", "#picture", "#enabled", "#why", "#count", "#logs", "#line", "#sites", "#edges", "#order", "#ticks")
 # How long the page waits before it writes its address, and how long it may take, in seconds.
@@ -37,7 +40,7 @@ class Seen:
             self.wait()
 
     def choose(self, menu, value):
-        """Chooses from a menu by its keys, as the browser has them: it is opened, and the entry's first letters are typed."""
+        """Chooses from a menu by its keys, as the browser has them: it is opened, and the entry's letters are typed."""
         self.click(menu)
         words = self.browser.value(f"document.querySelector('{menu} option[value=\"{value}\"]').textContent")
         self.browser.type(words)
@@ -49,10 +52,14 @@ class Seen:
         return self.browser.value(f"document.querySelector({json.dumps(where)}).textContent")
 
     def texts(self, where):
-        return self.browser.value(f"[...document.querySelectorAll({json.dumps(where)})].map((it) => it.textContent)")
+        return self.each(where, "(it) => it.textContent")
 
     def value_of(self, where):
         return self.browser.value(f"document.querySelector({json.dumps(where)}).value")
+
+    def each(self, where, code):
+        """What a function of JavaScript returns for each of these elements."""
+        return self.browser.value(f"[...document.querySelectorAll({json.dumps(where)})].map({code})")
 
     def count(self, where):
         return self.browser.value(f"document.querySelectorAll({json.dumps(where)}).length")
@@ -61,7 +68,9 @@ class Seen:
         """Says whether something is visible and within the window."""
         box = self.browser.value(f"document.querySelector({json.dumps(where)})?.getBoundingClientRect().toJSON()")
         size = self.browser.value("[innerWidth, innerHeight]")
-        return bool(box and box["width"] and box["height"] and box["right"] <= size[0] + 1 and box["bottom"] <= size[1] + 1 and box["top"] >= 0)
+        if not box or not box["width"] or not box["height"]:
+            return False
+        return box["top"] >= 0 and box["right"] <= size[0] + 1 and box["bottom"] <= size[1] + 1
 
     def event(self):
         """The number of events that are done."""
@@ -108,10 +117,22 @@ class Seen:
             self.browser.fill("#text", plan)
         else:
             self.browser.click("#text")
-            self.browser.value(f"document.querySelector('#text').select(), document.execCommand('insertText', false, {json.dumps(plan)})")
+            paste = f"document.execCommand('insertText', false, {json.dumps(plan)})"
+            self.browser.value(f"document.querySelector('#text').select(), {paste}")
         self.click("#use")
 
 
 def sorted_classes(found):
     words = sorted(it for it in found[1].split() if it != "next")
     return f' class="{" ".join(words)}"' if words else ""
+
+
+def plan_of(sites, jobs, edges):
+    """The text of a plan with as many sites, each with as many jobs, and these edges."""
+    job = "[" + ", ".join(['{ name = "x" }'] * jobs) + "]"
+    text = "version = 1\n" + "".join(f'[[site]]\nname = "s{it}"\njobs = {job}\n' for it in range(sites))
+    return text + "".join(f'[[edge]]\nends = ["s{low}", "s{high}"]\n' for low, high in edges)
+
+
+def ring_of(count):
+    return [(it, (it + 1) % count) for it in range(count)]
