@@ -8,6 +8,7 @@ function kindOf(target) {
   if (target.closest("textarea, input[type=text], input[type=number]")) return "text";
   if (target.closest("select")) return "menu";
   if (target.closest("input[type=range]")) return "slider";
+  if (target.closest("input[type=radio]")) return "choice";
   return target.closest("button, input, summary, a") ? "button" : "page";
 }
 
@@ -42,7 +43,7 @@ export class Keys {
       return;
     }
     if (kind === "slider" && UP_DOWN.has(key)) event.preventDefault();
-    if (kind === "button" && (key === " " || key === "Enter")) return;
+    if ((kind === "button" || kind === "choice") && (key === " " || key === "Enter")) return;
     this.doKey(event, kind);
   }
 

@@ -50,11 +50,14 @@ def faults_of_lesson(seen, path):
 
 def faults_of_question(seen, moment):
     wrong = moment["answer"] % len(moment["options"]) + 1
-    for answer, kind in ((wrong, "wrong"), (moment["answer"], "right")):
-        seen.browser.click(f"#question label:nth-of-type({answer})")
+    seen.browser.click(f"#question label:nth-of-type({wrong})")
+    for kind in ("wrong", "right"):
         seen.browser.click("#question button")
         if not seen.count(f"#question output.{kind}"):
-            yield f"answer {answer} of {moment['question']!r} is not {kind}"
+            yield f"an answer to {moment['question']!r} is not {kind}"
+        # The right one is the one above it, which the key of a choice goes to.
+        seen.browser.click(f"#question label:nth-of-type({wrong})")
+        seen.browser.press("ArrowUp")
 
 
 def fault_of_keeping(seen):
