@@ -8,9 +8,8 @@ export const mind = {
   plans: new Map(),
   first: null,
   lessons: [],
-  // The schedule that is shown, and how many of the choices that were asked for it left out.
+  // The schedule that is shown.
   schedule: null,
-  left: 0,
   // The text of the plan that was asked for last, which may be refused.
   wanted: "",
   // The site that was clicked, the one in focus, and the one that has the most edges.

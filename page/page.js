@@ -73,10 +73,7 @@ const BUTTONS = {
   "zoom-all": () => course.zoomOut(),
   previous: () => openMoment(mind.moment - 1),
   next: () => openMoment(mind.moment + 1),
-  leave: () => {
-    leaveLesson();
-    show();
-  },
+  leave: leaveLesson,
   keep: writeMoment,
   "keep-it": keepMoment,
   remove: removeMoment,

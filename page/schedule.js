@@ -55,12 +55,13 @@ export class Schedule {
     // Counts the changes of the list, so that who draws the events knows whether they are others.
     this.version = 0;
     this.isOfThreads = false;
+    // How many of the choices that it was opened with were left out, and where that is to be told.
+    this.left = { count: 0, at: 0 };
     // About how many letters a state has.
     this.letters = AHEAD.letters;
   }
 
-  // Has a list of choices, of which `at` are done, all if it is null. Returns how many of them named no event, and so
-  // were left out.
+  // Has a list of choices, of which `at` are done, all if it is null. Those that name no event are left out.
   async open(list, at) {
     const told = list.length || this.program.isRecorded ? await this.program.events(this.plan, list) : null;
     this.list = told?.done ?? [];
@@ -68,7 +69,7 @@ export class Schedule {
     this.states.clear();
     this.version += 1;
     await this.go(between(0, at ?? Math.min(list.length, this.list.length), this.list.length));
-    return Math.max(0, list.length - this.list.length);
+    this.left = { count: Math.max(0, list.length - this.list.length), at: this.at };
   }
 
   // Asks for the states after so many choices, and keeps them.

@@ -85,11 +85,11 @@ export function quicker(by) {
 export async function openPlan({ path, plan, list = [], at = null, isOfThreads = false }) {
   mind.wanted = plan;
   const opened = new Schedule(mind.program, path, plan);
-  const left = await opened.open(list, at);
+  await opened.open(list, at);
   pause();
   opened.isOfThreads = isOfThreads;
   const { state } = opened;
-  Object.assign(mind, { schedule: opened, selected: null, left, hub: hubSite(state), naive: new NaiveTable(state) });
+  Object.assign(mind, { schedule: opened, selected: null, hub: hubSite(state), naive: new NaiveTable(state) });
   if (path === null) offerOwn();
   found("plans").value = path ?? "";
   setText(found("about"), aboutOf(plan));
@@ -117,8 +117,8 @@ export function openOffered() {
   const path = found("plans").value;
   return acts.do(async () => {
     if (path === "") return;
-    leaveLesson();
     await openPlan({ path, plan: mind.plans.get(path), list: mind.program.listOf(path), at: 0 });
+    leaveLesson();
   });
 }
 
@@ -127,8 +127,8 @@ export async function openWritten(plan) {
   let refused = null;
   await acts.do(async () => {
     try {
-      leaveLesson();
       await openPlan({ path: null, plan });
+      leaveLesson();
     } catch (fault) {
       refused = fault.message;
     }
@@ -140,4 +140,5 @@ export async function openWritten(plan) {
 export function leaveLesson() {
   Object.assign(mind, { lesson: null, moment: 0 });
   found("lessons").value = "";
+  show();
 }

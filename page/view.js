@@ -42,7 +42,6 @@ export function show() {
 
 export function select(site) {
   mind.selected = site;
-  if (focusOf() !== mind.focus) openPicture();
   show();
 }
 
@@ -57,12 +56,12 @@ function isPredicting() {
 
 function showTold(state, last) {
   const [words, rule] = found("told").children;
-  const { at } = mind.schedule;
+  const { at, left } = mind.schedule;
   setText(words, at === 0 ? "The start" : last?.words ?? `After event ${at}`);
   const isOver = state.enabled.length === 0;
   const end = `the end: no event is enabled any more${failedText(state)}`;
   const parts = [isOver ? end : at === 0 ? START : last?.rule ?? ""];
-  if (mind.left) parts.push(`${mind.left} of the choices name no event here, and were left out`);
+  if (left.count && left.at === at) parts.push(`${left.count} of the choices name no event here, and were left out`);
   setText(rule, parts.filter(Boolean).join("; "));
   setAttribute(rule, "title", rule.textContent);
 }
