@@ -181,7 +181,7 @@ def try_program(tool, tries, *others):
 
 
 def ended(passed, failed, skipped=0):
-    """Prints the count, and returns the exit status: 0 where something was tried and nothing failed. What this machine can't do is skipped,
-    and counts as neither."""
+    """Prints the count, and returns the exit status: 0 where nothing failed, and something was tried or skipped. What this machine can't do is
+    skipped."""
     print(f"{passed} passed, {failed} failed" + (f", {skipped} skipped" if skipped else ""))
-    return 0 if passed and not failed else 1
+    return 0 if passed + skipped and not failed else 1

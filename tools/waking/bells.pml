@@ -90,7 +90,7 @@ byte ended = 0;           /* sites that have ended */
 #define LOCK(s) atomic { locked[s] == 0 -> locked[s] = 1 }
 #define UNLOCK(s) locked[s] = 0
 
-/* of channel.rt: ChannelLane::put, ChannelLane::take; of ring.rt: RingLane::put, RingLane::take
+/* of backoff.rt: send, receive; of ring.rt: RingLane::put, RingLane::take
    The asserts say that no put and no take ever waits, whichever kind of links it is. */
 #define PUT(k) assert(nfull(link[outgoing[AT(i)]])); link[outgoing[AT(i)]] ! k
 #define TAKE(i) assert(nempty(link[incoming[AT(i)]])); link[incoming[AT(i)]] ? kind
