@@ -130,6 +130,7 @@ class Server(http.server.ThreadingHTTPServer):
     """Listens, and has a thread for each of a few connections. One more is told to come back."""
 
     daemon_threads = True
+    request_queue_size = CONNECTIONS
 
     def __init__(self, port, offer):
         """Listens at the port. `offer` returns what the page offers."""
