@@ -122,7 +122,23 @@ def faults_of_looks(seen):
                 back = seen.browser.value("getComputedStyle(document.body).backgroundColor")
                 if (int(re.search(r"\d+", back)[0]) < 128) != (scheme == "dark"):
                     yield f"{path} at {width}: not {scheme}"
+    yield from faults_of_phone(seen)
     seen.browser.look(1280, 800, "light")
+
+
+def faults_of_phone(seen):
+    """On a telephone all that is clicked is in its place, and nothing covers it."""
+    seen.browser.look(390, 844, "light")
+    seen.open(f"{RING}&choices={ASKED}")
+    seen.click("#naive")
+    seen.click("#enabled li:last-child button")
+    seen.click("#picture .site[data-site='3']")
+    seen.click("#unselect")
+    seen.click("#step")
+    seen.click("#zoom-in")
+    seen.click("#sites tr:last-child button")
+    if seen.event() != 12 or not seen.text("#why-name").startswith("e: "):
+        yield f"on a telephone the clicks lead to event {seen.event()} and {seen.text('#why-name')!r}"
 
 
 # Colours that are to be told from what they are drawn on: names of CSS, and the least contrast.

@@ -10,7 +10,7 @@ from page_teach import tries_of_teaching
 from player import ASKED, RING, plan_of, ring_of
 
 # The plans that are played to their end, each so many times.
-PLAYED = {"pair": 5, "pair_asked_first": 2, "pair_one_sided": 2, "failing_job": 3, "resigning_site": 3}
+PLAYED = {"pair": 3, "pair_asked_first": 1, "pair_one_sided": 1, "failing_job": 2, "resigning_site": 2}
 PLAYED |= {"balances": 1, "ring_of_five": 1}
 # How long a step may take until it is drawn, in milliseconds: three times what is aimed at, for a machine at work.
 STEPS = {"few": 3 * 40, "many": 3 * 120, "long": 3 * 100}
@@ -79,37 +79,38 @@ def faults_of_precedence(seen, choices):
         yield f"ranks {ranks}, and the order is {state['order']}"
     if seen.text("#order").count(" → ".join(state["sites"][it]["name"] for it in state["order"])) != 1:
         yield f"the order is told as {seen.text('#order')!r}"
-    for number, edge in enumerate(state["edges"]):
-        if heading(seen, number) != edge["preferred"]:
-            yield f"the arrow of edge {number} goes from {heading(seen, number)}, and {edge['preferred']} is preferred"
+    drawn, wanted = headings(seen), [edge["preferred"] for edge in state["edges"]]
+    if drawn != wanted:
+        yield f"the arrows go from {drawn}, wanted {wanted}"
 
 
-def heading(seen, edge):
-    """The site from which the arrow of an edge goes, as the picture has it: the end that is farther from its tip."""
-    code = """(() => {
-      const group = document.querySelectorAll('#picture .edge')[%d];
-      const [line, head] = [group.querySelector('line'), group.querySelector('.head')];
-      const ends = [line.x1, line.x2].map((x, turn) => ({ x: x.baseVal.value, y: line[`y${turn + 1}`].baseVal.value }));
-      const turned = new DOMMatrix(head.style.transform);
-      const tip = { x: turned.e + 10 * turned.a, y: turned.f + 10 * turned.b };
-      const far = ends.map(({ x, y }) => Math.hypot(x - tip.x, y - tip.y));
-      return [...document.querySelectorAll('#picture .site')].findIndex((site) => {
-        const at = new DOMMatrix(getComputedStyle(site).transform);
-        const end = ends[far[0] > far[1] ? 0 : 1];
-        return Math.hypot(at.e - end.x, at.f - end.y) < 1;
-      });
-    })()""" % edge
-    return seen.browser.value(code)
+# The site from which the arrow of each edge goes, as the picture has it: the end that is farther from its tip.
+HEADINGS = """(group) => {
+  const [line, head] = [group.querySelector('line'), group.querySelector('.head')];
+  const ends = [line.x1, line.x2].map((x, turn) => ({ x: x.baseVal.value, y: line[`y${turn + 1}`].baseVal.value }));
+  const turned = new DOMMatrix(head.style.transform);
+  const tip = { x: turned.e + 10 * turned.a, y: turned.f + 10 * turned.b };
+  const far = ends.map(({ x, y }) => Math.hypot(x - tip.x, y - tip.y));
+  const end = ends[far[0] > far[1] ? 0 : 1];
+  return [...document.querySelectorAll('#picture .site')].findIndex((site) => {
+    const at = site.transform.baseVal[0].matrix;
+    return Math.hypot(at.e - end.x, at.f - end.y) < 1;
+  });
+}"""
+
+
+def headings(seen):
+    return seen.each("#picture .edge", HEADINGS)
 
 
 def fault_of_turning(seen):
     """A meal turns the arrows of its site and no others."""
     seen.open(f"{RING}&choices=0,1,2,3,4")
     for _ in range(60):
-        before = [heading(seen, edge) for edge in range(5)]
+        before = headings(seen)
         begins = [place for place, words in enumerate(seen.texts("#enabled .words")) if " begins meal" in words]
         seen.click(f"#enabled li:nth-child({begins[0] + 1}) button" if begins else "#step")
-        state, after = seen.state(), [heading(seen, edge) for edge in range(5)]
+        state, after = seen.state(), headings(seen)
         last = state["last"]
         own = {it for it, edge in enumerate(state["edges"]) if last["kind"] == "begin" and last["site"] in edge["ends"]}
         turned = {it for it in range(5) if before[it] != after[it]}
@@ -164,7 +165,7 @@ def faults_of_marks(seen):
     """What the last event changed is marked in the picture and in the tables, and the event is told with names."""
     seen.open(RING)
     chance = random.Random("marks")
-    for _ in range(25):
+    for _ in range(15):
         seen.step_by_chance(chance)
         last = seen.state()["last"]
         if seen.text("#told b") != last["words"]:
@@ -188,7 +189,7 @@ def fault_of_conflict(seen):
     most = 0
     for _ in range(25):
         seen.click("#step")
-        most = max(most, sum(it["phase"] == "hungry" for it in seen.state()["sites"]))
+        most = max(most, seen.count("#picture .site.hungry"))
     return "" if most >= 3 else f"of 25 states none has more than {most} hungry sites"
 
 
