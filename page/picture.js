@@ -71,11 +71,11 @@ export class Picture {
     element("line", { x1: line.from.x, y1: line.from.y, x2: line.to.x, y2: line.to.y }, group);
     const title = element("title", {}, group);
     const at = pointOf(line, line.length / 2);
-    const isNumbered = this.isNumbered;
-    const [begin, wide] = [isNumbered && !this.hasValues ? 8 : -3, between(5, line.size * 0.5, 13)];
+    const wide = between(5, line.size * 0.5, 13);
+    const begin = this.isNumbered && !this.hasValues ? -0.1 * line.size : -wide / 2;
     const tip = `M${begin},${-wide * 0.55}L${begin + wide},0L${begin},${wide * 0.55}Z`;
     const head = element("path", { class: "head", d: tip }, group);
-    const label = isNumbered ? element("text", this.hasValues ? this.valuePlace(line) : at, group) : null;
+    const label = this.isNumbered ? element("text", this.hasValues ? this.valuePlace(line) : at, group) : null;
     return { group, title, head, label, at, key: null };
   }
 
@@ -181,7 +181,7 @@ export class Picture {
     const first = edge.preferred === undefined || edge.preferred === null ? null : state.sites[edge.preferred].name;
     setText(drawn.title, `edge ${number}: ${low} ${edge.roles?.[0] ?? ""}, ${high} ${edge.roles?.[1] ?? ""}`
       + `${value === null ? "" : `, value ${value}`}${first === null ? "" : `; ${first} goes first`}`);
-    if (drawn.label) setText(drawn.label, value === null ? number : `=${value}`);
+    if (drawn.label) this.showLabel(drawn.label, line, value === null ? number : `=${value}`, edge);
     const closed = edge.said?.filter((it) => it.close_put).length ?? 0;
     drawn.group.classList.toggle("closing", closed === 1);
     drawn.group.classList.toggle("closed", closed === 2);
@@ -190,6 +190,16 @@ export class Picture {
     drawn.head.style.visibility = first === null ? "hidden" : "";
     this.put(drawn.head, drawn.at, line.angle + turned);
     this.showMarks(edge, number, line);
+  }
+
+  // The number of an edge stands behind the head of its arrow.
+  showLabel(label, line, text, { ends, preferred }) {
+    setText(label, text);
+    if (this.hasValues) return;
+    const behind = (preferred === ends[1] ? 1 : -1) * (0.1 * line.size + 8);
+    const { x, y } = pointOf(line, line.length / 2 + behind);
+    setAttribute(label, "x", x);
+    setAttribute(label, "y", y);
   }
 
   showMarks(edge, number, line) {
