@@ -1,6 +1,6 @@
 // What is proved of every state, checked again in the state that is shown, from what the program tells of it.
 
-import { setAttribute, textElement } from "./marks.js";
+import { setAttribute, setText, textElement } from "./marks.js";
 
 // No two neighbours eat.
 function areNeighboursApart({ sites, edges }) {
@@ -25,22 +25,19 @@ function isOrderOf({ sites, edges, order }) {
 }
 
 const TICKS = [
-  ["No two neighbours eat", areNeighboursApart],
-  ["One fork on each edge", (state) => isEachOnce(state, "fork", "fork")],
-  ["One token on each edge", (state) => isEachOnce(state, "token", "request")],
-  ["Precedence has no cycle", isOrderOf],
-  ["No more events than the bound", (state) => state.events <= state.bound],
+  ["neighbours apart", "No two neighbours eat at the same time", areNeighboursApart],
+  ["one fork", "Each edge has one fork", (state) => isEachOnce(state, "fork", "fork")],
+  ["one token", "Each edge has one token", (state) => isEachOnce(state, "token", "request")],
+  ["no cycle", "The order fits all arrows, so precedence has no cycle", isOrderOf],
+  ["bound", "There are no more events than the bound of the plan", (state) => state.events <= state.bound],
 ];
 
-function ticksOf(state) {
-  return TICKS.map(([words, holds]) => ({ words, holds: holds(state) }));
-}
-
 export function showTicks(list, state) {
-  ticksOf(state).forEach(({ words, holds }, place) => {
+  TICKS.forEach(([words, sentence, holds], place) => {
     const item = list.children[place] ?? list.appendChild(textElement("li", ""));
-    const text = `${holds ? "✓" : "✗"} ${words}`;
-    if (item.textContent !== text) item.textContent = text;
-    setAttribute(item, "class", holds ? "holds" : "broken");
+    const isRight = holds(state);
+    setText(item, `${isRight ? "✓" : "✗"} ${words}`);
+    setAttribute(item, "class", isRight ? "holds" : "broken");
+    setAttribute(item, "title", `${sentence}: proved of every state, and checked in this one`);
   });
 }

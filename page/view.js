@@ -76,7 +76,7 @@ function failedText(state) {
 function orderText(state) {
   if (!state.order) return "";
   const names = state.order.map((site) => state.sites[site].name);
-  return `Order: ${names.join(" → ")}. Each arrow goes along it, so no cycle.`;
+  return `Order along all arrows: ${names.join(" → ")}`;
 }
 
 function showEnabled(state) {
