@@ -1,8 +1,10 @@
-"""Says whether a program was built from the sources as they are now. What counts is what the sources contain, and not their times.
+"""Says whether a program was built from the sources as they are now. What counts is what the sources contain, and not
+their times.
 
-Beside a program there are two files. NAME.made has a sum of the sources that it was built from and of the program itself. NAME.seen has the
-output of tools/seen at the last time when the two were compared: as long as tools/seen prints the same, nothing was touched since then, and
-./dine need not read the sources again."""
+Beside a program there are two files. NAME.made has a sum of the sources that it was built from and of the program
+itself. NAME.seen has the output of tools/seen at the last time when the two were compared: as long as tools/seen prints
+the same, nothing was touched since then, and ./dine need not read the sources again."""
+import fcntl
 import hashlib
 import os
 import subprocess
@@ -50,8 +52,17 @@ def replace(path, text):
     os.replace(f"{path}.new", path)
 
 
+def lock(folder):
+    """Waits until no other process holds this folder, and holds it until the number that it returns is closed."""
+    os.makedirs(folder, exist_ok=True)
+    held = os.open(folder, os.O_RDONLY)
+    fcntl.flock(held, fcntl.LOCK_EX)
+    return held
+
+
 def is_current(name, program):
-    """Returns whether a program is there and is the one that was built from the sources as they are. Notes that for ./dine."""
+    """Returns whether a program is there and is the one that was built from the sources as they are. Notes that for
+    ./dine."""
     try:
         noted = Path(f"{program}.made").read_text("utf-8")
     except OSError:

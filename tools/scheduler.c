@@ -51,7 +51,7 @@ static int count, is_on, explains;
 #define OF_THREAD static __thread __attribute__((tls_model("initial-exec")))
 OF_THREAD struct Thread *me;
 OF_THREAD int inside;     // in the scheduler's own code, where there is no point and memory is not refused
-OF_THREAD int steps_left; // after so many single steps there is a point, if this is not 0
+OF_THREAD int steps_left; // the number of single steps to the next point, or 0 if it does not step
 
 static struct { uint64_t steps, sum; } *report; // how many points the run had, and a sum of what was chosen there
 
@@ -71,7 +71,7 @@ static int happens(uint32_t chance) { return chance && (next_random() & 0xffff) 
 // A run goes by priorities that change at some steps ("probabilistic concurrency testing"), or is a random walk.
 static int by_priority;
 static uint64_t changes[64], change_count;
-static int64_t lowest;           // the priority of who yielded last
+static int64_t lowest;           // the priority of the thread that yielded last
 static uint32_t switch_chance;   // of a walk: that a thread that could go on does not
 static int starved;              // of a walk: the number of a thread that runs only if no other can, or -1
 static uint32_t stepping_chance; // that some single steps after a trap there is a point between two traps
@@ -198,6 +198,7 @@ static char kinds[MOST_SITES];
 static unsigned char copies[COPY_SIZE * MOST_SITES] __attribute__((aligned(4096)));
 static uint16_t site_at[MOST_CODE]; // of each byte of the code, 0 where no site begins
 
+// At a site: a point, and then the copy of the instruction. At a single step: a point if it was the last one.
 static void on_trap(int number, siginfo_t *info, void *context) {
     (void)number;
     int error = errno;
@@ -243,7 +244,7 @@ static void set_traps(const char *path) {
     struct link_map *program;
     need(file && dlinfo(dlopen(NULL, RTLD_LAZY), RTLD_DI_LINKMAP, &program) == 0, "program");
     need(fscanf(file, "%lx %lx", &code_begin, &code_end) == 2, "list of sites");
-    need(code_end - code_begin <= MOST_CODE, "room for so much code");
+    need(code_end - code_begin <= MOST_CODE, "place for so much code");
     base = program->l_addr, code_begin += base, code_end += base;
     uintptr_t from = code_begin & ~4095ul;
     const int rights = PROT_READ | PROT_WRITE | PROT_EXEC;

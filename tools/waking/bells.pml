@@ -362,7 +362,7 @@ hear:
   :: empty(bell[me])
   fi;
   LOCK(me);
-#ifndef BUG_NO_SECOND_LOOK
+#ifndef BUG_NO_SECOND_CHECK
   if
   :: HEAR; UNLOCK(me); goto heard_one
   :: empty(bell[me])

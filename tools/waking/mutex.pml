@@ -129,7 +129,7 @@ proctype thread(byte me) {
 proctype teller(byte me) {
   byte seen, slept, wanted, found, waiting; bit has, goes;
   lock(); opened = 1;
-#ifdef BUG_LOOKS_FIRST
+#ifdef BUG_CHECKS_FIRST
   waiting = sleepers; changes++;
   if :: waiting > 0 -> in_kernel_gate = 0 :: else fi;
 #else

@@ -21,7 +21,7 @@ use Rattle.dine_threads.specs.declared.tables.SiteRow.{SiteRow}
 use Rattle.dine_threads.specs.Tables.{due_edge_rows, due_site_rows, edge_row}
 use Rattle.dine_threads.proofs.all_sites.Rows.{edge_rows-due, headline_gathered, site_rows-due, values-due}
 use Rattle.dine_site.proofs.lists.Seen.{there_is}
-use Rattle.dine.specs.PlanDiners.{SeenPlanDiner, fails_of, first_word, fits_marks, mark_of}
+use Rattle.dine.specs.PlanDiners.{SeenPlanDiner, fails_of, first_word, fits_marks, mark_of, plan_diner}
 use Rattle.dine.specs.Tables.{IsEdgeRowOf, IsSiteRowOf}
 use Rattle.dine.specs.Run.{HasDueRows, diner_of, diners_of, done_to_failed, failing_by_site, failing_jobs, meals_at}
 
@@ -109,7 +109,7 @@ ate_so false quit jobs ate calls many is stops quits (inr both) = absurd cc
 ate_so true quit jobs ate calls many is stops quits (inl all) = sym many ∙ done_by_calls jobs calls is (stops refl) (inl (many ∙ all))
 ate_so true quit jobs ate calls many is stops quits (inr both) = sym many ∙ done_by_calls jobs calls is (stops refl) (inr (quits both.1))
 
-module _ (plan : SeenPlan) (s : ℕ) (out : SiteOut SeenPlanDiner) (left : IsOutOf (λ (d : SeenPlanDiner). d.calls) (λ (d : SeenPlanDiner). d.marks) fits_marks plan s (diner_of plan s) out) where
+module _ (plan : SeenPlan) (s : ℕ) (out : SiteOut SeenPlanDiner) (left : IsOutOf plan_diner plan s (diner_of plan s) out) where
   -- the calls of the site's diner are as many as its meals, and each answers as its job does
   called_as_often : length left.eaten.added ≡ out.ate
   called_as_often = sym (length-map left.eaten.added (λ (call : Call). call.k)) ∙ ap length left.eaten.in_order ∙ length-count_from out.ate 1
@@ -169,10 +169,10 @@ diner_has_room plan diners are s diner at =
 
 module _ (plan : SeenPlan) (forks : List SeenFork) (outs : List (SiteOut SeenPlanDiner)) where
   abbrev AreOuts : Type 0
-  AreOuts = AreOutsOf (λ (d : SeenPlanDiner). d.calls) (λ (d : SeenPlanDiner). d.marks) fits_marks plan (diners_of plan) outs
+  AreOuts = AreOutsOf plan_diner plan (diners_of plan) outs
 
   -- each site was left by its own diner
-  left_at : AreOuts → (s : ℕ) (out : SiteOut SeenPlanDiner) → slice_get outs s ≡ Some out → IsOutOf (λ (d : SeenPlanDiner). d.calls) (λ (d : SeenPlanDiner). d.marks) fits_marks plan s (diner_of plan s) out
+  left_at : AreOuts → (s : ℕ) (out : SiteOut SeenPlanDiner) → slice_get outs s ≡ Some out → IsOutOf plan_diner plan s (diner_of plan s) out
   left_at are s out at = are.each s (diner_of plan s) out (diner_at plan s (omega (arith, slice_get_within outs s out at, are.count))) at
 
   -- so it is at each site
@@ -186,12 +186,12 @@ module _ (plan : SeenPlan) (forks : List SeenFork) (outs : List (SiteOut SeenPla
 
   -- what `run` answers has the rows of the plan
   pub due_rows : (links : List SeenLink) (diners : List SeenPlanDiner) → diners ≡ diners_of plan → IsPlan plan → IsHeadline plan (map (λ (out : SiteOut SeenPlanDiner). out.ate) outs) links forks
-      → AreOutsOf (λ (d : SeenPlanDiner). d.calls) (λ (d : SeenPlanDiner). d.marks) fits_marks plan diners outs → AreFinishedOuts plan outs
+      → AreOutsOf plan_diner plan diners outs → AreFinishedOuts plan outs
       → ((plan : SeenPlan) (edge low_ate high_ate : ℕ) (log : List Entry) → IsPlan plan → edge < edge_count plan → has_no_set plan ≡ true → IsWholeLog plan edge low_ate high_ate log → value_by plan edge log ≡ added_up plan edge low_ate high_ate)
       → HasDueRows plan forks outs
   due_rows links diners same is_plan headline left finished adds =
-      let are = subst (λ (ds : List SeenPlanDiner). AreOutsOf (λ (d : SeenPlanDiner). d.calls) (λ (d : SeenPlanDiner). d.marks) fits_marks plan ds outs) same left in
-      let gathered = headline_gathered plan forks outs links (λ (d : SeenPlanDiner). d.calls) (λ (d : SeenPlanDiner). d.marks) fits_marks (diners_of plan) (diner_count plan) headline are in
+      let are = subst (λ (ds : List SeenPlanDiner). AreOutsOf plan_diner plan ds outs) same left in
+      let gathered = headline_gathered plan forks outs links plan_diner (diners_of plan) (diner_count plan) headline are in
       let eaten : (s : ℕ) (out : SiteOut SeenPlanDiner) → slice_get outs s ≡ Some out → out.ate ≡ meals_at plan s = λ s out at. ate_at plan s out (left_at are s out at) (finished s out at) in
       record {
         is_plan = is_plan;

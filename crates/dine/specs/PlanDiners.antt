@@ -2,6 +2,7 @@
 use Rattle.std.specs.Prelude.{ℕ, Bool, false, not, List, ◌∷◌, map, slice_index_or, if◌then◌else◌}
 use Rattle.dine_graph.specs.Plan.{SeenPlan, SeenJob, jobs_of}
 use Rattle.dine_site.specs.declared.diner.Call.{Call}
+use Rattle.dine_site.specs.declared.diner.Diner as diners
 
 -- a diner of a plan: the calls so far, in order, for each job of its site whether it fails, for how many more calls
 -- there is room, and the word to which the turns so far led
@@ -26,3 +27,7 @@ mark_of marks k = slice_index_or (false ∷ marks) k false
 -- the answer of meal k fits the marks: its job went well exactly where its mark is not set
 abbrev pub fits_marks : List Bool → ℕ → Bool → Bool
 fits_marks marks k ok = if mark_of marks k then not ok else ok
+
+-- what a diner of a plan tells of itself
+abbrev pub plan_diner : diners.Ghosts SeenPlanDiner
+plan_diner = record { calls = λ d. d.calls; marks = λ d. d.marks; fits = fits_marks; room_left = λ d. d.room; expects = λ d plan site. Unit {0} }

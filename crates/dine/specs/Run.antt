@@ -9,7 +9,7 @@ use Rattle.dine_threads.specs.declared.gathered.RunFault.{RunFault}
 use Rattle.dine_threads.specs.declared.gathered.SiteOut.{SiteOut}
 use Rattle.dine_threads.specs.Headline.{FaultIs}
 use Rattle.dine_threads.specs.Tables.{AreDueValues, IsGatheredOf, edge_rows, site_rows, due_edge_rows, due_site_rows}
-use Rattle.dine.specs.PlanDiners.{SeenPlanDiner, fails_of, first_word, fits_marks}
+use Rattle.dine.specs.PlanDiners.{SeenPlanDiner, fails_of, first_word, plan_diner}
 use Rattle.dine.specs.Tables.{edges_table, sites_table}
 use Rattle.dine_words.specs.declared.words.Table.{Table}
 use Rattle.dine_words.specs.declared.words.Table.TheVariants.{Edges, Sites}
@@ -69,5 +69,5 @@ pub record TellsRun (plan : SeenPlan) (told : Fault) : Type 0 where
   pub diners : Vec SeenPlanDiner
   pub of_plan : diners.items ≡ diners_of plan
   pub answer : RunFault SeenPlanDiner
-  pub answered : FaultIs (λ (d : SeenPlanDiner). d.calls) (λ (d : SeenPlanDiner). d.marks) fits_marks plan diners answer
+  pub answered : FaultIs plan_diner plan diners answer
   pub told_so : told ≡ fault_of_run answer

@@ -11,18 +11,19 @@
 //! 3. **Call `run`** with the plan and a diner for each site, as `settle` does. Each site runs on a thread of its own.
 //! 4. **Take what comes back.** `Gathered` has the diners by site, the forks with the log of all meals, and the links.
 //!    So `settle` can promise each balance and the total, whatever the schedule was.
-//! 5. **Ask for one order** of what the threads did. Each site left its journal, and `order` puts all journals into one
-//!    list, which a world of one thread accepts, as `order_of` does. It goes to standard error, since it is another one
-//!    after each run.
+//! 5. **Ask for one order** of what the threads did. Each site left its journal, and `order_of` puts all journals into
+//!    one list, which a world of one thread accepts. `run` promises that there is one, so only memory can be refused.
+//!    It goes to standard error, since it is another one after each run.
 #![tactic(auto)]
 
 mod teller;
 
 ghost use Rattle.std.specs.Prelude.{◌≡◌, List, Some, IfOk, length, slice_get};
 ghost use Rattle.dine_graph.specs.Plan.{job_count, site_count};
+ghost use Rattle.dine_rules.specs.EatingApart.{NeighboursEatApart};
 ghost use Rattle.dine_rules.specs.Journals.{IsWholeOrder};
 ghost use Rattle.dine_rules.specs.declared.events.EventKind.{EventKind};
-ghost use Rattle.dine_run.specs.Orders.{plan_shown};
+ghost use Rattle.dine_run.specs.Shown.{plan_shown};
 ghost use Rattle.dine_example.specs.Balances.{IsBooks};
 ghost use Rattle.dine_example.specs.Tellers.{AreFresh, HaveSent};
 
@@ -30,7 +31,7 @@ use anyhow::{Result, bail};
 use dine_core::{Event, EventKind};
 use dine_link::ChannelLane;
 use dine_plan::{Plan, read_plan};
-use dine_run::{SiteOut, order, run};
+use dine_run::{SiteOut, order_of, run};
 use std::alloc::{AllocError, Global};
 use std::sync::Wait;
 use std::thread::Threads;
@@ -84,18 +85,6 @@ fn books_of(alloc: Global, plan: &Plan, outs: &[SiteOut<Teller>]) -> Result<Book
     Ok(Books { balances, total })
 }
 
-// One order of the journals that the sites left.
-fn order_of(alloc: Global, plan: &Plan, outs: Vec<SiteOut<Teller>>) -> Result<Vec<Event>>
-    ensures { IfOk result (λ events. (journals : List (List EventKind)) × IsWholeOrder (plan_shown plan.now journals) journals events.items) }
-{
-    let mut journals = Vec::new(alloc);
-    for out in outs {
-        let SiteOut { journal, .. } = out;
-        journals.push(journal)?;
-    }
-    Ok(order(alloc, plan, journals.as_slice())?)
-}
-
 // Runs the plan, balances the books, and puts what the sites did into one order.
 fn settle<R: Threads + Wait + Copy + Send + 'static>(
     rt: &R,
@@ -104,13 +93,14 @@ fn settle<R: Threads + Wait + Copy + Send + 'static>(
 ) -> Result<(Books, Vec<Event>)>
     ensures books { IfOk result (λ settled. IsBooks plan.now settled.0) }
     ensures order { IfOk result (λ settled. (journals : List (List EventKind)) × IsWholeOrder (plan_shown plan.now journals) journals settled.1.items) }
+    ensures apart { IfOk result (λ settled. NeighboursEatApart plan.now settled.1.items) }
 {
     let tellers = open_tellers(alloc, plan)?;
-    let Ok(gathered) = run::<ChannelLane, Teller, R>(rt, alloc, plan, tellers) else {
+    let Ok(gathered) = run::<ChannelLane, Teller>(rt, alloc, plan, tellers) else {
         bail!("memory or a thread was refused");
     };
     let books = books_of(alloc, plan, gathered.sites.as_slice())?;
-    Ok((books, order_of(alloc, plan, gathered.sites)?))
+    Ok((books, order_of(alloc, plan, &gathered)?))
 }
 
 // Tells what each account has, and all together.

@@ -1,7 +1,7 @@
 -- What one letter more does to the words on Close, and what stands behind Close.
 use Rattle.std.specs.Prelude.{Result, Ok, Err, MatchResult}
-use Rattle.dine_link.specs.Links.{SeenEnd, with_letter, after_refusal}
-use Rattle.std.proofs.Common.{◌≡◌, true, false, true≢false, List, [], ◌∷◌, ◌++◌, sym, refl, ◌∙◌, subst}
+use Rattle.dine_link.specs.Links.{SeenEnd, with_letter_at, after_refusal}
+use Rattle.std.proofs.Common.{◌≡◌, ℕ, true, false, true≢false, List, [], ◌∷◌, ◌++◌, sym, refl, ◌∙◌, subst}
 use Rattle.std.proofs.lemmas.List.{append-nil}
 use Rattle.dine_rules.specs.declared.letters.Letter.{Letter}
 use Rattle.dine_rules.specs.declared.letters.Letter.TheVariants.{Fork, Request, Done, Close}
@@ -73,7 +73,7 @@ whole put taken [] e h last = sym (append-nil taken) ∙ sym e
 whole put taken (x ∷ queue) e h last = absurd (nothing_behind taken x queue h (let P : List Letter → Type 0 = λ letters. is_close_last letters ≡ true in subst P e last))
 
 -- a send that may be refused leaves an end without Close so
-pub unclosed-sent : {Identity : Type 0} (result : Result Unit Letter) (before after : SeenEnd Identity) (x : Letter) → MatchResult result (λ _. after ≡ with_letter x before) (λ back. (back ≡ x) × (after ≡ after_refusal before))
+pub unclosed-sent : {Identity : Type 0} (result : Result Unit Letter) (before after : SeenEnd Identity) (x : Letter) (at : ℕ) → MatchResult result (λ _. after ≡ with_letter_at x at before) (λ back. (back ≡ x) × (after ≡ after_refusal before))
     → has_close before.letters ≡ false → is_close x ≡ false → has_close after.letters ≡ false
-unclosed-sent (Ok done) before after x h unclosed other = rw h (has_close-added before.letters x unclosed ∙ other)
-unclosed-sent (Err back) before after x h unclosed other = rw h.1 unclosed
+unclosed-sent (Ok done) before after x at h unclosed other = rw h (has_close-added before.letters x unclosed ∙ other)
+unclosed-sent (Err back) before after x at h unclosed other = rw h.1 unclosed

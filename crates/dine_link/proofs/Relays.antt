@@ -4,7 +4,7 @@ use mathlib.Core.Option.{some, some-ne-none}
 use lib.ListN.{get_elem?}
 use Rattle.crossbeam_channel.specs.Fifo.{Pushes, Pops, Forks, Merges, Learns}
 use Rattle.atomic_table.proofs.Lists.{at_set, at_snoc}
-use Rattle.dine_rules.specs.declared.letters.Letter.{Letter}
+use Rattle.dine_link.specs.declared.stamped.Stamped.{Stamped}
 use Rattle.dine_link.specs.declared.rule.Known.{Known}
 use Rattle.dine_link.proofs.Passes.{Each, each_set}
 use Rattle.dine_link.specs.private.Rule.{Fits, IsInOrder, fresh, spent, putting, taking, both, after_put, after_take}
@@ -28,7 +28,7 @@ begins = record {
 }
 
 -- a send
-pub puts : (n pass : ℕ) (v : Known) (x : Letter) → v.puts ≡ true → Pushes IsInOrder n pass v x (λ w. w ≡ after_put v x)
+pub puts : (n pass : ℕ) (v : Known) (x : Stamped) → v.puts ≡ true → Pushes IsInOrder n pass v x (λ w. w ≡ after_put v x)
 puts n pass v x may items views _ h at = let mine = h.fits pass v at in let put = h.put ++ x ∷ [] in (
   after_put v x,
   record {

@@ -1,6 +1,7 @@
 -- The ends of a link over a channel, as contracts see them.
 use Rattle.std.specs.Prelude.{Option}
-use Rattle.dine_rules.specs.declared.letters.Letter.{Letter}
+use Rattle.dine_link.specs.declared.stamped.Stamped.{Stamped}
+use Rattle.dine_link.specs.Stamps.{letters_in, moments_in}
 use Rattle.crossbeam_channel.specs.Claims.{view}
 use Rattle.crossbeam_channel.specs.Ends.{sends_on, receives_on}
 use Rattle.crossbeam_channel.specs.declared.flavors.array.Rows.{Rows}
@@ -21,11 +22,11 @@ use Rattle.dine_link.specs.Links.{SeenEnd}
 
 -- the channel itself, which tells a link from every other
 abbrev pub Channel : Type 0
-Channel = Rows (Badge (Key Letter)) (Doing Letter Known) (Rounds InOrder) (Option Letter) (Key Letter) (Lockers Whole) Global
+Channel = Rows (Badge (Key Stamped)) (Doing Stamped Known) (Rounds InOrder) (Option Stamped) (Key Stamped) (Lockers Whole) Global
 
 -- an end that letters are put in, live or closed: all that was put in it, and whether it met a refusal
 abbrev pub seen_putting : Putting → SeenEnd Channel
-seen_putting tx = record { link = record { identity = sends_on tx.sender; edge = tx.edge; from = tx.from }; letters = (view tx.pass).put; refused = tx.refused }
+seen_putting tx = record { link = record { identity = sends_on tx.sender; edge = tx.edge; from = tx.from }; letters = letters_in (view tx.pass).put; moments = moments_in (view tx.pass).put; refused = tx.refused }
 
 -- the end of a channel that letters are put in
 abbrev pub seen_tx : ChannelTx → SeenEnd Channel
@@ -37,4 +38,4 @@ seen_closed tx = seen_putting tx.putting
 
 -- the end of a channel that letters are taken from: all that was taken, and whether it met a refusal
 abbrev pub seen_rx : ChannelRx → SeenEnd Channel
-seen_rx rx = record { link = record { identity = receives_on rx.receiver; edge = rx.edge; from = rx.from }; letters = (view rx.pass).taken; refused = rx.refused }
+seen_rx rx = record { link = record { identity = receives_on rx.receiver; edge = rx.edge; from = rx.from }; letters = letters_in (view rx.pass).taken; moments = moments_in (view rx.pass).taken; refused = rx.refused }

@@ -1,4 +1,5 @@
 pub mod Closing
+pub mod Stamps
 pub mod Links
 pub mod Lanes
 pub mod Channels

@@ -5,6 +5,8 @@ ghost use Rattle.crossbeam_channel.specs.Ends.{sends_on, receives_on};
 ghost use Rattle.dine_rules.specs.Letters.{has_close};
 ghost use Rattle.dine_rules.specs.Streams.{is_close_last};
 ghost use Rattle.dine_link.specs.Closing.{is_close, ends_in_close};
+ghost use Rattle.dine_link.specs.Stamps.{letters_in};
+ghost use mathlib.Core.List.{IsPrefix};
 
 use crate::backoff;
 use crate::closing::is_close;
@@ -12,7 +14,9 @@ use crate::faults::{LinkFault, Lost};
 use crate::lane::{Lane, TxEnd};
 use crate::link_end::{BothEnds, LinkEnd};
 use crate::rule::{Ends, InOrder, Known, Puts, Reconciles, Takes};
+use crate::stamped::Stamped;
 use crossbeam_channel::{Pass, RuledReceiver, RuledSender, bounded_with};
+use dine_clock::Stamp;
 use dine_rules::Letter;
 use std::alloc::Global;
 use std::sync::Wait;
@@ -20,11 +24,11 @@ use std::sync::Wait;
 // How many letters a link holds that were put and not yet taken.
 const CAPACITY: usize = 4;
 
-type LetterSender = RuledSender<Letter, Known, InOrder>;
+type LetterSender = RuledSender<Stamped, Known, InOrder>;
 
-type LetterReceiver = RuledReceiver<Letter, Known, InOrder>;
+type LetterReceiver = RuledReceiver<Stamped, Known, InOrder>;
 
-type LetterPass = Pass<Letter, Known>;
+type LetterPass = Pass<Stamped, Known>;
 
 // The end of a channel that letters are put in.
 #[derive(Drop)]
@@ -44,15 +48,15 @@ pub struct Putting {
 #[derive(Drop)]
 pub struct ChannelTx {
     putting: Putting,
-    pub ghost unclosed: { has_close (view putting.pass).put ≡ false },
+    pub ghost unclosed: { has_close (letters_in (view putting.pass).put) ≡ false },
 }
 
 /// That end after Close was put.
 #[derive(Drop)]
 pub struct ChannelClosedTx {
     putting: Putting,
-    pub ghost ended: { ends_in_close (view putting.pass).put ≡ true },
-    pub ghost close_last: { is_close_last (view putting.pass).put ≡ true },
+    pub ghost ended: { ends_in_close (letters_in (view putting.pass).put) ≡ true },
+    pub ghost close_last: { is_close_last (letters_in (view putting.pass).put) ≡ true },
 }
 
 /// The end of a link over a channel that letters are taken from.
@@ -68,7 +72,7 @@ pub struct ChannelRx {
     pub ghost seated: { IsSeatAt (receives_on receiver) pass },
     pub ghost takes: { (view pass).takes ≡ true },
     pub ghost counted: { taken ≡ length (view pass).taken },
-    pub ghost told: { closed ≡ has_close (view pass).taken },
+    pub ghost told: { closed ≡ has_close (letters_in (view pass).taken) },
 }
 
 impl ChannelTx {
@@ -105,26 +109,26 @@ pub struct ChannelEnds {
 
 impl Putting {
     ghost use Rattle.dine_link.specs.Channels.{seen_putting, seen_rx};
-    ghost use Rattle.dine_link.specs.Links.{IsLink, with_letter, after_refusal, link_of};
+    ghost use Rattle.dine_link.specs.Links.{IsLink, with_letter_at, after_refusal, link_of};
 
     // Puts the letter last, or hands it back and keeps that it was refused.
-    fn send<R: Wait>(&mut self, rt: &R, letter: Letter) -> Result<(), Letter>
+    fn send<R: Wait>(&mut self, rt: &R, letter: Letter, stamp: Stamp) -> Result<(), Letter>
         requires room { length (seen_putting self.old).letters < 2 ^ 61 }
-        ensures { MatchResult result (λ _. seen_putting self.new ≡ with_letter letter (seen_putting self.old)) (λ back. (back ≡ letter) × (seen_putting self.new ≡ after_refusal (seen_putting self.old))) }
+        ensures { MatchResult result (λ _. seen_putting self.new ≡ with_letter_at letter stamp.at (seen_putting self.old)) (λ back. (back ≡ letter) × (seen_putting self.new ≡ after_refusal (seen_putting self.old))) }
     {
-        match backoff::send::<Letter, Known, InOrder, Puts, R>(
+        match backoff::send::<Stamped, Known, InOrder, Puts, R>(
             rt,
             &self.sender,
             &mut self.pass,
-            letter,
+            Stamped { letter, stamp },
         ) {
             Ok(()) => {
                 self.put += 1;
                 Ok(())
             }
-            Err(letter) => {
+            Err(back) => {
                 self.refused = true;
-                Err(letter)
+                Err(back.letter)
             }
         }
     }
@@ -136,6 +140,7 @@ impl Putting {
         requires close_last { is_close_last (seen_putting self).letters ≡ true }
         ensures lists { result ≡ link_of (seen_putting self) (seen_rx rx) }
         ensures prefix { IsLink result }
+        ensures moments { IsPrefix result.taken_at result.put_at }
         ensures whole { has_close (seen_rx rx).letters ≡ true → result.taken ≡ result.put }
         ensures close_last { is_close_last result.put ≡ true }
     {
@@ -191,7 +196,7 @@ impl Lane for ChannelLane {
     ghost seen_rx = { channels.seen_rx };
 
     fn pair(alloc: Global, edge: u32, from: u32) -> Result<(ChannelTx, ChannelRx), LinkFault> {
-        let Ok((sender, receiver, mut putting)) = bounded_with::<Letter, Known, InOrder, Global>(
+        let Ok((sender, receiver, mut putting)) = bounded_with::<Stamped, Known, InOrder, Global>(
             alloc, CAPACITY,
         ) else {
             return Err(LinkFault::Memory);
@@ -217,23 +222,32 @@ impl Lane for ChannelLane {
         Ok((ChannelTx { putting: tx }, rx))
     }
 
-    fn put<R: Wait>(rt: &R, tx: &mut ChannelTx, letter: Letter) -> Result<(), (Letter, Lost)> {
-        match tx.putting.send(rt, letter) {
+    fn put_at<R: Wait>(
+        rt: &R,
+        tx: &mut ChannelTx,
+        letter: Letter,
+        stamp: Stamp,
+    ) -> Result<(), (Letter, Lost)> {
+        match tx.putting.send(rt, letter, stamp) {
             Ok(()) => Ok(()),
             Err(letter) => Err((letter, Lost)),
         }
     }
 
-    fn close<R: Wait>(rt: &R, tx: ChannelTx) -> Result<ChannelClosedTx, (ChannelTx, Lost)> {
+    fn close_at<R: Wait>(
+        rt: &R,
+        tx: ChannelTx,
+        stamp: Stamp,
+    ) -> Result<ChannelClosedTx, (ChannelTx, Lost)> {
         let ChannelTx { mut putting } = tx;
-        match putting.send(rt, Letter::Close) {
+        match putting.send(rt, Letter::Close, stamp) {
             Ok(()) => Ok(ChannelClosedTx { putting }),
             Err(_) => Err((ChannelTx { putting }, Lost)),
         }
     }
 
-    fn take<R: Wait>(rt: &R, rx: &mut ChannelRx) -> Result<Letter, Lost> {
-        let Some(letter) = backoff::receive::<Letter, Known, InOrder, Takes, R>(
+    fn take_at<R: Wait>(rt: &R, rx: &mut ChannelRx) -> Result<(Letter, Stamp), Lost> {
+        let Some(got) = backoff::receive::<Stamped, Known, InOrder, Takes, R>(
             rt,
             &rx.receiver,
             &mut rx.pass,
@@ -241,9 +255,10 @@ impl Lane for ChannelLane {
             rx.refused = true;
             return Err(Lost);
         };
+        let Stamped { letter, stamp } = got;
         rx.taken += 1;
         rx.closed = is_close(&letter);
-        Ok(letter)
+        Ok((letter, stamp))
     }
 
     fn is_closed(rx: &ChannelRx) -> bool {
@@ -254,6 +269,7 @@ impl Lane for ChannelLane {
         requires pair { (channels.seen_rx rx).link ≡ (seen_end channels.seen_tx channels.seen_closed tx).link }
         ensures lists { result ≡ link_of (seen_end channels.seen_tx channels.seen_closed tx) (channels.seen_rx rx) }
         ensures prefix { IsLink result }
+        ensures moments { IsPrefix result.taken_at result.put_at }
         ensures whole { has_close (channels.seen_rx rx).letters ≡ true → result.taken ≡ result.put }
         ensures close_last { is_close_last result.put ≡ true }
     {

@@ -3,11 +3,13 @@ ghost use Rattle.std.specs.Prelude.{◌≡◌, true};
 ghost use Rattle.dine_rules.specs.Letters.{has_close};
 ghost use Rattle.dine_rules.specs.Streams.{is_close_last};
 ghost use Rattle.dine_link.specs.FaultLanes.{lets_through, spent};
+ghost use mathlib.Core.List.{IsPrefix};
 
 use crate::channel::{ChannelClosedTx, ChannelLane, ChannelRx, ChannelTx};
 use crate::faults::{LinkFault, Lost};
 use crate::lane::{Lane, TxEnd};
 use crate::link_end::LinkEnd;
+use dine_clock::Stamp;
 use dine_rules::Letter;
 use std::alloc::Global;
 use std::sync::Wait;
@@ -94,32 +96,41 @@ impl Lane for FaultLane {
         Ok((fault_tx(tx, None), fault_rx(rx, None)))
     }
 
-    fn put<R: Wait>(rt: &R, tx: &mut FaultTx, letter: Letter) -> Result<(), (Letter, Lost)> {
+    fn put_at<R: Wait>(
+        rt: &R,
+        tx: &mut FaultTx,
+        letter: Letter,
+        stamp: Stamp,
+    ) -> Result<(), (Letter, Lost)> {
         if !spend(&mut tx.left) {
             tx.tx.refuse();
             return Err((letter, Lost));
         }
-        ChannelLane::put(rt, &mut tx.tx, letter)
+        ChannelLane::put_at(rt, &mut tx.tx, letter, stamp)
     }
 
-    fn close<R: Wait>(rt: &R, tx: FaultTx) -> Result<ChannelClosedTx, (FaultTx, Lost)> {
+    fn close_at<R: Wait>(
+        rt: &R,
+        tx: FaultTx,
+        stamp: Stamp,
+    ) -> Result<ChannelClosedTx, (FaultTx, Lost)> {
         let FaultTx { mut tx, mut left } = tx;
         if !spend(&mut left) {
             tx.refuse();
             return Err((FaultTx { tx, left }, Lost));
         }
-        match ChannelLane::close(rt, tx) {
+        match ChannelLane::close_at(rt, tx, stamp) {
             Ok(closed) => Ok(closed),
             Err((tx, lost)) => Err((FaultTx { tx, left }, lost)),
         }
     }
 
-    fn take<R: Wait>(rt: &R, rx: &mut FaultRx) -> Result<Letter, Lost> {
+    fn take_at<R: Wait>(rt: &R, rx: &mut FaultRx) -> Result<(Letter, Stamp), Lost> {
         if !spend(&mut rx.left) {
             rx.rx.refuse();
             return Err(Lost);
         }
-        ChannelLane::take(rt, &mut rx.rx)
+        ChannelLane::take_at(rt, &mut rx.rx)
     }
 
     fn is_closed(rx: &FaultRx) -> bool {
@@ -130,6 +141,7 @@ impl Lane for FaultLane {
         requires pair { (faults.seen_rx rx).link ≡ (seen_end faults.seen_tx channels.seen_closed tx).link }
         ensures lists { result ≡ link_of (seen_end faults.seen_tx channels.seen_closed tx) (faults.seen_rx rx) }
         ensures prefix { IsLink result }
+        ensures moments { IsPrefix result.taken_at result.put_at }
         ensures whole { has_close (faults.seen_rx rx).letters ≡ true → result.taken ≡ result.put }
         ensures close_last { is_close_last result.put ≡ true }
     {

@@ -4,11 +4,13 @@ ghost use Rattle.dine_rules.specs.declared.letters.Letter.TheVariants.{Close};
 ghost use Rattle.dine_rules.specs.Letters.{has_close};
 ghost use Rattle.dine_rules.specs.Streams.{is_close_last};
 ghost use Rattle.dine_link.specs.Closing.{is_close};
-ghost use Rattle.dine_link.specs.Links.{SeenEnd, IsLink, with_letter, after_refusal, link_of};
+ghost use Rattle.dine_link.specs.Links.{HasTaken, SeenEnd, IsLink, with_letter, with_letter_at, after_refusal, link_of};
 ghost use Rattle.dine_link.specs.Lanes.{seen_end};
+ghost use mathlib.Core.List.{IsPrefix};
 
 use crate::faults::{LinkFault, Lost};
 use crate::link_end::LinkEnd;
+use dine_clock::Stamp;
 use dine_rules::Letter;
 use std::alloc::Global;
 use std::sync::Wait;
@@ -56,6 +58,7 @@ pub trait Lane: Send {
         ensures pair { IfOk result (λ ends. (seen_rx ends.1).link ≡ (seen_tx ends.0).link) }
         ensures name { IfOk result (λ ends. ((seen_tx ends.0).link.edge ≡ edge) × ((seen_tx ends.0).link.from ≡ from)) }
         ensures empty { IfOk result (λ ends. ((seen_tx ends.0).letters ≡ []) × ((seen_rx ends.1).letters ≡ [])) }
+        ensures untimed { IfOk result (λ ends. ((seen_tx ends.0).moments ≡ []) × ((seen_rx ends.1).moments ≡ [])) }
         ensures unrefused { IfOk result (λ ends. ((seen_tx ends.0).refused ≡ false) × ((seen_rx ends.1).refused ≡ false)) };
 
     /// Puts a letter other than Close. It may wait, where the link is full.
@@ -64,14 +67,20 @@ pub trait Lane: Send {
     fn put<R: Wait>(rt: &R, tx: &mut Self::Tx, letter: Letter) -> Result<(), (Letter, Lost)>
         requires letter { is_close letter ≡ false }
         requires room { length (seen_tx tx.old).letters < 2 ^ 61 }
-        ensures { MatchResult result (λ _. seen_tx tx.new ≡ with_letter letter (seen_tx tx.old)) (λ refused. (refused.0 ≡ letter) × (seen_tx tx.new ≡ after_refusal (seen_tx tx.old))) };
+        ensures { MatchResult result (λ _. seen_tx tx.new ≡ with_letter letter (seen_tx tx.old)) (λ refused. (refused.0 ≡ letter) × (seen_tx tx.new ≡ after_refusal (seen_tx tx.old))) }
+    {
+        Self::put_at(rt, tx, letter, Stamp::first())
+    }
 
     /// Puts Close, after which nothing can be put. It may wait, where the link is full.
     ///
     /// Where the link refuses it, the end is handed back as it was, but that it met a refusal.
     fn close<R: Wait>(rt: &R, tx: Self::Tx) -> Result<Self::ClosedTx, (Self::Tx, Lost)>
         requires room { length (seen_tx tx).letters < 2 ^ 61 }
-        ensures { MatchResult result (λ closed. seen_closed closed ≡ with_letter Close (seen_tx tx)) (λ refused. seen_tx refused.0 ≡ after_refusal (seen_tx tx)) };
+        ensures { MatchResult result (λ closed. seen_closed closed ≡ with_letter Close (seen_tx tx)) (λ refused. seen_tx refused.0 ≡ after_refusal (seen_tx tx)) }
+    {
+        Self::close_at(rt, tx, Stamp::first())
+    }
 
     /// Takes the next letter. It may wait, where the link is empty. Close must not have been taken.
     ///
@@ -79,7 +88,37 @@ pub trait Lane: Send {
     fn take<R: Wait>(rt: &R, rx: &mut Self::Rx) -> Result<Letter, Lost>
         requires open { has_close (seen_rx rx.old).letters ≡ false }
         requires room { length (seen_rx rx.old).letters < 2 ^ 61 }
-        ensures { MatchResult result (λ letter. seen_rx rx.new ≡ with_letter letter (seen_rx rx.old)) (λ _. seen_rx rx.new ≡ after_refusal (seen_rx rx.old)) };
+        ensures { MatchResult result (λ letter. HasTaken letter (seen_rx rx.old) (seen_rx rx.new)) (λ _. seen_rx rx.new ≡ after_refusal (seen_rx rx.old)) }
+    {
+        let (letter, _) = Self::take_at(rt, rx)?;
+        Ok(letter)
+    }
+
+    /// Puts a letter as [`Lane::put`] does, and this moment with it. A moment is for proofs alone, and costs nothing.
+    fn put_at<R: Wait>(
+        rt: &R,
+        tx: &mut Self::Tx,
+        letter: Letter,
+        stamp: Stamp,
+    ) -> Result<(), (Letter, Lost)>
+        requires letter { is_close letter ≡ false }
+        requires room { length (seen_tx tx.old).letters < 2 ^ 61 }
+        ensures { MatchResult result (λ _. seen_tx tx.new ≡ with_letter_at letter stamp.at (seen_tx tx.old)) (λ refused. (refused.0 ≡ letter) × (seen_tx tx.new ≡ after_refusal (seen_tx tx.old))) };
+
+    /// Puts Close as [`Lane::close`] does, and this moment with it.
+    fn close_at<R: Wait>(
+        rt: &R,
+        tx: Self::Tx,
+        stamp: Stamp,
+    ) -> Result<Self::ClosedTx, (Self::Tx, Lost)>
+        requires room { length (seen_tx tx).letters < 2 ^ 61 }
+        ensures { MatchResult result (λ closed. seen_closed closed ≡ with_letter_at Close stamp.at (seen_tx tx)) (λ refused. seen_tx refused.0 ≡ after_refusal (seen_tx tx)) };
+
+    /// Takes the next letter as [`Lane::take`] does, with the moment that was put with it.
+    fn take_at<R: Wait>(rt: &R, rx: &mut Self::Rx) -> Result<(Letter, Stamp), Lost>
+        requires open { has_close (seen_rx rx.old).letters ≡ false }
+        requires room { length (seen_rx rx.old).letters < 2 ^ 61 }
+        ensures { MatchResult result (λ got. seen_rx rx.new ≡ with_letter_at got.0 got.1.at (seen_rx rx.old)) (λ _. seen_rx rx.new ≡ after_refusal (seen_rx rx.old)) };
 
     /// Whether Close was taken.
     fn is_closed(rx: &Self::Rx) -> bool
@@ -91,6 +130,7 @@ pub trait Lane: Send {
         requires pair { (seen_rx rx).link ≡ (seen_end seen_tx seen_closed tx).link }
         ensures lists { result ≡ link_of (seen_end seen_tx seen_closed tx) (seen_rx rx) }
         ensures prefix { IsLink result }
+        ensures moments { IsPrefix result.taken_at result.put_at }
         ensures whole { has_close (seen_rx rx).letters ≡ true → result.taken ≡ result.put }
         ensures close_last { is_close_last result.put ≡ true };
 }

@@ -15,6 +15,7 @@ mod link_end;
 mod ring;
 mod rule;
 mod sleeper;
+mod stamped;
 mod wants;
 
 pub use bell::{Bell, Ringer};

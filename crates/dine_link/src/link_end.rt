@@ -46,7 +46,7 @@ impl Model for LinkEnd {
 }
 
 impl LinkEnd {
-    ghost use Rattle.dine_link.specs.Ends.{put_in, taken_from};
+    ghost use Rattle.dine_link.specs.Ends.{put_in, taken_from, put_at, taken_at};
 
     // The ends of a link, with the numbers of the letters put and taken. No refusal is told yet.
     pub(crate) fn keep(
@@ -62,7 +62,7 @@ impl LinkEnd {
         requires shut { shut ≡ ends_in_close (put_in ends) }
         requires prefix { IsPrefix (taken_from ends) (put_in ends) }
         requires close_last { is_close_last (put_in ends) ≡ true }
-        ensures { result ≡ record { edge = edge; from = from; put = put_in ends; taken = taken_from ends; put_refused = false; take_refused = false } }
+        ensures { result ≡ record { edge = edge; from = from; put = put_in ends; taken = taken_from ends; put_at = put_at ends; taken_at = taken_at ends; put_refused = false; take_refused = false } }
     {
         LinkEnd {
             edge,

@@ -5,12 +5,16 @@ ghost use Rattle.dine_rules.specs.declared.letters.Letter.TheVariants.{Close};
 ghost use Rattle.dine_rules.specs.Letters.{has_close};
 ghost use Rattle.dine_rules.specs.Streams.{is_close_last};
 ghost use Rattle.dine_link.specs.Closing.{is_close, ends_in_close};
+ghost use Rattle.dine_link.specs.Stamps.{letters_in};
+ghost use mathlib.Core.List.{IsPrefix};
 
 use crate::backoff::Backoff;
 use crate::closing::is_close;
 use crate::faults::{LinkFault, Lost};
 use crate::lane::{Lane, TxEnd};
 use crate::link_end::{BothEnds, LinkEnd};
+use crate::stamped::Stamped;
+use dine_clock::Stamp;
 use dine_rules::Letter;
 use rtrb::{Consumer, Producer, PushError, RingBuffer};
 use std::alloc::Global;
@@ -25,7 +29,7 @@ pub struct Pushing {
     edge: u32,
     from: u32,
     put: u64,
-    producer: Producer<Letter>,
+    producer: Producer<Stamped>,
     pub ghost counted: { put ≡ length (sent producer) },
 }
 
@@ -33,15 +37,15 @@ pub struct Pushing {
 #[derive(Drop)]
 pub struct RingTx {
     pushing: Pushing,
-    pub ghost unclosed: { has_close (sent pushing.producer) ≡ false },
+    pub ghost unclosed: { has_close (letters_in (sent pushing.producer)) ≡ false },
 }
 
 /// That end after Close was put.
 #[derive(Drop)]
 pub struct RingClosedTx {
     pushing: Pushing,
-    pub ghost ended: { ends_in_close (sent pushing.producer) ≡ true },
-    pub ghost close_last: { is_close_last (sent pushing.producer) ≡ true },
+    pub ghost ended: { ends_in_close (letters_in (sent pushing.producer)) ≡ true },
+    pub ghost close_last: { is_close_last (letters_in (sent pushing.producer)) ≡ true },
 }
 
 /// The end of a link over a ring that letters are taken from.
@@ -51,36 +55,36 @@ pub struct RingRx {
     from: u32,
     taken: u64,
     closed: bool,
-    consumer: Consumer<Letter>,
+    consumer: Consumer<Stamped>,
     pub ghost counted: { taken ≡ length (received consumer) },
-    pub ghost told: { closed ≡ has_close (received consumer) },
+    pub ghost told: { closed ≡ has_close (letters_in (received consumer)) },
 }
 
 // Both ends of a ring.
 #[derive(Drop)]
 pub struct RingEnds {
-    producer: Producer<Letter>,
-    consumer: Consumer<Letter>,
+    producer: Producer<Stamped>,
+    consumer: Consumer<Stamped>,
 }
 
 impl Pushing {
     ghost use Rattle.dine_link.specs.Rings.{seen_pushing, seen_rx};
-    ghost use Rattle.dine_link.specs.Links.{IsLink, with_letter, link_of};
+    ghost use Rattle.dine_link.specs.Links.{IsLink, with_letter_at, link_of};
 
     // Puts the letter last. It waits while the ring is full.
-    fn push<R: Wait>(&mut self, rt: &R, letter: Letter)
+    fn push<R: Wait>(&mut self, rt: &R, letter: Letter, stamp: Stamp)
         requires room { length (seen_pushing self.old).letters < 2 ^ 61 }
-        ensures { seen_pushing self.new ≡ with_letter letter (seen_pushing self.old) }
+        ensures { seen_pushing self.new ≡ with_letter_at letter stamp.at (seen_pushing self.old) }
     {
-        let mut letter = letter;
+        let mut message = Stamped { letter, stamp };
         let mut backoff = Backoff::new();
         for _ in rt.forever() {
-            match self.producer.push(letter) {
+            match self.producer.push(message) {
                 Ok(()) => {
                     self.put += 1;
                     return;
                 }
-                Err(PushError::Full(back)) => letter = back,
+                Err(PushError::Full(back)) => message = back,
             }
             backoff.pause(rt);
         }
@@ -94,6 +98,7 @@ impl Pushing {
         requires close_last { is_close_last (seen_pushing self).letters ≡ true }
         ensures lists { result ≡ link_of (seen_pushing self) (seen_rx rx) }
         ensures prefix { IsLink result }
+        ensures moments { IsPrefix result.taken_at result.put_at }
         ensures whole { has_close (seen_rx rx).letters ≡ true → result.taken ≡ result.put }
         ensures close_last { is_close_last result.put ≡ true }
     {
@@ -131,7 +136,7 @@ impl Lane for RingLane {
 
     ghost use Rattle.dine_link.specs.Rings as rings;
     ghost use Rattle.dine_link.specs.Lanes.{seen_end};
-    ghost use Rattle.dine_link.specs.Links.{IsLink, with_letter, link_of};
+    ghost use Rattle.dine_link.specs.Links.{HasTaken, IsLink, with_letter, with_letter_at, link_of};
 
     ghost Identity = { rings.Ring };
 
@@ -167,8 +172,7 @@ impl Lane for RingLane {
         ensures put { rings.seen_tx tx.new ≡ with_letter letter (rings.seen_tx tx.old) }
         ensures never_lost { IsOk result }
     {
-        tx.pushing.push(rt, letter);
-        Ok(())
+        RingLane::put_at(rt, tx, letter, Stamp::first())
     }
 
     fn close<R: Wait>(rt: &R, tx: RingTx) -> Result<RingClosedTx, (RingTx, Lost)>
@@ -176,23 +180,57 @@ impl Lane for RingLane {
         ensures closed { IfOk result (λ closed. rings.seen_closed closed ≡ with_letter Close (rings.seen_tx tx)) }
         ensures never_lost { IsOk result }
     {
-        let RingTx { mut pushing } = tx;
-        pushing.push(rt, Letter::Close);
-        Ok(RingClosedTx { pushing })
+        RingLane::close_at(rt, tx, Stamp::first())
     }
 
     fn take<R: Wait>(rt: &R, rx: &mut RingRx) -> Result<Letter, Lost>
         requires open { has_close (rings.seen_rx rx.old).letters ≡ false }
         requires room { length (rings.seen_rx rx.old).letters < 2 ^ 61 }
-        ensures taken { IfOk result (λ letter. rings.seen_rx rx.new ≡ with_letter letter (rings.seen_rx rx.old)) }
+        ensures taken { IfOk result (λ letter. HasTaken letter (rings.seen_rx rx.old) (rings.seen_rx rx.new)) }
+        ensures never_lost { IsOk result }
+    {
+        let (letter, _) = RingLane::take_at(rt, rx)?;
+        Ok(letter)
+    }
+
+    fn put_at<R: Wait>(
+        rt: &R,
+        tx: &mut RingTx,
+        letter: Letter,
+        stamp: Stamp,
+    ) -> Result<(), (Letter, Lost)>
+        requires letter { is_close letter ≡ false }
+        requires room { length (rings.seen_tx tx.old).letters < 2 ^ 61 }
+        ensures put { rings.seen_tx tx.new ≡ with_letter_at letter stamp.at (rings.seen_tx tx.old) }
+        ensures never_lost { IsOk result }
+    {
+        tx.pushing.push(rt, letter, stamp);
+        Ok(())
+    }
+
+    fn close_at<R: Wait>(rt: &R, tx: RingTx, stamp: Stamp) -> Result<RingClosedTx, (RingTx, Lost)>
+        requires room { length (rings.seen_tx tx).letters < 2 ^ 61 }
+        ensures closed { IfOk result (λ closed. rings.seen_closed closed ≡ with_letter_at Close stamp.at (rings.seen_tx tx)) }
+        ensures never_lost { IsOk result }
+    {
+        let RingTx { mut pushing } = tx;
+        pushing.push(rt, Letter::Close, stamp);
+        Ok(RingClosedTx { pushing })
+    }
+
+    fn take_at<R: Wait>(rt: &R, rx: &mut RingRx) -> Result<(Letter, Stamp), Lost>
+        requires open { has_close (rings.seen_rx rx.old).letters ≡ false }
+        requires room { length (rings.seen_rx rx.old).letters < 2 ^ 61 }
+        ensures taken { IfOk result (λ got. rings.seen_rx rx.new ≡ with_letter_at got.0 got.1.at (rings.seen_rx rx.old)) }
         ensures never_lost { IsOk result }
     {
         let mut backoff = Backoff::new();
         for _ in rt.forever() {
-            if let Ok(letter) = rx.consumer.pop() {
+            if let Ok(got) = rx.consumer.pop() {
+                let Stamped { letter, stamp } = got;
                 rx.taken += 1;
                 rx.closed = is_close(&letter);
-                return Ok(letter);
+                return Ok((letter, stamp));
             }
             backoff.pause(rt);
         }
@@ -207,6 +245,7 @@ impl Lane for RingLane {
         requires pair { (rings.seen_rx rx).link ≡ (seen_end rings.seen_tx rings.seen_closed tx).link }
         ensures lists { result ≡ link_of (seen_end rings.seen_tx rings.seen_closed tx) (rings.seen_rx rx) }
         ensures prefix { IsLink result }
+        ensures moments { IsPrefix result.taken_at result.put_at }
         ensures whole { has_close (rings.seen_rx rx).letters ≡ true → result.taken ≡ result.put }
         ensures close_last { is_close_last result.put ≡ true }
     {

@@ -1,7 +1,7 @@
 // The rule of a link's channel, and the steps that its passes may do. A pass is a token without bytes, and what it
 // knows exists in proofs alone.
+use crate::stamped::Stamped;
 use crossbeam_channel::protocol::{Join, Lesson, Outcome, Protocol, Split};
-use dine_rules::Letter;
 use std::collections::LinkedList;
 
 // What a pass knows: whether it may put, whether it may take, and the letters that were put and taken by it. No value
@@ -9,14 +9,14 @@ use std::collections::LinkedList;
 pub struct Known {
     pub puts: bool,
     pub takes: bool,
-    pub put: LinkedList<Letter>,
-    pub taken: LinkedList<Letter>,
+    pub put: LinkedList<Stamped>,
+    pub taken: LinkedList<Stamped>,
 }
 
 // What was put is what was taken, and then what the channel holds.
 pub struct InOrder;
 
-impl Protocol<Letter, Known> for InOrder {
+impl Protocol<Stamped, Known> for InOrder {
     ghost use Rattle.dine_link.specs.private.Rule.{IsInOrder, fresh};
 
     ghost holds = { IsInOrder };
@@ -46,14 +46,14 @@ impl Join<Known> for Ends {
 // A send adds its letter to what was put.
 pub struct Puts;
 
-impl Outcome<Letter, Known> for Puts {
+impl Outcome<Stamped, Known> for Puts {
     ghost use Rattle.std.specs.Prelude.{◌≡◌};
     ghost use Rattle.dine_link.specs.private.Rule.{after_put};
 
     ghost then = { λ before letter after. after ≡ after_put before letter };
 }
 
-impl Lesson<Letter, Known> for Puts {
+impl Lesson<Stamped, Known> for Puts {
     ghost use Rattle.std.specs.Prelude.{⊤};
 
     ghost fact = { λ view queue. ⊤ };
@@ -62,14 +62,14 @@ impl Lesson<Letter, Known> for Puts {
 // A receive adds the letter that it gives to what was taken.
 pub struct Takes;
 
-impl Outcome<Letter, Known> for Takes {
+impl Outcome<Stamped, Known> for Takes {
     ghost use Rattle.std.specs.Prelude.{◌≡◌};
     ghost use Rattle.dine_link.specs.private.Rule.{after_take};
 
     ghost then = { λ before letter after. after ≡ after_take before letter };
 }
 
-impl Lesson<Letter, Known> for Takes {
+impl Lesson<Stamped, Known> for Takes {
     ghost use Rattle.std.specs.Prelude.{⊤};
 
     ghost fact = { λ view queue. ⊤ };
@@ -78,7 +78,7 @@ impl Lesson<Letter, Known> for Takes {
 // Who may put and take learns that the rest of what was put lies in the channel.
 pub struct Reconciles;
 
-impl Lesson<Letter, Known> for Reconciles {
+impl Lesson<Stamped, Known> for Reconciles {
     ghost use Rattle.std.specs.Prelude.{◌≡◌, ◌++◌};
 
     ghost fact = { λ view queue. view.put ≡ view.taken ++ queue };

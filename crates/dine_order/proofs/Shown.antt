@@ -1,26 +1,26 @@
 -- The outcomes that journals show: read event by event, and the plan that has them.
-use Rattle.std.proofs.Common.{◌≡◌, ◌≢◌, ℕ, zero, suc, ◌+◌, ◌<◌, ◌≤◌, Bool, true, false, List, [], ◌∷◌, ◌++◌, length, map, replicate, get_or, set, slice_get, Option, Some, refl, sym, ◌∙◌, ap, ap₂, inl, inr, arith, length-append, length-set}
+use Rattle.std.proofs.Common.{◌≡◌, ◌≢◌, ℕ, zero, suc, ◌+◌, ◌<◌, ◌≤◌, Bool, true, false, List, [], ◌∷◌, ◌++◌, length, map, replicate, get_or, set, refl, sym, ◌∙◌, ap, ap₂, inl, inr, arith, length-append, length-set}
 use Rattle.std.specs.List.{range_with_len}
-use Rattle.std.specs.Global.{Vec}
 use Rattle.std.proofs.lemmas.Bool.{cases_eq}
 use Rattle.std.proofs.lemmas.List.{ext_get_or, get_or-replicate, get_or-set_other, get_or-set_same, length-map, length-replicate}
 use Rattle.std.proofs.lemmas.List.FromFn.{get_or-map-range_with_len, length-map-range_with_len}
-use Rattle.std.proofs.lemmas.Option.{get_or_from_slice_get, slice_get-get_or}
 use Rattle.dine_token.specs.declared.log_entry.Entry.{Entry}
 use Rattle.dine_token.specs.declared.log_entry.Entry.TheVariants.{Meal, Move}
 use Rattle.dine_token.specs.declared.act.Act.{Act}
 use Rattle.dine_token.specs.Values.{applied}
-use Rattle.dine_graph.specs.Plan.{SeenPlan, act_of, hi_of, job_count, lo_of, site_count, value_of}
+use Rattle.dine_graph.specs.Plan.{SeenPlan, act_of, hi_of, lo_of, site_count, value_of}
 use Rattle.dine_rules.specs.declared.events.Event.{Event}
 use Rattle.dine_rules.specs.declared.events.EventKind.{EventKind}
 use Rattle.dine_rules.specs.declared.events.EventKind.TheVariants.{End, Quit}
-use Rattle.dine_rules.specs.Journals.{FailAsShown, fails_before, journal_of, outcomes_in}
+use Rattle.dine_rules.specs.Journals.{fails_before, outcomes_in}
 use Rattle.dine_rules.specs.Steps.{Shape, shape_of, fork_by}
 use Rattle.dine_rules.specs.Values.{value_along, value_by}
-use Rattle.dine_rules.specs.World.{WorldState, state_of}
-use Rattle.dine_rules.proofs.journals.OtherOutcomes.{acts-same, fails-are, jobs-same, sites-same}
+use Rattle.dine_rules.proofs.journals.OtherOutcomes.{acts-same, jobs-same}
+use Rattle.dine_rules.proofs.journals.Shown.{all_long, own_is, own_long}
+pub use Rattle.dine_rules.proofs.journals.Shown.{sites_shown}
 use Rattle.dine_world.specs.Worlds.{AreOutcomesFor}
-use Rattle.dine_order.specs.Orders.{lists_in, noted, plan_shown, receiver_by, receiver_of, shown_by, shown_in}
+use Rattle.dine_rules.specs.Shown.{plan_shown, shown_by, shown_in}
+use Rattle.dine_order.specs.Orders.{noted, receiver_by, receiver_of}
 
 -- ---- an event more of a journal
 
@@ -153,33 +153,11 @@ module _ (plan : SeenPlan) (journals : List (List EventKind)) where
   abbrev fails : List (List Bool)
   fails = shown_by plan journals
 
-  own_is : (s : ℕ) (past : List Bool) → s < site_count plan → get_or fails s past ≡ shown_in (job_count plan s) (journal_of journals s)
-  own_is s past is_site = get_or-map-range_with_len (λ t. shown_in (job_count plan t) (journal_of journals t)) 0 (site_count plan) s s past is_site (omega arith)
-
-  own_long : (s : ℕ) → length (shown_in (job_count plan s) (journal_of journals s)) ≡ job_count plan s
-  own_long s = length-map-range_with_len (λ k. get_or (outcomes_in false (journal_of journals s)) k false) 0 (job_count plan s)
-
   pub are_outcomes : AreOutcomesFor plan fails
   are_outcomes = record {
-    sites = length-map-range_with_len (λ t. shown_in (job_count plan t) (journal_of journals t)) 0 (site_count plan);
-    jobs = λ s past is_site. ap length (own_is s past is_site) ∙ own_long s;
+    sites = all_long plan journals;
+    jobs = λ s past is_site. ap length (own_is plan journals s past is_site) ∙ own_long plan journals s;
   }
-
-  pub sites_shown : site_count (plan_shown plan journals) ≡ site_count plan
-  sites_shown = sites-same plan fails
-
-  -- where no site has to quit, the jobs of that plan fail as the journals show
-  pub fail_as_shown : (states : WorldState) → ((s : ℕ) → s < site_count plan → (state_of states s).must_quit ≡ false) → FailAsShown other journals states
-  fail_as_shown states none_must s k failed is_site within shown =
-      let here : s < site_count plan = omega (arith, is_site, sites_shown) in
-      let below : k < job_count plan s = omega (arith, within, jobs-same plan fails s) in
-      let outcomes : List Bool = outcomes_in false (journal_of journals s) in
-      let own : List Bool = shown_in (job_count plan s) (journal_of journals s) in
-      let there : slice_get fails s ≡ Some own = slice_get-get_or fails s [] (omega (arith, here, are_outcomes.sites)) ∙ ap (λ (x : List Bool). let o : Option (List Bool) = Some x in o) (own_is s [] here) in
-      let told : get_or outcomes k false ≡ failed = get_or_from_slice_get outcomes k failed false (ap (λ (b : Bool). slice_get (outcomes_in b (journal_of journals s)) k) (sym (none_must s here)) ∙ shown) in
-      let at : slice_get own k ≡ Some failed = slice_get-get_or own k false (omega (arith, below, own_long s))
-      ∙ ap (λ (b : Bool). let o : Option Bool = Some b in o) (get_or-map-range_with_len (λ i. get_or outcomes i false) 0 (job_count plan s) k k false below (omega arith) ∙ told) in
-      fails-are plan fails own s k failed there at below
 
   -- a letter of an event goes to the same site
   receiver-same : (s : ℕ) (shape : Shape) → receiver_by plan s shape ≡ receiver_by other s shape
@@ -200,5 +178,6 @@ module _ (plan : SeenPlan) (journals : List (List EventKind)) where
       ∙ ap (λ (v : ℕ). record (fork_by other edge log) { value = v }) (value-same log (value_of plan edge))
 
 -- there is a journal for each site of the plan and of that plan
-pub counted_too : (plan : SeenPlan) (journals : List (Vec EventKind)) → length journals ≡ site_count plan → length (lists_in journals) ≡ site_count (plan_shown plan (lists_in journals))
-counted_too plan journals count = length-map journals (λ (journal : Vec EventKind). journal.items) ∙ count ∙ sym (sites_shown plan (lists_in journals))
+pub counted_too : {J : Type 0} (plan : SeenPlan) (events : J → List EventKind) (journals : List J) → length journals ≡ site_count plan
+    → length (map events journals) ≡ site_count (plan_shown plan (map events journals))
+counted_too plan events journals count = length-map journals events ∙ count ∙ sym (sites_shown plan (map events journals))

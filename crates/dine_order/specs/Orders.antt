@@ -1,42 +1,22 @@
 -- The search for one order of the journals, and what is answered where there is none.
-use Rattle.std.specs.Prelude.{◌≡◌, ◌≢◌, ℕ, zero, suc, ◌<◌, ◌≤◌, Bool, true, false, List, length, map, slice_get, slice_index_or, slice_set, Option, Some, None, option_and_then}
-use Rattle.std.specs.Global.{Vec}
-use Rattle.std.specs.List.{range_with_len}
-use Rattle.dine_graph.specs.Plan.{SeenPlan, job_count, site_count}
+use Rattle.std.specs.Prelude.{◌≡◌, ◌≢◌, ℕ, zero, suc, ◌<◌, ◌≤◌, Bool, true, false, List, length, slice_get, slice_index_or, slice_set, Option, Some, None, option_and_then}
+use Rattle.dine_graph.specs.Plan.{SeenPlan, site_count}
 use Rattle.dine_rules.specs.declared.events.Event.{Event}
 use Rattle.dine_rules.specs.declared.events.EventKind.{EventKind}
 use Rattle.dine_rules.specs.Local.{neighbour_at}
 use Rattle.dine_rules.specs.Steps.{Shape, Takes, Puts, Alone, shape_of}
 use Rattle.dine_rules.specs.World.{WorldState, IsComplete, Reaches, world_after}
-use Rattle.dine_rules.specs.Journals.{IsFrontOf, IsLowestFirst, IsOrderOf, IsPlacedToEnd, IsWholeOrder, is_ready, journal_of, next_of, outcomes_in, part_of}
-use Rattle.dine_rules.specs.Outcomes.{with_outcomes}
+use Rattle.dine_rules.specs.Journals.{IsFrontOf, IsLowestFirst, IsOrderOf, IsPlacedToEnd, IsWholeOrder, is_ready, journal_of, next_of, part_of}
 use Rattle.dine_world.specs.Worlds.{IsWorldOf, SeenWorld}
 use Rattle.dine_order.specs.declared.orders.OrderFault.{OrderFault}
 use Rattle.dine_order.specs.declared.orders.OrderFault.TheVariants.{CountDiffers, Stuck, NotClosed, Memory}
 
--- the journals, as lists
-abbrev pub lists_in : List (Vec EventKind) → List (List EventKind)
-lists_in journals = map (λ journal. journal.items) journals
-
 -- ---- the outcomes that journals show
-
--- the outcomes of so many jobs that a journal shows: the last meal before each Quit failed, and no other did. A meal
--- past the last job shows nothing.
-abbrev pub shown_in : ℕ → List EventKind → List Bool
-shown_in jobs journal = map (λ k. slice_index_or (outcomes_in false journal) k false) (range_with_len 0 jobs)
-
--- the same for each site of the plan, by the journals
-abbrev pub shown_by : SeenPlan → List (List EventKind) → List (List Bool)
-shown_by plan journals = map (λ s. shown_in (job_count plan s) (journal_of journals s)) (range_with_len 0 (site_count plan))
 
 -- the outcomes, where the last of so many meals failed: where there was one, and the site has a job of its number
 abbrev pub noted : ℕ → List Bool → List Bool
 noted zero fails = fails
 noted (suc before) fails = slice_set fails before true
-
--- the plan whose jobs fail as the journals show: a world of it goes as the journals do
-abbrev pub plan_shown : SeenPlan → List (List EventKind) → SeenPlan
-plan_shown plan journals = with_outcomes plan (shown_by plan journals)
 
 -- ---- what is answered where there is no order
 

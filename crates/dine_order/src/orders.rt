@@ -1,9 +1,10 @@
 //! One order of the journals of all sites.
-ghost use Rattle.std.specs.Prelude.{◌≡◌, ◌≢◌, IfErr, IfOk, length, replicate};
+ghost use Rattle.std.specs.Prelude.{◌≡◌, ◌≢◌, IfErr, IfOk, length, map, replicate};
 ghost use Rattle.dine_graph.specs.Plan.{site_count};
 ghost use Rattle.dine_rules.specs.Journals.{IsLowestFirst, IsWholeOrder};
 ghost use Rattle.dine_rules.specs.Outcomes.{NoSiteResigns};
-ghost use Rattle.dine_order.specs.Orders.{FirstLeft, OrderFaultIs, lists_in, plan_shown};
+ghost use Rattle.dine_rules.specs.Shown.{plan_shown};
+ghost use Rattle.dine_order.specs.Orders.{FirstLeft, OrderFaultIs};
 ghost use Rattle.dine_order.specs.declared.orders.OrderFault.TheVariants.{CountDiffers, Memory};
 
 mod outcomes;
@@ -14,6 +15,7 @@ use dine_graph::Plan;
 use dine_rules::laws;
 use dine_world::World;
 use std::alloc::{AllocError, Global};
+use std::convert::AsSlice;
 use thiserror::Error;
 
 /// Why there is no order of the journals.
@@ -51,16 +53,16 @@ impl From<AllocError> for OrderFault {
 ///
 /// Where it answers `Stuck` or `NotClosed`, there is no such list. Each event costs one step of a world and at most one
 /// try more, whatever the number of sites.
-pub fn order(
+pub fn order<J: AsSlice<EventKind>>(
     alloc: Global,
     plan: &Plan,
-    journals: &[Vec<EventKind>],
+    journals: &[J],
 ) -> Result<Vec<Event>, OrderFault>
     ensures count { length journals.now ≢ site_count plan.now → result ≡ Err CountDiffers }
-    ensures order { IfOk result (λ events. IsWholeOrder (plan_shown plan.now (lists_in journals.now)) (lists_in journals.now) events.items) }
-    ensures own { NoSiteResigns plan.now → IfOk result (λ events. IsWholeOrder plan.now (lists_in journals.now) events.items) }
-    ensures lowest { IfOk result (λ events. IsLowestFirst (plan_shown plan.now (lists_in journals.now)) (lists_in journals.now) events.items) }
-    ensures fault { IfErr result (OrderFaultIs (plan_shown plan.now (lists_in journals.now)) (lists_in journals.now)) }
+    ensures order { IfOk result (λ events. IsWholeOrder (plan_shown plan.now (map J.items journals.now)) (map J.items journals.now) events.items) }
+    ensures own { NoSiteResigns plan.now → IfOk result (λ events. IsWholeOrder plan.now (map J.items journals.now) events.items) }
+    ensures lowest { IfOk result (λ events. IsLowestFirst (plan_shown plan.now (map J.items journals.now)) (map J.items journals.now) events.items) }
+    ensures fault { IfErr result (OrderFaultIs (plan_shown plan.now (map J.items journals.now)) (map J.items journals.now)) }
 {
     laws::outcomes_matter_only_to_sites_that_resign();
     if journals.len() != plan.sites() as usize {
@@ -71,17 +73,17 @@ pub fn order(
 }
 
 // The same for one journal a site, where no event is counted yet.
-fn search(
+fn search<J: AsSlice<EventKind>>(
     alloc: Global,
     plan: &Plan,
-    journals: &[Vec<EventKind>],
+    journals: &[J],
     counts: &mut [u32],
 ) -> Result<Vec<Event>, OrderFault>
     requires journals { length journals.now ≡ site_count plan.now }
     requires counts { counts.old ≡ replicate (site_count plan.now) 0 }
-    ensures order { IfOk result (λ events. IsWholeOrder (plan_shown plan.now (lists_in journals.now)) (lists_in journals.now) events.items) }
-    ensures lowest { IfOk result (λ events. IsLowestFirst (plan_shown plan.now (lists_in journals.now)) (lists_in journals.now) events.items) }
-    ensures fault { IfErr result (OrderFaultIs (plan_shown plan.now (lists_in journals.now)) (lists_in journals.now)) }
+    ensures order { IfOk result (λ events. IsWholeOrder (plan_shown plan.now (map J.items journals.now)) (map J.items journals.now) events.items) }
+    ensures lowest { IfOk result (λ events. IsLowestFirst (plan_shown plan.now (map J.items journals.now)) (map J.items journals.now) events.items) }
+    ensures fault { IfErr result (OrderFaultIs (plan_shown plan.now (map J.items journals.now)) (map J.items journals.now)) }
 {
     laws::orders_that_exist_are_found();
     laws::stuck_worlds_are_complete();
@@ -103,13 +105,13 @@ fn search(
 }
 
 // The lowest site with events left, where so many of each site's were placed.
-fn first_left(plan: &Plan, journals: &[Vec<EventKind>], counts: &[u32]) -> Option<u32>
+fn first_left<J: AsSlice<EventKind>>(plan: &Plan, journals: &[J], counts: &[u32]) -> Option<u32>
     requires journals { length journals.now ≡ site_count plan.now }
     requires counts { length counts.now ≡ site_count plan.now }
-    ensures { FirstLeft (site_count plan.now) (lists_in journals.now) counts.now result }
+    ensures { FirstLeft (site_count plan.now) (map J.items journals.now) counts.now result }
 {
     for site in 0..plan.sites() {
-        if (counts[site as usize] as usize) < journals[site as usize].len() {
+        if (counts[site as usize] as usize) < journals[site as usize].as_slice().len() {
             return Some(site);
         }
     }

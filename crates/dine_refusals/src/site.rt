@@ -54,7 +54,7 @@ fn one_port<L: Lane>(
     requires nothingtaken { IsUnused (L.seen_rx rx) }
     requires silent { (ringer.rings ≡ 0) × (ringer.refused ≡ false) }
     ensures count { IfOk result (λ ports. vec_len ports ≡ 1) }
-    ensures unused { IfOk result (λ ports. All IsFreshPort (seen_ports L.seen_tx L.seen_closed L.seen_rx ports.items)) }
+    ensures unused { IfOk result (λ ports. All IsFreshPort (seen_ports L.Lane ports.items)) }
 {
     let mut ports = Vec::with_capacity(alloc, 1)?;
     ports.push_reserved(Port::<L> {
@@ -87,7 +87,7 @@ fn run_lower<L: Lane, R: Wait>(
 ) -> Result<SiteEnd<L, Eater>, AllocError>
     requires bell { bell.degree ≡ vec_len ports }
     requires unheard { bell.refused ≡ false }
-    requires unused { All IsFreshPort (seen_ports L.seen_tx L.seen_closed L.seen_rx ports.items) }
+    requires unused { All IsFreshPort (seen_ports L.Lane ports.items) }
 {
     if plan.sites() == 0 {
         return Err(AllocError);

@@ -5,3 +5,5 @@ pub mod Growing
 pub mod Waiting
 pub mod OneOrder
 pub mod OtherOutcomes
+pub mod Shown
+pub mod EatingApart

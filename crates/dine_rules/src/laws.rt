@@ -44,8 +44,9 @@ pub use joined::{
 pub use journals::{
     disabled_events_wait_for_a_letter, journals_and_links_fix_the_logs, journals_fix_the_world,
     journals_go_as_worked, journals_grow_by_each_event, journals_stand_for_other_outcomes,
-    order_between_sites_does_not_matter, orders_grow_by_each_event, orders_that_exist_are_found,
-    outcomes_matter_only_to_sites_that_resign,
+    neighbours_eat_apart_in_each_order, order_between_sites_does_not_matter,
+    orders_grow_by_each_event, orders_that_exist_are_found,
+    outcomes_matter_only_to_sites_that_resign, timed_journals_have_an_order,
 };
 
 /// What a link has of a site's letters is in order where it has a front of them, or a front and Close; also where it

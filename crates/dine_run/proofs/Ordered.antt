@@ -1,8 +1,7 @@
 -- An order of the journals of a run leads to the forks that were gathered.
-use Rattle.std.proofs.Common.{◌≡◌, ◌≢◌, ℕ, ◌+◌, ◌*◌, ◌<◌, ◌==◌, List, length, get_or, refl, sym, ◌∙◌, ap, subst, inl, inr, arith}
-use mathlib.Core.List.{IsPrefix}
+use Rattle.std.proofs.Common.{◌≡◌, ◌≢◌, ℕ, ◌+◌, ◌<◌, ◌==◌, List, length, get_or, refl, sym, ◌∙◌, ap, inl, inr, arith}
 use Rattle.std.proofs.lemmas.Bool.{cases_eq, cond-false, cond-true, eq-eqb, ne_eqb}
-use Rattle.std.proofs.lemmas.List.{ext_get_or, get_or-map, length-map}
+use Rattle.std.proofs.lemmas.List.{ext_get_or, length-map}
 use Rattle.std.proofs.lemmas.List.FromFn.{get_or-map-range_with_len, length-map-range_with_len, length-range_with_len}
 use Rattle.std.proofs.lemmas.Option.{slice_get-get_or}
 use Rattle.dine_token.specs.Fork.{SeenFork}
@@ -10,39 +9,30 @@ use Rattle.dine_graph.specs.Plan.{SeenPlan, IsPlan, edge_count, edges_of, hi_of,
 use Rattle.dine_rules.specs.declared.events.Event.{Event}
 use Rattle.dine_rules.specs.declared.events.EventKind.{EventKind}
 use Rattle.dine_rules.specs.Holdings.{fork_at, forks_held, hand, hand_at}
-use Rattle.dine_rules.specs.Journals.{AreStatesAfter, FailAsShown, IsJournal, IsOrderOf, journal_of}
+use Rattle.dine_rules.specs.Journals.{AreStatesAfter, FailAsShown, IsOrderOf}
 use Rattle.dine_rules.specs.JoinedEnds.{AreEndsOfEdge}
 use Rattle.dine_rules.specs.Links.{ForEachLink}
-use Rattle.dine_rules.specs.Local.{LocalState, Traffic, edge_at, neighbour_at, no_traffic, traffic_at}
+use Rattle.dine_rules.specs.Local.{LocalState, Traffic, edge_at, traffic_at}
 use Rattle.dine_rules.specs.Precedence.{fork_log}
 use Rattle.dine_rules.specs.Steps.{fork_by}
-use Rattle.dine_rules.specs.World.{LinksAreOrdered, Reaches, WorldState, no_state, place_of, put_to, state_of}
+use Rattle.dine_rules.specs.World.{Reaches, WorldState, place_of, state_of}
 use Rattle.dine_world.specs.Worlds.{fork_seen, forks_seen}
 use Rattle.dine_link.specs.Links.{SeenLink}
-use Rattle.dine_threads.specs.Gathered.{high_traffic, link_from_high, link_from_low, low_traffic, no_link, traffic_of}
+use Rattle.dine_threads.specs.Gathered.{high_traffic, low_traffic, traffic_of}
 use Rattle.dine_threads.specs.Headline as headline_specs
 use Rattle.dine_threads.specs.Headline.{IsHeadline, IsTheFork, ate_of}
 use Rattle.dine_rules.proofs.journals.OtherOutcomes.{plan-stays, states-stay}
-use Rattle.dine_order.specs.Orders.{plan_shown, shown_by}
-use Rattle.dine_order.proofs.Shown.{fail_as_shown, fork_shown, sites_shown}
-use Rattle.dine_threads.specs.Journals.{AreJournals, state_left, states_left}
-
--- what an end of an edge put and took: the lower end, and another
-of_low : (plan : SeenPlan) (links : List SeenLink) (s edge : ℕ) → lo_of plan edge ≡ s → traffic_of plan links s edge ≡ low_traffic links edge
-of_low plan links s edge is = cond-true (lo_of plan edge == s) (low_traffic links edge) (high_traffic links edge) (eq-eqb (lo_of plan edge) s is)
-
-of_high : (plan : SeenPlan) (links : List SeenLink) (s edge : ℕ) → lo_of plan edge ≢ s → traffic_of plan links s edge ≡ high_traffic links edge
-of_high plan links s edge differs = cond-false (lo_of plan edge == s) (low_traffic links edge) (high_traffic links edge) (ne_eqb (lo_of plan edge) s differs)
+use Rattle.dine_rules.specs.Shown.{plan_shown, shown_by}
+use Rattle.dine_rules.proofs.journals.Shown.{fail_as_shown, sites_shown}
+use Rattle.dine_order.proofs.Shown.{fork_shown}
+use Rattle.dine_threads.proofs.all_sites.Ordered.{none_must, of_high, of_low, state_is, states_after, traffic_is}
+use Rattle.dine_threads.specs.Journals.{AreJournals, states_left}
 
 -- what the laws say of the places of edges, of journals and of logs, as they are called
 pub record Known : Type 0 where
   pub ends : (plan : SeenPlan) (edge : ℕ) → IsPlan plan → edge < edge_count plan
       → AreEndsOfEdge plan (lo_of plan edge) (place_of plan (lo_of plan edge) edge) (hi_of plan edge) (place_of plan (hi_of plan edge) edge)
   pub edge : (plan : SeenPlan) (edge : ℕ) → IsPlan plan → edge < edge_count plan → edge_at plan (lo_of plan edge) (place_of plan (lo_of plan edge) edge) ≡ edge
-  pub places : (plan : SeenPlan) (s i : ℕ) → IsPlan plan → i < length (edges_of plan s)
-      → AreEndsOfEdge plan s i (neighbour_at plan s i) (place_of plan (neighbour_at plan s i) (edge_at plan s i))
-  pub edges : (plan : SeenPlan) (s i : ℕ) → IsPlan plan → i < length (edges_of plan s) → edge_at plan s i < edge_count plan
-  pub sites : (plan : SeenPlan) (s i : ℕ) → IsPlan plan → i < length (edges_of plan s) → neighbour_at plan s i < site_count plan
   pub fixed : (plan : SeenPlan) (journals : List (List EventKind)) (states world : WorldState) (events : List Event) → IsPlan plan
       → AreStatesAfter plan journals states → FailAsShown plan journals states → IsOrderOf journals events → Reaches plan events world → world ≡ states
   pub held : ForEachLink (λ plan world s i. fork_at plan s (state_of world s) i ≡ 1 → fork_log plan world (edge_at plan s i) ≡ hand_at s (state_of world s) i)
@@ -50,42 +40,6 @@ pub record Known : Type 0 where
 module _ (known : Known) (plan : SeenPlan) (ates : List ℕ) (links : List SeenLink) (forks : List SeenFork) (is_plan : IsPlan plan) (headline : IsHeadline plan ates links forks) where
   abbrev states : WorldState
   states = states_left plan ates links
-
-  state_is : (s : ℕ) → s < site_count plan → state_of states s ≡ state_left plan ates links s
-  state_is s is_site = get_or-map-range_with_len (state_left plan ates links) 0 (site_count plan) s s no_state is_site (omega arith)
-
-  -- at a place of a site stands what the end of that edge put and took
-  traffic_is : (s i : ℕ) → s < site_count plan → i < length (edges_of plan s) → traffic_at (state_of states s) i ≡ traffic_of plan links s (edge_at plan s i)
-  traffic_is s i is_site within = ap (λ (x : LocalState). traffic_at x i) (state_is s is_site) ∙ get_or-map (traffic_of plan links s) (edges_of plan s) i 0 no_traffic within
-
-  -- what was taken from the link that leads to an end is a prefix of what the other end put
-  prefix_low : (edge : ℕ) → edge < edge_count plan → IsPrefix (link_from_high links edge).taken (link_from_high links edge).put
-  prefix_low edge within = (headline.joined.in_order (2 * edge + 1) no_link (let n = headline.joined.by_edge.count in omega arith)).prefix
-
-  prefix_high : (edge : ℕ) → edge < edge_count plan → IsPrefix (link_from_low links edge).taken (link_from_low links edge).put
-  prefix_high edge within = (headline.joined.in_order (2 * edge) no_link (let n = headline.joined.by_edge.count in omega arith)).prefix
-
-  linked : LinksAreOrdered plan states
-  linked s i is_site within =
-      let over = known.places plan s i is_plan within in
-      let edge : ℕ = edge_at plan s i in
-      let is_edge : edge < edge_count plan = known.edges plan s i is_plan within in
-      let other : ℕ = neighbour_at plan s i in
-      let mine : traffic_at (state_of states s) i ≡ traffic_of plan links s edge = traffic_is s i is_site within in
-      let theirs : traffic_at (state_of states other) (place_of plan other edge) ≡ traffic_of plan links other edge =
-      traffic_is other (place_of plan other edge) (known.sites plan s i is_plan within) over.within_there ∙ ap (traffic_of plan links other) over.same_edge in
-      subst (λ (x : Traffic). IsPrefix x.taken (put_to plan states s i)) (sym mine) (subst (λ (x : Traffic). IsPrefix (traffic_of plan links s edge).taken x.put) (sym theirs)
-      (elim (cases_eq (lo_of plan edge) s) [
-        | inl lower ↦
-            let across : other ≡ hi_of plan edge = cond-true (lo_of plan edge == s) (hi_of plan edge) (lo_of plan edge) (eq-eqb (lo_of plan edge) s lower) in
-            let far : lo_of plan edge ≢ other = λ same. omega (arith, is_plan.ordered edge is_edge, across, same) in
-            subst (λ (x : Traffic). IsPrefix x.taken (traffic_of plan links other edge).put) (sym (of_low plan links s edge lower))
-            (subst (λ (x : Traffic). IsPrefix (low_traffic links edge).taken x.put) (sym (of_high plan links other edge far)) (prefix_low edge is_edge))
-        | inr higher ↦
-            let across : other ≡ lo_of plan edge = cond-false (lo_of plan edge == s) (hi_of plan edge) (lo_of plan edge) (ne_eqb (lo_of plan edge) s higher) in
-            subst (λ (x : Traffic). IsPrefix x.taken (traffic_of plan links other edge).put) (sym (of_high plan links s edge higher))
-            (subst (λ (x : Traffic). IsPrefix (high_traffic links edge).taken x.put) (sym (of_low plan links other edge (sym across))) (prefix_high edge is_edge))
-      ]))
 
   module _ (journals : List (List EventKind)) (are_journals : AreJournals plan ates links journals) (events : List Event) (world : WorldState) (holds : IsOrderOf journals events) (reached : Reaches (plan_shown plan journals) events world) where
     abbrev other : SeenPlan
@@ -96,20 +50,15 @@ module _ (known : Known) (plan : SeenPlan) (ates : List ℕ) (links : List SeenL
 
     world_is : world ≡ states
     world_is =
-        let after : AreStatesAfter plan journals states = record {
-          sites = length-map-range_with_len (state_left plan ates links) 0 (site_count plan);
-          each = λ s is_site. subst (IsJournal plan s (journal_of journals s)) (sym (state_is s is_site)) (are_journals s is_site);
-          links = linked;
-        } in
-        known.fixed other journals states world events is_plan_too (states-stay plan (shown_by plan journals) journals states after)
-        (fail_as_shown plan journals states (λ s is_site. ap (λ (x : LocalState). x.must_quit) (state_is s is_site))) holds reached
+        known.fixed other journals states world events is_plan_too (states-stay plan (shown_by plan journals) journals states (states_after plan ates links is_plan forks headline journals are_journals))
+        (fail_as_shown plan journals states (none_must plan ates links)) holds reached
 
     -- the log of the world is that in the hand of the end that holds the fork
     log_is : (s i edge : ℕ) (traffic : Traffic) → s < site_count plan → i < length (edges_of plan s) → edge_at plan s i ≡ edge → traffic_of plan links s edge ≡ traffic → forks_held plan s edge traffic ≡ 1
         → hand s (ate_of plan ates links s) traffic ≡ fork_log other world edge
     log_is s i edge traffic is_site within is same held =
-        let here : traffic_at (state_of world s) i ≡ traffic = ap (λ (x : WorldState). traffic_at (state_of x s) i) world_is ∙ traffic_is s i is_site within ∙ ap (traffic_of plan links s) is ∙ same in
-        let ate : (state_of world s).ate ≡ ate_of plan ates links s = ap (λ (x : WorldState). (state_of x s).ate) world_is ∙ ap (λ (x : LocalState). x.ate) (state_is s is_site) in
+        let here : traffic_at (state_of world s) i ≡ traffic = ap (λ (x : WorldState). traffic_at (state_of x s) i) world_is ∙ traffic_is plan ates links s i is_site within ∙ ap (traffic_of plan links s) is ∙ same in
+        let ate : (state_of world s).ate ≡ ate_of plan ates links s = ap (λ (x : WorldState). (state_of x s).ate) world_is ∙ ap (λ (x : LocalState). x.ate) (state_is plan ates links s is_site) in
         let one : fork_at plan s (state_of world s) i ≡ 1 = ap (forks_held plan s (edge_at plan s i)) here ∙ ap (λ (e : ℕ). forks_held plan s e traffic) is ∙ held in
         sym (ap (fork_log other world) (sym is) ∙ known.held other events world s i is_plan_too reached (omega (arith, is_site, sites_shown plan journals)) within one
         ∙ ap (λ (n : ℕ). hand s n (traffic_at (state_of world s) i)) ate ∙ ap (hand s (ate_of plan ates links s)) here)

@@ -11,7 +11,7 @@ ghost use Rattle.dine_world.specs.Worlds.{forks_seen};
 ghost use Rattle.dine_link.specs.Links.{SeenLink};
 ghost use Rattle.dine_threads.specs.Headline.{IsHeadline};
 ghost use Rattle.dine_threads.specs.Journals.{AreJournals};
-ghost use Rattle.dine_order.specs.Orders.{plan_shown};
+ghost use Rattle.dine_rules.specs.Shown.{plan_shown};
 
 use dine_rules::laws;
 

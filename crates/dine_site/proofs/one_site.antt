@@ -5,8 +5,11 @@ pub mod AtPlaces
 pub mod Meals
 pub mod Heeding
 pub mod Same
+pub mod WholeMeals
+pub mod Proceeding
 pub mod Quits
 pub mod Ways
 pub mod Stops
 pub mod Ends
 pub mod Leaving
+pub mod Times

@@ -1,7 +1,10 @@
 pub mod Doings
 pub mod Diners
+pub mod WholeMeals
+pub mod Starts
 pub mod CallLogs
 pub mod Ports
+pub mod Times
 pub mod Endings
 pub mod SiteEnds
 pub mod FaultWords

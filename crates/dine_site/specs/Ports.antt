@@ -12,7 +12,8 @@ use Rattle.dine_link.specs.declared.lane.TxEnd.{TxEnd}
 use Rattle.dine_link.specs.declared.lane.TxEnd.TheVariants.{Live, Shut}
 use Rattle.dine_link.specs.Lanes.{seen_end}
 use Rattle.dine_link.specs.Bells.{SeenRinger, after_refused_ring, after_ring}
-use Rattle.dine_link.specs.Links.{SeenEnd, after_refusal, with_letter}
+use Rattle.dine_link.specs.Links.{SeenEnd, after_refusal, with_letter_at}
+use Rattle.dine_link.specs.declared.lane.Lane.{Ghosts}
 
 -- A port: the end that the site puts in, whether more can be put in it, the end that it takes from, and the ringer of
 -- the neighbour's bell.
@@ -28,39 +29,39 @@ is_live_end (Live tx) = true
 is_live_end (Shut tx) = false
 
 -- a port, by what is seen of the ends of its lane; and the ports of all places
-module _ {Lane Tx Closed Rx Identity : Type 0} (live : Tx → SeenEnd Identity) (shut : Closed → SeenEnd Identity) (taking : Rx → SeenEnd Identity) where
+module _ {Lane Tx Closed Rx : Type 0} (lane : Ghosts Lane Tx Closed Rx) where
   -- a port, by what is seen of the ends of its lane
-  abbrev pub seen_port : Port Lane Tx Closed Rx → SeenPort Identity
-  seen_port port = record { tx = seen_end live shut port.tx; is_live = is_live_end port.tx; rx = taking port.rx; ringer = port.ringer }
+  abbrev pub seen_port : Port Lane Tx Closed Rx → SeenPort lane.Identity
+  seen_port port = record { tx = seen_end lane.seen_tx lane.seen_closed port.tx; is_live = is_live_end port.tx; rx = lane.seen_rx port.rx; ringer = port.ringer }
 
   -- the ports of all places, in order
-  abbrev pub seen_ports : List (Port Lane Tx Closed Rx) → List (SeenPort Identity)
+  abbrev pub seen_ports : List (Port Lane Tx Closed Rx) → List (SeenPort lane.Identity)
   seen_ports ports = map seen_port ports
 
 module _ {Identity : Type 0} where
   -- the port after a letter was put and the bell rung
-  abbrev pub put_on : Letter → SeenPort Identity → SeenPort Identity
-  put_on letter port = record { tx = with_letter letter port.tx; is_live = port.is_live; rx = port.rx; ringer = after_ring port.ringer }
+  abbrev pub put_on : ℕ → Letter → SeenPort Identity → SeenPort Identity
+  put_on m letter port = record { tx = with_letter_at letter m port.tx; is_live = port.is_live; rx = port.rx; ringer = after_ring port.ringer }
 
   -- the port after a letter was put and the ring refused
-  abbrev pub put_unheard_on : Letter → SeenPort Identity → SeenPort Identity
-  put_unheard_on letter port = record { tx = with_letter letter port.tx; is_live = port.is_live; rx = port.rx; ringer = after_refused_ring port.ringer }
+  abbrev pub put_unheard_on : ℕ → Letter → SeenPort Identity → SeenPort Identity
+  put_unheard_on m letter port = record { tx = with_letter_at letter m port.tx; is_live = port.is_live; rx = port.rx; ringer = after_refused_ring port.ringer }
 
   -- the port after Close was put and the bell rung; no more can be put
-  abbrev pub closed_on : SeenPort Identity → SeenPort Identity
-  closed_on port = record { tx = with_letter Close port.tx; is_live = false; rx = port.rx; ringer = after_ring port.ringer }
+  abbrev pub closed_on : ℕ → SeenPort Identity → SeenPort Identity
+  closed_on m port = record { tx = with_letter_at Close m port.tx; is_live = false; rx = port.rx; ringer = after_ring port.ringer }
 
   -- the port after Close was put and the ring refused; no more can be put
-  abbrev pub closed_unheard_on : SeenPort Identity → SeenPort Identity
-  closed_unheard_on port = record { tx = with_letter Close port.tx; is_live = false; rx = port.rx; ringer = after_refused_ring port.ringer }
+  abbrev pub closed_unheard_on : ℕ → SeenPort Identity → SeenPort Identity
+  closed_unheard_on m port = record { tx = with_letter_at Close m port.tx; is_live = false; rx = port.rx; ringer = after_refused_ring port.ringer }
 
   -- the port after the link refused a letter or Close
   abbrev pub refused_on : SeenPort Identity → SeenPort Identity
   refused_on port = record { tx = after_refusal port.tx; is_live = port.is_live; rx = port.rx; ringer = port.ringer }
 
   -- the port after a letter was taken
-  abbrev pub taken_on : Letter → SeenPort Identity → SeenPort Identity
-  taken_on letter port = record { tx = port.tx; is_live = port.is_live; rx = with_letter letter port.rx; ringer = port.ringer }
+  abbrev pub taken_on : ℕ → Letter → SeenPort Identity → SeenPort Identity
+  taken_on m letter port = record { tx = port.tx; is_live = port.is_live; rx = with_letter_at letter m port.rx; ringer = port.ringer }
 
   -- the port after the link refused to give a letter
   abbrev pub untaken_on : SeenPort Identity → SeenPort Identity
@@ -76,16 +77,16 @@ module _ {Identity : Type 0} where
 
   -- a letter was sent: it was put and the bell rung, or the link refused it and it is handed back, or the bell refused
   -- the ring
-  abbrev pub Sends : Letter → SeenPort Identity → SeenPort Identity → Sent → Type 0
-  Sends letter old new Heard = new ≡ put_on letter old
-  Sends letter old new Unheard = new ≡ put_unheard_on letter old
-  Sends letter old new (Refused back) = (back ≡ letter) × (new ≡ refused_on old)
+  abbrev pub Sends : ℕ → Letter → SeenPort Identity → SeenPort Identity → Sent → Type 0
+  Sends m letter old new Heard = new ≡ put_on m letter old
+  Sends m letter old new Unheard = new ≡ put_unheard_on m letter old
+  Sends m letter old new (Refused back) = (back ≡ letter) × (new ≡ refused_on old)
 
   -- Close was sent: it was put and the bell rung, or it was put and the ring refused, or the link refused it
-  abbrev pub SendsClose : SeenPort Identity → SeenPort Identity → Closed → Type 0
-  SendsClose old new closed.Heard = new ≡ closed_on old
-  SendsClose old new closed.Unheard = new ≡ closed_unheard_on old
-  SendsClose old new closed.Refused = new ≡ refused_on old
+  abbrev pub SendsClose : ℕ → SeenPort Identity → SeenPort Identity → Closed → Type 0
+  SendsClose m old new closed.Heard = new ≡ closed_on m old
+  SendsClose m old new closed.Unheard = new ≡ closed_unheard_on m old
+  SendsClose m old new closed.Refused = new ≡ refused_on old
 
   -- one of the ports changed, in this way
   abbrev pub ChangesAt : ℕ → (SeenPort Identity → SeenPort Identity → Type 0) → List (SeenPort Identity) → List (SeenPort Identity) → Type 0
@@ -102,6 +103,8 @@ pub record IsFreshPort {Identity : Type 0} (port : SeenPort Identity) : Type 0 w
   pub live : port.is_live ≡ true
   pub nothing_put : port.tx.letters ≡ []
   pub nothing_taken : port.rx.letters ≡ []
+  pub untimed_put : port.tx.moments ≡ []
+  pub untimed_taken : port.rx.moments ≡ []
   pub nothing_rung : port.ringer.rings ≡ 0
   pub unrefused : IsUnrefused port
 

@@ -20,12 +20,15 @@ use Rattle.dine_site.specs.declared.site_end.Stray.{Stray}
 use Rattle.dine_site.specs.declared.site_loop.running.Stop.{Stop}
 use Rattle.dine_site.specs.declared.site_loop.running.Running.{Running}
 use Rattle.dine_link.specs.Bells.{SeenBell}
-use Rattle.dine_link.specs.Links.{SeenEnd}
 use Rattle.dine_site.specs.Diners.{HasEaten}
 use Rattle.dine_site.specs.Doings.{HasActed, HasDone}
 use Rattle.dine_site.specs.Ports.{HasRung, IsUnrefused, SeenPort, SameLinks, PutsFit, seen_ports}
+use Rattle.dine_clock.specs.Moments.{last_moment}
+use Rattle.dine_site.specs.Times.{IsTimed, late_at, none_late}
 use Rattle.dine_site.specs.Endings.{IsBreached, IsLost, breached_at, hands_back, links_at, refused_at}
 use Rattle.dine_site.specs.SiteEnds.{HasBellRefused}
+use Rattle.dine_link.specs.declared.lane.Lane.{Ghosts}
+use Rattle.dine_site.specs.declared.diner.Diner as diners
 
 -- a site on its way, but for its diner
 pub record SeenRun (Identity : Type 0) : Type 0 where
@@ -118,22 +121,6 @@ abbrev pub MayEnd : {Identity : Type 0} → Option Stray → Option SiteFault �
 MayEnd stray None plan given run = IsRunning plan given run × IsFinished run.core × (stray ≡ None)
 MayEnd stray (Some cause) plan given run = IsStopped stray cause plan given run × ClosedBelow (length run.core.places) run.core
 
--- so it is for some plan, and some ports that were handed in
-abbrev pub ForSome : {Identity : Type 0} → (SeenPlan → List (SeenPort Identity) → SeenRun Identity → Type 0) → SeenRun Identity → Type 0
-ForSome {Identity} P run = (plan : SeenPlan) × (given : List (SeenPort Identity)) × P plan given run
-
--- for each plan and ports for which the first is so of the old run, the second is so of the new one
-abbrev pub Leads : {Identity : Type 0} → (SeenPlan → List (SeenPort Identity) → SeenRun Identity → Type 0) → (SeenPlan → List (SeenPort Identity) → SeenRun Identity → Type 0) → SeenRun Identity → SeenRun Identity → Type 0
-Leads {Identity} P Q old new = (plan : SeenPlan) (given : List (SeenPort Identity)) → P plan given old → Q plan given new
-
--- it has stopped, with some stray and some cause
-abbrev pub HasStopped : {Identity : Type 0} → SeenRun Identity → Type 0
-HasStopped run = (stray : Option Stray) × (cause : SiteFault) × ForSome (IsStopped stray cause) run
-
--- a site that has stopped stays so, with the same stray and the same cause
-abbrev pub StaysStopped : {Identity : Type 0} → SeenRun Identity → SeenRun Identity → Type 0
-StaysStopped old new = (stray : Option Stray) (cause : SiteFault) → Leads (IsStopped stray cause) (IsStopped stray cause) old new
-
 -- after an answer: the site goes on, or it has stopped with this cause and this stray
 abbrev pub GoesOn : {Identity : Type 0} → Result (Unit {0}) Stop → SeenPlan → List (SeenPort Identity) → SeenRun Identity → Type 0
 GoesOn result plan given run = MatchResult result (λ _. IsRunning plan given run) (λ stop. IsStopped stop.stray stop.fault plan given run)
@@ -142,10 +129,38 @@ GoesOn result plan given run = MatchResult result (λ _. IsRunning plan given ru
 abbrev pub GoesToEnd : {Identity : Type 0} → Result (Unit {0}) Stop → SeenPlan → List (SeenPort Identity) → SeenRun Identity → Type 0
 GoesToEnd result plan given run = MatchResult result (λ _. IsRunning plan given run × IsFinished run.core) (λ stop. IsStopped stop.stray stop.fault plan given run)
 
-module _ {Lane Tx Closed Rx Identity Diner : Type 0} (live : Tx → SeenEnd Identity) (shut : Closed → SeenEnd Identity) (taking : Rx → SeenEnd Identity) where
+-- what may be so of a site on its way, by a plan and ports that were handed in
+abbrev pub Way : Type 0 → Type 1
+Way Identity = SeenPlan → List (SeenPort Identity) → SeenRun Identity → Type 0
+
+module _ {Lane Tx Closed Rx Diner : Type 0} (lane : Ghosts Lane Tx Closed Rx) where
   -- what is seen of a site on its way
-  abbrev pub seen_run : Running Lane Diner Tx Closed Rx → SeenRun Identity
-  seen_run run = record { core = run.core; ports = seen_ports live shut taking run.ports.items; bell = run.bell; journal = run.journal.items }
+  abbrev pub seen_run : Running Lane Diner Tx Closed Rx → SeenRun lane.Identity
+  seen_run run = record { core = run.core; ports = seen_ports lane run.ports.items; bell = run.bell; journal = run.journal.items }
+
+  -- the moments of its events fit its link ends
+  abbrev pub IsTimedRun : Running Lane Diner Tx Closed Rx → Type 0
+  IsTimedRun run = IsTimed none_late run.clock.events run.journal.items (seen_ports lane run.ports.items)
+
+  -- the same, but for the letter of the last event, which is on its way out at this place
+  abbrev pub IsTimedBut : ℕ → Running Lane Diner Tx Closed Rx → Type 0
+  IsTimedBut i run = IsTimed (late_at i (last_moment run.clock.events)) run.clock.events run.journal.items (seen_ports lane run.ports.items)
+
+  -- so it is for some plan, and some ports that were handed in
+  abbrev pub ForSome : Way lane.Identity → Running Lane Diner Tx Closed Rx → Type 0
+  ForSome P run = (plan : SeenPlan) × (given : List (SeenPort lane.Identity)) × P plan given (seen_run run)
+
+  -- for each plan and ports for which the first is so of the old site, the second is so of the new one
+  abbrev pub Leads : Way lane.Identity → Way lane.Identity → Running Lane Diner Tx Closed Rx → Running Lane Diner Tx Closed Rx → Type 0
+  Leads P Q old new = (plan : SeenPlan) (given : List (SeenPort lane.Identity)) → P plan given (seen_run old) → Q plan given (seen_run new)
+
+  -- it has stopped, with some stray and some cause
+  abbrev pub HasStopped : Running Lane Diner Tx Closed Rx → Type 0
+  HasStopped run = (stray : Option Stray) × (cause : SiteFault) × ForSome (IsStopped stray cause) run
+
+  -- a site that has stopped stays so, with the same stray and the same cause
+  abbrev pub StaysStopped : Running Lane Diner Tx Closed Rx → Running Lane Diner Tx Closed Rx → Type 0
+  StaysStopped old new = (stray : Option Stray) (cause : SiteFault) → Leads (IsStopped stray cause) (IsStopped stray cause) old new
 
 -- the last of these calls failed
 abbrev pub last_failed : List Call → Bool
@@ -168,23 +183,44 @@ pub record IsHeeding (resigns drops has_left : Bool) (first now : List Call) : T
   pub stops : resigns ≡ true → only_last_failed added ≡ true
   pub drops_where : drops ≡ (last_failed added && resigns && has_left)
 
-module _ {Lane Tx Closed Rx Diner : Type 0} where
+module _ {Lane Tx Closed Rx Diner : Type 0} (diner : diners.Ghosts Diner) where
   -- The bell is that of the places, there is room for the calls of all meals to come, and no more meals failed than
   -- were begun.
-  pub record IsReady (room_left : Diner → ℕ) (run : Running Lane Diner Tx Closed Rx) : Type 0 where
+  pub record IsReady (run : Running Lane Diner Tx Closed Rx) : Type 0 where
     pub bell : run.bell.degree ≡ vec_len run.ports
-    pub room : run.core.due ≤ run.core.ate + room_left run.diner
+    pub room : run.core.due ≤ run.core.ate + diner.room_left run.diner
     pub failed : run.failed ≤ run.core.ate
 
   -- what the diner did since any start goes on to what it has done now
-  abbrev pub EatsOn : (Diner → List Call) → (Diner → List Bool) → (List Bool → ℕ → Bool → Bool) → Running Lane Diner Tx Closed Rx → Running Lane Diner Tx Closed Rx → Type 0
-  EatsOn calls marks fits old new = (first : Diner) → HasEaten calls marks fits old.core.ate old.failed first old.diner → HasEaten calls marks fits new.core.ate new.failed first new.diner
+  abbrev pub EatsOn : Running Lane Diner Tx Closed Rx → Running Lane Diner Tx Closed Rx → Type 0
+  EatsOn old new = (first : Diner) → HasEaten diner.calls diner.marks diner.fits old.core.ate old.failed first old.diner
+      → HasEaten diner.calls diner.marks diner.fits new.core.ate new.failed first new.diner
 
   -- what the diner did since any start was heeded, and is so still
-  abbrev pub HeedsOn : (Diner → List Call) → Running Lane Diner Tx Closed Rx → Running Lane Diner Tx Closed Rx → Type 0
-  HeedsOn calls old new = (first : List Call) → IsHeeding old.core.resigns (old.core.must_quit || old.core.has_quit) (nat_lt old.core.ate old.core.due) first (calls old.diner)
-      → IsHeeding new.core.resigns (new.core.must_quit || new.core.has_quit) (nat_lt new.core.ate new.core.due) first (calls new.diner)
+  abbrev pub HeedsOn : Running Lane Diner Tx Closed Rx → Running Lane Diner Tx Closed Rx → Type 0
+  HeedsOn old new = (first : List Call)
+      → IsHeeding old.core.resigns (old.core.must_quit || old.core.has_quit) (nat_lt old.core.ate old.core.due) first (diner.calls old.diner)
+      → IsHeeding new.core.resigns (new.core.must_quit || new.core.has_quit) (nat_lt new.core.ate new.core.due) first (diner.calls new.diner)
 
+module _ {Lane Tx Closed Rx Diner : Type 0} (lane : Ghosts Lane Tx Closed Rx) (diner : diners.Ghosts Diner) where
+  -- what a site has between two events, so that it may do the next; its diner expects to eat there, in that plan
+  pub record MayProceed (run : Running Lane Diner Tx Closed Rx) : Type 0 where
+    pub running : ForSome lane IsRunning run
+    pub ready : IsReady diner run
+    pub expects : diner.expects run.diner running.0 run.core.site
+
+  -- What a site keeps as it goes on: from where it ran it came where it says, it is ready still, its diner was called
+  -- for each meal and expects what it did, and its failures were heeded.
+  pub record Proceeds (To : Way lane.Identity) (old new : Running Lane Diner Tx Closed Rx) : Type 0 where
+    pub way : Leads lane IsRunning To old new
+    pub ready : IsReady diner new
+    pub eats : EatsOn diner old new
+    pub heeds : HeedsOn diner old new
+    pub resigns : new.core.resigns ≡ old.core.resigns
+    pub site : new.core.site ≡ old.core.site
+    pub expects : (plan : SeenPlan) (site : ℕ) → diner.expects old.diner plan site → diner.expects new.diner plan site
+
+module _ {Lane Tx Closed Rx Diner : Type 0} where
   -- The site, its meals, its policy, the diner and the bell are as they were, and so is the number of ports.
   pub record SameMeals (old new : Running Lane Diner Tx Closed Rx) : Type 0 where
     pub site : new.core.site ≡ old.core.site

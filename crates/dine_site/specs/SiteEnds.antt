@@ -12,7 +12,9 @@ use Rattle.dine_site.specs.declared.site_end.SiteFault.{SiteFault}
 use Rattle.dine_site.specs.declared.site_end.SiteFault.TheVariants as fault
 use Rattle.dine_site.specs.declared.site_end.Stray.{Stray}
 use Rattle.dine_site.specs.Endings.{Ending, HasEnded, links_at}
-use Rattle.dine_site.specs.Ports.{HasRung, SeenPort, SameLinks}
+use Rattle.dine_site.specs.Ports.{HasRung, SeenPort, SameLinks, seen_ports}
+use Rattle.dine_site.specs.declared.site_end.SiteEnd.{SiteEnd}
+use Rattle.dine_link.specs.declared.lane.Lane.{Ghosts}
 
 -- How a site ended, without its diner: its number, the meals that it began, the forks and tokens in its hands, its
 -- journal, its link ends in order, its bell, and why it ended early.
@@ -26,6 +28,20 @@ pub record SeenSiteEnd (Identity : Type 0) : Type 0 where
   pub bell : SeenBell
   pub stray : Option Stray
   pub fault : Option SiteFault
+
+-- how a site ended, without its diner
+abbrev pub seen_site_end : {Lane D Tx Closed Rx : Type 0} (lane : Ghosts Lane Tx Closed Rx) → SiteEnd Lane D Tx Closed Rx → SeenSiteEnd lane.Identity
+seen_site_end lane end = record {
+  site = end.site;
+  ate = end.ate;
+  forks = end.forks.items;
+  tokens = end.tokens.items;
+  journal = end.journal.items;
+  ports = seen_ports lane end.ports.items;
+  bell = end.bell;
+  stray = end.stray;
+  fault = end.fault;
+}
 
 -- what it tells of its end
 abbrev pub told_by : {Identity : Type 0} → SeenSiteEnd Identity → Ending

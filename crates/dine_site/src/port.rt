@@ -4,6 +4,7 @@ ghost use Rattle.dine_rules.specs.Letters.{has_close};
 ghost use Rattle.dine_link.specs.Closing.{is_close};
 ghost use Rattle.dine_site.specs.Ports.{Sends, SendsClose, is_live_end, rung_on, seen_port, taken_on, unrung_on, untaken_on};
 
+use dine_clock::Stamp;
 use dine_link::{Lane, Lost, Ringer, TxEnd};
 use dine_rules::{Kind4, Letter};
 use std::sync::Wait;
@@ -38,15 +39,15 @@ pub enum Closed {
 
 impl<L: Lane> Port<L> {
     // Puts a letter other than Close, where the end is live, and rings.
-    pub(crate) fn put<R: Wait>(&mut self, rt: &R, letter: Letter) -> Sent
+    pub(crate) fn put<R: Wait>(&mut self, rt: &R, letter: Letter, stamp: Stamp) -> Sent
         requires live { is_live_end self.old.tx ≡ true }
         requires letter { is_close letter ≡ false }
-        requires room { length (seen_port L.seen_tx L.seen_closed L.seen_rx self.old).tx.letters < 2 ^ 61 }
-        ensures { Sends letter (seen_port L.seen_tx L.seen_closed L.seen_rx self.old) (seen_port L.seen_tx L.seen_closed L.seen_rx self.new) result }
+        requires room { length (seen_port L.Lane self.old).tx.letters < 2 ^ 61 }
+        ensures { Sends stamp.at letter (seen_port L.Lane self.old) (seen_port L.Lane self.new) result }
     {
         let kind = letter.kind();
         let put = match &mut self.tx {
-            TxEnd::Live(tx) => L::put(rt, tx, letter),
+            TxEnd::Live(tx) => L::put_at(rt, tx, letter, stamp),
             TxEnd::Shut(_) => unreachable!(),
         };
         match put {
@@ -59,14 +60,14 @@ impl<L: Lane> Port<L> {
     }
 
     // Puts Close, where the end is live, and rings. Where the link refuses it, the end stays live.
-    pub(crate) fn close<R: Wait>(self, rt: &R) -> (Port<L>, Closed)
+    pub(crate) fn close<R: Wait>(self, rt: &R, stamp: Stamp) -> (Port<L>, Closed)
         requires live { is_live_end self.tx ≡ true }
-        requires room { length (seen_port L.seen_tx L.seen_closed L.seen_rx self).tx.letters < 2 ^ 61 }
-        ensures { SendsClose (seen_port L.seen_tx L.seen_closed L.seen_rx self) (seen_port L.seen_tx L.seen_closed L.seen_rx result.0) result.1 }
+        requires room { length (seen_port L.Lane self).tx.letters < 2 ^ 61 }
+        ensures { SendsClose stamp.at (seen_port L.Lane self) (seen_port L.Lane result.0) result.1 }
     {
         let Port { tx, rx, ringer } = self;
         let TxEnd::Live(tx) = tx else { unreachable!() };
-        match L::close(rt, tx) {
+        match L::close_at(rt, tx, stamp) {
             Ok(tx) => {
                 let tx = TxEnd::Shut(tx);
                 let mut port = Port { tx, rx, ringer };
@@ -83,21 +84,21 @@ impl<L: Lane> Port<L> {
     }
 
     // Takes the next letter, where Close was not taken.
-    pub(crate) fn take<R: Wait>(&mut self, rt: &R) -> Result<Letter, Lost>
-        requires open { has_close (seen_port L.seen_tx L.seen_closed L.seen_rx self.old).rx.letters ≡ false }
-        requires room { length (seen_port L.seen_tx L.seen_closed L.seen_rx self.old).rx.letters < 2 ^ 61 }
+    pub(crate) fn take<R: Wait>(&mut self, rt: &R) -> Result<(Letter, Stamp), Lost>
+        requires open { has_close (seen_port L.Lane self.old).rx.letters ≡ false }
+        requires room { length (seen_port L.Lane self.old).rx.letters < 2 ^ 61 }
         ensures { MatchResult result
-            (λ letter. seen_port L.seen_tx L.seen_closed L.seen_rx self.new ≡ taken_on letter (seen_port L.seen_tx L.seen_closed L.seen_rx self.old))
-            (λ _. seen_port L.seen_tx L.seen_closed L.seen_rx self.new ≡ untaken_on (seen_port L.seen_tx L.seen_closed L.seen_rx self.old)) }
+            (λ got. seen_port L.Lane self.new ≡ taken_on got.1.at got.0 (seen_port L.Lane self.old))
+            (λ _. seen_port L.Lane self.new ≡ untaken_on (seen_port L.Lane self.old)) }
     {
-        L::take(rt, &mut self.rx)
+        L::take_at(rt, &mut self.rx)
     }
 
     // Rings the neighbour's bell for a letter of that kind.
     fn ring<R: Wait>(&mut self, rt: &R, kind: Kind4) -> Result<(), Lost>
         ensures { MatchResult result
-            (λ _. seen_port L.seen_tx L.seen_closed L.seen_rx self.new ≡ rung_on (seen_port L.seen_tx L.seen_closed L.seen_rx self.old))
-            (λ _. seen_port L.seen_tx L.seen_closed L.seen_rx self.new ≡ unrung_on (seen_port L.seen_tx L.seen_closed L.seen_rx self.old)) }
+            (λ _. seen_port L.Lane self.new ≡ rung_on (seen_port L.Lane self.old))
+            (λ _. seen_port L.Lane self.new ≡ unrung_on (seen_port L.Lane self.old)) }
     {
         self.ringer.ring_for(rt, kind)
     }

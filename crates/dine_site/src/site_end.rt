@@ -4,6 +4,7 @@ ghost use Rattle.dine_site.specs.FaultWords.{site_fault_words};
 
 use crate::diner::Diner;
 use crate::port::Port;
+use dine_clock::Clock;
 use dine_link::{Bell, Lane};
 use dine_rules::{Breach, EventKind, Letter};
 use dine_token::{Fork, Token};
@@ -66,6 +67,7 @@ pub struct SiteEnd<L: Lane, D: Diner> {
     pub forks: Vec<Fork>,
     pub tokens: Vec<Token>,
     pub journal: Vec<EventKind>,
+    pub clock: Clock,
     pub ports: Vec<Port<L>>,
     pub bell: Bell,
     pub stray: Option<Stray>,

@@ -1,16 +1,19 @@
 //! One site on its thread, from its first step to its last.
-ghost use Rattle.std.specs.Prelude.{◌≡◌, ◌≤◌, ◌+◌, All, false, length, vec_len};
+ghost use Rattle.std.specs.Prelude.{◌≡◌, ◌≤◌, ◌+◌, All, None, false, length, vec_len};
 ghost use Rattle.dine_graph.specs.Plan.{SeenPlan};
-ghost use Rattle.dine_core.specs.Standing.{IsFresh, IsFreshFor};
+ghost use Rattle.dine_core.specs.Standing.{IsFreshFor};
 ghost use Rattle.dine_site.specs.Diners.{HasEaten, HeedsFailures};
 ghost use Rattle.dine_site.specs.Ports.{IsFreshPort, seen_ports};
-ghost use Rattle.dine_site.specs.SiteEnds.{IsSiteEnd};
+ghost use Rattle.dine_site.specs.SiteEnds.{IsSiteEnd, seen_site_end};
+ghost use Rattle.dine_site.specs.Starts.{MayStart};
+ghost use Rattle.dine_site.specs.Times.{IsTimed, none_late};
 
 mod running;
 
 use crate::diner::Diner;
 use crate::port::Port;
 use crate::site_end::SiteEnd;
+use dine_clock::Clock;
 use dine_core::SiteCore;
 use dine_link::{Bell, Lane};
 use dine_rules::laws;
@@ -38,28 +41,20 @@ pub fn run_site<R: Wait, L: Lane, D: Diner>(
     bell: Bell,
     diner: D,
 ) -> SiteEnd<L, D>
-    requires fresh { IsFresh core }
+    requires fresh { MayStart D.Diner diner core }
     requires ports { vec_len ports ≡ length core.places }
-    requires unused { All IsFreshPort (seen_ports L.seen_tx L.seen_closed L.seen_rx ports.items) }
+    requires unused { All IsFreshPort (seen_ports L.Lane ports.items) }
     requires bell { bell.degree ≡ length core.places }
     requires unheard { bell.refused ≡ false }
     requires room { core.due ≤ D.room_left diner }
-    ensures end { (plan : SeenPlan) → IsFreshFor plan core → IsSiteEnd plan core.site (seen_ports L.seen_tx L.seen_closed L.seen_rx ports.items) (record {
-      site = result.site;
-      ate = result.ate;
-      forks = result.forks.items;
-      tokens = result.tokens.items;
-      journal = result.journal.items;
-      ports = seen_ports L.seen_tx L.seen_closed L.seen_rx result.ports.items;
-      bell = result.bell;
-      stray = result.stray;
-      fault = result.fault;
-    }) }
+    ensures end { (plan : SeenPlan) → IsFreshFor plan core
+        → IsSiteEnd plan core.site (seen_ports L.Lane ports.items) (seen_site_end L.Lane result) }
+    ensures timed { result.fault ≡ None → IsTimed none_late result.clock.events result.journal.items (seen_ports L.Lane result.ports.items) }
     ensures eaten { HasEaten D.calls D.marks D.fits result.ate result.failed diner result.diner }
     ensures heeds { HeedsFailures core.resigns result.journal.items (D.calls diner) (D.calls result.diner) }
 {
     laws::streams_are_kept();
-    let mut site = Running::new(core, ports, bell, diner, Vec::new(alloc));
+    let mut site = Running::new(core, ports, bell, diner, Vec::new(alloc), Clock::start());
     match site.work(rt) {
         Ok(()) => site.end(None, None),
         Err(stop) => {

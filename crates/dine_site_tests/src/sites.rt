@@ -92,7 +92,7 @@ fn runs_in<L: Lane, R: Wait + Abort>(
 )
     requires degree { bell.degree ≡ vec_len ports }
     requires unheard { bell.refused ≡ false }
-    requires unused { All IsFreshPort (seen_ports L.seen_tx L.seen_closed L.seen_rx ports.items) }
+    requires unused { All IsFreshPort (seen_ports L.Lane ports.items) }
 {
     let core = core_of(rt, alloc, plan, left.site);
     assert!(rt; core.degree() as usize == ports.len());
@@ -136,7 +136,7 @@ fn one_port<L: Lane>(
     requires nothing_taken { IsUnused (L.seen_rx rx) }
     requires silent { (ringer.rings ≡ 0) × (ringer.refused ≡ false) }
     ensures count { vec_len result ≡ 1 }
-    ensures unused { All IsFreshPort (seen_ports L.seen_tx L.seen_closed L.seen_rx result.items) }
+    ensures unused { All IsFreshPort (seen_ports L.Lane result.items) }
 {
     let mut ports = Vec::with_capacity(alloc, 1).expect(rt, "memory");
     ports.push_reserved(Port::<L> {

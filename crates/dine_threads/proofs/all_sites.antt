@@ -7,4 +7,6 @@ pub mod Gatherings
 pub mod Laid
 pub mod Headlines
 pub mod Brokens
+pub mod Timings
+pub mod Ordered
 pub mod Rows

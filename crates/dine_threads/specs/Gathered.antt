@@ -1,16 +1,17 @@
 -- What is gathered when all sites of a plan have joined: the links by edge, and of each site its meals and its diner.
-use Rattle.std.specs.Prelude.{◌≡◌, ◌≢◌, ◌⊎◌, ℕ, ◌+◌, ◌*◌, ◌<◌, ◌≤◌, ◌==◌, ◌||◌, Bool, true, false, List, [], length, slice_get, slice_index_or, Some, None, if◌then◌else◌}
+use Rattle.std.specs.Prelude.{◌≡◌, ◌≢◌, ◌⊎◌, ℕ, ◌+◌, ◌*◌, ◌<◌, ◌≤◌, ◌==◌, ◌||◌, true, false, List, [], length, slice_get, slice_index_or, Some, None, if◌then◌else◌}
+use mathlib.Core.List.{IsPrefix}
 use Rattle.dine_graph.specs.Plan.{SeenPlan, site_count, edge_count, job_count, lo_of, hi_of, resigns}
 use Rattle.dine_rules.specs.Local.{Traffic}
 use Rattle.dine_rules.specs.Streams.{is_close_last, IsClosedInOrder}
 use Rattle.dine_link.specs.Links.{SeenLink, IsLink}
-use Rattle.dine_site.specs.declared.diner.Call.{Call}
 use Rattle.dine_threads.specs.declared.gathered.SiteOut.{SiteOut}
 use Rattle.dine_site.specs.Diners.{HasEaten, HeedsFailures, tells_quit}
+use Rattle.dine_site.specs.declared.diner.Diner as diners
 
 -- the link past the end of the list
 abbrev pub no_link : SeenLink
-no_link = record { edge = 0; from = 0; put = []; taken = []; put_refused = false; take_refused = false }
+no_link = record { edge = 0; from = 0; put = []; taken = []; put_at = []; taken_at = []; put_refused = false; take_refused = false }
 
 -- the link from the lower end of an edge
 abbrev pub link_from_low : List SeenLink → ℕ → SeenLink
@@ -44,6 +45,7 @@ traffic_of plan links s edge = if lo_of plan edge == s then low_traffic links ed
 pub record IsTakenInOrder (link : SeenLink) : Type 0 where
   pub prefix : IsLink link
   pub nothing_after_close : is_close_last link.put ≡ true
+  pub moments : IsPrefix link.taken_at link.put_at
 
 -- All that was put was taken, it is closed in order, and it refused nothing.
 pub record IsClosedWhole (link : SeenLink) : Type 0 where
@@ -51,14 +53,14 @@ pub record IsClosedWhole (link : SeenLink) : Type 0 where
   pub in_order : IsClosedInOrder link.put
   pub unrefused : (link.put_refused || link.take_refused) ≡ false
 
-module _ {D : Type 0} (calls : D → List Call) (marks : D → List Bool) (fits : List Bool → ℕ → Bool → Bool) (plan : SeenPlan) where
+module _ {D : Type 0} (eater : diners.Ghosts D) (plan : SeenPlan) where
   -- A site with the diner that was handed in for it: the diner was called for the meals 1 to `ate` in order. If the
   -- site resigns, no meal follows one that failed; if it quit, the last one failed.
   pub record IsOutOf (s : ℕ) (given : D) (out : SiteOut D) : Type 0 where
     pub site : out.site ≡ s
     pub ate : out.ate ≤ job_count plan s
-    pub eaten : HasEaten calls marks fits out.ate out.failed given out.diner
-    pub heeds : HeedsFailures (resigns plan s) out.journal.items (calls given) (calls out.diner)
+    pub eaten : HasEaten eater.calls eater.marks eater.fits out.ate out.failed given out.diner
+    pub heeds : HeedsFailures (resigns plan s) out.journal.items (eater.calls given) (eater.calls out.diner)
 
   -- so it is for each site in order
   pub record AreOutsOf (given : List D) (outs : List (SiteOut D)) : Type 0 where

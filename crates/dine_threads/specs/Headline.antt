@@ -3,7 +3,7 @@
 -- fork per edge is gathered, and its log is lawful and holds every meal that either end ate exactly once. Where it
 -- answers Broken, at most one fork per edge is found, and each breach that a site tells is a Close that came early.
 -- When anything happened, and in what order the sites ate, is not said.
-use Rattle.std.specs.Prelude.{◌≡◌, ◌≢◌, ℕ, ◌+◌, ◌<◌, ◌≤◌, ◌==◌, Bool, List, All, filter, length, map, slice_get, slice_index_or, vec_len, Some, Result, Ok, Err, if◌then◌else◌}
+use Rattle.std.specs.Prelude.{◌≡◌, ◌≢◌, ℕ, ◌+◌, ◌<◌, ◌≤◌, ◌==◌, List, All, filter, length, map, slice_get, slice_index_or, vec_len, Some, Result, Ok, Err, if◌then◌else◌}
 use Rattle.std.specs.Global.{Vec}
 use Rattle.std.specs.List.{range_with_len}
 use Rattle.dine_token.specs.declared.log_entry.Entry.{Entry}
@@ -15,12 +15,12 @@ use Rattle.dine_rules.specs.Local.{edge_at}
 use Rattle.dine_rules.specs.Steps.{fork_by}
 use Rattle.dine_rules.specs.Streams.{IsPutInOrder}
 use Rattle.dine_link.specs.Links.{SeenLink}
-use Rattle.dine_site.specs.declared.diner.Call.{Call}
 use Rattle.dine_threads.specs.declared.gathered.SiteOut.{SiteOut}
 use Rattle.dine_threads.specs.declared.gathered.RunFault.{RunFault}
 use Rattle.dine_threads.specs.declared.gathered.RunFault.TheVariants.{DinersDiffer, Memory, Thread, Broken}
 use Rattle.dine_threads.specs.Brokens.{AllClosedEarly, AreStatesLeft}
 use Rattle.dine_threads.specs.Gathered.{AreLinksOf, AreOutsOf, IsTakenInOrder, IsClosedWhole, IsLowestFault, low_traffic, high_traffic, traffic_of}
+use Rattle.dine_site.specs.declared.diner.Diner as diners
 
 -- Once all have joined: each link was taken in order, and what each end put is in order.
 pub record AllJoined (plan : SeenPlan) (ates : List ℕ) (links : List SeenLink) : Type 0 where
@@ -61,11 +61,11 @@ pub record AreTokensOf {D : Type 0} (plan : SeenPlan) (links : List SeenLink) (o
 -- Why a run gathered nothing, or not all: the diners were not as many as the sites, and these are they; or all joined,
 -- the site named is the lowest with a fault, and what is found is as `AreStatesLeft` and `AllClosedEarly` say. Where
 -- memory or a thread is told to have been refused, nothing is said of the cause, nor of what moved.
-abbrev pub FaultIs : {D : Type 0} → (D → List Call) → (D → List Bool) → (List Bool → ℕ → Bool → Bool) → SeenPlan → Vec D → RunFault D → Type 0
-FaultIs calls marks fits plan diners (DinersDiffer given back) = (given ≡ vec_len diners) × (back ≡ diners) × (vec_len diners ≢ site_count plan)
-FaultIs calls marks fits plan diners Memory = vec_len diners ≡ site_count plan
-FaultIs calls marks fits plan diners (Thread site) = (vec_len diners ≡ site_count plan) × (site < site_count plan)
-FaultIs calls marks fits plan diners (Broken site joined) = (vec_len diners ≡ site_count plan) × AllJoined plan (map (λ (out : SiteOut _). out.ate) joined.sites.items) joined.links.items × AreOutsOf calls marks fits plan diners.items joined.sites.items × IsLowestFault site joined.sites.items
+abbrev pub FaultIs : {D : Type 0} → diners.Ghosts D → SeenPlan → Vec D → RunFault D → Type 0
+FaultIs eater plan diners (DinersDiffer given back) = (given ≡ vec_len diners) × (back ≡ diners) × (vec_len diners ≢ site_count plan)
+FaultIs eater plan diners Memory = vec_len diners ≡ site_count plan
+FaultIs eater plan diners (Thread site) = (vec_len diners ≡ site_count plan) × (site < site_count plan)
+FaultIs eater plan diners (Broken site joined) = (vec_len diners ≡ site_count plan) × AllJoined plan (map (λ (out : SiteOut _). out.ate) joined.sites.items) joined.links.items × AreOutsOf eater plan diners.items joined.sites.items × IsLowestFault site joined.sites.items
     × AreStatesLeft plan joined.sites.items joined.links.items joined.forks.items × AllClosedEarly joined.sites.items
 
 -- With fewer threads than sites nothing is gathered and nothing breaks: a site that is told to lack a thread has at

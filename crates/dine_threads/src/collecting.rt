@@ -149,6 +149,7 @@ fn take_out<L: Lane, D: Diner>(
         forks,
         tokens,
         journal,
+        clock: _,
         ports,
         bell: _,
         stray,
@@ -200,10 +201,10 @@ fn take_apart<L: Lane, D: Diner>(
 
 // The links of each edge, the one from the lower end first.
 fn reconcile_all<L: Lane>(pairs: Vec<Both<Port<L>>>, links: &mut Vec<LinkEnd>)
-    requires joined { All (AreJoined L.seen_tx L.seen_closed L.seen_rx) pairs.items }
+    requires joined { All (AreJoined L.Lane) pairs.items }
     requires room { 2 * vec_len pairs ≤ vec_capacity links.old }
     requires none { vec_len links.old ≡ 0 }
-    ensures lists { links.new.items ≡ links_left L.seen_tx L.seen_closed L.seen_rx pairs.items }
+    ensures lists { links.new.items ≡ links_left L.Lane pairs.items }
     ensures in_order { All IsTakenInOrder links.new.items }
     ensures whole { All IsTakenToClose links.new.items }
 {
@@ -235,10 +236,10 @@ pub fn collect<L: Lane, D: Diner>(
 ) -> (Vec<Fork>, Vec<SiteOut<D>>, Vec<LinkEnd>)
     requires room { IsRoomFor plan.now room }
     requires whole { AreWholeEnds plan.now ends.items }
-    requires wired { AreWired plan.now (rows_left L.seen_tx L.seen_closed L.seen_rx ends.items) }
+    requires wired { AreWired plan.now (rows_left L.Lane ends.items) }
     ensures forks { result.0.items ≡ found (laid (forks_left ends.items) (replicate (edge_count plan.now) None)) }
     ensures sites { result.1.items ≡ map out_of ends.items }
-    ensures links { AreLinksLeft plan.now (rows_left L.seen_tx L.seen_closed L.seen_rx ends.items) result.2.items }
+    ensures links { AreLinksLeft plan.now (rows_left L.Lane ends.items) result.2.items }
     ensures in_order { All IsTakenInOrder result.2.items }
     ensures whole { All IsTakenToClose result.2.items }
 {

@@ -3,6 +3,7 @@ use dine_link::LinkEnd;
 use dine_rules::EventKind;
 use dine_site::{Diner, SiteFault, Stray};
 use dine_token::{Fork, Token};
+use std::convert::AsSlice;
 
 /// What a site left: how many meals it began and how many of their jobs failed, its diner, the tokens in its hands in
 /// edge order, its journal, which has each event that it did in its order, and, where it ended before it did all, the
@@ -19,8 +20,17 @@ pub struct SiteOut<D: Diner> {
     pub fault: Option<SiteFault>,
 }
 
-/// All that is gathered where every site did all: the forks by edge, the sites by number, and the links by edge, that
-/// from the lower end first.
+/// The journal, for calls that read journals where they are.
+impl<D: Diner> AsSlice<EventKind> for SiteOut<D> {
+    ghost items = { λ out. out.journal.items };
+
+    fn as_slice(&self) -> &[EventKind] {
+        self.journal.as_slice()
+    }
+}
+
+/// All that is gathered when all sites have joined: the forks that were found in their hands, by edge, which is one for
+/// each edge if every site did all; the sites by number; and the links by edge, the one from the lower end first.
 #[derive(Drop)]
 pub struct Gathered<D: Diner> {
     pub forks: Vec<Fork>,
@@ -28,13 +38,8 @@ pub struct Gathered<D: Diner> {
     pub links: Vec<LinkEnd>,
 }
 
-/// The same where some site ended with a fault. The forks are those that were found in the sites' hands, by edge.
-#[derive(Drop)]
-pub struct Joined<D: Diner> {
-    pub forks: Vec<Fork>,
-    pub sites: Vec<SiteOut<D>>,
-    pub links: Vec<LinkEnd>,
-}
+/// What is gathered if some site ended with a fault.
+pub type Joined<D> = Gathered<D>;
 
 /// Why a run gathers nothing, or not all.
 #[derive(Drop)]

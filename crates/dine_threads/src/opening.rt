@@ -82,7 +82,7 @@ fn open_stands<L: Lane>(
 fn lay<L: Lane>(stands: &mut Vec<Stand<L>>, site: u32, port: Port<L>) -> Result<(), AllocError>
     requires { site < vec_len stands.old }
     ensures bells { OnOk result (bells_of stands.new.items ≡ bells_of stands.old.items) }
-    ensures rows { OnOk result (rows_of L.seen_tx L.seen_closed L.seen_rx stands.new.items ≡ set (rows_of L.seen_tx L.seen_closed L.seen_rx stands.old.items) site (slice_index_or (rows_of L.seen_tx L.seen_closed L.seen_rx stands.old.items) site [] ++ seen_port L.seen_tx L.seen_closed L.seen_rx port ∷ [])) }
+    ensures rows { OnOk result (rows_of L.Lane stands.new.items ≡ set (rows_of L.Lane stands.old.items) site (slice_index_or (rows_of L.Lane stands.old.items) site [] ++ seen_port L.Lane port ∷ [])) }
 {
     Ok(stands[site as usize].ports.push(port)?)
 }
@@ -95,7 +95,7 @@ fn new_ports<L: Lane>(
     ringers: Both<Ringer>,
 ) -> Result<Both<Port<L>>, AllocError>
     requires { edge < edge_count plan.now }
-    ensures { IfOk result (λ ports. (bells : _) → AreRingersAt plan.now bells edge ringers → AreNewPorts plan.now bells edge (seen_port L.seen_tx L.seen_closed L.seen_rx ports.low) (seen_port L.seen_tx L.seen_closed L.seen_rx ports.high)) }
+    ensures { IfOk result (λ ports. (bells : _) → AreRingersAt plan.now bells edge ringers → AreNewPorts plan.now bells edge (seen_port L.Lane ports.low) (seen_port L.Lane ports.high)) }
 {
     let (lower, higher) = plan.ends(edge);
     let Ok((low_tx, high_rx)) = L::pair(alloc, edge, lower) else {
@@ -127,9 +127,9 @@ fn open_edge<L: Lane>(
 ) -> Result<(), AllocError>
     requires edge { edge < edge_count plan.now }
     requires ringers { AreRingersAt plan.now (bells_of stands.old.items) edge ringers }
-    requires laid { AreLaid plan.now (bells_of stands.old.items) edge (rows_of L.seen_tx L.seen_closed L.seen_rx stands.old.items) }
+    requires laid { AreLaid plan.now (bells_of stands.old.items) edge (rows_of L.Lane stands.old.items) }
     ensures bells { OnOk result (bells_of stands.new.items ≡ bells_of stands.old.items) }
-    ensures laid { OnOk result (AreLaid plan.now (bells_of stands.old.items) (edge + 1) (rows_of L.seen_tx L.seen_closed L.seen_rx stands.new.items)) }
+    ensures laid { OnOk result (AreLaid plan.now (bells_of stands.old.items) (edge + 1) (rows_of L.Lane stands.new.items)) }
 {
     let Both { low, high } = new_ports(alloc, plan, edge, ringers)?;
     let (lower, higher) = plan.ends(edge);
@@ -150,7 +150,7 @@ fn open_edges<L: Lane>(
     requires count { vec_len stands.old ≡ site_count plan.now }
     requires bare { AreBare plan.now stands.old.items }
     ensures bells { OnOk result (bells_of stands.new.items ≡ bells_of stands.old.items) }
-    ensures laid { OnOk result (AreLaid plan.now (bells_of stands.old.items) (edge_count plan.now) (rows_of L.seen_tx L.seen_closed L.seen_rx stands.new.items)) }
+    ensures laid { OnOk result (AreLaid plan.now (bells_of stands.old.items) (edge_count plan.now) (rows_of L.Lane stands.new.items)) }
 {
     let mut edge = 0u32;
     for both in ringers {
@@ -183,9 +183,9 @@ fn open_lists<S: Drop, P: Drop>(
 /// The ports and the bell of each site, newly opened.
 pub fn open_all<L: Lane>(alloc: Global, plan: &Plan) -> Result<Vec<Stand<L>>, AllocError>
     ensures len { IfOk result (λ stands. vec_len stands ≡ site_count plan.now) }
-    ensures each { IfOk result (λ stands. AreStands L.seen_tx L.seen_closed L.seen_rx plan.now stands.items) }
-    ensures wired { IfOk result (λ stands. AreWired plan.now (rows_of L.seen_tx L.seen_closed L.seen_rx stands.items)) }
-    ensures rung { IfOk result (λ stands. AreRung plan.now (bells_of stands.items) (rows_of L.seen_tx L.seen_closed L.seen_rx stands.items)) }
+    ensures each { IfOk result (λ stands. AreStands L.Lane plan.now stands.items) }
+    ensures wired { IfOk result (λ stands. AreWired plan.now (rows_of L.Lane stands.items)) }
+    ensures rung { IfOk result (λ stands. AreRung plan.now (bells_of stands.items) (rows_of L.Lane stands.items)) }
 {
     let (mut stands, mut rows, mut ringers) = open_lists(alloc, plan)?;
     open_stands(alloc, plan, &mut stands, &mut rows)?;

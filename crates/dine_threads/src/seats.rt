@@ -6,10 +6,11 @@ ghost use Rattle.dine_core.specs.Standing.{IsFresh, IsFreshFor};
 ghost use Rattle.dine_site.specs.Diners.{HasEaten, HeedsFailures};
 ghost use Rattle.dine_site.specs.Ports.{IsFreshPort, seen_ports};
 ghost use Rattle.dine_threads.specs.private.Openings.{AreStands};
-ghost use Rattle.dine_threads.specs.private.Seats.{AreSeatsOf, IsReady, LeavesSeat, seat_of, seen_site_end};
-ghost use Rattle.dine_site.specs.SiteEnds.{IsLeft};
+ghost use Rattle.dine_threads.specs.private.Seats.{AreSeatsOf, IsReady, LeavesSeat, seat_of};
+ghost use Rattle.dine_site.specs.SiteEnds.{IsLeft, seen_site_end};
 
 use crate::opening::Stand;
+use dine_clock::Clock;
 use dine_core::{Packed, SiteCore, site};
 use dine_graph::Plan;
 use dine_link::{Bell, Gate, Lane};
@@ -39,7 +40,7 @@ pub struct EndOf<L: Lane, D: Diner> {
 }
 
 impl<L: Lane, D: Diner> Promise<SiteEnd<L, D>> for EndOf<L, D> {
-    ghost kept_by = { λ p r. LeavesSeat L.seen_tx L.seen_closed L.seen_rx D.calls D.marks D.fits p.seat.value r };
+    ghost kept_by = { λ p r. LeavesSeat L.Lane D.Diner p.seat.value r };
 }
 
 pub type Child<L, D> = PromisedHandle<SiteEnd<L, D>, EndOf<L, D>>;
@@ -53,10 +54,11 @@ fn not_started<L: Lane, D: Diner>(
     diner: D,
 ) -> SiteEnd<L, D>
     requires fresh { IsFresh core }
-    requires unused { All IsFreshPort (seen_ports L.seen_tx L.seen_closed L.seen_rx ports.items) }
-    ensures left { (plan : SeenPlan) → IsFreshFor plan core → IsLeft plan core.site (seen_ports L.seen_tx L.seen_closed L.seen_rx ports.items) (seen_site_end L.seen_tx L.seen_closed L.seen_rx result) }
+    requires unused { All IsFreshPort (seen_ports L.Lane ports.items) }
+    ensures left { (plan : SeenPlan) → IsFreshFor plan core → IsLeft plan core.site (seen_ports L.Lane ports.items) (seen_site_end L.Lane result) }
     ensures eaten { HasEaten D.calls D.marks D.fits result.ate result.failed diner result.diner }
     ensures heeds { HeedsFailures core.resigns result.journal.items (D.calls diner) (D.calls result.diner) }
+    ensures fault { result.fault ≡ Some SiteFault.NotStarted }
 {
     laws::streams_are_kept();
     laws::letters_cut_short_are_in_order();
@@ -70,6 +72,7 @@ fn not_started<L: Lane, D: Diner>(
         forks: parts.forks,
         tokens: parts.tokens,
         journal: Vec::new(alloc),
+        clock: Clock::start(),
         ports,
         bell,
         stray: None,
@@ -79,8 +82,8 @@ fn not_started<L: Lane, D: Diner>(
 
 // Runs the site of a seat, once the gate is open.
 fn sit<R: Wait, L: Lane, D: Diner>(rt: &R, seat: Seat<L, D>) -> SiteEnd<L, D>
-    requires { IsReady L.seen_tx L.seen_closed L.seen_rx D.room_left seat }
-    ensures { LeavesSeat L.seen_tx L.seen_closed L.seen_rx D.calls D.marks D.fits seat result }
+    requires { IsReady L.Lane D.Diner seat }
+    ensures { LeavesSeat L.Lane D.Diner seat result }
 {
     let Seat {
         packed,
@@ -121,7 +124,7 @@ where
     L::Tx: 'static,
     L::ClosedTx: 'static,
     L::Rx: 'static,
-    requires { IsReady L.seen_tx L.seen_closed L.seen_rx D.room_left seat }
+    requires { IsReady L.Lane D.Diner seat }
     ensures { IfSome result (λ child. seat_of child ≡ seat) }
 {
     let promise = EndOf {
@@ -129,8 +132,8 @@ where
     };
     let theirs = *rt;
     let run = move || -> SiteEnd<L, D>
-        requires { IsReady L.seen_tx L.seen_closed L.seen_rx D.room_left seat }
-        ensures { LeavesSeat L.seen_tx L.seen_closed L.seen_rx D.calls D.marks D.fits seat result }
+        requires { IsReady L.Lane D.Diner seat }
+        ensures { LeavesSeat L.Lane D.Diner seat result }
     { sit(&theirs, seat) };
     spawn_some(rt, promise, run)
 }
@@ -146,7 +149,7 @@ where
     L::Tx: 'static,
     L::ClosedTx: 'static,
     L::Rx: 'static,
-    requires { IsReady L.seen_tx L.seen_closed L.seen_rx D.room_left seat }
+    requires { IsReady L.Lane D.Diner seat }
     ensures child { IfSome result (λ child. seat_of child ≡ seat) }
     ensures left { IfSome result (λ _. started ≢ threads) }
 {
@@ -167,7 +170,7 @@ where
     L::Tx: 'static,
     L::ClosedTx: 'static,
     L::Rx: 'static,
-    requires ready { All (IsReady L.seen_tx L.seen_closed L.seen_rx D.room_left) seats.items }
+    requires ready { All (IsReady L.Lane D.Diner) seats.items }
     requires room { vec_len seats ≤ vec_capacity children.old }
     requires few { vec_len seats ≤ 64 }
     requires none { vec_len children.old ≡ 0 }
@@ -214,7 +217,7 @@ pub fn join_all<R: Threads, L: Lane, D: Diner>(
     requires room { vec_len children ≤ vec_capacity ends.old }
     requires none { vec_len ends.old ≡ 0 }
     ensures len { vec_len ends.new ≡ vec_len children }
-    ensures left { AllZip (LeavesSeat L.seen_tx L.seen_closed L.seen_rx D.calls D.marks D.fits) (map seat_of children.items) ends.new.items }
+    ensures left { AllZip (LeavesSeat L.Lane D.Diner) (map seat_of children.items) ends.new.items }
 {
     join_each(rt, children, ends)
 }
@@ -271,12 +274,13 @@ pub fn seat_all<L: Lane, D: Diner>(
 ) -> Result<(), AllocError>
     requires stands { vec_len stands ≡ site_count plan.now }
     requires diners { vec_len diners ≡ site_count plan.now }
-    requires each { AreStands L.seen_tx L.seen_closed L.seen_rx plan.now stands.items }
+    requires each { AreStands L.Lane plan.now stands.items }
     requires rooms { (s : _) (diner : _) → slice_get diners.items s ≡ Some diner → job_count plan.now s ≤ D.room_left diner }
+    requires expected { (s : _) (diner : _) → slice_get diners.items s ≡ Some diner → D.expects diner plan.now s }
     requires capacity { site_count plan.now ≤ vec_capacity seats.old }
     requires none { vec_len seats.old ≡ 0 }
     ensures len { OnOk result (vec_len seats.new ≡ site_count plan.now) }
-    ensures ready { OnOk result (All (IsReady L.seen_tx L.seen_closed L.seen_rx D.room_left) seats.new.items) }
+    ensures ready { OnOk result (All (IsReady L.Lane D.Diner) seats.new.items) }
     ensures fresh { OnOk result (AreSeatsOf plan.now seats.new.items) }
     ensures diners { OnOk result (map (λ seat. seat.diner) seats.new.items ≡ diners.items) }
     ensures ports { OnOk result (map (λ seat. seat.ports) seats.new.items ≡ map (λ stand. stand.ports) stands.items) }

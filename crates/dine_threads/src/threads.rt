@@ -1,14 +1,13 @@
 //! All sites of a plan, each on its thread, from the start to what is gathered.
-ghost use Rattle.std.specs.Prelude.{◌≡◌, ◌<◌, ◌≤◌, All, IfErr, IfOk, Some, map, slice_get, vec_capacity, vec_len};
+ghost use Rattle.std.specs.Prelude.{◌≡◌, ◌<◌, ◌≤◌, IfErr, IfOk, Some, slice_get, vec_capacity, vec_len};
 ghost use Rattle.dine_graph.specs.Plan.{job_count, site_count};
-ghost use Rattle.dine_threads.specs.Gathered.{AreFinishedOuts, AreOutsOf, IsClosedWhole};
 ghost use Rattle.dine_threads.specs.private.Collecting.{IsRoomFor};
 ghost use Rattle.dine_threads.specs.private.Setups.{IsSetUp};
-ghost use Rattle.dine_threads.specs.Journals.{HaveActed};
-ghost use Rattle.dine_threads.specs.Headline.{AllJoined, AreTokensOf, FallsShort, FaultIs, IsHeadline};
+ghost use Rattle.dine_threads.specs.Headline.{FallsShort, FaultIs};
+ghost use Rattle.dine_threads.specs.Runs.{HaveRoom, HaveSites, IsRun};
 
 use crate::collecting::{Room, RoomOf, collect, first_fault, make_room};
-use crate::gathered::{Gathered, Joined, RunFault};
+use crate::gathered::{Gathered, RunFault};
 use crate::opening::open_all;
 use crate::seats::{Child, Seat, join_all, seat_all, start_all};
 use dine_graph::Plan;
@@ -57,7 +56,8 @@ fn set_up<L: Lane, D: Diner>(
 ) -> Result<Setup<L, D>, AllocError>
     requires diners { vec_len diners ≡ site_count plan.now }
     requires rooms { (s : _) (diner : _) → slice_get diners.items s ≡ Some diner → job_count plan.now s ≤ D.room_left diner }
-    ensures { IfOk result (IsSetUp L.seen_tx L.seen_closed L.seen_rx D.room_left plan.now diners.items) }
+    requires expected { (s : _) (diner : _) → slice_get diners.items s ≡ Some diner → D.expects diner plan.now s }
+    ensures { IfOk result (IsSetUp L.Lane D.Diner plan.now diners.items) }
 {
     let gate = Arc::new(alloc, Gate::new())?;
     let mut seats = Vec::with_capacity(alloc, plan.sites() as usize)?;
@@ -84,8 +84,8 @@ fn set_up<L: Lane, D: Diner>(
 /// memory is refused; with `Thread` where a thread is refused, and then those that were started have ended and no
 /// letter moved, though no clause says so; and with `Broken` where a site ended with a fault, with all that was found:
 /// at most one fork of each edge, and each breach that a site tells is a Close that came early.
-pub fn run<L: Lane + 'static, D: Diner + 'static, R: Threads + Wait + Copy + Send + 'static>(
-    rt: &R,
+pub fn run<L: Lane + 'static, D: Diner + 'static>(
+    rt: &(impl Threads + Wait + Copy + Send + 'static),
     alloc: Global,
     plan: &Plan,
     diners: Vec<D>,
@@ -94,24 +94,20 @@ where
     L::Tx: 'static,
     L::ClosedTx: 'static,
     L::Rx: 'static,
-    requires room { vec_len diners ≡ site_count plan.now → (s : _) (diner : _) → slice_get diners.items s ≡ Some diner → job_count plan.now s ≤ D.room_left diner }
-    ensures many { IfOk result (λ _. vec_len diners ≡ site_count plan.now) }
-    ensures finished { IfOk result (λ gathered. AreFinishedOuts plan.now gathered.sites.items) }
-    ensures headline { IfOk result (λ gathered. IsHeadline plan.now (map (λ out. out.ate) gathered.sites.items) gathered.links.items gathered.forks.items) }
-    ensures journals { IfOk result (λ gathered. HaveActed plan.now (map (λ out. out.ate) gathered.sites.items) gathered.links.items (map (λ out. out.journal.items) gathered.sites.items)) }
-    ensures tokens { IfOk result (λ gathered. AreTokensOf plan.now gathered.links.items gathered.sites.items) }
-    ensures sites { IfOk result (λ gathered. AreOutsOf D.calls D.marks D.fits plan.now diners.items gathered.sites.items) }
-    ensures fault { IfErr result (FaultIs D.calls D.marks D.fits plan.now diners) }
+    requires room { HaveRoom D.Diner plan.now diners }
+    requires expected { HaveSites D.Diner plan.now diners }
+    ensures ok { IfOk result (IsRun D.Diner plan.now diners) }
+    ensures fault { IfErr result (FaultIs D.Diner plan.now diners) }
 {
-    run_within::<L, D, R>(rt, alloc, plan, diners, MAX_SITES)
+    run_within::<L, D>(rt, alloc, plan, diners, MAX_SITES)
 }
 
 /// As [`run`], with at most `threads` threads. Where the plan has more sites, nothing is run: the first site that would
 /// need one thread more is told as `Thread`, or one before it that was refused its thread.
 ///
 /// Differing diners come first, and then want of memory. It may wait, since the threads that were started are joined.
-pub fn run_within<L: Lane + 'static, D: Diner + 'static, R: Threads + Wait + Copy + Send + 'static>(
-    rt: &R,
+pub fn run_within<L: Lane + 'static, D: Diner + 'static>(
+    rt: &(impl Threads + Wait + Copy + Send + 'static),
     alloc: Global,
     plan: &Plan,
     diners: Vec<D>,
@@ -121,14 +117,10 @@ where
     L::Tx: 'static,
     L::ClosedTx: 'static,
     L::Rx: 'static,
-    requires room { vec_len diners ≡ site_count plan.now → (s : _) (diner : _) → slice_get diners.items s ≡ Some diner → job_count plan.now s ≤ D.room_left diner }
-    ensures many { IfOk result (λ _. vec_len diners ≡ site_count plan.now) }
-    ensures finished { IfOk result (λ gathered. AreFinishedOuts plan.now gathered.sites.items) }
-    ensures headline { IfOk result (λ gathered. IsHeadline plan.now (map (λ out. out.ate) gathered.sites.items) gathered.links.items gathered.forks.items) }
-    ensures journals { IfOk result (λ gathered. HaveActed plan.now (map (λ out. out.ate) gathered.sites.items) gathered.links.items (map (λ out. out.journal.items) gathered.sites.items)) }
-    ensures tokens { IfOk result (λ gathered. AreTokensOf plan.now gathered.links.items gathered.sites.items) }
-    ensures sites { IfOk result (λ gathered. AreOutsOf D.calls D.marks D.fits plan.now diners.items gathered.sites.items) }
-    ensures fault { IfErr result (FaultIs D.calls D.marks D.fits plan.now diners) }
+    requires room { HaveRoom D.Diner plan.now diners }
+    requires expected { HaveSites D.Diner plan.now diners }
+    ensures ok { IfOk result (IsRun D.Diner plan.now diners) }
+    ensures fault { IfErr result (FaultIs D.Diner plan.now diners) }
     ensures limit { threads < site_count plan.now → FallsShort threads result }
 {
     laws::kept_streams_account_for_fork_and_token();
@@ -172,7 +164,7 @@ where
         }),
         Some(site) => Err(RunFault::Broken {
             site,
-            joined: Joined {
+            joined: Gathered {
                 forks,
                 sites,
                 links,

@@ -2,7 +2,7 @@
 
 use dine::PlanDiner;
 use dine_plan::PlanFault;
-use dine_run::{OrderFault, RunFault};
+use dine_run::RunFault;
 use dine_words::{InputFault, Status, WordsFault, WriteFault, write_line};
 use std::alloc::{AllocError, AllocFailed};
 use std::io::Write;
@@ -86,17 +86,6 @@ impl From<WriteFault> for Fault {
 impl From<RunFault<PlanDiner>> for Fault {
     fn from(fault: RunFault<PlanDiner>) -> Fault {
         Fault::from(dine::Fault::from(fault))
-    }
-}
-
-impl From<OrderFault> for Fault {
-    fn from(fault: OrderFault) -> Fault {
-        match fault {
-            OrderFault::Memory => Fault::Told(dine::Fault::OutOfMemory),
-            OrderFault::CountDiffers | OrderFault::Stuck { .. } | OrderFault::NotClosed => {
-                Fault::NoOrder
-            }
-        }
     }
 }
 

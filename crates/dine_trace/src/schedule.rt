@@ -5,7 +5,7 @@ use dine::{PlanDiner, open_diners};
 use dine_core::Event;
 use dine_link::{ChannelLane, Lane, RingLane};
 use dine_plan::Plan;
-use dine_run::{SiteOut, order, run};
+use dine_run::{order_of, run};
 use dine_token::Fork;
 use dine_words::Links;
 use dine_world::World;
@@ -39,23 +39,9 @@ where
     L::Rx: 'static,
 {
     let diners = open_diners(alloc, plan)?;
-    let gathered = run::<L, PlanDiner, H>(rt, alloc, plan, diners)?;
-    let events = order_of(alloc, plan, gathered.sites)?;
+    let gathered = run::<L, PlanDiner>(rt, alloc, plan, diners)?;
+    let events = order_of(alloc, plan, &gathered)?;
     choices_to(alloc, plan, events.as_slice(), gathered.forks.as_slice())
-}
-
-// One order of the journals that the sites left.
-fn order_of(
-    alloc: Global,
-    plan: &Plan,
-    outs: Vec<SiteOut<PlanDiner>>,
-) -> Result<Vec<Event>, Fault> {
-    let mut journals = Vec::new(alloc);
-    for out in outs {
-        let SiteOut { journal, .. } = out;
-        journals.push(journal)?;
-    }
-    Ok(order(alloc, plan, journals.as_slice())?)
 }
 
 // The choices that do these events, where they lead to forks with these logs.

@@ -4,5 +4,5 @@ use Rattle.dine_example.proofs.settle.Goals as goal
 
 pub books_of-requires-clause-sent : goal.books_of-requires-clause-sent
 books_of-requires-clause-sent g c s out at =
-    have_sent (λ teller. []) c.args.plan.now (vec_items c.in_ok-tellers.tellers) (vec_items c.in-Ok.gathered.sites) c.in_ok-tellers.ensures c.in-Ok.ensures.sites c.in-Ok.ensures.finished
+    have_sent (λ teller. []) _ c.args.plan.now (vec_items c.in_ok-tellers.tellers) (vec_items c.in-Ok.gathered.sites) c.in_ok-tellers.ensures c.in-Ok.ensures.ok.sites c.in-Ok.ensures.ok.finished
     s out (subst (λ outs. slice_get outs s ≡ Some out) c.as_slice.ensures.value at)

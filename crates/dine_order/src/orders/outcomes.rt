@@ -1,21 +1,23 @@
 // The outcomes of meals that journals show.
-ghost use Rattle.std.specs.Prelude.{◌≡◌, IfOk, length};
+ghost use Rattle.std.specs.Prelude.{◌≡◌, IfOk, length, map};
 ghost use Rattle.dine_graph.specs.Plan.{site_count};
 ghost use Rattle.dine_world.specs.Worlds.{lists_of};
-ghost use Rattle.dine_order.specs.Orders.{lists_in, noted, shown_by, shown_in};
+ghost use Rattle.dine_rules.specs.Shown.{shown_by, shown_in};
+ghost use Rattle.dine_order.specs.Orders.{noted};
 
 use dine_core::EventKind;
 use dine_graph::Plan;
 use std::alloc::{AllocError, Global};
+use std::convert::AsSlice;
 
 /// For each site, which of its jobs failed: the last one before each Quit of its journal, and no other.
-pub(super) fn shown_by(
+pub(super) fn shown_by<J: AsSlice<EventKind>>(
     alloc: Global,
     plan: &Plan,
-    journals: &[Vec<EventKind>],
+    journals: &[J],
 ) -> Result<Vec<Vec<bool>>, AllocError>
     requires { length journals.now ≡ site_count plan.now }
-    ensures { IfOk result (λ fails. lists_of fails.items ≡ shown_by plan.now (lists_in journals.now)) }
+    ensures { IfOk result (λ fails. lists_of fails.items ≡ shown_by plan.now (map J.items journals.now)) }
 {
     let mut fails = Vec::with_capacity(alloc, plan.sites() as usize)?;
     for site in 0..plan.sites() {

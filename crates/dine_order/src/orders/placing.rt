@@ -1,12 +1,13 @@
 // The events of the journals are placed one after the other.
-ghost use Rattle.std.specs.Prelude.{◌≡◌, ◌<◌, IfOk, IfSome, List, ◌∷◌, [], ◌++◌, length, replicate};
+ghost use Rattle.std.specs.Prelude.{◌≡◌, ◌<◌, IfOk, IfSome, List, ◌∷◌, [], ◌++◌, length, map, replicate};
 ghost use Rattle.dine_graph.specs.Plan.{edges_of, site_count};
 ghost use Rattle.dine_rules.specs.Steps.{IsPlaceWithin, shape_of};
 ghost use Rattle.dine_rules.specs.World.{start};
 ghost use Rattle.dine_rules.specs.declared.events.Event.{Event};
 ghost use Rattle.dine_rules.specs.declared.events.EventKind.{EventKind};
 ghost use Rattle.dine_world.specs.Worlds.{IsWorldOf, SeenWorld};
-ghost use Rattle.dine_order.specs.Orders.{FindsNext, IsFound, IsSearched, IsSearching, kind_at, lists_in, plan_shown, receiver_of};
+ghost use Rattle.dine_rules.specs.Shown.{plan_shown};
+ghost use Rattle.dine_order.specs.Orders.{FindsNext, IsFound, IsSearched, IsSearching, kind_at, receiver_of};
 
 use dine_core::{Event, EventKind};
 use dine_graph::Plan;
@@ -14,19 +15,20 @@ use dine_rules::laws;
 use dine_set::BitSet64;
 use dine_world::World;
 use std::alloc::{AllocError, Global};
+use std::convert::AsSlice;
 
 // Places events until no site is ready, and counts those of each site.
-pub(super) fn place_all(
+pub(super) fn place_all<J: AsSlice<EventKind>>(
     alloc: Global,
     plan: &Plan,
-    journals: &[Vec<EventKind>],
+    journals: &[J],
     world: &mut World,
     counts: &mut [u32],
 ) -> Result<Vec<Event>, AllocError>
-    requires world { let shown = plan_shown plan.now (lists_in journals.now) in IsWorldOf shown (start shown) world.old }
+    requires world { let shown = plan_shown plan.now (map J.items journals.now) in IsWorldOf shown (start shown) world.old }
     requires journals { length journals.now ≡ site_count plan.now }
     requires counts { counts.old ≡ replicate (site_count plan.now) 0 }
-    ensures { IfOk result (λ placed. IsSearched (plan_shown plan.now (lists_in journals.now)) (lists_in journals.now) placed.items counts.new world.new) }
+    ensures { IfOk result (λ placed. IsSearched (plan_shown plan.now (map J.items journals.now)) (map J.items journals.now) placed.items counts.new world.new) }
 {
     laws::events_are_bounded();
     let mut placed = Vec::new(alloc);
@@ -40,13 +42,13 @@ pub(super) fn place_all(
 
 // Does the next event of the lowest ready site. None where no site is ready. Each site that was tried in vain leaves
 // the set.
-fn place_next(
-    journals: &[Vec<EventKind>],
+fn place_next<J: AsSlice<EventKind>>(
+    journals: &[J],
     counts: &[u32],
     world: &mut World,
     untried: &mut BitSet64,
 ) -> Option<Event>
-    ensures { FindsNext (lists_in journals.now) counts.now untried.old world.old result untried.new world.new }
+    ensures { FindsNext (map J.items journals.now) counts.now untried.old world.old result untried.new world.new }
 {
     while let Some(site) = untried.first() {
         if let Some(kind) = next_kind(journals, counts, site) {
@@ -62,12 +64,12 @@ fn place_next(
 
 // The next event of the site's journal, where so many of each site's were placed. None where there is none, or no such
 // site.
-fn next_kind(journals: &[Vec<EventKind>], counts: &[u32], site: u32) -> Option<EventKind>
-    ensures { result ≡ kind_at (lists_in journals.now) counts.now site }
+fn next_kind<J: AsSlice<EventKind>>(journals: &[J], counts: &[u32], site: u32) -> Option<EventKind>
+    ensures { result ≡ kind_at (map J.items journals.now) counts.now site }
 {
     let journal = journals.get(site as usize)?;
     let count = counts.get(site as usize)?;
-    journal.get(*count as usize).copied()
+    journal.as_slice().get(*count as usize).copied()
 }
 
 // Counts an event that was placed, and puts the site into the set that gets a letter by it.

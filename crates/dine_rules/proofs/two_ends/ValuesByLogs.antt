@@ -1,6 +1,5 @@
 -- The values that two linked ends put and have in hand are those of the logs, and where all jobs add they add up.
-use Rattle.std.proofs.Common.{◌≡◌, ◌≢◌, ◌⊎◌, ℕ, zero, suc, ◌+◌, ◌-◌, ◌<◌, ◌≤◌, ◌==◌, Bool, true, false, List, [], ◌∷◌, ◌++◌, length, get_or, slice_get, Some, refl, sym, ◌∙◌, ap, subst, inl, inr, arith, Option}
-use mathlib.Core.List.{IsPrefix}
+use Rattle.std.proofs.Common.{◌≡◌, ◌⊎◌, ℕ, zero, suc, ◌+◌, ◌-◌, ◌<◌, ◌==◌, Bool, true, false, List, [], ◌∷◌, ◌++◌, length, get_or, slice_get, Some, refl, sym, ◌∙◌, ap, subst, inl, inr, arith, Option}
 use Rattle.std.specs.List.{list_all}
 use Rattle.std.proofs.lemmas.Bool.{and_parts, cond-true, cond-false, eq-eqb, false≢true, ne_eqb}
 use Rattle.std.proofs.lemmas.Option.{slice_get-get_or}
@@ -16,12 +15,11 @@ use Rattle.dine_token.proofs.Bounds.{IsLawful-front}
 use Rattle.dine_token.proofs.Lawfulness.{at_an_end}
 use Rattle.dine_token.proofs.Logs.{meals_of-push_move}
 use Rattle.dine_graph.specs.Plan.{SeenPlan, SeenSite, SeenJob, IsPlan, act_of, edges_of, job_count, jobs_of, lo_of, hi_of, no_job, no_site, other_of, site_count, value_of}
-use Rattle.dine_rules.specs.declared.letters.Letter.{Letter}
-use Rattle.dine_rules.specs.Holdings.{hand, meals_from, with_meals_to}
+use Rattle.dine_rules.specs.Holdings.{hand, meals_from}
 use Rattle.dine_rules.specs.JoinedEnds.{AccountsForFork, AreForksLinked, AreLinked, IsWholeLog, traffic_across}
 use Rattle.dine_rules.specs.Letters.{forks_among, forks_in, last_log_or, last_value_or}
 use Rattle.dine_rules.specs.Local.{Traffic, edge_at, neighbour_at, traffic_at}
-use Rattle.dine_rules.specs.Streams.{CarriesOnTaken, IsChained, logs_of}
+use Rattle.dine_rules.specs.Streams.{CarriesOnTaken, logs_of}
 use Rattle.dine_rules.specs.Values.{CarriesValue, TellsValues, added_up, after_meals, amounts_of, hand_value, has_no_set, is_add, value_along, value_by, value_to}
 use Rattle.dine_rules.specs.World.{WorldState, place_of, state_of}
 use Rattle.dine_rules.proofs.links.Across.{IsAcross, across}

@@ -10,6 +10,9 @@ ghost use Rattle.dine_rules.specs.JournalExamples.{accepted_as, higher_journal, 
 ghost use Rattle.dine_rules.specs.Journals.{AreStatesAfter, FailAsShown, IsFrontOf, IsJournal, IsOrderOf, IsPlacedToEnd, IsWholeOrder, OrdersGrow, outcomes_in, part_of};
 ghost use Rattle.dine_rules.specs.Local.{LocalState, edge_at, neighbour_at, start_of};
 ghost use Rattle.dine_rules.specs.Precedence.{fork_log};
+ghost use Rattle.dine_rules.specs.EatingApart.{NeighboursEatApart};
+ghost use Rattle.dine_rules.specs.Shown.{plan_shown};
+ghost use Rattle.dine_rules.specs.Timed.{AreTimed};
 ghost use Rattle.dine_rules.specs.Steps.{Puts, Step, after, may, shape_of, step_by};
 ghost use Rattle.dine_rules.specs.World.{IsComplete, Reaches, WorldState, is_enabled, state_of, world_after};
 ghost use Rattle.dine_rules.specs.declared.events.Event.{Event};
@@ -66,6 +69,25 @@ pub fn journals_grow_by_each_event()
 pub fn journals_fix_the_world()
     ensures { (plan : SeenPlan) (journals : List (List EventKind)) (states world : WorldState) (events : List Event) → IsPlan plan
         → AreStatesAfter plan journals states → FailAsShown plan journals states → IsOrderOf journals events → Reaches plan events world → world ≡ states }
+{}
+
+/// Where the events of the journals have moments that rise at each site, and each letter was taken later than it was
+/// put, some order of the journals is accepted and makes the world complete. The first clause is of a plan whose jobs
+/// fail as the journals show; the second is of any plan, where no site has to quit, and of the plan that is shown.
+pub fn timed_journals_have_an_order()
+    ensures own { (plan : SeenPlan) (journals : List (List EventKind)) (states : WorldState) → IsPlan plan → AreStatesAfter plan journals states → FailAsShown plan journals states
+        → IsComplete plan states → AreTimed plan journals → (events : List Event) × IsWholeOrder plan journals events }
+    ensures shown { (plan : SeenPlan) (journals : List (List EventKind)) (states : WorldState) → IsPlan plan → AreStatesAfter plan journals states
+        → ((s : ℕ) → s < site_count plan → (state_of states s).must_quit ≡ false) → IsComplete plan states → AreTimed plan journals
+        → (events : List Event) × IsWholeOrder (plan_shown plan journals) journals events }
+{}
+
+/// In each order of journals neighbours never eat together: at no point of it have both begun a meal and not ended it.
+/// So it is in the plan's own orders, and in those of the plan that the journals show.
+pub fn neighbours_eat_apart_in_each_order()
+    ensures own { (plan : SeenPlan) (journals : List (List EventKind)) (events : List Event) → IsPlan plan → IsWholeOrder plan journals events → NeighboursEatApart plan events }
+    ensures shown { (plan : SeenPlan) (journals : List (List EventKind)) (events : List Event) → IsPlan plan → IsWholeOrder (plan_shown plan journals) journals events
+        → NeighboursEatApart plan events }
 {}
 
 /// A plan with other outcomes of its jobs is a plan, with these outcomes, and else the same sites, jobs and edges. What

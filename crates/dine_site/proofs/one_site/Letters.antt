@@ -171,8 +171,8 @@ module _ {Identity : Type 0} (traffic : Traffic) (port : SeenPort Identity) (run
   still : IsUnrefused port
   still = record { put = runs.unrefused.put; take = runs.unrefused.take; ring = runs.unrefused.ring }
 
-  pub runs-put : (l : Letter) → has_close traffic.put ≡ false → is_close l ≡ false → RunsAt (record traffic { put = traffic.put ++ l ∷ [] }) (put_on l port)
-  runs-put l h other = record {
+  pub runs-put : (m : ℕ) (l : Letter) → has_close traffic.put ≡ false → is_close l ≡ false → RunsAt (record traffic { put = traffic.put ++ l ∷ [] }) (put_on m l port)
+  runs-put m l h other = record {
     puts = ap (λ (xs : List Letter). xs ++ l ∷ []) runs.puts;
     takes = runs.takes;
     live = live_where_open h ∙ sym (ap not (has_close-push traffic.put l h ∙ other));
@@ -180,8 +180,8 @@ module _ {Identity : Type 0} (traffic : Traffic) (port : SeenPort Identity) (run
     unrefused = record { put = still.put; take = still.take; ring = still.ring };
   }
 
-  pub runs-closed : RunsAt (record traffic { put = traffic.put ++ Close ∷ [] }) (closed_on port)
-  runs-closed = record {
+  pub runs-closed : (m : ℕ) → RunsAt (record traffic { put = traffic.put ++ Close ∷ [] }) (closed_on m port)
+  runs-closed m = record {
     puts = ap (λ (xs : List Letter). xs ++ Close ∷ []) runs.puts;
     takes = runs.takes;
     live = sym (ap not (has_close-closed traffic.put));
@@ -189,8 +189,8 @@ module _ {Identity : Type 0} (traffic : Traffic) (port : SeenPort Identity) (run
     unrefused = record { put = still.put; take = still.take; ring = still.ring };
   }
 
-  pub runs-taken : (l : Letter) → RunsAt (record traffic { taken = traffic.taken ++ l ∷ [] }) (taken_on l port)
-  runs-taken l = record {
+  pub runs-taken : (m : ℕ) (l : Letter) → RunsAt (record traffic { taken = traffic.taken ++ l ∷ [] }) (taken_on m l port)
+  runs-taken m l = record {
     puts = runs.puts;
     takes = ap (λ (xs : List Letter). xs ++ l ∷ []) runs.takes;
     live = runs.live;
@@ -218,8 +218,8 @@ module _ {Identity : Type 0} (traffic : Traffic) (port : SeenPort Identity) (run
     rang_open = λ open_still. omega (arith, runs.rang);
   }
 
-  pub stops-unheard : (l : Letter) → has_close traffic.put ≡ false → StopsAt None None (record traffic { put = traffic.put ++ l ∷ [] }) (put_unheard_on l port)
-  stops-unheard l h = record {
+  pub stops-unheard : (m : ℕ) (l : Letter) → has_close traffic.put ≡ false → StopsAt None None (record traffic { put = traffic.put ++ l ∷ [] }) (put_unheard_on m l port)
+  stops-unheard m l h = record {
     puts = puts_fit-same port.tx.refused (traffic.put ++ l ∷ []) (port.tx.letters ++ l ∷ []) (ap (λ (xs : List Letter). xs ++ l ∷ []) runs.puts);
     takes = runs.takes ∙ sym (append-nil traffic.taken);
     live = λ open_still. live_where_open h;
@@ -236,8 +236,8 @@ module _ {Identity : Type 0} (traffic : Traffic) (port : SeenPort Identity) (run
     rang_open = λ open_still. omega (arith, runs.rang);
   }
 
-  pub stops-closed_unheard : StopsAt None None (record traffic { put = traffic.put ++ Close ∷ [] }) (closed_unheard_on port)
-  stops-closed_unheard = record {
+  pub stops-closed_unheard : (m : ℕ) → StopsAt None None (record traffic { put = traffic.put ++ Close ∷ [] }) (closed_unheard_on m port)
+  stops-closed_unheard m = record {
     puts = puts_fit-same port.tx.refused (traffic.put ++ Close ∷ []) (port.tx.letters ++ Close ∷ []) (ap (λ (xs : List Letter). xs ++ Close ∷ []) runs.puts);
     takes = runs.takes ∙ sym (append-nil traffic.taken);
     live = λ open_still. absurd (false≢true (sym open_still ∙ has_close-closed traffic.put));
@@ -254,8 +254,8 @@ module _ {Identity : Type 0} (traffic : Traffic) (port : SeenPort Identity) (run
     rang_open = λ open_still. omega (arith, runs.rang);
   }
 
-  pub stops-breached : (l : Letter) → StopsAt None (Some l) traffic (taken_on l port)
-  stops-breached l = record {
+  pub stops-breached : (m : ℕ) (l : Letter) → StopsAt None (Some l) traffic (taken_on m l port)
+  stops-breached m l = record {
     puts = puts_fit-same port.tx.refused traffic.put port.tx.letters runs.puts;
     takes = ap (λ (xs : List Letter). xs ++ l ∷ []) runs.takes;
     live = live_where_open;
@@ -266,8 +266,8 @@ module _ {Identity : Type 0} (traffic : Traffic) (port : SeenPort Identity) (run
 -- ---- Close is put after the stop
 
 module _ {Identity : Type 0} (refused breached : Option Letter) (traffic : Traffic) (port : SeenPort Identity) (stops : StopsAt refused breached traffic port) (h : has_close traffic.put ≡ false) where
-  pub stops-closed : StopsAt refused breached (record traffic { put = traffic.put ++ Close ∷ [] }) (closed_on port)
-  stops-closed = record {
+  pub stops-closed : (m : ℕ) → StopsAt refused breached (record traffic { put = traffic.put ++ Close ∷ [] }) (closed_on m port)
+  stops-closed m = record {
     puts = puts_fit-closing port.tx.refused port.tx.refused refused traffic.put port.tx.letters (port.tx.letters ++ Close ∷ []) h stops.puts (inl refl);
     takes = stops.takes;
     live = λ open_still. absurd (false≢true (sym open_still ∙ has_close-closed traffic.put));
@@ -288,8 +288,8 @@ module _ {Identity : Type 0} (refused breached : Option Letter) (traffic : Traff
     rang_open = λ open_still. absurd (false≢true (sym open_still ∙ has_close-closed traffic.put));
   }
 
-  pub stops-close_unheard : StopsAt refused breached (record traffic { put = traffic.put ++ Close ∷ [] }) (closed_unheard_on port)
-  stops-close_unheard = record {
+  pub stops-close_unheard : (m : ℕ) → StopsAt refused breached (record traffic { put = traffic.put ++ Close ∷ [] }) (closed_unheard_on m port)
+  stops-close_unheard m = record {
     puts = puts_fit-closing port.tx.refused port.tx.refused refused traffic.put port.tx.letters (port.tx.letters ++ Close ∷ []) h stops.puts (inl refl);
     takes = stops.takes;
     live = λ open_still. absurd (false≢true (sym open_still ∙ has_close-closed traffic.put));

@@ -291,17 +291,17 @@ module _ {Identity : Type 0} (plan : SeenPlan) (given : List (SeenPort Identity)
     }
 
   -- a letter came that was not in turn
-  pub breach_stops : (i : ℕ) (l : Letter) (told : Breach) → i < length run.core.places → TellsBreach run.core i l (Some told) → IsRunning plan given run
+  pub breach_stops : (m i : ℕ) (l : Letter) (told : Breach) → i < length run.core.places → TellsBreach run.core i l (Some told) → IsRunning plan given run
       → (port : SeenPort Identity) → slice_get run.ports i ≡ Some port
-      → IsStopped (Some (record { link = i; letter = l })) (fault.Breach i told) plan given (record { core = run.core; ports = set run.ports i (taken_on l port); bell = run.bell; journal = run.journal })
-  breach_stops i l told within tells running port at =
+      → IsStopped (Some (record { link = i; letter = l })) (fault.Breach i told) plan given (record { core = run.core; ports = set run.ports i (taken_on m l port); bell = run.bell; journal = run.journal })
+  breach_stops m i l told within tells running port at =
       let inside : i < length running.state.traffic = omega (arith, running.has.stands.degree) in
       record {
         state = running.state;
-        has = has-port plan given run running.state i port (taken_on l port) running.has at refl refl refl refl;
-        lists = at-port (λ j. RunsAt) (λ j. StopsAt None (if i == j then Some l else None)) running.state i inside run.ports (taken_on l port) running.lists
-            (subst (λ (o : Option Letter). StopsAt None o (traffic_at running.state i) (taken_on l port)) (sym (here i l))
-            (stops-breached (traffic_at running.state i) port (running.lists i port at) l))
+        has = has-port plan given run running.state i port (taken_on m l port) running.has at refl refl refl refl;
+        lists = at-port (λ j. RunsAt) (λ j. StopsAt None (if i == j then Some l else None)) running.state i inside run.ports (taken_on m l port) running.lists
+            (subst (λ (o : Option Letter). StopsAt None o (traffic_at running.state i) (taken_on m l port)) (sym (here i l))
+            (stops-breached (traffic_at running.state i) port (running.lists i port at) m l))
             (λ j t p ne h. subst (λ (o : Option Letter). StopsAt None o t p) (sym (elsewhere i j l ne)) (stops-as_it_was t p h));
         did = just_did running.did;
         breach = λ link breach e.
@@ -316,7 +316,7 @@ module _ {Identity : Type 0} (plan : SeenPlan) (given : List (SeenPort Identity)
             };
         lost = λ link e. absurd (cc);
         lost_bell = λ e. absurd (cc);
-        take_told = takes_told run.ports i port (taken_on l port) at (λ j. fault.Breach i told ≡ fault.Lost j) (quiet_takes running.state run.ports (λ j. fault.Breach i told ≡ fault.Lost j) running.lists)
+        take_told = takes_told run.ports i port (taken_on m l port) at (λ j. fault.Breach i told ≡ fault.Lost j) (quiet_takes running.state run.ports (λ j. fault.Breach i told ≡ fault.Lost j) running.lists)
             (λ e. absurd (false≢true (sym (running.lists i port at).unrefused.take ∙ e)));
         wait_told = λ e. absurd (false≢true (sym running.heard ∙ e));
         no_stray = λ e. absurd (true≢false e);
@@ -384,17 +384,17 @@ module _ {Identity : Type 0} (plan : SeenPlan) (given : List (SeenPort Identity)
     stops_here : StopsAt (refused_at i (Some cause) stray) (breached_at i (Some cause) stray) (traffic_at stopped.state i) port
     stops_here = stopped.lists i port at
 
-    pub break_sends : (new : SeenPort Identity) (result : Closed) → SendsClose port new result
+    pub break_sends : (m : ℕ) (new : SeenPort Identity) (result : Closed) → SendsClose m port new result
         → IsStopped stray cause plan given (record { core = core; ports = set run.ports i new; bell = run.bell; journal = run.journal })
-    break_sends new Heard is = breaks new (record { tx = ap (λ (p : SeenPort Identity). p.tx.link) is; rx = ap (λ (p : SeenPort Identity). p.rx.link) is; bell = ap (λ (p : SeenPort Identity). p.ringer.bell) is; number = ap (λ (p : SeenPort Identity). p.ringer.number) is })
+    break_sends m new Heard is = breaks new (record { tx = ap (λ (p : SeenPort Identity). p.tx.link) is; rx = ap (λ (p : SeenPort Identity). p.rx.link) is; bell = ap (λ (p : SeenPort Identity). p.ringer.bell) is; number = ap (λ (p : SeenPort Identity). p.ringer.number) is })
         (record { put = λ r. ap (λ (p : SeenPort Identity). p.tx.refused) is ∙ r; take = ap (λ (p : SeenPort Identity). p.rx.refused) is; ring = λ r. ap (λ (p : SeenPort Identity). p.ringer.refused) is ∙ r })
-        (subst StopsHere (sym is) (stops-closed (refused_at i (Some cause) stray) (breached_at i (Some cause) stray) (traffic_at stopped.state i) port stops_here room.1))
-    break_sends new Refused is = breaks new (record { tx = ap (λ (p : SeenPort Identity). p.tx.link) is; rx = ap (λ (p : SeenPort Identity). p.rx.link) is; bell = ap (λ (p : SeenPort Identity). p.ringer.bell) is; number = ap (λ (p : SeenPort Identity). p.ringer.number) is })
+        (subst StopsHere (sym is) (stops-closed (refused_at i (Some cause) stray) (breached_at i (Some cause) stray) (traffic_at stopped.state i) port stops_here room.1 m))
+    break_sends m new Refused is = breaks new (record { tx = ap (λ (p : SeenPort Identity). p.tx.link) is; rx = ap (λ (p : SeenPort Identity). p.rx.link) is; bell = ap (λ (p : SeenPort Identity). p.ringer.bell) is; number = ap (λ (p : SeenPort Identity). p.ringer.number) is })
         (record { put = λ r. ap (λ (p : SeenPort Identity). p.tx.refused) is; take = ap (λ (p : SeenPort Identity). p.rx.refused) is; ring = λ r. ap (λ (p : SeenPort Identity). p.ringer.refused) is ∙ r })
         (subst StopsHere (sym is) (stops-close_refused (refused_at i (Some cause) stray) (breached_at i (Some cause) stray) (traffic_at stopped.state i) port stops_here room.1))
-    break_sends new Unheard is = breaks new (record { tx = ap (λ (p : SeenPort Identity). p.tx.link) is; rx = ap (λ (p : SeenPort Identity). p.rx.link) is; bell = ap (λ (p : SeenPort Identity). p.ringer.bell) is; number = ap (λ (p : SeenPort Identity). p.ringer.number) is })
+    break_sends m new Unheard is = breaks new (record { tx = ap (λ (p : SeenPort Identity). p.tx.link) is; rx = ap (λ (p : SeenPort Identity). p.rx.link) is; bell = ap (λ (p : SeenPort Identity). p.ringer.bell) is; number = ap (λ (p : SeenPort Identity). p.ringer.number) is })
         (record { put = λ r. ap (λ (p : SeenPort Identity). p.tx.refused) is ∙ r; take = ap (λ (p : SeenPort Identity). p.rx.refused) is; ring = λ r. ap (λ (p : SeenPort Identity). p.ringer.refused) is })
-        (subst StopsHere (sym is) (stops-close_unheard (refused_at i (Some cause) stray) (breached_at i (Some cause) stray) (traffic_at stopped.state i) port stops_here room.1))
+        (subst StopsHere (sym is) (stops-close_unheard (refused_at i (Some cause) stray) (breached_at i (Some cause) stray) (traffic_at stopped.state i) port stops_here room.1 m))
 
     -- what the link has is no more than the core put
     pub break_room : ((plan : SeenPlan) (s : ℕ) (state : LocalState) (j : ℕ) → IsPlan plan → s < site_count plan → KeepsStreams plan s state → j < length state.traffic → length (traffic_at state j).put ≤ 2003)

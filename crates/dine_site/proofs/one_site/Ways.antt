@@ -33,12 +33,12 @@ module _ {Identity : Type 0} (plan : SeenPlan) (given : List (SeenPort Identity)
       omega (arith, putting.within, putting.has.stands.degree, putting.has.places, same)
 
   module _ (i : ℕ) (l : Letter) (putting : IsPutting i l plan given run) (port : SeenPort Identity) (at : slice_get run.ports i ≡ Some port) where
-    pub put_runs : is_close l ≡ false → IsRunning plan given (record { core = run.core; ports = set run.ports i (put_on l port); bell = run.bell; journal = run.journal })
-    put_runs other = record {
+    pub put_runs : (m : ℕ) → is_close l ≡ false → IsRunning plan given (record { core = run.core; ports = set run.ports i (put_on m l port); bell = run.bell; journal = run.journal })
+    put_runs m other = record {
       state = with_put i l putting.before;
-      has = has-port plan given run (with_put i l putting.before) i port (put_on l port) putting.has at refl refl refl refl;
-      lists = at-set (λ j. RunsAt) (λ j. RunsAt) putting.before (with_put i l putting.before) i _ refl putting.within run.ports (put_on l port) putting.lists
-          (runs-put (traffic_at putting.before i) port (putting.lists i port at) l putting.open_place other) (λ j t p ne h. h);
+      has = has-port plan given run (with_put i l putting.before) i port (put_on m l port) putting.has at refl refl refl refl;
+      lists = at-set (λ j. RunsAt) (λ j. RunsAt) putting.before (with_put i l putting.before) i _ refl putting.within run.ports (put_on m l port) putting.lists
+          (runs-put (traffic_at putting.before i) port (putting.lists i port at) m l putting.open_place other) (λ j t p ne h. h);
       heard = putting.heard;
       did = putting.did;
     }
@@ -57,13 +57,13 @@ module _ {Identity : Type 0} (plan : SeenPlan) (given : List (SeenPort Identity)
         let grown : length (traffic_at (with_put i l putting.before) i).put ≡ length traffic.put + 1 = ap (λ (t : Traffic). length t.put) after_it ∙ length-append traffic.put (l ∷ []) in
         omega (arith, bound, grown, ap (λ (xs : List Letter). length xs) (putting.lists i port at).puts)
 
-  pub close_runs : (i : ℕ) → IsPutting i letter.Close plan given run → (port : SeenPort Identity) → slice_get run.ports i ≡ Some port
-      → IsRunning plan given (record { core = run.core; ports = set run.ports i (closed_on port); bell = run.bell; journal = run.journal })
-  close_runs i putting port at = record {
+  pub close_runs : (m i : ℕ) → IsPutting i letter.Close plan given run → (port : SeenPort Identity) → slice_get run.ports i ≡ Some port
+      → IsRunning plan given (record { core = run.core; ports = set run.ports i (closed_on m port); bell = run.bell; journal = run.journal })
+  close_runs m i putting port at = record {
     state = with_put i letter.Close putting.before;
-    has = has-port plan given run (with_put i letter.Close putting.before) i port (closed_on port) putting.has at refl refl refl refl;
-    lists = at-set (λ j. RunsAt) (λ j. RunsAt) putting.before (with_put i letter.Close putting.before) i _ refl putting.within run.ports (closed_on port) putting.lists
-        (runs-closed (traffic_at putting.before i) port (putting.lists i port at)) (λ j t p ne h. h);
+    has = has-port plan given run (with_put i letter.Close putting.before) i port (closed_on m port) putting.has at refl refl refl refl;
+    lists = at-set (λ j. RunsAt) (λ j. RunsAt) putting.before (with_put i letter.Close putting.before) i _ refl putting.within run.ports (closed_on m port) putting.lists
+        (runs-closed (traffic_at putting.before i) port (putting.lists i port at) m) (λ j t p ne h. h);
     heard = putting.heard;
     did = putting.did;
   }
@@ -73,14 +73,14 @@ module _ {Identity : Type 0} (plan : SeenPlan) (given : List (SeenPort Identity)
   pub place_within : (running : IsRunning plan given run) (i : ℕ) → i < length run.core.places → i < length running.state.traffic
   place_within running i h = omega (arith, running.has.stands.degree)
 
-  pub take_runs : JournalsGrow → (i : ℕ) (l : Letter) (core : SeenCore) (journal : List EventKind) → journal ≡ run.journal ++ event.Take i ∷ [] → i < length run.core.places → CoreSteps (Take i l) run.core core → IsNext None run.core → IsRunning plan given run → (port : SeenPort Identity) → slice_get run.ports i ≡ Some port
-      → IsRunning plan given (record { core = core; ports = set run.ports i (taken_on l port); bell = run.bell; journal = journal })
-  take_runs grows i l core journal noted within steps next running port at = record {
+  pub take_runs : JournalsGrow → (m i : ℕ) (l : Letter) (core : SeenCore) (journal : List EventKind) → journal ≡ run.journal ++ event.Take i ∷ [] → i < length run.core.places → CoreSteps (Take i l) run.core core → IsNext None run.core → IsRunning plan given run → (port : SeenPort Identity) → slice_get run.ports i ≡ Some port
+      → IsRunning plan given (record { core = core; ports = set run.ports i (taken_on m l port); bell = run.bell; journal = journal })
+  take_runs grows m i l core journal noted within steps next running port at = record {
     state = with_taken i l running.state;
-    has = has-port plan given (record { core = core; ports = run.ports; bell = run.bell; journal = journal }) (with_taken i l running.state) i port (taken_on l port)
+    has = has-port plan given (record { core = core; ports = run.ports; bell = run.bell; journal = journal }) (with_taken i l running.state) i port (taken_on m l port)
         (has-step plan given run running.state (Take i l) core journal running.has (steps plan running.state running.has.keeps running.has.stands) running.has.rests) at refl refl refl refl;
-    lists = at-set (λ j. RunsAt) (λ j. RunsAt) running.state (with_taken i l running.state) i _ refl (place_within running i within) run.ports (taken_on l port) running.lists
-        (runs-taken (traffic_at running.state i) port (running.lists i port at) l) (λ j t p ne h. h);
+    lists = at-set (λ j. RunsAt) (λ j. RunsAt) running.state (with_taken i l running.state) i _ refl (place_within running i within) run.ports (taken_on m l port) running.lists
+        (runs-taken (traffic_at running.state i) port (running.lists i port at) m l) (λ j t p ne h. h);
     heard = running.heard;
     did = subst (λ (kinds : List EventKind). HasActed plan core.site kinds (with_taken i l running.state)) (sym noted)
         (did_step grows plan given run running (event.Take i) (Take i l) core false (λ j. Some l) refl refl (next plan running.state running.has.keeps running.has.stands) (steps plan running.state running.has.keeps running.has.stands));

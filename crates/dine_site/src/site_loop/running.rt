@@ -9,12 +9,13 @@ ghost use Rattle.dine_core.specs.Wants.{wants_of};
 ghost use Rattle.dine_link.specs.Closing.{is_close};
 ghost use Rattle.dine_link.specs.Waking.{seen_wants};
 ghost use Rattle.dine_site.specs.Ports.{ChangesAt, SendsClose, SeenPort, seen_ports};
-ghost use Rattle.dine_site.specs.SiteEnds.{IsSiteEnd};
-ghost use Rattle.dine_site.specs.Running.{ClosedBelow, EatsOn, ForSome, GoesOn, GoesToEnd, HasStopped, HeedsOn, IsNext, IsPutting, IsReady, IsRunning, Leads, MayEnd, SameMeals, StaysStopped, seen_run};
+ghost use Rattle.dine_site.specs.SiteEnds.{IsSiteEnd, seen_site_end};
+ghost use Rattle.dine_site.specs.Running.{ClosedBelow, ForSome, GoesOn, GoesToEnd, HasStopped, IsNext, IsPutting, IsReady, IsRunning, IsTimedBut, IsTimedRun, Leads, MayEnd, MayProceed, Proceeds, SameMeals, StaysStopped, seen_run};
 
 use crate::diner::Diner;
 use crate::port::{Closed, Port, Sent};
 use crate::site_end::{SiteEnd, SiteFault, Stray};
+use dine_clock::{Clock, Stamp};
 use dine_core::SiteCore;
 use dine_link::{Bell, Lane, Lost, Wants};
 use dine_rules::{EventKind, Letter, laws};
@@ -35,6 +36,7 @@ pub struct Running<L: Lane, D: Diner> {
     diner: D,
     failed: u32,
     journal: Vec<EventKind>,
+    clock: Clock,
 }
 
 impl<L: Lane, D: Diner> Running<L, D> {
@@ -44,8 +46,9 @@ impl<L: Lane, D: Diner> Running<L, D> {
         bell: Bell,
         diner: D,
         journal: Vec<EventKind>,
+        clock: Clock,
     ) -> Running<L, D>
-        ensures { result ≡ record { core = core; ports = ports; bell = bell; diner = diner; failed = 0; journal = journal } }
+        ensures { result ≡ record { core = core; ports = ports; bell = bell; diner = diner; failed = 0; journal = journal; clock = clock } }
     {
         Running {
             core,
@@ -54,18 +57,15 @@ impl<L: Lane, D: Diner> Running<L, D> {
             diner,
             failed: 0,
             journal,
+            clock,
         }
     }
 
     // Goes on until the site is finished, or until a fault.
     pub fn work<R: Wait>(&mut self, rt: &R) -> Result<(), Stop>
-        requires running { ForSome IsRunning (seen_run L.seen_tx L.seen_closed L.seen_rx self.old) }
-        requires ready { IsReady D.room_left self.old }
-        ensures way { Leads IsRunning (GoesToEnd result) (seen_run L.seen_tx L.seen_closed L.seen_rx self.old) (seen_run L.seen_tx L.seen_closed L.seen_rx self.new) }
-        ensures eats { EatsOn D.calls D.marks D.fits self.old self.new }
-        ensures heeds { HeedsOn D.calls self.old self.new }
-        ensures resigns { self.new.core.resigns ≡ self.old.core.resigns }
-        ensures site { self.new.core.site ≡ self.old.core.site }
+        requires ready { MayProceed L.Lane D.Diner self.old }
+        ensures proceeds { Proceeds L.Lane D.Diner (GoesToEnd result) self.old self.new }
+        ensures timed { OnOk result (IsTimedRun L.Lane self.old → IsTimedRun L.Lane self.new) }
     {
         for _ in rt.forever() {
             self.do_events(rt)?;
@@ -79,15 +79,10 @@ impl<L: Lane, D: Diner> Running<L, D> {
 
     // Does events other than Take until there is none.
     fn do_events<R: Wait>(&mut self, rt: &R) -> Result<(), Stop>
-        requires running { ForSome IsRunning (seen_run L.seen_tx L.seen_closed L.seen_rx self.old) }
-        requires ready { IsReady D.room_left self.old }
-        ensures way { Leads IsRunning (GoesOn result) (seen_run L.seen_tx L.seen_closed L.seen_rx self.old) (seen_run L.seen_tx L.seen_closed L.seen_rx self.new) }
-        ensures ready { IsReady D.room_left self.new }
+        requires ready { MayProceed L.Lane D.Diner self.old }
+        ensures proceeds { Proceeds L.Lane D.Diner (GoesOn result) self.old self.new }
         ensures quiet { OnOk result (IsNext None self.new.core) }
-        ensures eats { EatsOn D.calls D.marks D.fits self.old self.new }
-        ensures heeds { HeedsOn D.calls self.old self.new }
-        ensures resigns { self.new.core.resigns ≡ self.old.core.resigns }
-        ensures site { self.new.core.site ≡ self.old.core.site }
+        ensures timed { OnOk result (IsTimedRun L.Lane self.old → IsTimedRun L.Lane self.new) }
     {
         for _ in rt.forever() {
             match self.core.next_event() {
@@ -100,16 +95,11 @@ impl<L: Lane, D: Diner> Running<L, D> {
 
     // Does an event other than Take.
     fn act<R: Wait>(&mut self, rt: &R, kind: EventKind) -> Result<(), Stop>
-        requires running { ForSome IsRunning (seen_run L.seen_tx L.seen_closed L.seen_rx self.old) }
-        requires ready { IsReady D.room_left self.old }
+        requires ready { MayProceed L.Lane D.Diner self.old }
         requires may { can_by_itself self.old.core kind ≡ true }
         requires next { IsNext (Some kind) self.old.core }
-        ensures way { Leads IsRunning (GoesOn result) (seen_run L.seen_tx L.seen_closed L.seen_rx self.old) (seen_run L.seen_tx L.seen_closed L.seen_rx self.new) }
-        ensures ready { IsReady D.room_left self.new }
-        ensures eats { EatsOn D.calls D.marks D.fits self.old self.new }
-        ensures heeds { HeedsOn D.calls self.old self.new }
-        ensures resigns { self.new.core.resigns ≡ self.old.core.resigns }
-        ensures site { self.new.core.site ≡ self.old.core.site }
+        ensures proceeds { Proceeds L.Lane D.Diner (GoesOn result) self.old self.new }
+        ensures timed { OnOk result (IsTimedRun L.Lane self.old → IsTimedRun L.Lane self.new) }
     {
         self.make_room(if kind == EventKind::Begin { 2 } else { 1 })?;
         self.perform(rt, kind)
@@ -117,13 +107,14 @@ impl<L: Lane, D: Diner> Running<L, D> {
 
     // Gets room for so many entries of the journal.
     fn make_room(&mut self, entries: usize) -> Result<(), Stop>
-        ensures way { Leads IsRunning (GoesOn result) (seen_run L.seen_tx L.seen_closed L.seen_rx self.old) (seen_run L.seen_tx L.seen_closed L.seen_rx self.new) }
-        ensures running { OnOk result (seen_run L.seen_tx L.seen_closed L.seen_rx self.new ≡ seen_run L.seen_tx L.seen_closed L.seen_rx self.old) }
+        ensures way { Leads L.Lane IsRunning (GoesOn result) self.old self.new }
+        ensures running { OnOk result (seen_run L.Lane self.new ≡ seen_run L.Lane self.old) }
         ensures room { OnOk result (vec_len self.new.journal + entries ≤ vec_capacity self.new.journal) }
-        ensures ready { IsReady D.room_left self.old → IsReady D.room_left self.new }
+        ensures ready { IsReady D.Diner self.old → IsReady D.Diner self.new }
         ensures core { self.new.core ≡ self.old.core }
         ensures bell { self.new.bell ≡ self.old.bell }
         ensures same { SameMeals self.old self.new }
+        ensures timed { IsTimedRun L.Lane self.old → IsTimedRun L.Lane self.new }
     {
         match self.journal.reserve(entries) {
             Ok(()) => Ok(()),
@@ -136,39 +127,38 @@ impl<L: Lane, D: Diner> Running<L, D> {
 
     // Does an event other than Take, with room for it in the journal.
     fn perform<R: Wait>(&mut self, rt: &R, kind: EventKind) -> Result<(), Stop>
-        requires running { ForSome IsRunning (seen_run L.seen_tx L.seen_closed L.seen_rx self.old) }
-        requires ready { IsReady D.room_left self.old }
+        requires ready { MayProceed L.Lane D.Diner self.old }
         requires may { can_by_itself self.old.core kind ≡ true }
         requires next { IsNext (Some kind) self.old.core }
         requires room { vec_len self.old.journal < vec_capacity self.old.journal }
         requires room_for_end { kind ≡ EventKind.Begin → vec_len self.old.journal + 2 ≤ vec_capacity self.old.journal }
-        ensures way { Leads IsRunning (GoesOn result) (seen_run L.seen_tx L.seen_closed L.seen_rx self.old) (seen_run L.seen_tx L.seen_closed L.seen_rx self.new) }
-        ensures ready { IsReady D.room_left self.new }
-        ensures eats { EatsOn D.calls D.marks D.fits self.old self.new }
-        ensures heeds { HeedsOn D.calls self.old self.new }
-        ensures resigns { self.new.core.resigns ≡ self.old.core.resigns }
-        ensures site { self.new.core.site ≡ self.old.core.site }
+        ensures proceeds { Proceeds L.Lane D.Diner (GoesOn result) self.old self.new }
+        ensures timed { OnOk result (IsTimedRun L.Lane self.old → IsTimedRun L.Lane self.new) }
     {
         laws::journals_grow_by_each_event();
         match kind {
             EventKind::Give(i) => {
                 let letter = self.core.give(i);
                 self.journal.push_reserved(EventKind::Give(i));
+                self.clock = self.clock.after(&EventKind::Give(i), &Stamp::first());
                 self.put(rt, i, letter)
             }
             EventKind::Ask(i) => {
                 let letter = self.core.ask(i);
                 self.journal.push_reserved(EventKind::Ask(i));
+                self.clock = self.clock.after(&EventKind::Ask(i), &Stamp::first());
                 self.put(rt, i, letter)
             }
             EventKind::Done(i) => {
                 let letter = self.core.done(i);
                 self.journal.push_reserved(EventKind::Done(i));
+                self.clock = self.clock.after(&EventKind::Done(i), &Stamp::first());
                 self.put(rt, i, letter)
             }
             EventKind::Close(i) => {
                 let _ = self.core.close(i);
                 self.journal.push_reserved(EventKind::Close(i));
+                self.clock = self.clock.after(&EventKind::Close(i), &Stamp::first());
                 self.close(rt, i)
             }
             EventKind::Begin => {
@@ -178,11 +168,13 @@ impl<L: Lane, D: Diner> Running<L, D> {
             EventKind::Hungry => {
                 self.core.hungry();
                 self.journal.push_reserved(EventKind::Hungry);
+                self.clock = self.clock.after(&EventKind::Hungry, &Stamp::first());
                 Ok(())
             }
             EventKind::Quit => {
                 self.core.quit();
                 self.journal.push_reserved(EventKind::Quit);
+                self.clock = self.clock.after(&EventKind::Quit, &Stamp::first());
                 Ok(())
             }
             EventKind::End | EventKind::Take(_) => unreachable!(),
@@ -191,36 +183,35 @@ impl<L: Lane, D: Diner> Running<L, D> {
 
     // Eats one meal, with room for its begin and its end in the journal. The core is told whether its job failed.
     fn eat(&mut self)
-        requires running { ForSome IsRunning (seen_run L.seen_tx L.seen_closed L.seen_rx self.old) }
-        requires ready { IsReady D.room_left self.old }
+        requires ready { MayProceed L.Lane D.Diner self.old }
         requires may { can_by_itself self.old.core EventKind.Begin ≡ true }
         requires next { IsNext (Some EventKind.Begin) self.old.core }
         requires room { vec_len self.old.journal + 2 ≤ vec_capacity self.old.journal }
-        ensures way { Leads IsRunning IsRunning (seen_run L.seen_tx L.seen_closed L.seen_rx self.old) (seen_run L.seen_tx L.seen_closed L.seen_rx self.new) }
-        ensures ready { IsReady D.room_left self.new }
-        ensures eats { EatsOn D.calls D.marks D.fits self.old self.new }
-        ensures heeds { HeedsOn D.calls self.old self.new }
-        ensures resigns { self.new.core.resigns ≡ self.old.core.resigns }
-        ensures site { self.new.core.site ≡ self.old.core.site }
+        ensures proceeds { Proceeds L.Lane D.Diner IsRunning self.old self.new }
+        ensures timed { IsTimedRun L.Lane self.old → IsTimedRun L.Lane self.new }
     {
         laws::journals_grow_by_each_event();
         let meal = self.core.begin();
         self.journal.push_reserved(EventKind::Begin);
+        self.clock = self.clock.after(&EventKind::Begin, &Stamp::first());
         let ok = self.diner.eat(meal.k(), &meal).is_ok();
         self.failed += u32::from(!ok);
         self.core.end(meal, !ok);
         self.journal.push_reserved(EventKind::End);
+        self.clock = self.clock.after(&EventKind::End, &Stamp::first());
     }
 
     // Puts a letter other than Close, and rings.
     fn put<R: Wait>(&mut self, rt: &R, i: u32, letter: Letter) -> Result<(), Stop>
-        requires putting { ForSome (IsPutting i letter) (seen_run L.seen_tx L.seen_closed L.seen_rx self.old) }
+        requires putting { ForSome L.Lane (IsPutting i letter) self.old }
         requires letter { is_close letter ≡ false }
-        ensures way { Leads (IsPutting i letter) (GoesOn result) (seen_run L.seen_tx L.seen_closed L.seen_rx self.old) (seen_run L.seen_tx L.seen_closed L.seen_rx self.new) }
+        ensures way { Leads L.Lane (IsPutting i letter) (GoesOn result) self.old self.new }
         ensures same { SameMeals self.old self.new }
+        ensures timed { OnOk result (IsTimedBut L.Lane i self.old → IsTimedRun L.Lane self.new) }
     {
         laws::few_letters_are_put();
-        match self.ports[i as usize].put(rt, letter) {
+        let stamp = self.clock.last();
+        match self.ports[i as usize].put(rt, letter, stamp) {
             Sent::Heard => Ok(()),
             Sent::Unheard => Err(self.lost_bell()),
             Sent::Refused(letter) => Err(Stop {
@@ -232,12 +223,14 @@ impl<L: Lane, D: Diner> Running<L, D> {
 
     // Puts Close, and rings.
     fn close<R: Wait>(&mut self, rt: &R, i: u32) -> Result<(), Stop>
-        requires putting { ForSome (IsPutting i Letter.Close) (seen_run L.seen_tx L.seen_closed L.seen_rx self.old) }
-        ensures way { Leads (IsPutting i Letter.Close) (GoesOn result) (seen_run L.seen_tx L.seen_closed L.seen_rx self.old) (seen_run L.seen_tx L.seen_closed L.seen_rx self.new) }
+        requires putting { ForSome L.Lane (IsPutting i Letter.Close) self.old }
+        ensures way { Leads L.Lane (IsPutting i Letter.Close) (GoesOn result) self.old self.new }
         ensures same { SameMeals self.old self.new }
+        ensures timed { OnOk result (IsTimedBut L.Lane i self.old → IsTimedRun L.Lane self.new) }
     {
         laws::few_letters_are_put();
-        match close_at(rt, &mut self.ports, i as usize) {
+        let stamp = self.clock.last();
+        match close_at(rt, &mut self.ports, i as usize, stamp) {
             Closed::Heard => Ok(()),
             Closed::Unheard => Err(self.lost_bell()),
             Closed::Refused => Err(Stop {
@@ -266,11 +259,12 @@ impl<L: Lane, D: Diner> Running<L, D> {
 
     // Waits for the bell until the site could do something, and takes a letter at the place that rang.
     fn hear<R: Wait>(&mut self, rt: &R) -> Result<(), Stop>
-        requires running { ForSome IsRunning (seen_run L.seen_tx L.seen_closed L.seen_rx self.old) }
+        requires running { ForSome L.Lane IsRunning self.old }
         requires bell { self.old.bell.degree ≡ vec_len self.old.ports }
         requires quiet { IsNext None self.old.core }
-        ensures way { Leads IsRunning (GoesOn result) (seen_run L.seen_tx L.seen_closed L.seen_rx self.old) (seen_run L.seen_tx L.seen_closed L.seen_rx self.new) }
+        ensures way { Leads L.Lane IsRunning (GoesOn result) self.old self.new }
         ensures same { SameMeals self.old self.new }
+        ensures timed { OnOk result (IsTimedRun L.Lane self.old → IsTimedRun L.Lane self.new) }
     {
         let wants = self.wants();
         match self.bell.wait_for(rt, wants) {
@@ -282,12 +276,13 @@ impl<L: Lane, D: Diner> Running<L, D> {
 
     // Takes a letter at a place where Close was not taken.
     fn take<R: Wait>(&mut self, rt: &R, i: u32) -> Result<(), Stop>
-        requires running { ForSome IsRunning (seen_run L.seen_tx L.seen_closed L.seen_rx self.old) }
+        requires running { ForSome L.Lane IsRunning self.old }
         requires place { i < length self.old.core.places }
         requires not_closed { ForEachState self.old.core (λ plan state. has_close (traffic_at state i).taken ≡ false) }
         requires quiet { IsNext None self.old.core }
-        ensures way { Leads IsRunning (GoesOn result) (seen_run L.seen_tx L.seen_closed L.seen_rx self.old) (seen_run L.seen_tx L.seen_closed L.seen_rx self.new) }
+        ensures way { Leads L.Lane IsRunning (GoesOn result) self.old self.new }
         ensures same { SameMeals self.old self.new }
+        ensures timed { OnOk result (IsTimedRun L.Lane self.old → IsTimedRun L.Lane self.new) }
     {
         self.make_room(1)?;
         self.take_noted(rt, i)
@@ -295,20 +290,22 @@ impl<L: Lane, D: Diner> Running<L, D> {
 
     // The same, with room for it in the journal.
     fn take_noted<R: Wait>(&mut self, rt: &R, i: u32) -> Result<(), Stop>
-        requires running { ForSome IsRunning (seen_run L.seen_tx L.seen_closed L.seen_rx self.old) }
+        requires running { ForSome L.Lane IsRunning self.old }
         requires place { i < length self.old.core.places }
         requires not_closed { ForEachState self.old.core (λ plan state. has_close (traffic_at state i).taken ≡ false) }
         requires quiet { IsNext None self.old.core }
         requires room { vec_len self.old.journal < vec_capacity self.old.journal }
-        ensures way { Leads IsRunning (GoesOn result) (seen_run L.seen_tx L.seen_closed L.seen_rx self.old) (seen_run L.seen_tx L.seen_closed L.seen_rx self.new) }
+        ensures way { Leads L.Lane IsRunning (GoesOn result) self.old self.new }
         ensures same { SameMeals self.old self.new }
+        ensures timed { OnOk result (IsTimedRun L.Lane self.old → IsTimedRun L.Lane self.new) }
     {
         laws::few_letters_are_taken();
         laws::journals_grow_by_each_event();
         match self.ports[i as usize].take(rt) {
-            Ok(letter) => match self.core.take(i, letter) {
+            Ok((letter, stamp)) => match self.core.take(i, letter) {
                 Ok(()) => {
                     self.journal.push_reserved(EventKind::Take(i));
+                    self.clock = self.clock.after(&EventKind::Take(i), &stamp);
                     Ok(())
                 }
                 Err((letter, breach)) => Err(Stop {
@@ -325,8 +322,8 @@ impl<L: Lane, D: Diner> Running<L, D> {
 
     // Puts Close at each place where the site has put none, in order. Faults that it meets are not told.
     pub fn break_off<R: Wait>(&mut self, rt: &R)
-        requires stopped { HasStopped (seen_run L.seen_tx L.seen_closed L.seen_rx self.old) }
-        ensures way { StaysStopped (seen_run L.seen_tx L.seen_closed L.seen_rx self.old) (seen_run L.seen_tx L.seen_closed L.seen_rx self.new) }
+        requires stopped { HasStopped L.Lane self.old }
+        ensures way { StaysStopped L.Lane self.old self.new }
         ensures closed { ClosedBelow (length self.new.core.places) self.new.core }
         ensures same { SameMeals self.old self.new }
     {
@@ -337,10 +334,10 @@ impl<L: Lane, D: Diner> Running<L, D> {
 
     // Puts Close at a place, where the site has put none, and rings.
     fn break_at<R: Wait>(&mut self, rt: &R, i: u32)
-        requires stopped { HasStopped (seen_run L.seen_tx L.seen_closed L.seen_rx self.old) }
+        requires stopped { HasStopped L.Lane self.old }
         requires place { i < length self.old.core.places }
         requires before { ClosedBelow i self.old.core }
-        ensures way { StaysStopped (seen_run L.seen_tx L.seen_closed L.seen_rx self.old) (seen_run L.seen_tx L.seen_closed L.seen_rx self.new) }
+        ensures way { StaysStopped L.Lane self.old self.new }
         ensures closed { ClosedBelow (i + 1) self.new.core }
         ensures places { length self.new.core.places ≡ length self.old.core.places }
         ensures same { SameMeals self.old self.new }
@@ -349,27 +346,21 @@ impl<L: Lane, D: Diner> Running<L, D> {
         let Some(_) = self.core.break_off(i) else {
             return;
         };
-        let _ = close_at(rt, &mut self.ports, i as usize);
+        let _ = close_at(rt, &mut self.ports, i as usize, Stamp::first());
     }
 
     // What the site leaves.
     pub fn end(self, stray: Option<Stray>, fault: Option<SiteFault>) -> SiteEnd<L, D>
-        requires may_end { ForSome (MayEnd stray fault) (seen_run L.seen_tx L.seen_closed L.seen_rx self) }
-        ensures end { (plan : SeenPlan) (given : List (SeenPort L.Identity)) → MayEnd stray fault plan given (seen_run L.seen_tx L.seen_closed L.seen_rx self) → IsSiteEnd plan self.core.site given (record {
-          site = result.site;
-          ate = result.ate;
-          forks = result.forks.items;
-          tokens = result.tokens.items;
-          journal = result.journal.items;
-          ports = seen_ports L.seen_tx L.seen_closed L.seen_rx result.ports.items;
-          bell = result.bell;
-          stray = result.stray;
-          fault = result.fault;
-        }) }
+        requires may_end { ForSome L.Lane (MayEnd stray fault) self }
+        ensures end { (plan : SeenPlan) (given : List (SeenPort L.Identity)) → MayEnd stray fault plan given (seen_run L.Lane self)
+            → IsSiteEnd plan self.core.site given (seen_site_end L.Lane result) }
         ensures ate { result.ate ≡ self.core.ate }
         ensures failed { result.failed ≡ self.failed }
         ensures journal { result.journal.items ≡ self.journal.items }
+        ensures clock { result.clock.events ≡ self.clock.events }
+        ensures left { result.ports.items ≡ self.ports.items }
         ensures diner { result.diner ≡ self.diner }
+        ensures told { result.fault ≡ fault }
     {
         laws::letters_cut_short_are_in_order();
         let Running {
@@ -379,6 +370,7 @@ impl<L: Lane, D: Diner> Running<L, D> {
             diner,
             failed,
             journal,
+            clock,
         } = self;
         let site = core.site();
         let ate = core.ate();
@@ -391,6 +383,7 @@ impl<L: Lane, D: Diner> Running<L, D> {
             forks: parts.forks,
             tokens: parts.tokens,
             journal,
+            clock,
             ports,
             bell,
             stray,
@@ -400,15 +393,15 @@ impl<L: Lane, D: Diner> Running<L, D> {
 }
 
 // Puts Close at place i, where the end is live, and rings. Where the link refuses it, the end stays live.
-fn close_at<R: Wait, L: Lane>(rt: &R, ports: &mut Vec<Port<L>>, i: usize) -> Closed
+fn close_at<R: Wait, L: Lane>(rt: &R, ports: &mut Vec<Port<L>>, i: usize, stamp: Stamp) -> Closed
     requires place { i < vec_len ports.old }
-    requires live { IfSome (slice_get (seen_ports L.seen_tx L.seen_closed L.seen_rx ports.old.items) i) (λ port. port.is_live ≡ true) }
-    requires room { IfSome (slice_get (seen_ports L.seen_tx L.seen_closed L.seen_rx ports.old.items) i) (λ port. length port.tx.letters < 2 ^ 61) }
+    requires live { IfSome (slice_get (seen_ports L.Lane ports.old.items) i) (λ port. port.is_live ≡ true) }
+    requires room { IfSome (slice_get (seen_ports L.Lane ports.old.items) i) (λ port. length port.tx.letters < 2 ^ 61) }
     ensures count { vec_len ports.new ≡ vec_len ports.old }
-    ensures closed { ChangesAt i (λ old new. SendsClose old new result) (seen_ports L.seen_tx L.seen_closed L.seen_rx ports.old.items) (seen_ports L.seen_tx L.seen_closed L.seen_rx ports.new.items) }
+    ensures closed { ChangesAt i (λ old new. SendsClose stamp.at old new result) (seen_ports L.Lane ports.old.items) (seen_ports L.Lane ports.new.items) }
 {
     // The last port stands in for this one until it comes back: an end has to be owned to be closed.
-    let (port, closed) = ports.swap_remove(i).close(rt);
+    let (port, closed) = ports.swap_remove(i).close(rt, stamp);
     let last = ports.len();
     ports.push_reserved(port);
     ports.swap(i, last);

@@ -22,7 +22,7 @@ fn port_of(
     rx: ChannelRx,
 ) -> (Port<ChannelLane>, (ChannelRx, Bell))
     requires { IsUnused (channels.seen_rx rx) }
-    ensures { IsFreshPort (seen_port channels.seen_tx channels.seen_closed channels.seen_rx result.0) }
+    ensures { IsFreshPort (seen_port ⟦<ChannelLane as Lane>⟧ result.0) }
 {
     let (ringer, bell) = one_ringer(rt, alloc);
     let (tx, far_rx) = link_from::<ChannelLane>(rt, alloc, edge, 3);
@@ -41,11 +41,11 @@ fn three(
     b: Port<ChannelLane>,
     c: Port<ChannelLane>,
 ) -> Vec<Port<ChannelLane>>
-    requires a { IsFreshPort (seen_port channels.seen_tx channels.seen_closed channels.seen_rx a) }
-    requires b { IsFreshPort (seen_port channels.seen_tx channels.seen_closed channels.seen_rx b) }
-    requires c { IsFreshPort (seen_port channels.seen_tx channels.seen_closed channels.seen_rx c) }
+    requires a { IsFreshPort (seen_port ⟦<ChannelLane as Lane>⟧ a) }
+    requires b { IsFreshPort (seen_port ⟦<ChannelLane as Lane>⟧ b) }
+    requires c { IsFreshPort (seen_port ⟦<ChannelLane as Lane>⟧ c) }
     ensures count { vec_len result ≡ 3 }
-    ensures unused { All IsFreshPort (seen_ports channels.seen_tx channels.seen_closed channels.seen_rx result.items) }
+    ensures unused { All IsFreshPort (seen_ports ⟦<ChannelLane as Lane>⟧ result.items) }
 {
     let mut ports = Vec::with_capacity(alloc, 3).expect(rt, "memory");
     ports.push_reserved(a);

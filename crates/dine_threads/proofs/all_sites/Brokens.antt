@@ -30,8 +30,7 @@ use Rattle.dine_rules.proofs.one_place.Placed.{placed}
 use Rattle.dine_rules.proofs.lists.Turns.{open_before, slice_get-behind}
 use Rattle.dine_core.specs.Core.{forks_in_hand}
 use Rattle.dine_core.specs.Standing.{all_places}
-use Rattle.dine_link.specs.Links.{SeenEnd, SeenLink, link_of}
-use Rattle.dine_site.specs.declared.diner.Call.{Call}
+use Rattle.dine_link.specs.Links.{SeenLink, link_of}
 use Rattle.dine_threads.specs.declared.gathered.SiteOut.{SiteOut}
 use Rattle.dine_threads.specs.declared.seats.Seat.{Seat}
 use Rattle.dine_site.specs.declared.site_end.SiteEnd.{SiteEnd}
@@ -53,11 +52,13 @@ use Rattle.dine_threads.proofs.all_sites.Headlines.{in_all, in_hand}
 use Rattle.dine_site.proofs.lists.Lists.{get-set_other}
 use Rattle.dine_threads.proofs.all_sites.Laid.{IsIn, laid_puts}
 use Rattle.dine_threads.proofs.lists.Writes.{same_spot}
+use Rattle.dine_link.specs.declared.lane.Lane.{Ghosts}
+use Rattle.dine_site.specs.declared.diner.Diner as diners
 
 -- ---- forks in slots
 
 -- something is there, or nothing
-there_or_none : {X : Type 0} (o : Option X) → (o ≡ None) ⊎ ((x : X) × (o ≡ Some x))
+pub there_or_none : {X : Type 0} (o : Option X) → (o ≡ None) ⊎ ((x : X) × (o ≡ Some x))
 there_or_none None = inl refl
 there_or_none (Some x) = inr (x, refl)
 
@@ -226,20 +227,20 @@ same_on_links out out_too come come_too goes comes =
 
 -- ---- all sites
 
-module _ {Lane Tx Closed Rx Identity D : Type 0} (live : Tx → SeenEnd Identity) (shut : Closed → SeenEnd Identity) (taking : Rx → SeenEnd Identity) (plan : SeenPlan) where
+module _ {Lane Tx Closed Rx D : Type 0} (lane : Ghosts Lane Tx Closed Rx) (plan : SeenPlan) where
   -- A site has its forks and its links by this state, and tells what fits it.
   pub record IsLeftBy (s : ℕ) (state : LocalState) (end : SiteEnd Lane D Tx Closed Rx) : Type 0 where
-    pub ended : HasEnded plan s state (links_at (seen_ports live shut taking end.ports.items)) (told_in (out_of end))
+    pub ended : HasEnded plan s state (links_at (seen_ports lane end.ports.items)) (told_in (out_of end))
     pub forks : end.forks.items ≡ forks_in_hand plan s state (all_places state)
     pub degree : length end.ports.items ≡ length (edges_of plan s)
 
   -- so it is of a port that it left
-  module _ (s : ℕ) (state : LocalState) (end : SiteEnd Lane D Tx Closed Rx) (left : IsLeftBy s state end) (i : ℕ) (port : SeenPort Identity) (stands : slice_get (seen_ports live shut taking end.ports.items) i ≡ Some port) where
+  module _ (s : ℕ) (state : LocalState) (end : SiteEnd Lane D Tx Closed Rx) (left : IsLeftBy s state end) (i : ℕ) (port : SeenPort lane.Identity) (stands : slice_get (seen_ports lane end.ports.items) i ≡ Some port) where
     place_within : i < length state.traffic
-    place_within = omega (arith, slice_get_within (seen_ports live shut taking end.ports.items) i port stands, length-map end.ports.items (seen_port live shut taking), left.degree, left.ended.keeps.every_place)
+    place_within = omega (arith, slice_get_within (seen_ports lane end.ports.items) i port stands, length-map end.ports.items (seen_port lane), left.degree, left.ended.keeps.every_place)
 
-    links_are : links_at (seen_ports live shut taking end.ports.items) i ≡ on_links port
-    links_are = links_there (seen_ports live shut taking end.ports.items) i port stands
+    links_are : links_at (seen_ports lane end.ports.items) i ≡ on_links port
+    links_are = links_there (seen_ports lane end.ports.items) i port stands
 
     pub puts_by : PutsFit port.tx.refused (refused_at i end.fault end.stray) (traffic_at state i).put port.tx.letters
     puts_by = subst (λ (l : OnLinks). PutsFit l.put_refused (refused_at i end.fault end.stray) (traffic_at state i).put l.put) links_are (left.ended.puts i place_within)
@@ -278,31 +279,31 @@ ended_along plan s state f g end same ended = record {
   });
 }
 
-module _ {Lane Tx Closed Rx Identity D : Type 0} {live : Tx → SeenEnd Identity} {shut : Closed → SeenEnd Identity} {taking : Rx → SeenEnd Identity}
-    {calls : D → List Call} {marks : D → List Bool} {fits : List Bool → ℕ → Bool → Bool} {room : D → ℕ} {plan : SeenPlan}
-    {seats : List (Seat Lane D Tx Closed Rx)} {ends : List (SiteEnd Lane D Tx Closed Rx)} (all : AreAllLeft live shut taking calls marks fits room plan seats ends)
-    (links : List SeenLink) (are_left : AreLinksLeft plan (rows_left live shut taking ends) links) (are_wired : AreWired plan (rows_left live shut taking ends)) (in_order : All IsTakenInOrder links) where
+module _ {Lane Tx Closed Rx D : Type 0} {lane : Ghosts Lane Tx Closed Rx}
+    {eater : diners.Ghosts D} {plan : SeenPlan}
+    {seats : List (Seat Lane D Tx Closed Rx)} {ends : List (SiteEnd Lane D Tx Closed Rx)} (all : AreAllLeft lane eater plan seats ends)
+    (links : List SeenLink) (are_left : AreLinksLeft plan (rows_left lane ends) links) (are_wired : AreWired plan (rows_left lane ends)) (in_order : All IsTakenInOrder links) where
   -- the state in which a site ended
-  pub state_left : (s : ℕ) → (state : LocalState) × ((end : SiteEnd Lane D Tx Closed Rx) → slice_get ends s ≡ Some end → IsLeftBy live shut taking plan s state end)
+  pub state_left : (s : ℕ) → (state : LocalState) × ((end : SiteEnd Lane D Tx Closed Rx) → slice_get ends s ≡ Some end → IsLeftBy lane plan s state end)
   state_left s = elim (there_or_none (slice_get ends s)) [
     | inl none ↦ (start_of plan s, λ end at. absurd (none-some end (sym none ∙ at)))
     | inr some ↦
         let here = left_at all s some.0 some.1 in
         let left = here.left in
-        let by : IsLeftBy live shut taking plan s left.state some.0 = record { ended = left.ended; forks = left.forks; degree = here.degree } in
-        (left.state, λ end at. subst (IsLeftBy live shut taking plan s left.state) (same_Some some.0 end (sym some.1 ∙ at)) by)
+        let by : IsLeftBy lane plan s left.state some.0 = record { ended = left.ended; forks = left.forks; degree = here.degree } in
+        (left.state, λ end at. subst (IsLeftBy lane plan s left.state) (same_Some some.0 end (sym some.1 ∙ at)) by)
   ]
 
   abbrev pub states : ℕ → LocalState
   states s = (state_left s).0
 
-  left_by : (s : ℕ) (end : SiteEnd Lane D Tx Closed Rx) → slice_get ends s ≡ Some end → IsLeftBy live shut taking plan s (states s) end
+  left_by : (s : ℕ) (end : SiteEnd Lane D Tx Closed Rx) → slice_get ends s ≡ Some end → IsLeftBy lane plan s (states s) end
   left_by s = (state_left s).1
 
   -- the port of a site at a place
-  stands_at : (spot : Spot) (port : SeenPort Identity) (end : SiteEnd Lane D Tx Closed Rx) → slice_get ends spot.site ≡ Some end → port_at (rows_left live shut taking ends) spot ≡ Some port
-      → slice_get (seen_ports live shut taking end.ports.items) spot.at ≡ Some port
-  stands_at spot port end at is = sym (ap (λ row. slice_get row spot.at) (row_of (λ (e : SiteEnd Lane D Tx Closed Rx). seen_ports live shut taking e.ports.items) ends spot.site end at)) ∙ is
+  pub stands_at : (spot : Spot) (port : SeenPort lane.Identity) (end : SiteEnd Lane D Tx Closed Rx) → slice_get ends spot.site ≡ Some end → port_at (rows_left lane ends) spot ≡ Some port
+      → slice_get (seen_ports lane end.ports.items) spot.at ≡ Some port
+  stands_at spot port end at is = sym (ap (λ row. slice_get row spot.at) (row_of (λ (e : SiteEnd Lane D Tx Closed Rx). seen_ports lane e.ports.items) ends spot.site end at)) ∙ is
 
   low_site : (edge : ℕ) → edge < edge_count plan → lo_of plan edge < site_count plan
   low_site edge within = let ordered = all.is_plan.ordered edge within in let bound = all.is_plan.within edge within in omega (arith, ordered, bound)
@@ -328,23 +329,23 @@ module _ {Lane Tx Closed Rx Identity D : Type 0} {live : Tx → SeenEnd Identity
   spot_across s i = record { site = neighbour_at plan s i; at = place_of plan (neighbour_at plan s i) (edge_at plan s i) }
 
   -- The ports at a place and at its other end, with their two links, each taken in order.
-  record ArePortsAt (s i : ℕ) : Type 0 where
-    pub near : SeenPort Identity
-    pub far : SeenPort Identity
-    pub at_near : port_at (rows_left live shut taking ends) (record { site = s; at = i }) ≡ Some near
-    pub at_far : port_at (rows_left live shut taking ends) (spot_across s i) ≡ Some far
+  pub record ArePortsAt (s i : ℕ) : Type 0 where
+    pub near : SeenPort lane.Identity
+    pub far : SeenPort lane.Identity
+    pub at_near : port_at (rows_left lane ends) (record { site = s; at = i }) ≡ Some near
+    pub at_far : port_at (rows_left lane ends) (spot_across s i) ≡ Some far
     pub comes : IsTakenInOrder (link_of far.tx near.rx)
     pub goes : IsTakenInOrder (link_of near.tx far.rx)
     pub has : links_of plan links s i ≡ on_links near
 
-  ports_at : (s i : ℕ) → i < length (edges_of plan s) → ArePortsAt s i
+  pub ports_at : (s i : ℕ) → i < length (edges_of plan s) → ArePortsAt s i
   ports_at s i inside =
       let edge = edge_at plan s i in
       let p = placed plan s i all.is_plan inside in
       let w = are_wired edge p.edge_within in
       let spot : Spot = record { site = s; at = i } in
       let place = place_of-edge_at plan s i inside in
-      let rows = rows_left live shut taking ends in
+      let rows = rows_left lane ends in
       let low = low_links links edge in
       let high = high_links links edge in
       let from_low = are_left.from_low edge w.low w.high p.edge_within w.at_low w.at_high in
@@ -379,11 +380,11 @@ module _ {Lane Tx Closed Rx Identity D : Type 0} {live : Tx → SeenEnd Identity
       ]
 
   -- what a site put and took at a place, in Forks, beside what its links have
-  record AreForksAt (spot : Spot) (port : SeenPort Identity) : Type 0 where
+  record AreForksAt (spot : Spot) (port : SeenPort lane.Identity) : Type 0 where
     pub put : forks_in port.tx.letters ≤ forks_in (traffic_at (states spot.site) spot.at).put
     pub taken : forks_in (traffic_at (states spot.site) spot.at).taken ≤ forks_in port.rx.letters
 
-  forks_at : (spot : Spot) (port : SeenPort Identity) → spot.site < site_count plan → port_at (rows_left live shut taking ends) spot ≡ Some port → AreForksAt spot port
+  forks_at : (spot : Spot) (port : SeenPort lane.Identity) → spot.site < site_count plan → port_at (rows_left lane ends) spot ≡ Some port → AreForksAt spot port
   forks_at spot port is_site is =
       let end = end_of all spot.site is_site in
       let left = left_by spot.site end.0 end.1 in
@@ -391,8 +392,8 @@ module _ {Lane Tx Closed Rx Identity D : Type 0} {live : Tx → SeenEnd Identity
       let traffic = traffic_at (states spot.site) spot.at in
       let stray = option_to_list (breached_at spot.at end.0.fault end.0.stray) in
       record {
-        put = puts_forks port.tx.refused (refused_at spot.at end.0.fault end.0.stray) traffic.put port.tx.letters (puts_by live shut taking plan spot.site (states spot.site) end.0 left spot.at port stands);
-        taken = omega (arith, ap forks_in (takes_by live shut taking plan spot.site (states spot.site) end.0 left spot.at port stands), forks_in-append traffic.taken stray);
+        put = puts_forks port.tx.refused (refused_at spot.at end.0.fault end.0.stray) traffic.put port.tx.letters (puts_by lane plan spot.site (states spot.site) end.0 left spot.at port stands);
+        taken = omega (arith, ap forks_in (takes_by lane plan spot.site (states spot.site) end.0 left spot.at port stands), forks_in-append traffic.taken stray);
       }
 
   -- at most one end of an edge holds its fork
@@ -478,9 +479,9 @@ module _ {Lane Tx Closed Rx Identity D : Type 0} {live : Tx → SeenEnd Identity
       let end = end_for all s out at in
       let left = left_by s end.0 end.1 in
       subst (λ (o : SiteOut D). HasEnded plan s (states s) (links_of plan links s) (told_in o)) end.2
-      (ended_along plan s (states s) (links_at (seen_ports live shut taking end.0.ports.items)) (links_of plan links s) (told_in (out_of end.0)) (λ i within.
+      (ended_along plan s (states s) (links_at (seen_ports lane end.0.ports.items)) (links_of plan links s) (told_in (out_of end.0)) (λ i within.
       let ports = ports_at s i (omega (arith, within, left.ended.keeps.every_place)) in
-      links_there (seen_ports live shut taking end.0.ports.items) i ports.near (stands_at (record { site = s; at = i }) ports.near end.0 end.1 ports.at_near) ∙ sym ports.has) left.ended)
+      links_there (seen_ports lane end.0.ports.items) i ports.near (stands_at (record { site = s; at = i }) ports.near end.0 end.1 ports.at_near) ∙ sym ports.has) left.ended)
 
   traffic_is : (s i : ℕ) → traffic_on (links_of plan links s i) ≡ traffic_of plan links s (edge_at plan s i)
   traffic_is s i = elim (cases_Bool (lo_of plan (edge_at plan s i) == s)) [ inl low ↦ rw low refl | inr high ↦ rw high refl ]
@@ -521,10 +522,10 @@ module _ {Lane Tx Closed Rx Identity D : Type 0} {live : Tx → SeenEnd Identity
         told_early early plan s i there.site there.at (states s) (states there.site) ports.near.tx.refused ports.far.tx.refused (refused_at there.at far_end.0.fault far_end.0.stray) (option_to_list (breached_at there.at far_end.0.fault far_end.0.stray))
         ports.near.tx.letters ports.near.rx.letters ports.far.tx.letters ports.far.rx.letters breached.letter breach all.is_plan
         (record { within = inside; within_there = over.within; same_edge = over.same_edge; across = refl; back = over.back }) left.ended.keeps far.ended.keeps
-        (subst (λ r. PutsFit ports.near.tx.refused r (traffic_at (states s) i).put ports.near.tx.letters) (ap (λ (f : Option SiteFault). refused_at i f end.0.stray) fault_is) (puts_by live shut taking plan s (states s) end.0 left i ports.near stands))
-        (puts_by live shut taking plan there.site (states there.site) far_end.0 far there.at ports.far stands_there)
-        (takes_by live shut taking plan s (states s) end.0 left i ports.near stands ∙ ap (λ o. (traffic_at (states s) i).taken ++ option_to_list o) stray)
-        (takes_by live shut taking plan there.site (states there.site) far_end.0 far there.at ports.far stands_there) ports.comes.prefix ports.goes.prefix ports.comes.nothing_after_close breached.first
+        (subst (λ r. PutsFit ports.near.tx.refused r (traffic_at (states s) i).put ports.near.tx.letters) (ap (λ (f : Option SiteFault). refused_at i f end.0.stray) fault_is) (puts_by lane plan s (states s) end.0 left i ports.near stands))
+        (puts_by lane plan there.site (states there.site) far_end.0 far there.at ports.far stands_there)
+        (takes_by lane plan s (states s) end.0 left i ports.near stands ∙ ap (λ o. (traffic_at (states s) i).taken ++ option_to_list o) stray)
+        (takes_by lane plan there.site (states there.site) far_end.0 far there.at ports.far stands_there) ports.comes.prefix ports.goes.prefix ports.comes.nothing_after_close breached.first
 
   module _ (fork_law : (plan : SeenPlan) (s i : ℕ) (state : LocalState) → KeepsStreams plan s state → i < length (edges_of plan s) → AccountsForFork plan s (edge_at plan s i) state.ate (traffic_at state i))
       (low_values : (plan : SeenPlan) (edge low_ate high_ate : ℕ) (low high : Traffic) → IsPlan plan → edge < edge_count plan → AccountsForFork plan (lo_of plan edge) edge low_ate low → AccountsForFork plan (hi_of plan edge) edge high_ate high → AreForksLinked low high → TellsValues plan (lo_of plan edge) edge low_ate low)
@@ -535,15 +536,15 @@ module _ {Lane Tx Closed Rx Identity D : Type 0} {live : Tx → SeenEnd Identity
         subst (λ e. AccountsForFork plan s e (states s).ate (traffic_at (states s) (place_of plan s edge))) place.1 (fork_law plan s (place_of plan s edge) (states s) (keeps_at s is_site) place.0)
 
     -- the Forks that came over a link are the first of those that the core at its other end put
-    came : (near far : Spot) (rx tx : SeenPort Identity) → near.site < site_count plan → far.site < site_count plan → port_at (rows_left live shut taking ends) near ≡ Some rx → port_at (rows_left live shut taking ends) far ≡ Some tx
+    came : (near far : Spot) (rx tx : SeenPort lane.Identity) → near.site < site_count plan → far.site < site_count plan → port_at (rows_left lane ends) near ≡ Some rx → port_at (rows_left lane ends) far ≡ Some tx
         → IsPrefix rx.rx.letters tx.tx.letters → (k : ℕ) (fork : SeenFork) → slice_get (forks_among (traffic_at (states near.site) near.at).taken) k ≡ Some fork → slice_get (forks_among (traffic_at (states far.site) far.at).put) k ≡ Some fork
     came near far rx tx is_near is_far at_near at_far prefix k fork at =
         let here = end_of all near.site is_near in
         let there = end_of all far.site is_far in
-        let taken = takes_by live shut taking plan near.site (states near.site) here.0 (left_by near.site here.0 here.1) near.at rx (stands_at near rx here.0 here.1 at_near) in
+        let taken = takes_by lane plan near.site (states near.site) here.0 (left_by near.site here.0 here.1) near.at rx (stands_at near rx here.0 here.1 at_near) in
         let stray = option_to_list (breached_at near.at here.0.fault here.0.stray) in
         puts_first tx.tx.refused (refused_at far.at there.0.fault there.0.stray) (traffic_at (states far.site) far.at).put tx.tx.letters
-        (puts_by live shut taking plan far.site (states far.site) there.0 (left_by far.site there.0 there.1) far.at tx (stands_at far tx there.0 there.1 at_far)) k fork
+        (puts_by lane plan far.site (states far.site) there.0 (left_by far.site there.0 there.1) far.at tx (stands_at far tx there.0 there.1 at_far)) k fork
         (forks_among-prefix rx.rx.letters tx.tx.letters prefix k fork
         (ap (λ (letters : List Letter). slice_get (forks_among letters) k) taken ∙ forks_among-before (traffic_at (states near.site) near.at).taken stray k fork at))
 

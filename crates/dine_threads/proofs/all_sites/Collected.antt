@@ -7,7 +7,7 @@ use Rattle.std.proofs.lemmas.Option.{get_or_from_slice_get, none-some, same_Some
 use Rattle.dine_token.specs.Fork.{SeenFork}
 use Rattle.dine_graph.specs.Plan.{SeenPlan, edge_count, edges_of}
 use Rattle.dine_link.specs.Lanes.{seen_end}
-use Rattle.dine_link.specs.Links.{SeenEnd, SeenLink, link_of}
+use Rattle.dine_link.specs.Links.{SeenLink, link_of}
 use Rattle.dine_site.specs.declared.port.Port.{Port}
 use Rattle.dine_site.specs.declared.site_end.SiteEnd.{SiteEnd}
 use Rattle.dine_threads.specs.declared.slots.Both.{Both}
@@ -19,6 +19,7 @@ use Rattle.dine_threads.specs.private.Spots.{AreBothAt, AreFull, IsFullRow, high
 use Rattle.dine_threads.specs.private.Wirings.{AreWired, port_at}
 use Rattle.dine_threads.proofs.all_sites.Edges.{slice_get-push}
 use Rattle.dine_site.proofs.lists.Seen.{there_is}
+use Rattle.dine_link.specs.declared.lane.Lane.{Ghosts}
 
 -- what is so of each element by its index, where there is none, and where there is one more
 pub each_of_none : {X : Type 0} (P : ℕ → X → Type 0) (xs : List X) → xs ≡ [] → (k : ℕ) (y : X) → slice_get xs k ≡ Some y → P k y
@@ -98,57 +99,57 @@ module _ {Lane Tx Closed Rx D : Type 0} (ends : List (SiteEnd Lane D Tx Closed R
       } in
       subst (IsFullRow (length (edges_of plan s))) (sym row) full
 
-  pub slot_seen : {Identity : Type 0} (live : Tx → SeenEnd Identity) (shut : Closed → SeenEnd Identity) (taking : Rx → SeenEnd Identity) (spot : Spot) (port : Port Lane Tx Closed Rx)
-      → slot_at rows spot ≡ Some port → port_at (rows_left live shut taking ends) spot ≡ Some (seen_port live shut taking port)
-  slot_seen live shut taking spot port at =
-      rows_at (λ (end : SiteEnd Lane D Tx Closed Rx). end.ports.items) (seen_port live shut taking) ends spot.site spot.at port (sym (ap (λ r. get_or r spot.at None) (row_of spot.site)) ∙ at)
+  pub slot_seen : (lane : Ghosts Lane Tx Closed Rx) (spot : Spot) (port : Port Lane Tx Closed Rx)
+      → slot_at rows spot ≡ Some port → port_at (rows_left lane ends) spot ≡ Some (seen_port lane port)
+  slot_seen lane spot port at =
+      rows_at (λ (end : SiteEnd Lane D Tx Closed Rx). end.ports.items) (seen_port lane) ends spot.site spot.at port (sym (ap (λ r. get_or r spot.at None) (row_of spot.site)) ∙ at)
 
-module _ {Lane Tx Closed Rx Identity : Type 0} (live : Tx → SeenEnd Identity) (shut : Closed → SeenEnd Identity) (taking : Rx → SeenEnd Identity) where
+module _ {Lane Tx Closed Rx : Type 0} (lane : Ghosts Lane Tx Closed Rx) where
   -- the links of the pairs, and those of one pair
-  length-links_left : (pairs : List (Both (Port Lane Tx Closed Rx))) → length (links_left live shut taking pairs) ≡ 2 * length pairs
+  length-links_left : (pairs : List (Both (Port Lane Tx Closed Rx))) → length (links_left lane pairs) ≡ 2 * length pairs
   length-links_left [] = refl
   length-links_left (pair ∷ pairs) = let rest = length-links_left pairs in omega (arith, rest)
 
   low_link : (pairs : List (Both (Port Lane Tx Closed Rx))) (k : ℕ) (both : Both (Port Lane Tx Closed Rx)) → slice_get pairs k ≡ Some both
-      → get_or (links_left live shut taking pairs) (2 * k) no_link ≡ link_of (seen_end live shut both.low.tx) (taking both.high.rx)
+      → get_or (links_left lane pairs) (2 * k) no_link ≡ link_of (seen_end lane.seen_tx lane.seen_closed both.low.tx) (lane.seen_rx both.high.rx)
   low_link [] k both at = absurd (none-some both at)
-  low_link (pair ∷ pairs) zero both at = ap (λ (b : Both (Port Lane Tx Closed Rx)). link_of (seen_end live shut b.low.tx) (taking b.high.rx)) (same_Some pair both at)
+  low_link (pair ∷ pairs) zero both at = ap (λ (b : Both (Port Lane Tx Closed Rx)). link_of (seen_end lane.seen_tx lane.seen_closed b.low.tx) (lane.seen_rx b.high.rx)) (same_Some pair both at)
   low_link (pair ∷ pairs) (suc k) both at =
       let next : 2 * suc k ≡ suc (suc (2 * k)) = omega arith in
-      ap (λ n. get_or (links_left live shut taking (pair ∷ pairs)) n no_link) next ∙ low_link pairs k both at
+      ap (λ n. get_or (links_left lane (pair ∷ pairs)) n no_link) next ∙ low_link pairs k both at
 
   high_link : (pairs : List (Both (Port Lane Tx Closed Rx))) (k : ℕ) (both : Both (Port Lane Tx Closed Rx)) → slice_get pairs k ≡ Some both
-      → get_or (links_left live shut taking pairs) (2 * k + 1) no_link ≡ link_of (seen_end live shut both.high.tx) (taking both.low.rx)
+      → get_or (links_left lane pairs) (2 * k + 1) no_link ≡ link_of (seen_end lane.seen_tx lane.seen_closed both.high.tx) (lane.seen_rx both.low.rx)
   high_link [] k both at = absurd (none-some both at)
-  high_link (pair ∷ pairs) zero both at = ap (λ (b : Both (Port Lane Tx Closed Rx)). link_of (seen_end live shut b.high.tx) (taking b.low.rx)) (same_Some pair both at)
+  high_link (pair ∷ pairs) zero both at = ap (λ (b : Both (Port Lane Tx Closed Rx)). link_of (seen_end lane.seen_tx lane.seen_closed b.high.tx) (lane.seen_rx b.low.rx)) (same_Some pair both at)
   high_link (pair ∷ pairs) (suc k) both at =
       let next : 2 * suc k + 1 ≡ suc (suc (2 * k + 1)) = omega arith in
-      ap (λ n. get_or (links_left live shut taking (pair ∷ pairs)) n no_link) next ∙ high_link pairs k both at
+      ap (λ n. get_or (links_left lane (pair ∷ pairs)) n no_link) next ∙ high_link pairs k both at
 
   module _ {D : Type 0} (plan : SeenPlan) (ends : List (SiteEnd Lane D Tx Closed Rx)) (rows : List (Vec (Option (Port Lane Tx Closed Rx))))
       (moved : map (λ (row : Vec (Option (Port Lane Tx Closed Rx))). row.items) rows ≡ map (λ (end : SiteEnd Lane D Tx Closed Rx). map Some end.ports.items) ends)
       (pairs : List (Both (Port Lane Tx Closed Rx))) (count : length pairs ≡ edge_count plan) (each : AreBothAt plan rows pairs) where
-    low_seen : (edge : ℕ) (both : Both (Port Lane Tx Closed Rx)) → slice_get pairs edge ≡ Some both → port_at (rows_left live shut taking ends) (low_spot plan edge) ≡ Some (seen_port live shut taking both.low)
-    low_seen edge both at = slot_seen ends rows moved live shut taking (low_spot plan edge) both.low (each edge both at).low
+    low_seen : (edge : ℕ) (both : Both (Port Lane Tx Closed Rx)) → slice_get pairs edge ≡ Some both → port_at (rows_left lane ends) (low_spot plan edge) ≡ Some (seen_port lane both.low)
+    low_seen edge both at = slot_seen ends rows moved lane (low_spot plan edge) both.low (each edge both at).low
 
-    high_seen : (edge : ℕ) (both : Both (Port Lane Tx Closed Rx)) → slice_get pairs edge ≡ Some both → port_at (rows_left live shut taking ends) (high_spot plan edge) ≡ Some (seen_port live shut taking both.high)
-    high_seen edge both at = slot_seen ends rows moved live shut taking (high_spot plan edge) both.high (each edge both at).high
+    high_seen : (edge : ℕ) (both : Both (Port Lane Tx Closed Rx)) → slice_get pairs edge ≡ Some both → port_at (rows_left lane ends) (high_spot plan edge) ≡ Some (seen_port lane both.high)
+    high_seen edge both at = slot_seen ends rows moved lane (high_spot plan edge) both.high (each edge both at).high
 
     -- each takes from the link that the other put in
-    pub pairs_joined : AreWired plan (rows_left live shut taking ends) → All (AreJoined live shut taking) pairs
+    pub pairs_joined : AreWired plan (rows_left lane ends) → All (AreJoined lane) pairs
     pairs_joined wired edge d within =
         let both = get_or pairs edge d in
         let at : slice_get pairs edge ≡ Some both = slice_get-get_or pairs edge d within in
         let is = wired edge (omega (arith, within, count)) in
-        let low : is.low ≡ seen_port live shut taking both.low = same_Some is.low (seen_port live shut taking both.low) (sym is.at_low ∙ low_seen edge both at) in
-        let high : is.high ≡ seen_port live shut taking both.high = same_Some is.high (seen_port live shut taking both.high) (sym is.at_high ∙ high_seen edge both at) in
+        let low : is.low ≡ seen_port lane both.low = same_Some is.low (seen_port lane both.low) (sym is.at_low ∙ low_seen edge both at) in
+        let high : is.high ≡ seen_port lane both.high = same_Some is.high (seen_port lane both.high) (sym is.at_high ∙ high_seen edge both at) in
         record {
-          goes = sym (ap (λ (port : SeenPort Identity). port.rx.link) high) ∙ is.goes ∙ ap (λ (port : SeenPort Identity). port.tx.link) low;
-          comes = sym (ap (λ (port : SeenPort Identity). port.rx.link) low) ∙ is.comes ∙ ap (λ (port : SeenPort Identity). port.tx.link) high;
+          goes = sym (ap (λ (port : SeenPort lane.Identity). port.rx.link) high) ∙ is.goes ∙ ap (λ (port : SeenPort lane.Identity). port.tx.link) low;
+          comes = sym (ap (λ (port : SeenPort lane.Identity). port.rx.link) low) ∙ is.comes ∙ ap (λ (port : SeenPort lane.Identity). port.tx.link) high;
         }
 
     -- so the links of the pairs are those that were left
-    pub links_of_pairs : (links : List SeenLink) → links ≡ links_left live shut taking pairs → AreLinksLeft plan (rows_left live shut taking ends) links
+    pub links_of_pairs : (links : List SeenLink) → links ≡ links_left lane pairs → AreLinksLeft plan (rows_left lane ends) links
     links_of_pairs links are = record {
       count = (let len = length-links_left pairs in let same = ap length are in omega (arith, len, same, count));
       from_low = λ edge low high within at_low at_high.
@@ -156,13 +157,13 @@ module _ {Lane Tx Closed Rx Identity : Type 0} (live : Tx → SeenEnd Identity) 
           let both = there.0 in
           ap (λ l. get_or l (2 * edge) no_link) are
           ∙ low_link pairs edge both there.1
-          ∙ ap (λ (port : SeenPort Identity). link_of port.tx (taking both.high.rx)) (same_Some (seen_port live shut taking both.low) low (sym (low_seen edge both there.1) ∙ at_low))
-          ∙ ap (λ (port : SeenPort Identity). link_of low.tx port.rx) (same_Some (seen_port live shut taking both.high) high (sym (high_seen edge both there.1) ∙ at_high));
+          ∙ ap (λ (port : SeenPort lane.Identity). link_of port.tx (lane.seen_rx both.high.rx)) (same_Some (seen_port lane both.low) low (sym (low_seen edge both there.1) ∙ at_low))
+          ∙ ap (λ (port : SeenPort lane.Identity). link_of low.tx port.rx) (same_Some (seen_port lane both.high) high (sym (high_seen edge both there.1) ∙ at_high));
       from_high = λ edge low high within at_low at_high.
           let there = there_is pairs edge (omega (arith, within, count)) in
           let both = there.0 in
           ap (λ l. get_or l (2 * edge + 1) no_link) are
           ∙ high_link pairs edge both there.1
-          ∙ ap (λ (port : SeenPort Identity). link_of port.tx (taking both.low.rx)) (same_Some (seen_port live shut taking both.high) high (sym (high_seen edge both there.1) ∙ at_high))
-          ∙ ap (λ (port : SeenPort Identity). link_of high.tx port.rx) (same_Some (seen_port live shut taking both.low) low (sym (low_seen edge both there.1) ∙ at_low));
+          ∙ ap (λ (port : SeenPort lane.Identity). link_of port.tx (lane.seen_rx both.low.rx)) (same_Some (seen_port lane both.high) high (sym (high_seen edge both there.1) ∙ at_high))
+          ∙ ap (λ (port : SeenPort lane.Identity). link_of high.tx port.rx) (same_Some (seen_port lane both.low) low (sym (low_seen edge both there.1) ∙ at_low));
     }

@@ -23,8 +23,7 @@ use Rattle.dine_rules.proofs.one_place.Placed.{placed}
 use Rattle.dine_rules.proofs.one_site.SiteSteps.{list_all-range}
 use Rattle.dine_rules.proofs.lists.Turns.{ends_in_close}
 use Rattle.dine_core.specs.Core.{forks_in_hand}
-use Rattle.dine_link.specs.Links.{SeenEnd, SeenLink, link_of}
-use Rattle.dine_site.specs.declared.diner.Call.{Call}
+use Rattle.dine_link.specs.Links.{SeenLink, link_of}
 use Rattle.dine_threads.specs.declared.gathered.SiteOut.{SiteOut}
 use Rattle.dine_threads.specs.declared.seats.EndOf.{EndOf}
 use Rattle.dine_threads.specs.declared.seats.Seat.{Seat}
@@ -36,9 +35,10 @@ use Rattle.dine_threads.specs.private.Collecting.{AreForksOf, AreLinksLeft, AreW
 use Rattle.dine_site.specs.Diners.{HasEaten, HeedsFailures}
 use Rattle.dine_threads.specs.Gathered.{AreFinishedOuts, AreLinksOf, AreOutsOf, IsClosedWhole, IsFinishedOut, IsLowestFault, IsOutOf, link_from_low, link_from_high, no_link}
 use Rattle.dine_site.specs.Ports.{SeenPort, SameLinks, seen_port, seen_ports}
-use Rattle.dine_threads.specs.private.Seats.{AreSeatsOf, IsReady, LeavesSeat, seat_of, seen_site_end}
+use Rattle.dine_threads.specs.private.Seats.{AreSeatsOf, IsReady, LeavesSeat, seat_of}
 use Rattle.dine_site.specs.Endings.{OnLinks, breached_at, hands_back}
-use Rattle.dine_site.specs.SiteEnds.{IsLeft}
+use Rattle.dine_site.specs.SiteEnds.{IsLeft, seen_site_end}
+use Rattle.dine_site.specs.Times.{IsTimed, none_late}
 use Rattle.dine_threads.specs.private.Setups.{IsSetUp, rows_of_seats}
 use Rattle.dine_threads.specs.private.Spots.{low_spot, high_spot}
 use Rattle.dine_threads.specs.private.Wirings.{AreWired, port_at}
@@ -47,6 +47,8 @@ use Rattle.dine_site.proofs.one_site.Quits.{quit_told}
 use Rattle.dine_site.proofs.lists.Lists.{all_at}
 use Rattle.dine_site.proofs.lists.Seen.{there_is}
 use Rattle.dine_threads.proofs.lists.Zips.{AllZip-at}
+use Rattle.dine_link.specs.declared.lane.Lane.{Ghosts}
+use Rattle.dine_site.specs.declared.diner.Diner as diners
 
 -- the element that was made of one
 pub row_of : {X Y : Type 0} (f : X → List Y) (xs : List X) (k : ℕ) (x : X) → slice_get xs k ≡ Some x → get_or (map f xs) k [] ≡ f x
@@ -106,62 +108,64 @@ module _ {Lane Tx Closed Rx D : Type 0} where
   forks_of_all P (end ∷ ends) each = All-append P end.forks.items (forks_left ends) (each 0 end refl) (forks_of_all P ends (λ s e at. each (suc s) e at))
 
 -- Every site left what its seat gives, and the seats are those of the plan.
-pub record AreAllLeft {Lane Tx Closed Rx Identity D : Type 0} (live : Tx → SeenEnd Identity) (shut : Closed → SeenEnd Identity) (taking : Rx → SeenEnd Identity)
-    (calls : D → List Call) (marks : D → List Bool) (fits : List Bool → ℕ → Bool → Bool) (room : D → ℕ) (plan : SeenPlan)
+pub record AreAllLeft {Lane Tx Closed Rx D : Type 0} (lane : Ghosts Lane Tx Closed Rx)
+    (eater : diners.Ghosts D) (plan : SeenPlan)
     (seats : List (Seat Lane D Tx Closed Rx)) (ends : List (SiteEnd Lane D Tx Closed Rx)) : Type 0 where
   pub is_plan : IsPlan plan
   pub count : length seats ≡ site_count plan
   pub fresh : AreSeatsOf plan seats
-  pub ready : All (IsReady live shut taking room) seats
-  pub left : AllZip (LeavesSeat live shut taking calls marks fits) seats ends
+  pub ready : All (IsReady lane eater) seats
+  pub left : AllZip (LeavesSeat lane eater) seats ends
 
 -- so it is where all that was set up was started and joined
-pub left_of_children : {Lane Tx Closed Rx Identity D : Type 0} {live : Tx → SeenEnd Identity} {shut : Closed → SeenEnd Identity} {taking : Rx → SeenEnd Identity}
-    {calls : D → List Call} {marks : D → List Bool} {fits : List Bool → ℕ → Bool → Bool} {room : D → ℕ} {plan : SeenPlan} {given : List D}
+pub left_of_children : {Lane Tx Closed Rx D : Type 0} {lane : Ghosts Lane Tx Closed Rx}
+    {eater : diners.Ghosts D} {plan : SeenPlan} {given : List D}
     (setup : Setup Lane D Tx Closed Rx) (children : List (PromisedHandle (SiteEnd Lane D Tx Closed Rx) (EndOf Lane D Tx Closed Rx))) (ends : List (SiteEnd Lane D Tx Closed Rx))
-    → IsPlan plan → IsSetUp live shut taking room plan given setup → map seat_of children ≡ setup.seats.items → AllZip (LeavesSeat live shut taking calls marks fits) (map seat_of children) ends
-    → AreAllLeft live shut taking calls marks fits room plan setup.seats.items ends
-left_of_children {live = live} {shut = shut} {taking = taking} {calls = calls} {marks = marks} {fits = fits} setup children ends is_plan set_up started left = record {
+    → IsPlan plan → IsSetUp lane eater plan given setup → map seat_of children ≡ setup.seats.items → AllZip (LeavesSeat lane eater) (map seat_of children) ends
+    → AreAllLeft lane eater plan setup.seats.items ends
+left_of_children {lane = lane} {eater = eater} setup children ends is_plan set_up started left = record {
   is_plan = is_plan;
   count = omega (arith, set_up.count, setup.seats.ok.0);
   fresh = set_up.fresh;
   ready = set_up.ready;
-  left = subst (λ seats. AllZip (LeavesSeat live shut taking calls marks fits) seats ends) started left;
+  left = subst (λ seats. AllZip (LeavesSeat lane eater) seats ends) started left;
 }
 
-module _ {Lane Tx Closed Rx Identity D : Type 0} {live : Tx → SeenEnd Identity} {shut : Closed → SeenEnd Identity} {taking : Rx → SeenEnd Identity}
-    {calls : D → List Call} {marks : D → List Bool} {fits : List Bool → ℕ → Bool → Bool} {room : D → ℕ} {plan : SeenPlan}
-    {seats : List (Seat Lane D Tx Closed Rx)} {ends : List (SiteEnd Lane D Tx Closed Rx)} (all : AreAllLeft live shut taking calls marks fits room plan seats ends) where
+module _ {Lane Tx Closed Rx D : Type 0} {lane : Ghosts Lane Tx Closed Rx}
+    {eater : diners.Ghosts D} {plan : SeenPlan}
+    {seats : List (Seat Lane D Tx Closed Rx)} {ends : List (SiteEnd Lane D Tx Closed Rx)} (all : AreAllLeft lane eater plan seats ends) where
   -- what a site left, and the seat that it had
   pub record LeftAt (s : ℕ) (end : SiteEnd Lane D Tx Closed Rx) : Type 0 where
     pub seat : Seat Lane D Tx Closed Rx
     pub at : slice_get seats s ≡ Some seat
-    pub left : IsLeft plan s (seen_ports live shut taking seat.ports.items) (seen_site_end live shut taking end)
-    pub eaten : HasEaten calls marks fits end.ate end.failed seat.diner end.diner
-    pub heeds : HeedsFailures (resigns plan s) end.journal.items (calls seat.diner) (calls end.diner)
+    pub left : IsLeft plan s (seen_ports lane seat.ports.items) (seen_site_end lane end)
+    pub eaten : HasEaten eater.calls eater.marks eater.fits end.ate end.failed seat.diner end.diner
+    pub timed : end.fault ≡ None → IsTimed none_late end.clock.events end.journal.items (seen_ports lane end.ports.items)
+    pub heeds : HeedsFailures (resigns plan s) end.journal.items (eater.calls seat.diner) (eater.calls end.diner)
     pub degree : length end.ports.items ≡ length (edges_of plan s)
 
   pub left_at : (s : ℕ) (end : SiteEnd Lane D Tx Closed Rx) → slice_get ends s ≡ Some end → LeftAt s end
   left_at s end at =
-      let pair = AllZip-at (LeavesSeat live shut taking calls marks fits) seats ends s end all.left at in
+      let pair = AllZip-at (LeavesSeat lane eater) seats ends s end all.left at in
       let seat = pair.0 in
       let here = all.fresh s seat pair.1 in
-      let ready_here = all_at (IsReady live shut taking room) seats s seat all.ready pair.1 in
-      let left : IsLeft plan s (seen_ports live shut taking seat.ports.items) (seen_site_end live shut taking end) =
-      subst (λ n. IsLeft plan n (seen_ports live shut taking seat.ports.items) (seen_site_end live shut taking end)) here.1 (pair.2.left plan here.0) in
+      let ready_here = all_at (IsReady lane eater) seats s seat all.ready pair.1 in
+      let left : IsLeft plan s (seen_ports lane seat.ports.items) (seen_site_end lane end) =
+      subst (λ n. IsLeft plan n (seen_ports lane seat.ports.items) (seen_site_end lane end)) here.1 (pair.2.left plan here.0) in
       record {
         seat = seat;
         at = pair.1;
         left = left;
         eaten = pair.2.eaten;
-        heeds = subst (λ (does : Bool). HeedsFailures does end.journal.items (calls seat.diner) (calls end.diner)) (here.0.stands.resigns ∙ ap (resigns plan) here.1) pair.2.heeds;
+        timed = pair.2.timed;
+        heeds = subst (λ (does : Bool). HeedsFailures does end.journal.items (eater.calls seat.diner) (eater.calls end.diner)) (here.0.stands.resigns ∙ ap (resigns plan) here.1) pair.2.heeds;
         degree =
-            sym (length-map end.ports.items (seen_port live shut taking)) ∙ left.count ∙ length-map seat.ports.items (seen_port live shut taking)
+            sym (length-map end.ports.items (seen_port lane)) ∙ left.count ∙ length-map seat.ports.items (seen_port lane)
             ∙ ready_here.ports ∙ here.0.stands.degree ∙ length-map (edges_of plan seat.packed.site) (λ edge. no_traffic) ∙ ap (λ n. length (edges_of plan n)) here.1;
       }
 
-  ends_count : length ends ≡ site_count plan
-  ends_count = AllZip-long (LeavesSeat live shut taking calls marks fits) seats ends all.left ∙ all.count
+  pub ends_count : length ends ≡ site_count plan
+  ends_count = AllZip-long (LeavesSeat lane eater) seats ends all.left ∙ all.count
 
   -- each site of the plan left something
   pub end_of : (s : ℕ) → s < site_count plan → (end : SiteEnd Lane D Tx Closed Rx) × (slice_get ends s ≡ Some end)
@@ -178,19 +182,19 @@ module _ {Lane Tx Closed Rx Identity D : Type 0} {live : Tx → SeenEnd Identity
   }
 
   -- the port that a site left at a place where it had one, with the same links
-  port_left : (spot : Spot) (old : SeenPort Identity) → spot.site < site_count plan → port_at (rows_of_seats live shut taking seats) spot ≡ Some old
-      → (new : SeenPort Identity) × (port_at (rows_left live shut taking ends) spot ≡ Some new) × SameLinks old new
+  port_left : (spot : Spot) (old : SeenPort lane.Identity) → spot.site < site_count plan → port_at (rows_of_seats lane seats) spot ≡ Some old
+      → (new : SeenPort lane.Identity) × (port_at (rows_left lane ends) spot ≡ Some new) × SameLinks old new
   port_left spot old is_site at =
       let end = end_of spot.site is_site in
       let left = left_at spot.site end.0 end.1 in
-      let given = ap (λ row. slice_get row spot.at) (row_of (λ (seat : Seat Lane D Tx Closed Rx). seen_ports live shut taking seat.ports.items) seats spot.site left.seat left.at) in
-      let now = ap (λ row. slice_get row spot.at) (row_of (λ (e : SiteEnd Lane D Tx Closed Rx). seen_ports live shut taking e.ports.items) ends spot.site end.0 end.1) in
-      let within = slice_get_within (seen_ports live shut taking left.seat.ports.items) spot.at old (sym given ∙ at) in
-      let new = there_is (seen_ports live shut taking end.0.ports.items) spot.at (omega (arith, within, left.left.count)) in
+      let given = ap (λ row. slice_get row spot.at) (row_of (λ (seat : Seat Lane D Tx Closed Rx). seen_ports lane seat.ports.items) seats spot.site left.seat left.at) in
+      let now = ap (λ row. slice_get row spot.at) (row_of (λ (e : SiteEnd Lane D Tx Closed Rx). seen_ports lane e.ports.items) ends spot.site end.0 end.1) in
+      let within = slice_get_within (seen_ports lane left.seat.ports.items) spot.at old (sym given ∙ at) in
+      let new = there_is (seen_ports lane end.0.ports.items) spot.at (omega (arith, within, left.left.count)) in
       (new.0, now ∙ new.1, left.left.same_links spot.at old new.0 (sym given ∙ at) new.1)
 
   -- the links of each edge are wired as they were
-  pub still_wired : AreWired plan (rows_of_seats live shut taking seats) → AreWired plan (rows_left live shut taking ends)
+  pub still_wired : AreWired plan (rows_of_seats lane seats) → AreWired plan (rows_left lane ends)
   still_wired was edge within =
       let wired = was edge within in
       let ordered = all.is_plan.ordered edge within in
@@ -211,13 +215,13 @@ module _ {Lane Tx Closed Rx Identity D : Type 0} {live : Tx → SeenEnd Identity
       }
 
   -- the port that stands at a place of a site's row
-  pub at_end : (spot : Spot) (port : SeenPort Identity) → spot.site < site_count plan → port_at (rows_left live shut taking ends) spot ≡ Some port
-      → (end : SiteEnd Lane D Tx Closed Rx) × (slice_get ends spot.site ≡ Some end) × (slice_get (seen_ports live shut taking end.ports.items) spot.at ≡ Some port)
+  pub at_end : (spot : Spot) (port : SeenPort lane.Identity) → spot.site < site_count plan → port_at (rows_left lane ends) spot ≡ Some port
+      → (end : SiteEnd Lane D Tx Closed Rx) × (slice_get ends spot.site ≡ Some end) × (slice_get (seen_ports lane end.ports.items) spot.at ≡ Some port)
   at_end spot port is_site at =
       let end = end_of spot.site is_site in
-      (end.0, end.1, sym (ap (λ row. slice_get row spot.at) (row_of (λ (e : SiteEnd Lane D Tx Closed Rx). seen_ports live shut taking e.ports.items) ends spot.site end.0 end.1)) ∙ at)
+      (end.0, end.1, sym (ap (λ row. slice_get row spot.at) (row_of (λ (e : SiteEnd Lane D Tx Closed Rx). seen_ports lane e.ports.items) ends spot.site end.0 end.1)) ∙ at)
 
-  module _ (links : List SeenLink) (are_left : AreLinksLeft plan (rows_left live shut taking ends) links) (are_wired : AreWired plan (rows_left live shut taking ends)) where
+  module _ (links : List SeenLink) (are_left : AreLinksLeft plan (rows_left lane ends) links) (are_wired : AreWired plan (rows_left lane ends)) where
     -- the links stand by edge, that from the lower end first
     pub links_by_edge : AreLinksOf plan links
     links_by_edge = record {
@@ -229,33 +233,33 @@ module _ {Lane Tx Closed Rx Identity D : Type 0} {live : Tx → SeenEnd Identity
     }
 
   -- a site without a fault put a whole stream at each place, and took Close there
-  pub record IsDoneAt (port : SeenPort Identity) : Type 0 where
+  pub record IsDoneAt (port : SeenPort lane.Identity) : Type 0 where
     pub put : IsClosedInOrder port.tx.letters
     pub taken : has_close port.rx.letters ≡ true
     pub put_unrefused : port.tx.refused ≡ false
     pub take_unrefused : port.rx.refused ≡ false
 
   -- the place of a port that a site left is one of its state
-  pub place_of_port : (s : ℕ) (end : SiteEnd Lane D Tx Closed Rx) (i : ℕ) (port : SeenPort Identity) (at : slice_get ends s ≡ Some end) → slice_get (seen_ports live shut taking end.ports.items) i ≡ Some port
+  pub place_of_port : (s : ℕ) (end : SiteEnd Lane D Tx Closed Rx) (i : ℕ) (port : SeenPort lane.Identity) (at : slice_get ends s ≡ Some end) → slice_get (seen_ports lane end.ports.items) i ≡ Some port
       → i < length (left_at s end at).left.state.traffic
   place_of_port s end i port at stands =
       let here = left_at s end at in
-      omega (arith, slice_get_within (seen_ports live shut taking end.ports.items) i port stands, length-map end.ports.items (seen_port live shut taking), here.degree, here.left.ended.keeps.every_place)
+      omega (arith, slice_get_within (seen_ports lane end.ports.items) i port stands, length-map end.ports.items (seen_port lane), here.degree, here.left.ended.keeps.every_place)
 
   -- without a fault what its links have is what the site put and took
-  pub put_at : (s : ℕ) (end : SiteEnd Lane D Tx Closed Rx) (i : ℕ) (port : SeenPort Identity) (at : slice_get ends s ≡ Some end) → end.fault ≡ None → slice_get (seen_ports live shut taking end.ports.items) i ≡ Some port
+  pub put_at : (s : ℕ) (end : SiteEnd Lane D Tx Closed Rx) (i : ℕ) (port : SeenPort lane.Identity) (at : slice_get ends s ≡ Some end) → end.fault ≡ None → slice_get (seen_ports lane end.ports.items) i ≡ Some port
       → port.tx.letters ≡ (traffic_at (left_at s end at).left.state i).put
   put_at s end i port at no_fault stands =
-      sym (ap (λ (l : OnLinks). l.put) (links_there (seen_ports live shut taking end.ports.items) i port stands)) ∙ (left_at s end at).left.ended.whole no_fault i (place_of_port s end i port at stands)
+      sym (ap (λ (l : OnLinks). l.put) (links_there (seen_ports lane end.ports.items) i port stands)) ∙ (left_at s end at).left.ended.whole no_fault i (place_of_port s end i port at stands)
 
-  pub taken_at : (s : ℕ) (end : SiteEnd Lane D Tx Closed Rx) (i : ℕ) (port : SeenPort Identity) (at : slice_get ends s ≡ Some end) → end.fault ≡ None → slice_get (seen_ports live shut taking end.ports.items) i ≡ Some port
+  pub taken_at : (s : ℕ) (end : SiteEnd Lane D Tx Closed Rx) (i : ℕ) (port : SeenPort lane.Identity) (at : slice_get ends s ≡ Some end) → end.fault ≡ None → slice_get (seen_ports lane end.ports.items) i ≡ Some port
       → port.rx.letters ≡ (traffic_at (left_at s end at).left.state i).taken
   taken_at s end i port at no_fault stands =
       let left = (left_at s end at).left in
-      sym (ap (λ (l : OnLinks). l.taken) (links_there (seen_ports live shut taking end.ports.items) i port stands)) ∙ left.ended.takes i (place_of_port s end i port at stands)
+      sym (ap (λ (l : OnLinks). l.taken) (links_there (seen_ports lane end.ports.items) i port stands)) ∙ left.ended.takes i (place_of_port s end i port at stands)
       ∙ ap (λ (f : Option SiteFault). (traffic_at left.state i).taken ++ option_to_list (breached_at i f end.stray)) no_fault ∙ append-nil (traffic_at left.state i).taken
 
-  done_at : (s : ℕ) (end : SiteEnd Lane D Tx Closed Rx) (i : ℕ) (port : SeenPort Identity) → slice_get ends s ≡ Some end → end.fault ≡ None → slice_get (seen_ports live shut taking end.ports.items) i ≡ Some port → IsDoneAt port
+  done_at : (s : ℕ) (end : SiteEnd Lane D Tx Closed Rx) (i : ℕ) (port : SeenPort lane.Identity) → slice_get ends s ≡ Some end → end.fault ≡ None → slice_get (seen_ports lane end.ports.items) i ≡ Some port → IsDoneAt port
   done_at s end i port at no_fault stands =
       let here = left_at s end at in
       let left = here.left in
@@ -269,7 +273,7 @@ module _ {Lane Tx Closed Rx Identity D : Type 0} {live : Tx → SeenEnd Identity
       let done_here = and_parts _ _ put_here.0 in
       let lawful = (left.ended.keeps.places i within).put_lawful in
       let last = ends_in_close (traffic_at state i).put lawful.close_last put_here.1 in
-      let there = links_there (seen_ports live shut taking end.ports.items) i port stands in
+      let there = links_there (seen_ports lane end.ports.items) i port stands in
       let unrefused = left.ended.unrefused no_fault i within in
       record {
         put = subst IsClosedInOrder (sym (put_at s end i port at no_fault stands)) (record { orderly = orderly_when_done (traffic_at state i).put done_here.0 lawful.close_last; before_close = last.0; ends_in_close = last.1 });
@@ -278,7 +282,7 @@ module _ {Lane Tx Closed Rx Identity D : Type 0} {live : Tx → SeenEnd Identity
         take_unrefused = ap (λ (l : OnLinks). l.take_refused) (sym there) ∙ unrefused.1;
       }
 
-  whole_link : (link : SeenLink) (from to : SeenPort Identity) → link ≡ link_of from.tx to.rx → IsDoneAt from → IsDoneAt to → IsTakenToClose link → IsClosedWhole link
+  whole_link : (link : SeenLink) (from to : SeenPort lane.Identity) → link ≡ link_of from.tx to.rx → IsDoneAt from → IsDoneAt to → IsTakenToClose link → IsClosedWhole link
   whole_link link from to is put_done taken_done to_close = record {
     taken = to_close (ap (λ (l : SeenLink). has_close l.taken) is ∙ taken_done.taken);
     in_order = subst IsClosedInOrder (sym (ap (λ (l : SeenLink). l.put) is)) put_done.put;
@@ -293,7 +297,7 @@ module _ {Lane Tx Closed Rx Identity D : Type 0} {live : Tx → SeenEnd Identity
 
   module _ (no_fault : (s : ℕ) (end : SiteEnd Lane D Tx Closed Rx) → slice_get ends s ≡ Some end → end.fault ≡ None) where
     -- every link is whole where no site has a fault
-    pub links_are_whole : (links : List SeenLink) → AreLinksLeft plan (rows_left live shut taking ends) links → AreWired plan (rows_left live shut taking ends) → All IsTakenToClose links → All IsClosedWhole links
+    pub links_are_whole : (links : List SeenLink) → AreLinksLeft plan (rows_left lane ends) links → AreWired plan (rows_left lane ends) → All IsTakenToClose links → All IsClosedWhole links
     links_are_whole links are_left are_wired to_close =
         all_links IsClosedWhole links (edge_count plan) are_left.count (λ edge within.
         let w = are_wired edge within in
@@ -325,18 +329,18 @@ module _ {Lane Tx Closed Rx Identity D : Type 0} {live : Tx → SeenEnd Identity
         })
 
   -- every site has its diner, called for the meals that it ate
-  pub outs_of_diners : (given : List D) → map (λ (seat : Seat Lane D Tx Closed Rx). seat.diner) seats ≡ given → AreOutsOf calls marks fits plan given (map out_of ends)
+  pub outs_of_diners : (given : List D) → map (λ (seat : Seat Lane D Tx Closed Rx). seat.diner) seats ≡ given → AreOutsOf eater plan given (map out_of ends)
   outs_of_diners given diners = record {
     count = length-map ends out_of ∙ ends_count;
     each = λ s diner out at_diner at_out.
         let end = end_for s out at_out in
         let here = left_at s end.0 end.1 in
         let same : here.seat.diner ≡ diner = same_Some here.seat.diner diner (sym (slice_get-map (λ (seat : Seat Lane D Tx Closed Rx). seat.diner) seats s ∙ ap (option_map (λ (seat : Seat Lane D Tx Closed Rx). seat.diner)) here.at) ∙ ap (λ ds. slice_get ds s) diners ∙ at_diner) in
-        subst (IsOutOf calls marks fits plan s diner) end.2 (record {
+        subst (IsOutOf eater plan s diner) end.2 (record {
           site = here.left.site;
           ate = omega (arith, here.left.ended.ate, here.left.ended.keeps.ate_within);
-          eaten = subst (λ d. HasEaten calls marks fits end.0.ate end.0.failed d end.0.diner) same here.eaten;
-          heeds = subst (λ d. HeedsFailures (resigns plan s) end.0.journal.items (calls d) (calls end.0.diner)) same here.heeds;
+          eaten = subst (λ d. HasEaten eater.calls eater.marks eater.fits end.0.ate end.0.failed d end.0.diner) same here.eaten;
+          heeds = subst (λ d. HeedsFailures (resigns plan s) end.0.journal.items (eater.calls d) (eater.calls end.0.diner)) same here.heeds;
         });
   }
 

@@ -24,8 +24,7 @@ use Rattle.dine_rules.specs.World.{place_of}
 use Rattle.dine_rules.proofs.links.Across.{edge_at-place_of, place_of-edge_at}
 use Rattle.dine_rules.proofs.one_place.Placed.{placed}
 use Rattle.dine_core.specs.Core.{forks_in_hand, tokens_in_hand}
-use Rattle.dine_link.specs.Links.{SeenEnd, SeenLink}
-use Rattle.dine_site.specs.declared.diner.Call.{Call}
+use Rattle.dine_link.specs.Links.{SeenLink}
 use Rattle.dine_threads.specs.declared.gathered.SiteOut.{SiteOut}
 use Rattle.dine_threads.specs.declared.seats.Seat.{Seat}
 use Rattle.dine_site.specs.declared.site_end.SiteEnd.{SiteEnd}
@@ -39,11 +38,13 @@ use Rattle.dine_site.specs.Ports.{SeenPort, seen_port, seen_ports}
 use Rattle.dine_threads.specs.private.Spots.{low_spot, high_spot}
 use Rattle.dine_threads.specs.private.Wirings.{AreWired, port_at}
 use Rattle.dine_threads.proofs.all_sites.Collected.{length-laid}
-use Rattle.dine_threads.proofs.all_sites.Gatherings.{AreAllLeft, end_for, end_of, forks_each, forks_of_all, left_at, put_at, row_of, taken_at}
+use Rattle.dine_threads.proofs.all_sites.Gatherings.{AreAllLeft, end_for, end_of, ends_count, forks_each, forks_of_all, left_at, put_at, row_of, taken_at}
 use Rattle.dine_site.proofs.one_site.Letters.{same_traffic}
 use Rattle.dine_threads.proofs.all_sites.Laid.{IsFilled, IsIn, IsOnly, found_edges, found_get, in_first, in_here, in_second, in_where, laid_puts}
 use Rattle.dine_site.proofs.lists.Seen.{there_is}
 use Rattle.dine_threads.proofs.lists.Writes.{same_spot}
+use Rattle.dine_link.specs.declared.lane.Lane.{Ghosts}
+use Rattle.dine_site.specs.declared.diner.Diner as diners
 
 -- two states are the same, part by part
 same_state : (a b : LocalState) → a.phase ≡ b.phase → a.ate ≡ b.ate → a.must_quit ≡ b.must_quit → a.has_quit ≡ b.has_quit → a.traffic ≡ b.traffic → a ≡ b
@@ -110,12 +111,12 @@ tokens_passing plan s state q (e ∷ es) a each =
     ∙ ap (λ x. if token_at plan s state a == 1 then x ∷ filter q es else filter q es) edge
     ∙ ap (λ b. if b then e ∷ filter q es else filter q es) passes
 
-module _ {Lane Tx Closed Rx Identity D : Type 0} {live : Tx → SeenEnd Identity} {shut : Closed → SeenEnd Identity} {taking : Rx → SeenEnd Identity}
-    {calls : D → List Call} {marks : D → List Bool} {fits : List Bool → ℕ → Bool → Bool} {room : D → ℕ} {plan : SeenPlan}
-    {seats : List (Seat Lane D Tx Closed Rx)} {ends : List (SiteEnd Lane D Tx Closed Rx)} (all : AreAllLeft live shut taking calls marks fits room plan seats ends)
+module _ {Lane Tx Closed Rx D : Type 0} {lane : Ghosts Lane Tx Closed Rx}
+    {eater : diners.Ghosts D} {plan : SeenPlan}
+    {seats : List (Seat Lane D Tx Closed Rx)} {ends : List (SiteEnd Lane D Tx Closed Rx)} (all : AreAllLeft lane eater plan seats ends)
     (no_fault : (s : ℕ) (end : SiteEnd Lane D Tx Closed Rx) → slice_get ends s ≡ Some end → end.fault ≡ None)
-    (links : List SeenLink) (are_left : AreLinksLeft plan (rows_left live shut taking ends) links) (are_wired : AreWired plan (rows_left live shut taking ends)) where
-  abbrev pub port_traffic : SeenPort Identity → Traffic
+    (links : List SeenLink) (are_left : AreLinksLeft plan (rows_left lane ends) links) (are_wired : AreWired plan (rows_left lane ends)) where
+  abbrev pub port_traffic : SeenPort lane.Identity → Traffic
   port_traffic port = record { put = port.tx.letters; taken = port.rx.letters }
 
   low_is : (edge : ℕ) (within : edge < edge_count plan) → low_traffic links edge ≡ port_traffic (are_wired edge within).low
@@ -146,9 +147,9 @@ module _ {Lane Tx Closed Rx Identity D : Type 0} {live : Tx → SeenEnd Identity
       let p = placed plan s i all.is_plan inside in
       let w = are_wired edge p.edge_within in
       let spot : Spot = record { site = s; at = i } in
-      let rows = rows_left live shut taking ends in
-      let port = there_is (seen_ports live shut taking end.ports.items) i (omega (arith, inside, here.degree, length-map end.ports.items (seen_port live shut taking))) in
-      let stands : port_at rows spot ≡ Some port.0 = ap (λ row. slice_get row i) (row_of (λ (e : SiteEnd Lane D Tx Closed Rx). seen_ports live shut taking e.ports.items) ends s end at) ∙ port.1 in
+      let rows = rows_left lane ends in
+      let port = there_is (seen_ports lane end.ports.items) i (omega (arith, inside, here.degree, length-map end.ports.items (seen_port lane))) in
+      let stands : port_at rows spot ≡ Some port.0 = ap (λ row. slice_get row i) (row_of (λ (e : SiteEnd Lane D Tx Closed Rx). seen_ports lane e.ports.items) ends s end at) ∙ port.1 in
       let did : traffic_at state i ≡ port_traffic port.0 = same_traffic (traffic_at state i) (port_traffic port.0) (sym (put_at all s end i port.0 at (no_fault s end at) port.1)) (sym (taken_at all s end i port.0 at (no_fault s end at) port.1)) in
       let place = place_of-edge_at plan s i inside in
       elim p.sides [
@@ -190,6 +191,14 @@ module _ {Lane Tx Closed Rx Identity D : Type 0} {live : Tx → SeenEnd Identity
       get_or_from_slice_get _ s end.0.journal.items [] (slice_get-map (λ (out : SiteOut D). out.journal.items) (map out_of ends) s ∙ ap (option_map (λ (out : SiteOut D). out.journal.items)) (slice_get-map out_of ends s ∙ ap (option_map out_of) end.1)) in
       subst (λ (kinds : List EventKind). HasActed plan s kinds (state_left plan ates links s)) (sym journal)
       (subst (HasActed plan s end.0.journal.items) (state_is s end.0 end.1) did)
+
+  -- there is one journal for each site
+  pub journals_count : length (map (λ (out : SiteOut D). out.journal.items) (map out_of ends)) ≡ site_count plan
+  journals_count = length-map (map out_of ends) (λ (out : SiteOut D). out.journal.items) ∙ length-map ends out_of ∙ ends_count all
+
+  -- no site ate more often than it has jobs
+  pub ate_few : (s : ℕ) → s < site_count plan → ate_of plan ates links s ≤ job_count plan s
+  ate_few s is_site = let end = end_of all s is_site in omega (arith, (left_at all s end.0 end.1).left.ended.keeps.ate_within, ate_is s end.0 end.1)
 
   module _ (fork_law : (plan : SeenPlan) (s i : ℕ) (state : LocalState) → KeepsStreams plan s state → i < length (edges_of plan s) → AccountsForFork plan s (edge_at plan s i) state.ate (traffic_at state i))
       (token_law : (plan : SeenPlan) (s i : ℕ) (state : LocalState) → IsPlan plan → KeepsStreams plan s state → i < length (edges_of plan s) → AccountsForToken plan s (edge_at plan s i) (traffic_at state i))

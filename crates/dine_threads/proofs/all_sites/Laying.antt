@@ -9,7 +9,6 @@ use Rattle.std.proofs.lemmas.Option.{same_Some, slice_get_within, slice_get-get_
 use Rattle.dine_graph.specs.Plan.{SeenPlan, IsPlan, site_count, edge_count, edges_of, ends_of, lo_of, hi_of, is_end}
 use Rattle.dine_graph.proofs.ListLemmas.{filter-range_more}
 use Rattle.dine_link.specs.Bells.{SeenBell, SeenRinger, new_ringer}
-use Rattle.dine_link.specs.Links.{SeenEnd}
 use Rattle.dine_rules.specs.World.{place_of}
 use Rattle.dine_rules.proofs.links.Across.{edge_at-place_of, place_of-edge_at}
 use Rattle.dine_rules.proofs.lists.Counting.{slice_get-before}
@@ -22,6 +21,7 @@ use Rattle.dine_threads.specs.declared.slots.Both.{Both}
 use Rattle.dine_threads.specs.declared.slots.Spot.{Spot}
 use Rattle.dine_threads.proofs.all_sites.Edges.{slice_get-push}
 use Rattle.dine_site.proofs.lists.Seen.{there_is}
+use Rattle.dine_link.specs.declared.lane.Lane.{Ghosts}
 
 -- ---- lists
 
@@ -248,9 +248,9 @@ module _ {Identity : Type 0} where
 
 -- ---- before the first edge, and after the last
 
-module _ {Lane Tx Closed Rx Identity : Type 0} (live : Tx → SeenEnd Identity) (shut : Closed → SeenEnd Identity) (taking : Rx → SeenEnd Identity) where
-  abbrev row_of : Stand Lane Tx Closed Rx → List (SeenPort Identity)
-  row_of stand = seen_ports live shut taking stand.ports.items
+module _ {Lane Tx Closed Rx : Type 0} (lane : Ghosts Lane Tx Closed Rx) where
+  abbrev row_of : Stand Lane Tx Closed Rx → List (SeenPort lane.Identity)
+  row_of stand = seen_ports lane stand.ports.items
 
   abbrev bell_of : Stand Lane Tx Closed Rx → SeenBell
   bell_of stand = stand.bell
@@ -258,11 +258,11 @@ module _ {Lane Tx Closed Rx Identity : Type 0} (live : Tx → SeenEnd Identity) 
   no_row : (stands : List (Stand Lane Tx Closed Rx)) → ((s : ℕ) (stand : Stand Lane Tx Closed Rx) → slice_get stands s ≡ Some stand → stand.ports.items ≡ [])
       → (s : ℕ) → get_or (map row_of stands) s [] ≡ []
   no_row [] none s = refl
-  no_row (stand ∷ stands) none zero = ap (map (seen_port live shut taking)) (none 0 stand refl)
+  no_row (stand ∷ stands) none zero = ap (map (seen_port lane)) (none 0 stand refl)
   no_row (stand ∷ stands) none (suc s) = no_row stands (λ t other at. none (suc t) other at) s
 
   -- no port is laid at bare sites
-  pub laid_none : (plan : SeenPlan) (stands : List (Stand Lane Tx Closed Rx)) → length stands ≡ site_count plan → AreBare plan stands → AreLaid plan (bells_of stands) 0 (rows_of live shut taking stands)
+  pub laid_none : (plan : SeenPlan) (stands : List (Stand Lane Tx Closed Rx)) → length stands ≡ site_count plan → AreBare plan stands → AreLaid plan (bells_of stands) 0 (rows_of lane stands)
   laid_none plan stands count bare =
       let none = no_row stands (λ s stand at. (bare s stand at).no_port) in
       record {
@@ -275,7 +275,7 @@ module _ {Lane Tx Closed Rx Identity : Type 0} (live : Tx → SeenEnd Identity) 
 
   -- where the ports of all edges are laid, each site has what it is to have
   pub stands_from_laid : (plan : SeenPlan) (bare stands : List (Stand Lane Tx Closed Rx)) → AreBare plan bare → bells_of stands ≡ bells_of bare
-      → AreLaid plan (bells_of bare) (edge_count plan) (rows_of live shut taking stands) → AreStands live shut taking plan stands
+      → AreLaid plan (bells_of bare) (edge_count plan) (rows_of lane stands) → AreStands lane plan stands
   stands_from_laid plan bare stands are_bare bells laid s stand at =
       let inside = slice_get_within stands s stand at in
       let is : get_or stands s stand ≡ stand = get_or_from_slice_get stands s stand stand at in
@@ -287,7 +287,7 @@ module _ {Lane Tx Closed Rx Identity : Type 0} (live : Tx → SeenEnd Identity) 
       let row : get_or (map row_of stands) s [] ≡ row_of stand = get_or-map row_of stands s stand [] inside ∙ ap row_of is in
       record {
         ports =
-            sym (length-map stand.ports.items (seen_port live shut taking)) ∙ sym (ap length row) ∙ sym (length-map (get_or (map row_of stands) s []) edge_of) ∙ ap length (laid.edges s within);
+            sym (length-map stand.ports.items (seen_port lane)) ∙ sym (ap length row) ∙ sym (length-map (get_or (map row_of stands) s []) edge_of) ∙ ap length (laid.edges s within);
         unused = subst (All IsFreshPort) row (laid.unused s within);
         bell = ap (λ (bell : SeenBell). bell.degree) same ∙ was.bell;
         unheard = ap (λ (bell : SeenBell). bell.refused) same ∙ was.unheard;

@@ -1,6 +1,6 @@
 -- The rows of what was gathered of a plan: it is gathered of that plan, and how many meals each site ate gives them,
 -- but for values and failed jobs.
-use Rattle.std.proofs.Common.{◌≡◌, ℕ, ◌<◌, Bool, true, Some, List, length, map, get_or, slice_get, option_map, sym, ◌∙◌, ap, ap₂, subst, arith}
+use Rattle.std.proofs.Common.{◌≡◌, ℕ, ◌<◌, true, Some, List, length, map, get_or, slice_get, option_map, sym, ◌∙◌, ap, ap₂, subst, arith}
 use Rattle.std.specs.List.{range_with_len}
 use Rattle.std.proofs.lemmas.List.{length-map}
 use Rattle.std.proofs.lemmas.List.FromFn.{fill_by_all, get_or-map-range_with_len, length-map-range_with_len, length-range_with_len}
@@ -12,13 +12,13 @@ use Rattle.dine_graph.specs.Plan.{SeenPlan, IsPlan, site_count, edge_count, lo_o
 use Rattle.dine_link.specs.Links.{SeenLink}
 use Rattle.dine_rules.specs.JoinedEnds.{IsWholeLog}
 use Rattle.dine_rules.specs.Values.{added_up, has_no_set, value_by}
-use Rattle.dine_site.specs.declared.diner.Call.{Call}
 use Rattle.dine_threads.specs.declared.tables.EdgeRow.{EdgeRow}
 use Rattle.dine_threads.specs.declared.gathered.SiteOut.{SiteOut}
 use Rattle.dine_threads.specs.Gathered.{AreOutsOf}
 use Rattle.dine_threads.specs.Headline.{IsHeadline}
 use Rattle.dine_threads.specs.Tables.{AreDueValues, IsGatheredOf, edge_row, edge_rows, due_edge_rows, logged_row, site_row, site_rows, due_site_rows}
 use Rattle.dine_site.proofs.lists.Seen.{there_is}
+use Rattle.dine_site.specs.declared.diner.Diner as diners
 
 -- what is made of the element at a place
 mapped_at : {X Y : Type 0} (f : X → Y) (xs : List X) (k : ℕ) (x : X) (d : Y) → slice_get xs k ≡ Some x → get_or (map f xs) k d ≡ f x
@@ -33,9 +33,9 @@ module _ {D : Type 0} (plan : SeenPlan) (forks : List SeenFork) (outs : List (Si
   ates = map (λ (out : SiteOut D). out.ate) outs
 
   -- what `run` gathers is of its plan
-  pub headline_gathered : (links : List SeenLink) (calls : D → List Call) (marks : D → List Bool) (fits : List Bool → ℕ → Bool → Bool) (diners : List D)
-      → length diners ≡ site_count plan → IsHeadline plan ates links forks → AreOutsOf calls marks fits plan diners outs → IsGatheredOf plan forks outs
-  headline_gathered links calls marks fits diners many headline are = record {
+  pub headline_gathered : (links : List SeenLink) (eater : diners.Ghosts D) (diners : List D)
+      → length diners ≡ site_count plan → IsHeadline plan ates links forks → AreOutsOf eater plan diners outs → IsGatheredOf plan forks outs
+  headline_gathered links eater diners many headline are = record {
     one_fork_an_edge = headline.one_fork_an_edge;
     ends = λ edge fork at. ap (λ (f : SeenFork). f.ends) (headline.each_fork edge fork at).in_hand;
     due = λ edge fork at. ap (λ (f : SeenFork). f.due) (headline.each_fork edge fork at).in_hand;

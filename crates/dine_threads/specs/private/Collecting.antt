@@ -4,7 +4,7 @@ use Rattle.dine_token.specs.Fork.{SeenFork}
 use Rattle.dine_graph.specs.Plan.{SeenPlan, site_count, edge_count, edges_of}
 use Rattle.dine_rules.specs.Letters.{has_close}
 use Rattle.dine_link.specs.Lanes.{seen_end}
-use Rattle.dine_link.specs.Links.{SeenEnd, SeenLink, link_of}
+use Rattle.dine_link.specs.Links.{SeenLink, link_of}
 use Rattle.dine_threads.specs.declared.collecting.Room.{Room}
 use Rattle.dine_threads.specs.declared.gathered.SiteOut.{SiteOut}
 use Rattle.dine_site.specs.declared.port.Port.{Port}
@@ -14,6 +14,7 @@ use Rattle.dine_threads.specs.Gathered.{link_from_low, link_from_high}
 use Rattle.dine_site.specs.Ports.{SeenPort, seen_ports}
 use Rattle.dine_threads.specs.private.Spots.{low_spot, high_spot}
 use Rattle.dine_threads.specs.private.Wirings.{port_at}
+use Rattle.dine_link.specs.declared.lane.Lane.{Ghosts}
 
 -- all was taken from a link from which Close was
 abbrev pub IsTakenToClose : SeenLink → Type 0
@@ -73,18 +74,18 @@ module _ {Lane Tx Closed Rx D : Type 0} where
     pub ports : (s : ℕ) (end : SiteEnd Lane D Tx Closed Rx) → slice_get ends s ≡ Some end → length end.ports.items ≡ length (edges_of plan s)
     pub forks : AreForksOf plan (forks_left ends)
 
-module _ {Lane Tx Closed Rx Identity D : Type 0} (live : Tx → SeenEnd Identity) (shut : Closed → SeenEnd Identity) (taking : Rx → SeenEnd Identity) where
+module _ {Lane Tx Closed Rx D : Type 0} (lane : Ghosts Lane Tx Closed Rx) where
   -- the ports of all sites as they left them, one row a site
-  abbrev pub rows_left : List (SiteEnd Lane D Tx Closed Rx) → List (List (SeenPort Identity))
-  rows_left ends = map (λ (end : SiteEnd Lane D Tx Closed Rx). seen_ports live shut taking end.ports.items) ends
+  abbrev pub rows_left : List (SiteEnd Lane D Tx Closed Rx) → List (List (SeenPort lane.Identity))
+  rows_left ends = map (λ (end : SiteEnd Lane D Tx Closed Rx). seen_ports lane end.ports.items) ends
 
-module _ {Lane Tx Closed Rx Identity : Type 0} (live : Tx → SeenEnd Identity) (shut : Closed → SeenEnd Identity) (taking : Rx → SeenEnd Identity) where
+module _ {Lane Tx Closed Rx : Type 0} (lane : Ghosts Lane Tx Closed Rx) where
   -- Each end took from the link that the other put in.
   pub record AreJoined (both : Both (Port Lane Tx Closed Rx)) : Type 0 where
-    pub goes : (taking both.high.rx).link ≡ (seen_end live shut both.low.tx).link
-    pub comes : (taking both.low.rx).link ≡ (seen_end live shut both.high.tx).link
+    pub goes : (lane.seen_rx both.high.rx).link ≡ (seen_end lane.seen_tx lane.seen_closed both.low.tx).link
+    pub comes : (lane.seen_rx both.low.rx).link ≡ (seen_end lane.seen_tx lane.seen_closed both.high.tx).link
 
   -- the two links of each edge, that from the lower end first
   abbrev pub links_left : List (Both (Port Lane Tx Closed Rx)) → List SeenLink
   links_left [] = []
-  links_left (both ∷ pairs) = link_of (seen_end live shut both.low.tx) (taking both.high.rx) ∷ link_of (seen_end live shut both.high.tx) (taking both.low.rx) ∷ links_left pairs
+  links_left (both ∷ pairs) = link_of (seen_end lane.seen_tx lane.seen_closed both.low.tx) (lane.seen_rx both.high.rx) ∷ link_of (seen_end lane.seen_tx lane.seen_closed both.high.tx) (lane.seen_rx both.low.rx) ∷ links_left pairs

@@ -4,11 +4,11 @@ use Rattle.std.specs.List.{range_with_len}
 use Rattle.dine_graph.specs.Plan.{SeenPlan, site_count, edges_of, is_end, lo_of, hi_of}
 use Rattle.std.specs.Global.{Vec}
 use Rattle.dine_link.specs.Bells.{SeenBell, SeenRinger, new_ringer}
-use Rattle.dine_link.specs.Links.{SeenEnd}
 use Rattle.dine_threads.specs.declared.opening.Stand.{Stand}
 use Rattle.dine_site.specs.Ports.{SeenPort, IsFreshPort, seen_ports}
 use Rattle.dine_threads.specs.private.Spots.{slot_at}
 use Rattle.dine_threads.specs.private.Wirings.{AreRingersAt, IsRung, IsWired}
+use Rattle.dine_link.specs.declared.lane.Lane.{Ghosts}
 
 module _ {Lane Tx Closed Rx : Type 0} where
   -- the bells of the sites
@@ -50,15 +50,15 @@ pub record AreNewPorts {Identity : Type 0} (plan : SeenPlan) (bells : List SeenB
   pub high_edge : high.tx.link.edge ≡ edge
   pub high_from : high.tx.link.from ≡ hi_of plan edge
 
-module _ {Lane Tx Closed Rx Identity : Type 0} (live : Tx → SeenEnd Identity) (shut : Closed → SeenEnd Identity) (taking : Rx → SeenEnd Identity) where
+module _ {Lane Tx Closed Rx : Type 0} (lane : Ghosts Lane Tx Closed Rx) where
   -- the ports of all sites, one row a site
-  abbrev pub rows_of : List (Stand Lane Tx Closed Rx) → List (List (SeenPort Identity))
-  rows_of stands = map (λ (stand : Stand Lane Tx Closed Rx). seen_ports live shut taking stand.ports.items) stands
+  abbrev pub rows_of : List (Stand Lane Tx Closed Rx) → List (List (SeenPort lane.Identity))
+  rows_of stands = map (λ (stand : Stand Lane Tx Closed Rx). seen_ports lane stand.ports.items) stands
 
   -- What a site has before its thread starts: a port with unused ends for each place, and its bell.
   pub record IsStandOf (plan : SeenPlan) (s : ℕ) (stand : Stand Lane Tx Closed Rx) : Type 0 where
     pub ports : length stand.ports.items ≡ length (edges_of plan s)
-    pub unused : All IsFreshPort (seen_ports live shut taking stand.ports.items)
+    pub unused : All IsFreshPort (seen_ports lane stand.ports.items)
     pub bell : stand.bell.degree ≡ length (edges_of plan s)
     pub unheard : stand.bell.refused ≡ false
 

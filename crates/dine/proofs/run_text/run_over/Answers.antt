@@ -6,7 +6,7 @@ use Rattle.dine_threads.specs.Headline.{FaultIs}
 use Rattle.dine_threads.specs.declared.gathered.RunFault.{RunFault}
 use Rattle.dine_threads.specs.declared.gathered.RunFault.TheVariants as run
 use Rattle.dine.specs.FaultLines.{fault_of_run}
-use Rattle.dine.specs.PlanDiners.{SeenPlanDiner, fits_marks}
+use Rattle.dine.specs.PlanDiners.{SeenPlanDiner, plan_diner}
 use Rattle.dine.specs.Run.{NamesSite, TellsRun, diners_of}
 use Rattle.dine.specs.declared.fault_lines.Fault.{Fault}
 use Rattle.dine.specs.declared.fault_lines.Fault.TheVariants as fault
@@ -15,20 +15,20 @@ use Rattle.dine.proofs.run_text.run_over.Goals as goal
 
 -- an answer of `run` for the diners of a plan, told as it is, names a site of the plan
 names : (plan : SeenPlan) (diners : Vec SeenPlanDiner) (answer : RunFault SeenPlanDiner) → vec_len diners ≡ site_count plan
-    → FaultIs (λ (d : SeenPlanDiner). d.calls) (λ (d : SeenPlanDiner). d.marks) fits_marks plan diners answer → fault_of_run answer ≢ fault.OutOfMemory → NamesSite plan (fault_of_run answer)
+    → FaultIs plan_diner plan diners answer → fault_of_run answer ≢ fault.OutOfMemory → NamesSite plan (fault_of_run answer)
 names plan diners (run.DinersDiffer given back) many is other = absurd (is.2 many)
 names plan diners run.Memory many is other = absurd (other refl)
 names plan diners (run.Thread site) many is other = is.1
 names plan diners (run.Broken site joined) many is other = omega (arith, is.2.count, is.3.within)
 
 names_made : {T : Type 0} (r : Result T Fault) (plan : SeenPlan) (diners : Vec SeenPlanDiner) (answer : RunFault SeenPlanDiner) → IsErrAnd r (λ made. made ≡ fault_of_run answer) → vec_len diners ≡ site_count plan
-    → FaultIs (λ (d : SeenPlanDiner). d.calls) (λ (d : SeenPlanDiner). d.marks) fits_marks plan diners answer → r ≢ Err fault.OutOfMemory → IfErr r (NamesSite plan)
+    → FaultIs plan_diner plan diners answer → r ≢ Err fault.OutOfMemory → IfErr r (NamesSite plan)
 names_made (Ok x) plan diners answer same many is other = tt
 names_made (Err made) plan diners answer same many is other = subst (NamesSite plan) (sym same) (names plan diners answer many is (λ memory. other (ap Err (same ∙ memory))))
 
 -- and it is told as `run` answered it
 tells_made : {T : Type 0} (r : Result T Fault) (plan : SeenPlan) (diners : Vec SeenPlanDiner) (answer : RunFault SeenPlanDiner) → IsErrAnd r (λ made. made ≡ fault_of_run answer) → diners.items ≡ diners_of plan
-    → FaultIs (λ (d : SeenPlanDiner). d.calls) (λ (d : SeenPlanDiner). d.marks) fits_marks plan diners answer → IfErr r (TellsRun plan)
+    → FaultIs plan_diner plan diners answer → IfErr r (TellsRun plan)
 tells_made (Ok x) plan diners answer same of_plan is = tt
 tells_made (Err made) plan diners answer same of_plan is = record { diners = diners; of_plan = of_plan; answer = answer; answered = is; told_so = same }
 
@@ -38,7 +38,7 @@ run-requires-clause-room g c κs within many s diner at = diner_has_room c.args.
 pub table_text-requires : goal.table_text-requires
 table_text-requires g c =
     let gathered = c.in_ok-gathered.gathered in
-    due_rows c.args.plan.now (vec_items gathered.forks) (vec_items gathered.sites) (vec_items gathered.links) c.in_ok-diners.diners.items c.in_ok-diners.ensures.diners c.open_diners.ensures.plan c.in_ok-gathered.ensures.headline c.in_ok-gathered.ensures.sites c.in_ok-gathered.ensures.finished c.values_are_those_of_the_logs.ensures.added_up
+    due_rows c.args.plan.now (vec_items gathered.forks) (vec_items gathered.sites) (vec_items gathered.links) c.in_ok-diners.diners.items c.in_ok-diners.ensures.diners c.open_diners.ensures.plan c.in_ok-gathered.ensures.ok.headline c.in_ok-gathered.ensures.ok.sites c.in_ok-gathered.ensures.ok.finished c.values_are_those_of_the_logs.ensures.added_up
 
 pub returns-in_err-gathered-clause-fault : goal.returns-in_err-gathered-clause-fault
 returns-in_err-gathered-clause-fault g c other =

@@ -1,14 +1,15 @@
-use Rattle.std.proofs.Common.{ℕ, Some, None, ◌∙◌, ap, sym, subst}
+use Rattle.std.proofs.Common.{ℕ, Some, None, ◌∙◌, ap, sym, subst, map}
 use Rattle.std.proofs.lemmas.List.{length-map}
 use Rattle.dine_world.specs.Worlds.{AreOutcomesFor, lists_of}
-use Rattle.dine_order.specs.Orders.{FirstLeft, OrderFaultIs, lists_in, plan_shown}
+use Rattle.dine_rules.specs.Shown.{plan_shown}
+use Rattle.dine_order.specs.Orders.{FirstLeft, OrderFaultIs}
 use Rattle.dine_order.proofs.Answering.{memory_told, not_closed, stuck_at, whole_order}
 use Rattle.dine_order.proofs.Shown.{are_outcomes, counted_too, sites_shown}
 use Rattle.dine_order.proofs.orders.search.Goals as goal
 
 pub returns-in-Some-clause-fault : goal.returns-in-Some-clause-fault
-returns-in-Some-clause-fault c =
-    let lists = lists_in c.args.journals.now in
+returns-in-Some-clause-fault g c =
+    let lists = map g.J.AsSlice.items c.args.journals.now in
     let plan = plan_shown c.args.plan.now lists in
     let sites = sites_shown c.args.plan.now lists in
     let one_each = length-map c.args.journals.now _ ∙ c.requires.journals ∙ sym sites in
@@ -16,8 +17,8 @@ returns-in-Some-clause-fault c =
     (one_each, stuck.0, stuck.1)
 
 pub returns-then-not-is_closed-clause-fault : goal.returns-then-not-is_closed-clause-fault
-returns-then-not-is_closed-clause-fault c =
-    let lists = lists_in c.args.journals.now in
+returns-then-not-is_closed-clause-fault g c =
+    let lists = map g.J.AsSlice.items c.args.journals.now in
     let plan = plan_shown c.args.plan.now lists in
     let sites = sites_shown c.args.plan.now lists in
     let one_each = length-map c.args.journals.now _ ∙ c.requires.journals ∙ sym sites in
@@ -27,8 +28,8 @@ returns-then-not-is_closed-clause-fault c =
     (one_each, open_end.0, open_end.1)
 
 pub returns-clause-order : goal.returns-clause-order
-returns-clause-order c =
-    let lists = lists_in c.args.journals.now in
+returns-clause-order g c =
+    let lists = map g.J.AsSlice.items c.args.journals.now in
     let plan = plan_shown c.args.plan.now lists in
     let sites = sites_shown c.args.plan.now lists in
     let done = c.in_ok-events.ensures in
@@ -37,20 +38,20 @@ returns-clause-order c =
     (sym (c.count-is_closed.ensures plan done.state done.stands) ∙ c.if-not-is_closed.false)
 
 pub open_with-requires : goal.open_with-requires
-open_with-requires c =
-    subst (AreOutcomesFor c.args.plan.now) (sym (ap lists_of c.as_slice.ensures.value ∙ c.in_ok-fails.ensures)) (are_outcomes c.args.plan.now (lists_in c.args.journals.now))
+open_with-requires g c =
+    subst (AreOutcomesFor c.args.plan.now) (sym (ap lists_of c.as_slice.ensures.value ∙ c.in_ok-fails.ensures)) (are_outcomes c.args.plan.now (map g.J.AsSlice.items c.args.journals.now))
 
 pub returns-in_err-fails-clause-fault : goal.returns-in_err-fails-clause-fault
-returns-in_err-fails-clause-fault c =
-    let lists = lists_in c.args.journals.now in
-    memory_told c.from_residual.result c.from_residual.ensures.1 (OrderFaultIs (plan_shown c.args.plan.now lists) lists) (counted_too c.args.plan.now c.args.journals.now c.requires.journals)
+returns-in_err-fails-clause-fault g c =
+    let lists = map g.J.AsSlice.items c.args.journals.now in
+    memory_told c.from_residual.result c.from_residual.ensures.1 (OrderFaultIs (plan_shown c.args.plan.now lists) lists) (counted_too c.args.plan.now g.J.AsSlice.items c.args.journals.now c.requires.journals)
 
 pub returns-in_err-world-clause-fault : goal.returns-in_err-world-clause-fault
-returns-in_err-world-clause-fault c =
-    let lists = lists_in c.args.journals.now in
-    memory_told c.from_residual-in_err-world.result c.from_residual-in_err-world.ensures.1 (OrderFaultIs (plan_shown c.args.plan.now lists) lists) (counted_too c.args.plan.now c.args.journals.now c.requires.journals)
+returns-in_err-world-clause-fault g c =
+    let lists = map g.J.AsSlice.items c.args.journals.now in
+    memory_told c.from_residual-in_err-world.result c.from_residual-in_err-world.ensures.1 (OrderFaultIs (plan_shown c.args.plan.now lists) lists) (counted_too c.args.plan.now g.J.AsSlice.items c.args.journals.now c.requires.journals)
 
 pub returns-in_err-events-clause-fault : goal.returns-in_err-events-clause-fault
-returns-in_err-events-clause-fault c =
-    let lists = lists_in c.args.journals.now in
-    memory_told c.from_residual-in_err-events.result c.from_residual-in_err-events.ensures.1 (OrderFaultIs (plan_shown c.args.plan.now lists) lists) (counted_too c.args.plan.now c.args.journals.now c.requires.journals)
+returns-in_err-events-clause-fault g c =
+    let lists = map g.J.AsSlice.items c.args.journals.now in
+    memory_told c.from_residual-in_err-events.result c.from_residual-in_err-events.ensures.1 (OrderFaultIs (plan_shown c.args.plan.now lists) lists) (counted_too c.args.plan.now g.J.AsSlice.items c.args.journals.now c.requires.journals)

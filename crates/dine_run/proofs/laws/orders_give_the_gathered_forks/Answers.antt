@@ -7,9 +7,6 @@ returns c = λ plan ates links forks journals events world is_plan headline jour
     let known : Known = record {
       ends = places.ends;
       edge = places.edge;
-      places = places.places;
-      edges = places.edges;
-      sites = places.sites;
       fixed = c.journals_fix_the_world.ensures;
       held = c.fork_logs_are_of_the_one_fork.ensures.held;
     } in

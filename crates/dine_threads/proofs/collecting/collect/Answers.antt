@@ -12,7 +12,7 @@ pair_up-requires-clause-full g c = rows_full (vec_items c.args.ends) (vec_items 
 pub reconcile_all-requires-clause-joined : goal.reconcile_all-requires-clause-joined
 reconcile_all-requires-clause-joined g c κs within =
     let count : length (vec_items c.pair_up.new.pairs) ≡ edge_count c.args.plan.now = omega (arith, c.pair_up.ensures.count, c.pair_up.new.pairs.ok.0) in
-    pairs_joined g.L.Lane.seen_tx g.L.Lane.seen_closed g.L.Lane.seen_rx c.args.plan.now (vec_items c.args.ends) (vec_items c.take_apart.new.rows) c.take_apart.ensures.rows (vec_items c.pair_up.new.pairs) count c.pair_up.ensures.each c.requires.wired
+    pairs_joined g.L.Lane c.args.plan.now (vec_items c.args.ends) (vec_items c.take_apart.new.rows) c.take_apart.ensures.rows (vec_items c.pair_up.new.pairs) count c.pair_up.ensures.each c.requires.wired
 
 pub pick_forks-requires-clause-room : goal.pick_forks-requires-clause-room
 pick_forks-requires-clause-room g c =
@@ -23,7 +23,7 @@ pick_forks-requires-clause-room g c =
 pub returns-clause-links : goal.returns-clause-links
 returns-clause-links g c =
     let count : length (vec_items c.pair_up.new.pairs) ≡ edge_count c.args.plan.now = omega (arith, c.pair_up.ensures.count, c.pair_up.new.pairs.ok.0) in
-    links_of_pairs g.L.Lane.seen_tx g.L.Lane.seen_closed g.L.Lane.seen_rx c.args.plan.now (vec_items c.args.ends) (vec_items c.take_apart.new.rows) c.take_apart.ensures.rows (vec_items c.pair_up.new.pairs) count c.pair_up.ensures.each (vec_items c.reconcile_all.new.links) c.reconcile_all.ensures.lists
+    links_of_pairs g.L.Lane c.args.plan.now (vec_items c.args.ends) (vec_items c.take_apart.new.rows) c.take_apart.ensures.rows (vec_items c.pair_up.new.pairs) count c.pair_up.ensures.each (vec_items c.reconcile_all.new.links) c.reconcile_all.ensures.lists
 
 pub returns-clause-forks : goal.returns-clause-forks
 returns-clause-forks g c =

@@ -17,7 +17,7 @@ loop-pair-init g c =
     let gives : into_iter_items c.into_iter-pair-iterator.result ≡ vec_items c.args.pairs = c.into_iter-pair-iterator.ensures.into_iter_gives.0 in
     record {
       room = omega (arith, c.requires.none, c.requires.room, c.into_iter-pair-iterator.ensures.into_iter_gives.1, c.args.pairs.ok.0);
-      joined = subst (All (AreJoined g.L.Lane.seen_tx g.L.Lane.seen_closed g.L.Lane.seen_rx)) (sym gives) c.requires.joined;
+      joined = subst (All (AreJoined g.L.Lane)) (sym gives) c.requires.joined;
       split = gives;
       lists = none;
       in_order = subst (All IsTakenInOrder) (sym none) (λ k d within. absurd (omega (arith, within)));
@@ -26,12 +26,12 @@ loop-pair-init g c =
 
 pub reconcile-requires : goal.reconcile-requires
 reconcile-requires g c =
-    let joined = all_first (AreJoined g.L.Lane.seen_tx g.L.Lane.seen_closed g.L.Lane.seen_rx) (into_iter_items c.loop-pair.pair-iterator) (into_iter_items c.next.new.self) c.in-Some.pair c.in-Some.ensures.steps.0 c.loop-pair.invariant.joined in
+    let joined = all_first (AreJoined g.L.Lane) (into_iter_items c.loop-pair.pair-iterator) (into_iter_items c.next.new.self) c.in-Some.pair c.in-Some.ensures.steps.0 c.loop-pair.invariant.joined in
     record { pair = joined.goes }
 
 pub reconcile-requires-in-loop-pair : goal.reconcile-requires-in-loop-pair
 reconcile-requires-in-loop-pair g c =
-    let joined = all_first (AreJoined g.L.Lane.seen_tx g.L.Lane.seen_closed g.L.Lane.seen_rx) (into_iter_items c.loop-pair.pair-iterator) (into_iter_items c.next.new.self) c.in-Some.pair c.in-Some.ensures.steps.0 c.loop-pair.invariant.joined in
+    let joined = all_first (AreJoined g.L.Lane) (into_iter_items c.loop-pair.pair-iterator) (into_iter_items c.next.new.self) c.in-Some.pair c.in-Some.ensures.steps.0 c.loop-pair.invariant.joined in
     record { pair = joined.comes }
 
 pub push_reserved-requires : goal.push_reserved-requires
@@ -47,7 +47,7 @@ returns g c =
     let none : into_iter_items rest ≡ [] = nil_from_length (into_iter_items rest) (omega (arith, c.in-None.ensures.steps.0, rest.rest.ok.0)) in
     let whole = none_left c.loop-pair.yielded (into_iter_items rest) (vec_items c.args.pairs) none was.split in
     record {
-      lists = was.lists ∙ ap (links_left g.L.Lane.seen_tx g.L.Lane.seen_closed g.L.Lane.seen_rx) whole;
+      lists = was.lists ∙ ap (links_left g.L.Lane) whole;
       in_order = was.in_order;
       whole = was.whole;
     }
@@ -55,9 +55,7 @@ returns g c =
 pub loop-pair-preserved : goal.loop-pair-preserved
 loop-pair-preserved g c =
     let was = c.loop-pair.invariant in
-    let live = g.L.Lane.seen_tx in
-    let shut = g.L.Lane.seen_closed in
-    let taking = g.L.Lane.seen_rx in
+    let lane = g.L.Lane in
     let old = vec_items c.loop-pair.links in
     let mid = vec_items c.push_reserved.new.self in
     let new = vec_items c.push_reserved-in-loop-pair.new.self in
@@ -65,17 +63,17 @@ loop-pair-preserved g c =
     let comes = c.reconcile-in-loop-pair.ensures in
     record {
       room = omega (arith, was.room, c.in-Some.ensures.steps.1, c.push_reserved.ensures.len, c.push_reserved-in-loop-pair.ensures.len, c.push_reserved.ensures.capacity, c.push_reserved-in-loop-pair.ensures.capacity);
-      joined = all_rest (AreJoined live shut taking) (into_iter_items c.loop-pair.pair-iterator) (into_iter_items c.next.new.self) c.in-Some.pair c.in-Some.ensures.steps.0 was.joined;
+      joined = all_rest (AreJoined lane) (into_iter_items c.loop-pair.pair-iterator) (into_iter_items c.next.new.self) c.in-Some.pair c.in-Some.ensures.steps.0 was.joined;
       split = append_assoc c.loop-pair.yielded (c.in-Some.pair ∷ []) (into_iter_items c.next.new.self) ∙ ap (λ rest. c.loop-pair.yielded ++ rest) (sym c.in-Some.ensures.steps.0) ∙ was.split;
       lists =
-          two_more (links_left live shut taking c.loop-pair.yielded) old mid new c.reconcile.result c.reconcile-in-loop-pair.result
-          (link_of (seen_end live shut c.in-Some.pair.low.tx) (taking c.in-Some.pair.high.rx)) (link_of (seen_end live shut c.in-Some.pair.high.tx) (taking c.in-Some.pair.low.rx))
+          two_more (links_left lane c.loop-pair.yielded) old mid new c.reconcile.result c.reconcile-in-loop-pair.result
+          (link_of (seen_end lane.seen_tx lane.seen_closed c.in-Some.pair.low.tx) (lane.seen_rx c.in-Some.pair.high.rx)) (link_of (seen_end lane.seen_tx lane.seen_closed c.in-Some.pair.high.tx) (lane.seen_rx c.in-Some.pair.low.rx))
           was.lists c.push_reserved.ensures.items c.push_reserved-in-loop-pair.ensures.items goes.lists comes.lists
-          ∙ sym (links_left-push live shut taking c.loop-pair.yielded c.in-Some.pair);
+          ∙ sym (links_left-push lane c.loop-pair.yielded c.in-Some.pair);
       in_order =
           all_two_more IsTakenInOrder old mid new c.reconcile.result c.reconcile-in-loop-pair.result c.push_reserved.ensures.items c.push_reserved-in-loop-pair.ensures.items was.in_order
-          (record { prefix = goes.prefix; nothing_after_close = goes.close_last })
-          (record { prefix = comes.prefix; nothing_after_close = comes.close_last });
+          (record { prefix = goes.prefix; nothing_after_close = goes.close_last; moments = goes.moments })
+          (record { prefix = comes.prefix; nothing_after_close = comes.close_last; moments = comes.moments });
       whole =
           all_two_more IsTakenToClose old mid new c.reconcile.result c.reconcile-in-loop-pair.result c.push_reserved.ensures.items c.push_reserved-in-loop-pair.ensures.items was.whole
           (λ closed. goes.whole (sym (ap (λ (l : SeenLink). has_close l.taken) goes.lists) ∙ closed))

@@ -7,9 +7,9 @@ use Rattle.dine_threads.proofs.collecting.reconcile_all.Given as goal
 abbrev pub invariant-loop-pair : goal.invariant-loop-pair
 invariant-loop-pair g l = record {
   room : vec_len l.links + 2 * into_iter_len l.pair-iterator ≤ vec_capacity l.links;
-  joined : All (AreJoined g.L.Lane.seen_tx g.L.Lane.seen_closed g.L.Lane.seen_rx) (into_iter_items l.pair-iterator);
+  joined : All (AreJoined g.L.Lane) (into_iter_items l.pair-iterator);
   split : l.yielded ++ into_iter_items l.pair-iterator ≡ vec_items l.fn.pairs;
-  lists : vec_items l.links ≡ links_left g.L.Lane.seen_tx g.L.Lane.seen_closed g.L.Lane.seen_rx l.yielded;
+  lists : vec_items l.links ≡ links_left g.L.Lane l.yielded;
   in_order : All IsTakenInOrder (vec_items l.links);
   whole : All IsTakenToClose (vec_items l.links);
 }

@@ -18,6 +18,6 @@ returns-clause-rows g c =
     let stands = c.args.stands.now in
     let old = c.index_mut.result.now in
     let new : Stand _ _ _ _ = record { ports = c.push.new.self; bell = old.bell } in
-    let seen = seen_port g.L.Lane.seen_tx g.L.Lane.seen_closed g.L.Lane.seen_rx in
+    let seen = seen_port g.L.Lane in
     map-set_read (λ (stand : Stand _ _ _ _). map seen stand.ports.items) stands.items c.args.site old new (λ (row : List (SeenPort g.L.Lane.Identity)). row ++ seen c.args.port ∷ []) []
     (omega (arith, stands.ok.0)) c.index_mut.ensures.value (map_grown seen old.ports.items c.push.new.self.items c.args.port c.in_ok-push.ensures.items)

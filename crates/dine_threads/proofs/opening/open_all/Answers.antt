@@ -10,12 +10,12 @@ use Rattle.dine_threads.proofs.opening.open_all.Goals as goal
 
 pub returns-clause-each : goal.returns-clause-each
 returns-clause-each g c =
-    stands_from_laid g.L.Lane.seen_tx g.L.Lane.seen_closed g.L.Lane.seen_rx c.args.plan.now (vec_items c.open_stands.new.stands) (vec_items c.open_edges.new.stands)
+    stands_from_laid g.L.Lane c.args.plan.now (vec_items c.open_stands.new.stands) (vec_items c.open_edges.new.stands)
     c.in_ok-open_stands.ensures.bare c.in_ok-open_edges.ensures.bells c.in_ok-open_edges.ensures.laid
 
 pub returns-clause-rung : goal.returns-clause-rung
 returns-clause-rung g c =
-    subst (λ bells. AreRung c.args.plan.now bells (rows_of g.L.Lane.seen_tx g.L.Lane.seen_closed g.L.Lane.seen_rx (vec_items c.open_edges.new.stands))) (sym c.in_ok-open_edges.ensures.bells) c.in_ok-open_edges.ensures.laid.rung
+    subst (λ bells. AreRung c.args.plan.now bells (rows_of g.L.Lane (vec_items c.open_edges.new.stands))) (sym c.in_ok-open_edges.ensures.bells) c.in_ok-open_edges.ensures.laid.rung
 
 pub open_edges-requires-clause-each : goal.open_edges-requires-clause-each
 open_edges-requires-clause-each g c κs ls edge both at =
@@ -58,7 +58,7 @@ open_edges-requires-clause-bare g c κs ls = c.in_ok-open_stands.ensures.bare
 pub returns-clause-len : goal.returns-clause-len
 returns-clause-len g c =
     let stands = c.open_edges.new.stands in
-    let rows = length-map (vec_items stands) (λ (stand : Stand _ _ _ _). seen_ports g.L.Lane.seen_tx g.L.Lane.seen_closed g.L.Lane.seen_rx stand.ports.items) in
+    let rows = length-map (vec_items stands) (λ (stand : Stand _ _ _ _). seen_ports g.L.Lane stand.ports.items) in
     omega (arith, c.in_ok-open_edges.ensures.laid.count, rows, stands.ok.0)
 
 pub returns-clause-wired : goal.returns-clause-wired

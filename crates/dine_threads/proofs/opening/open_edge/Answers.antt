@@ -10,15 +10,13 @@ use Rattle.dine_threads.proofs.opening.open_edge.Goals as goal
 pub returns-clause-laid : goal.returns-clause-laid
 returns-clause-laid g c =
     let plan = c.args.plan.now in
-    let live = g.L.Lane.seen_tx in
-    let shut = g.L.Lane.seen_closed in
-    let taking = g.L.Lane.seen_rx in
+    let lane = g.L.Lane in
     let bells = bells_of c.args.stands.now.items in
-    let low = seen_port live shut taking c.in_ok-low.field-0.low in
-    let high = seen_port live shut taking c.in_ok-low.field-0.high in
-    let before = rows_of live shut taking c.args.stands.now.items in
-    let half = rows_of live shut taking c.lay.new.stands.items in
-    let after = rows_of live shut taking c.lay-2.new.stands.items in
+    let low = seen_port lane c.in_ok-low.field-0.low in
+    let high = seen_port lane c.in_ok-low.field-0.high in
+    let before = rows_of lane c.args.stands.now.items in
+    let half = rows_of lane c.lay.new.stands.items in
+    let after = rows_of lane c.lay-2.new.stands.items in
     let ends = c.ends-lower.ensures in
     on_ok_weaker c.lay-2.result
     (λ (is : after ≡ with_port half c.ends-lower.result.1 high). laid_by plan bells c.args.edge before half after low high c.ends-lower.result ends.plan c.requires.edge ends.ends c.in_ok-lay.ensures.rows is (c.in_ok-low.ensures bells c.requires.ringers) c.requires.laid)
@@ -29,7 +27,7 @@ lay-requires-after_bounds g c = λ κs bounds.
     let n = c.args.edge in
     let ends = c.ends-lower.ensures in
     let stands = c.args.stands.now in
-    let rows = length-map stands.items (λ (stand : Stand _ _ _ _). seen_ports g.L.Lane.seen_tx g.L.Lane.seen_closed g.L.Lane.seen_rx stand.ports.items) in
+    let rows = length-map stands.items (λ (stand : Stand _ _ _ _). seen_ports g.L.Lane stand.ports.items) in
     omega (arith, ap (λ (p : ℕ × ℕ). p.0) ends.ends, ends.plan.ordered n c.requires.edge, ends.plan.within n c.requires.edge, c.requires.laid.count, rows, stands.ok.0)
 
 pub lay-requires-2-after_bounds : goal.lay-requires-2-after_bounds
@@ -38,5 +36,5 @@ lay-requires-2-after_bounds g c = λ κs bounds.
     let ends = c.ends-lower.ensures in
     let stands = c.args.stands.now in
     let half = c.lay.new.stands in
-    let rows = length-map stands.items (λ (stand : Stand _ _ _ _). seen_ports g.L.Lane.seen_tx g.L.Lane.seen_closed g.L.Lane.seen_rx stand.ports.items) in
+    let rows = length-map stands.items (λ (stand : Stand _ _ _ _). seen_ports g.L.Lane stand.ports.items) in
     omega (arith, ap (λ (p : ℕ × ℕ). p.1) ends.ends, ends.plan.within n c.requires.edge, c.requires.laid.count, rows, stands.ok.0, ap length c.in_ok-lay.ensures.bells, length-map stands.items (λ (stand : Stand _ _ _ _). stand.bell), length-map half.items (λ (stand : Stand _ _ _ _). stand.bell), half.ok.0)

@@ -16,7 +16,7 @@ loop-both-init g c =
       ringers = λ k both at.
           subst (λ (n : ℕ). AreRingersAt c.args.plan.now (bells_of (vec_items stands)) n both) (sym (zero-add k))
           (c.requires.each k both (subst (λ xs. slice_get xs k ≡ Some both) c.into_iter-both-iterator.ensures.into_iter_gives.0 at));
-      laid = laid_none g.L.Lane.seen_tx g.L.Lane.seen_closed g.L.Lane.seen_rx c.args.plan.now (vec_items stands) (omega (arith, c.requires.count, stands.ok.0)) c.requires.bare;
+      laid = laid_none g.L.Lane c.args.plan.now (vec_items stands) (omega (arith, c.requires.count, stands.ok.0)) c.requires.bare;
     }
 
 pub overflow_add-edge : goal.overflow_add-edge
@@ -30,7 +30,7 @@ loop-both-preserved g c = record {
       let shift : c.loop-both.edge + suc k ≡ c.loop-both.edge + 1 + k = omega arith in
       subst (λ (n : ℕ). AreRingersAt c.args.plan.now (bells_of (vec_items c.args.stands.now)) n both) shift
       (c.loop-both.invariant.ringers (suc k) both (ap (λ xs. slice_get xs (suc k)) c.in-Some.ensures.steps.0 ∙ at));
-  laid = subst (λ (bells : List SeenBell). AreLaid c.args.plan.now bells (c.loop-both.edge + 1) (rows_of g.L.Lane.seen_tx g.L.Lane.seen_closed g.L.Lane.seen_rx (vec_items c.open_edge.new.stands))) c.loop-both.invariant.bells c.in_ok-open_edge.ensures.laid;
+  laid = subst (λ (bells : List SeenBell). AreLaid c.args.plan.now bells (c.loop-both.edge + 1) (rows_of g.L.Lane (vec_items c.open_edge.new.stands))) c.loop-both.invariant.bells c.in_ok-open_edge.ensures.laid;
 }
 
 pub open_edge-requires-clause-ringers : goal.open_edge-requires-clause-ringers
@@ -42,10 +42,10 @@ open_edge-requires-clause-ringers g c κs ls =
 
 pub open_edge-requires-clause-laid : goal.open_edge-requires-clause-laid
 open_edge-requires-clause-laid g c κs ls =
-    subst (λ (bells : List SeenBell). AreLaid c.args.plan.now bells c.loop-both.edge (rows_of g.L.Lane.seen_tx g.L.Lane.seen_closed g.L.Lane.seen_rx (vec_items c.loop-both.stands))) (sym c.loop-both.invariant.bells) c.loop-both.invariant.laid
+    subst (λ (bells : List SeenBell). AreLaid c.args.plan.now bells c.loop-both.edge (rows_of g.L.Lane (vec_items c.loop-both.stands))) (sym c.loop-both.invariant.bells) c.loop-both.invariant.laid
 
 pub returns-clause-laid : goal.returns-clause-laid
 returns-clause-laid g c =
-    let rows = rows_of g.L.Lane.seen_tx g.L.Lane.seen_closed g.L.Lane.seen_rx (vec_items c.loop-both.stands) in
+    let rows = rows_of g.L.Lane (vec_items c.loop-both.stands) in
     let all : c.loop-both.edge ≡ edge_count c.args.plan.now = omega (arith, c.loop-both.invariant.count, c.in-None.ensures.steps) in
     subst (λ (n : ℕ). AreLaid c.args.plan.now (bells_of (vec_items c.args.stands.now)) n rows) all c.loop-both.invariant.laid

@@ -10,5 +10,5 @@ invariant-loop-both g l = record {
   count : l.edge + into_iter_len l.both-iterator ≡ edge_count l.plan;
   bells : bells_of (vec_items l.stands) ≡ bells_of (vec_items l.fn.stands);
   ringers : (k : ℕ) (both : _) → slice_get (into_iter_items l.both-iterator) k ≡ Some both → AreRingersAt l.plan (bells_of (vec_items l.fn.stands)) (l.edge + k) both;
-  laid : AreLaid l.plan (bells_of (vec_items l.fn.stands)) l.edge (rows_of g.L.Lane.seen_tx g.L.Lane.seen_closed g.L.Lane.seen_rx (vec_items l.stands));
+  laid : AreLaid l.plan (bells_of (vec_items l.fn.stands)) l.edge (rows_of g.L.Lane (vec_items l.stands));
 }

@@ -6,5 +6,5 @@ use Rattle.dine_threads.proofs.seats.join_all.Goals as goal
 pub returns : goal.returns
 returns g c = record {
   len = c.join_each.ensures.len;
-  left = AllZip-mapped seat_of (LeavesSeat g.L.Lane.seen_tx g.L.Lane.seen_closed g.L.Lane.seen_rx g.D.Diner.calls g.D.Diner.marks g.D.Diner.fits) (vec_items c.args.children) (vec_items c.join_each.new.ends) c.join_each.ensures.kept;
+  left = AllZip-mapped seat_of (LeavesSeat g.L.Lane g.D.Diner) (vec_items c.args.children) (vec_items c.join_each.new.ends) c.join_each.ensures.kept;
 }

@@ -8,7 +8,7 @@ pub returns-clause-left : goal.returns-clause-left
 returns-clause-left g c = λ plan fresh.
     let s = c.args.core.site in
     let keeps = c.streams_are_kept.ensures.start plan s fresh.is_plan fresh.is_site in
-    left_unstarted c.letters_cut_short_are_in_order.ensures.front c.letters_cut_short_are_in_order.ensures.closed plan s (seen_ports g.L.Lane.seen_tx g.L.Lane.seen_closed g.L.Lane.seen_rx c.args.ports.items) c.site-site.result c.into_parts-parts.result.forks.items c.into_parts-parts.result.tokens.items c.new.result.items c.args.bell c.new.ensures.items c.site-site.ensures keeps
+    left_unstarted c.letters_cut_short_are_in_order.ensures.front c.letters_cut_short_are_in_order.ensures.closed plan s (seen_ports g.L.Lane c.args.ports.items) c.site-site.result c.into_parts-parts.result.forks.items c.into_parts-parts.result.tokens.items c.new.result.items c.args.bell c.new.ensures.items c.site-site.ensures keeps
     (c.into_parts-parts.ensures.forks_by_lists plan (start_of plan s) keeps fresh.stands) (c.into_parts-parts.ensures.tokens_by_lists plan (start_of plan s) keeps fresh.stands) c.requires.unused
 
 pub returns-clause-heeds : goal.returns-clause-heeds

@@ -7,7 +7,7 @@ use Rattle.dine_threads.proofs.seats.start_all.Goals as goal
 
 pub start_within-requires-after_bounds : goal.start_within-requires-after_bounds
 start_within-requires-after_bounds g c = λ κs bounds.
-    all_first (IsReady g.L.Lane.seen_tx g.L.Lane.seen_closed g.L.Lane.seen_rx g.D.Diner.room_left) (into_iter_items c.loop-seat.seat-iterator) (into_iter_items c.next.new.self) c.in-Some.seat c.in-Some.ensures.steps.0 c.loop-seat.invariant.ready
+    all_first (IsReady g.L.Lane g.D.Diner) (into_iter_items c.loop-seat.seat-iterator) (into_iter_items c.next.new.self) c.in-Some.seat c.in-Some.ensures.steps.0 c.loop-seat.invariant.ready
 
 pub loop-seat-init : goal.loop-seat-init
 loop-seat-init g c =
@@ -18,7 +18,7 @@ loop-seat-init g c =
       within = omega arith;
       count = omega (arith, c.into_iter-seat-iterator.ensures.into_iter_gives.1, c.args.seats.ok.0);
       room = c.requires.room;
-      ready = subst (All (IsReady g.L.Lane.seen_tx g.L.Lane.seen_closed g.L.Lane.seen_rx g.D.Diner.room_left)) (sym gives) c.requires.ready;
+      ready = subst (All (IsReady g.L.Lane g.D.Diner)) (sym gives) c.requires.ready;
       split = ap (λ l. map seat_of l ++ into_iter_items c.into_iter-seat-iterator.result) none ∙ gives;
     }
 
@@ -37,7 +37,7 @@ loop-seat-preserved g c =
       within = omega (arith, was.within, c.in-Some-start_within.ensures.left);
       count = omega (arith, was.count, steps.1);
       room = omega (arith, was.room, c.push_reserved.ensures.capacity);
-      ready = all_rest (IsReady g.L.Lane.seen_tx g.L.Lane.seen_closed g.L.Lane.seen_rx g.D.Diner.room_left) (into_iter_items c.loop-seat.seat-iterator) (into_iter_items c.next.new.self) c.in-Some.seat steps.0 was.ready;
+      ready = all_rest (IsReady g.L.Lane g.D.Diner) (into_iter_items c.loop-seat.seat-iterator) (into_iter_items c.next.new.self) c.in-Some.seat steps.0 was.ready;
       split = mapped_split seat_of (vec_items c.loop-seat.children) (vec_items c.push_reserved.new.self) c.in-Some-start_within.child c.in-Some.seat (into_iter_items c.loop-seat.seat-iterator) (into_iter_items c.next.new.self) (vec_items c.args.seats) c.push_reserved.ensures.items steps.0 c.in-Some-start_within.ensures.child was.split;
     }
 

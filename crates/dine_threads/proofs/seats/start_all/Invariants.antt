@@ -9,6 +9,6 @@ invariant-loop-seat g l = record {
   within : l.started ≤ l.fn.threads;
   count : l.started + into_iter_len l.seat-iterator ≡ vec_len l.fn.seats;
   room : vec_len l.fn.seats ≤ vec_capacity l.children;
-  ready : All (IsReady g.L.Lane.seen_tx g.L.Lane.seen_closed g.L.Lane.seen_rx g.D.Diner.room_left) (into_iter_items l.seat-iterator);
+  ready : All (IsReady g.L.Lane g.D.Diner) (into_iter_items l.seat-iterator);
   split : map seat_of (vec_items l.children) ++ into_iter_items l.seat-iterator ≡ vec_items l.fn.seats;
 }

@@ -10,13 +10,13 @@ use Rattle.dine_threads.proofs.threads.set_up.Goals as goal
 
 pub returns : goal.returns
 returns g c =
-    let rows = mapped_through (λ (seat : Seat _ _ _ _ _). seat.ports) (λ (stand : Stand _ _ _ _). stand.ports) (λ ports. seen_ports g.L.Lane.seen_tx g.L.Lane.seen_closed g.L.Lane.seen_rx ports.items) (vec_items c.seat_all.new.seats) (vec_items c.in_ok-stands.stands) c.in_ok-seat_all.ensures.ports in
+    let rows = mapped_through (λ (seat : Seat _ _ _ _ _). seat.ports) (λ (stand : Stand _ _ _ _). stand.ports) (λ ports. seen_ports g.L.Lane ports.items) (vec_items c.seat_all.new.seats) (vec_items c.in_ok-stands.stands) c.in_ok-seat_all.ensures.ports in
     record {
       count = c.in_ok-seat_all.ensures.len;
       ready = c.in_ok-seat_all.ensures.ready;
       fresh = c.in_ok-seat_all.ensures.fresh;
       diners = c.in_ok-seat_all.ensures.diners;
-      rung = subst (λ bells. AreRung c.args.plan.now bells (rows_of_seats g.L.Lane.seen_tx g.L.Lane.seen_closed g.L.Lane.seen_rx (vec_items c.seat_all.new.seats))) (sym c.in_ok-seat_all.ensures.bells)
+      rung = subst (λ bells. AreRung c.args.plan.now bells (rows_of_seats g.L.Lane (vec_items c.seat_all.new.seats))) (sym c.in_ok-seat_all.ensures.bells)
           (subst (AreRung c.args.plan.now (bells_of (vec_items c.in_ok-stands.stands))) (sym rows) c.in_ok-stands.ensures.rung);
       wired = subst (AreWired c.args.plan.now) (sym rows) c.in_ok-stands.ensures.wired;
       children = c.in_ok-children.ensures.children;
@@ -37,6 +37,9 @@ seat_all-requires-clause-each g c κs ls = c.in_ok-stands.ensures.each
 
 pub seat_all-requires-clause-rooms : goal.seat_all-requires-clause-rooms
 seat_all-requires-clause-rooms g c κs ls = c.requires.rooms
+
+pub seat_all-requires-clause-expected : goal.seat_all-requires-clause-expected
+seat_all-requires-clause-expected g c κs ls = c.requires.expected
 
 pub seat_all-requires-clause-capacity : goal.seat_all-requires-clause-capacity
 seat_all-requires-clause-capacity g c κs ls = omega (arith, c.in_ok-seats.ensures.capacity, c.sites.ensures.count)

@@ -1,10 +1,11 @@
 use Rattle.std.proofs.Common.{sym}
 use Rattle.crossbeam_channel.specs.Claims.{view}
+use Rattle.dine_link.specs.Stamps.{letters_in}
 use Rattle.dine_link.proofs.Endings.{not_ended-open, close_last-open}
 use Rattle.dine_link.proofs.channel.ChannelLaneLane.reconcile.Goals as goal
 
 pub join-requires-clause-shut : goal.join-requires-clause-shut
-join-requires-clause-shut c = sym (not_ended-open (view c.in-Live.field-0.putting.pass).put c.in-Live.field-0.unclosed)
+join-requires-clause-shut c = sym (not_ended-open (letters_in (view c.in-Live.field-0.putting.pass).put) c.in-Live.field-0.unclosed)
 
 pub join-requires-clause-close_last : goal.join-requires-clause-close_last
-join-requires-clause-close_last c = close_last-open (view c.in-Live.field-0.putting.pass).put c.in-Live.field-0.unclosed
+join-requires-clause-close_last c = close_last-open (letters_in (view c.in-Live.field-0.putting.pass).put) c.in-Live.field-0.unclosed

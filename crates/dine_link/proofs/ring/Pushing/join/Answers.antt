@@ -1,11 +1,21 @@
-use Rattle.std.proofs.Common.{◌≡◌, ◌++◌, List}
+use Rattle.std.proofs.Common.{◌≡◌, ◌++◌, List, sym, ◌∙◌, ap}
+use Rattle.std.proofs.lemmas.List.{map-append}
 use Rattle.rtrb.specs.Ring.{sent, received, known_items}
-use Rattle.dine_rules.specs.declared.letters.Letter.{Letter}
+use Rattle.dine_link.specs.declared.stamped.Stamped.{Stamped}
+use Rattle.dine_link.specs.Stamps.{letters_in}
 use Rattle.dine_link.proofs.Endings.{whole}
+use Rattle.dine_link.proofs.Stamping.{moments_prefix}
 use Rattle.dine_link.proofs.ring.Pushing.join.Goals as goal
 
 pub returns-clause-whole : goal.returns-clause-whole
 returns-clause-whole c = λ closed.
-    let items : List Letter = known_items c.slots_beside.new.self in
+    let items : List Stamped = known_items c.slots_beside.new.self in
     let e : sent c.args.self.producer ≡ received c.args.rx.consumer ++ items = cc (c.slots_beside.ensures.fifo, c.slots_beside.ensures.producer.1, c.slots_beside.ensures.looked.1) in
-    rw (c.keep.ensures, c.slots_beside.ensures.looked.1, c.slots_beside.ensures.producer.1) (whole (sent c.args.self.producer) (received c.args.rx.consumer) items e closed c.requires.close_last)
+    let f : letters_in (sent c.args.self.producer) ≡ letters_in (received c.args.rx.consumer) ++ letters_in items = ap letters_in e ∙ map-append (λ (one : Stamped). one.letter) (received c.args.rx.consumer) items in
+    rw (c.keep.ensures, c.slots_beside.ensures.looked.1, c.slots_beside.ensures.producer.1) (whole (letters_in (sent c.args.self.producer)) (letters_in (received c.args.rx.consumer)) (letters_in items) f closed c.requires.close_last)
+
+pub returns-clause-moments : goal.returns-clause-moments
+returns-clause-moments c =
+    let items : List Stamped = known_items c.slots_beside.new.self in
+    let e : sent c.args.self.producer ≡ received c.args.rx.consumer ++ items = cc (c.slots_beside.ensures.fifo, c.slots_beside.ensures.producer.1, c.slots_beside.ensures.looked.1) in
+    rw (c.keep.ensures, c.slots_beside.ensures.looked.1, c.slots_beside.ensures.producer.1) (moments_prefix (received c.args.rx.consumer) (sent c.args.self.producer) (items, sym e))

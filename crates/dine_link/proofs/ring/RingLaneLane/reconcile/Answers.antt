@@ -1,10 +1,11 @@
 use Rattle.std.proofs.Common.{sym}
 use Rattle.rtrb.specs.Ring.{sent}
+use Rattle.dine_link.specs.Stamps.{letters_in}
 use Rattle.dine_link.proofs.Endings.{not_ended-open, close_last-open}
 use Rattle.dine_link.proofs.ring.RingLaneLane.reconcile.Goals as goal
 
 pub join-requires-clause-shut : goal.join-requires-clause-shut
-join-requires-clause-shut c = sym (not_ended-open (sent c.in-Live.field-0.pushing.producer) c.in-Live.field-0.unclosed)
+join-requires-clause-shut c = sym (not_ended-open (letters_in (sent c.in-Live.field-0.pushing.producer)) c.in-Live.field-0.unclosed)
 
 pub join-requires-clause-close_last : goal.join-requires-clause-close_last
-join-requires-clause-close_last c = close_last-open (sent c.in-Live.field-0.pushing.producer) c.in-Live.field-0.unclosed
+join-requires-clause-close_last c = close_last-open (letters_in (sent c.in-Live.field-0.pushing.producer)) c.in-Live.field-0.unclosed

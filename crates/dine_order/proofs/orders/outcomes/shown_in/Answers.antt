@@ -3,7 +3,8 @@ use Rattle.std.proofs.lemmas.List.{take_more}
 use Rattle.dine_rules.specs.declared.events.EventKind.{EventKind}
 use Rattle.dine_rules.specs.declared.events.EventKind.TheVariants.{End, Quit, Take}
 use Rattle.dine_rules.specs.Journals.{outcomes_in}
-use Rattle.dine_order.specs.Orders.{noted, shown_in}
+use Rattle.dine_rules.specs.Shown.{shown_in}
+use Rattle.dine_order.specs.Orders.{noted}
 use Rattle.dine_order.proofs.Shown.{ended-end, ended-other, ended-quit, shown-end, shown-none, shown-other, shown-quit}
 use Rattle.dine_order.proofs.orders.outcomes.shown_in.Goals.{in-End, in-Quit, in_default}
 use Rattle.dine_order.proofs.orders.outcomes.shown_in.Goals as goal

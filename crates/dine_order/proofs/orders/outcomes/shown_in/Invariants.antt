@@ -1,6 +1,6 @@
 use Rattle.std.proofs.Common.{◌≡◌, ◌≤◌, false, length, take}
 use Rattle.dine_rules.specs.Journals.{outcomes_in}
-use Rattle.dine_order.specs.Orders.{shown_in}
+use Rattle.dine_rules.specs.Shown.{shown_in}
 use Rattle.dine_order.proofs.orders.outcomes.shown_in.Given as goal
 
 -- what the events so far show, and how many meals they end

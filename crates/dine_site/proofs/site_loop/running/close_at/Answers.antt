@@ -15,14 +15,14 @@ returns-clause-closed g c =
     let is : c.swap.new.self.items ≡ set xs i c.close-port.result.0 =
     c.swap.ensures.items ∙ ap (λ ys. swap ys i c.len-last.result) (c.push_reserved.ensures.items ∙ ap (λ ys. ys ++ c.close-port.result.0 ∷ []) c.swap_remove.ensures.items)
     ∙ replaced xs i c.len-last.result c.close-port.result.0 c.swap_remove.result within count in
-    changed (seen_port g.L.Lane.seen_tx g.L.Lane.seen_closed g.L.Lane.seen_rx) (λ old new. SendsClose old new c.close-port.result.1) xs c.swap.new.self.items i c.swap_remove.result c.close-port.result.0
+    changed (seen_port g.L.Lane) (λ old new. SendsClose c.args.stamp.at old new c.close-port.result.1) xs c.swap.new.self.items i c.swap_remove.result c.close-port.result.0
     (slice_get_read xs (length xs) i c.swap_remove.result refl within c.swap_remove.ensures.value) is c.close-port.ensures
 
 pub close-port-requires-clause-live : goal.close-port-requires-clause-live
 close-port-requires-clause-live g c κs ls =
     let xs = c.args.ports.now.items in
     let i = c.args.i in
-    let see = seen_port g.L.Lane.seen_tx g.L.Lane.seen_closed g.L.Lane.seen_rx in
+    let see = seen_port g.L.Lane in
     let within : i < length xs = omega (arith, c.requires.place, c.args.ports.now.ok.0) in
     let there = slice_get_read xs (length xs) i c.swap_remove.result refl within c.swap_remove.ensures.value in
     of_there (λ (port : SeenPort g.L.Lane.Identity). port.is_live ≡ true) (slice_get (map see xs) i) (see c.swap_remove.result) (slice_get-map see xs i ∙ ap (option_map see) there) c.requires.live
@@ -31,7 +31,7 @@ pub close-port-requires-clause-room : goal.close-port-requires-clause-room
 close-port-requires-clause-room g c κs ls =
     let xs = c.args.ports.now.items in
     let i = c.args.i in
-    let see = seen_port g.L.Lane.seen_tx g.L.Lane.seen_closed g.L.Lane.seen_rx in
+    let see = seen_port g.L.Lane in
     let within : i < length xs = omega (arith, c.requires.place, c.args.ports.now.ok.0) in
     let there = slice_get_read xs (length xs) i c.swap_remove.result refl within c.swap_remove.ensures.value in
     of_there (λ (port : SeenPort g.L.Lane.Identity). length port.tx.letters < 2 ^ 61) (slice_get (map see xs) i) (see c.swap_remove.result) (slice_get-map see xs i ∙ ap (option_map see) there) c.requires.room

@@ -16,27 +16,27 @@ use Rattle.dine_site.proofs.site_loop.running.Running.break_at.Goals as goal
 pub close_at-requires-clause-live : goal.close_at-requires-clause-live
 close_at-requires-clause-live g c κs ls =
     let p = c.requires.stopped in
-    let run : SeenRun g.L.Lane.Identity = seen_run g.L.Lane.seen_tx g.L.Lane.seen_closed g.L.Lane.seen_rx c.args.self.now in
+    let run : SeenRun g.L.Lane.Identity = seen_run g.L.Lane c.args.self.now in
     let puts : CorePuts c.args.i (Break c.args.i) c.args.self.now.core c.break_off.new.self letter.Close = subst (λ (l : Letter). CorePuts c.args.i (Break c.args.i) c.args.self.now.core c.break_off.new.self l) c.in-Some.ensures.letter c.in-Some.ensures.step in
     if_there (λ (port : SeenPort g.L.Lane.Identity). port.is_live ≡ true) (slice_get run.ports c.args.i) (break_live p.2.0 p.2.1 run p.0 p.1 p.2.2 c.args.i c.break_off.new.self puts)
 
 pub close_at-requires-clause-room : goal.close_at-requires-clause-room
 close_at-requires-clause-room g c κs ls =
     let p = c.requires.stopped in
-    let run : SeenRun g.L.Lane.Identity = seen_run g.L.Lane.seen_tx g.L.Lane.seen_closed g.L.Lane.seen_rx c.args.self.now in
+    let run : SeenRun g.L.Lane.Identity = seen_run g.L.Lane c.args.self.now in
     let puts : CorePuts c.args.i (Break c.args.i) c.args.self.now.core c.break_off.new.self letter.Close = subst (λ (l : Letter). CorePuts c.args.i (Break c.args.i) c.args.self.now.core c.break_off.new.self l) c.in-Some.ensures.letter c.in-Some.ensures.step in
     if_there (λ (port : SeenPort g.L.Lane.Identity). length port.tx.letters < 2 ^ 61) (slice_get run.ports c.args.i)
     (λ port at. break_room p.2.0 p.2.1 run p.0 p.1 p.2.2 c.args.i c.break_off.new.self puts port at c.few_letters_are_put.ensures.letters)
 
 pub returns-clause-way : goal.returns-clause-way
 returns-clause-way g c stray cause plan given stopped =
-    let run : SeenRun g.L.Lane.Identity = seen_run g.L.Lane.seen_tx g.L.Lane.seen_closed g.L.Lane.seen_rx c.args.self.now in
+    let run : SeenRun g.L.Lane.Identity = seen_run g.L.Lane c.args.self.now in
     let puts : CorePuts c.args.i (Break c.args.i) c.args.self.now.core c.break_off.new.self letter.Close = subst (λ (l : Letter). CorePuts c.args.i (Break c.args.i) c.args.self.now.core c.break_off.new.self l) c.in-Some.ensures.letter c.in-Some.ensures.step in
     let within : c.args.i < length run.ports = omega (arith, c.requires.place, stopped.has.places) in
     let there = there_is run.ports c.args.i within in
     let sent = of_there _ (slice_get run.ports c.args.i) there.0 there.1 c.close_at.ensures.closed in
     subst (λ (ps : List (SeenPort g.L.Lane.Identity)). IsStopped stray cause plan given (record { core = c.break_off.new.self; ports = ps; bell = run.bell; journal = run.journal })) (sym sent.2)
-    (break_sends plan given run stray cause stopped c.args.i c.break_off.new.self puts there.0 there.1 sent.0 c.close_at.result sent.1)
+    (break_sends plan given run stray cause stopped c.args.i c.break_off.new.self puts there.0 there.1 c.first.result.at sent.0 c.close_at.result sent.1)
 
 pub returns-clause-closed : goal.returns-clause-closed
 returns-clause-closed g c =
@@ -44,7 +44,7 @@ returns-clause-closed g c =
 
 pub close_at-requires-clause-place : goal.close_at-requires-clause-place
 close_at-requires-clause-place g c κs ls =
-    let ports = length-map c.args.self.now.ports.items (seen_port g.L.Lane.seen_tx g.L.Lane.seen_closed g.L.Lane.seen_rx) in
+    let ports = length-map c.args.self.now.ports.items (seen_port g.L.Lane) in
     omega (arith, c.requires.place, c.requires.stopped.2.2.has.places, ports, c.args.self.now.ports.ok.0)
 
 pub returns-clause-same : goal.returns-clause-same

@@ -1,10 +1,17 @@
 use mir.Val.{bool_byte}
-use Rattle.std.proofs.Common.{◌≡◌, Bool, true, false, not, ◌&&◌, ◌||◌, ◌+◌, ℕ, refl, sym, ◌∙◌, ap, subst}
+use Rattle.std.proofs.Common.{◌≡◌, Bool, true, false, not, ◌&&◌, ◌||◌, ◌+◌, ℕ, refl, sym, ◌∙◌, ap, subst, arith, rules}
+use Rattle.dine_rules.specs.declared.events.EventKind.TheVariants as event
+use Rattle.dine_site.specs.Ports.{seen_ports}
 use Rattle.std.proofs.lemmas.Bool.{and_parts}
 use Rattle.std.specs.Prelude.{nat_lt}
+use Rattle.dine_clock.specs.Moments.{last_moment}
+use Rattle.dine_site.proofs.one_site.Times.{alone}
 use Rattle.dine_site.specs.Running.{SeenRun, IsHeeding, seen_run}
+use Rattle.std.proofs.lemmas.Option.{slice_get_within, get_or_from_slice_get}
+use Rattle.dine_token.specs.Log.{meals_of}
 use Rattle.dine_core.specs.Core.{SeenCore}
-use Rattle.dine_core.specs.Places.{begun, drops_jobs, ended}
+use Rattle.dine_core.specs.Places.{FitsMeal, begun, drops_jobs, ended}
+use Rattle.dine_site.proofs.one_site.WholeMeals.{whole_meal}
 use Rattle.dine_site.proofs.one_site.Heeding.{heeds_meal, hungry_goes_on}
 use Rattle.dine_site.proofs.one_site.Meals.{eaten_more, failed_by}
 use Rattle.dine_site.proofs.one_site.Ways.{eat_runs}
@@ -14,35 +21,56 @@ byte_of : (ok : Bool) → bool_byte (not ok) ≡ failed_by ok
 byte_of true = refl
 byte_of false = refl
 
-pub returns-clause-way : goal.returns-clause-way
-returns-clause-way g c plan given running =
-    let run : SeenRun g.L.Lane.Identity = seen_run g.L.Lane.seen_tx g.L.Lane.seen_closed g.L.Lane.seen_rx c.args.self.now in
-    eat_runs plan given run c.journals_grow_by_each_event.ensures.event (not c.is_ok-ok.result) c.begin-meal.new.self c.end.new.self c.begin-meal.result.forks c.push_reserved.new.self.items c.push_reserved-2.new.self.items c.push_reserved.ensures.items c.push_reserved-2.ensures.items c.begin-meal.ensures.step c.begin-meal.ensures.in_hand c.end.ensures.step c.requires.next running
-
-pub returns-clause-eats : goal.returns-clause-eats
-returns-clause-eats g c first eaten =
-    let ate : c.begin-meal.new.self.ate ≡ c.args.self.now.core.ate + 1 = ap (λ (core : SeenCore). core.ate) c.begin-meal.ensures.core in
+pub returns : goal.returns
+returns g c =
+    let old = c.args.self.now in
+    let core = old.core in
+    let p = c.requires.ready.running in
+    let run : SeenRun g.L.Lane.Identity = seen_run g.L.Lane old in
+    let ate : c.begin-meal.new.self.ate ≡ core.ate + 1 = ap (λ (core : SeenCore). core.ate) c.begin-meal.ensures.core in
     let later : c.end.new.self.ate ≡ c.begin-meal.new.self.ate = ap (λ (core : SeenCore). core.ate) c.end.ensures.core in
     let k = c.k.ensures ∙ c.begin-meal.ensures.meal.k ∙ ate in
-    eaten_more g.D.Diner.calls g.D.Diner.marks g.D.Diner.fits c.args.self.now.core.ate c.args.self.now.failed c.k.result c.end.new.self.ate _ first c.args.self.now.diner c.eat.new.self _ eaten
-    k (later ∙ ate) (ap (λ (n : ℕ). c.args.self.now.failed + n) (c.from.ensures ∙ byte_of c.is_ok-ok.result ∙ ap failed_by c.is_ok-ok.ensures.value)) c.eat.ensures.calls c.eat.ensures.fits c.eat.ensures.marks
-
-pub returns-clause-heeds : goal.returns-clause-heeds
-returns-clause-heeds g c first heeding =
-    let core = c.args.self.now.core in
-    let p = c.requires.running in
     let goes_on = hungry_goes_on p.0 p.2.state core p.2.has.keeps p.2.has.stands (and_parts _ _ c.requires.may).0 in
     let failed : Bool = not c.is_ok-ok.result in
     let begun_is : SeenCore = begun core in
     let calls = g.D.Diner.calls c.eat.new.self in
     let is = c.end.ensures.core ∙ ap (ended failed c.begin-meal.result.forks) c.begin-meal.ensures.core in
     let has_left : Bool = nat_lt begun_is.ate begun_is.due in
-    subst (λ (x : SeenCore). IsHeeding x.resigns (x.must_quit || x.has_quit) (nat_lt x.ate x.due) first calls) (sym is)
-    (heeds_meal core.resigns core.must_quit core.has_quit (nat_lt core.ate core.due) (drops_jobs failed begun_is) has_left first (g.D.Diner.calls c.args.self.now.diner) calls _ heeding goes_on.0 goes_on.1 c.eat.ensures.calls
-    (ap (λ (ok : Bool). not ok && core.resigns && has_left) c.is_ok-ok.ensures.value))
+    record {
+      proceeds = record {
+        way = λ plan given running. eat_runs plan given run c.journals_grow_by_each_event.ensures.event failed c.begin-meal.new.self c.end.new.self c.begin-meal.result.forks c.push_reserved.new.self.items c.push_reserved-2.new.self.items c.push_reserved.ensures.items c.push_reserved-2.ensures.items c.begin-meal.ensures.step c.begin-meal.ensures.in_hand c.end.ensures.step c.requires.next running;
+        ready = search rules;
+        eats = λ first eaten.
+            eaten_more g.D.Diner.calls g.D.Diner.marks g.D.Diner.fits core.ate old.failed c.k.result c.end.new.self.ate _ first old.diner c.eat.new.self _ eaten
+            k (later ∙ ate) (ap (λ (n : ℕ). old.failed + n) (c.from.ensures ∙ byte_of c.is_ok-ok.result ∙ ap failed_by c.is_ok-ok.ensures.value)) c.eat.ensures.calls c.eat.ensures.fits c.eat.ensures.marks;
+        heeds = λ first heeding.
+            subst (λ (x : SeenCore). IsHeeding x.resigns (x.must_quit || x.has_quit) (nat_lt x.ate x.due) first calls) (sym is)
+            (heeds_meal core.resigns core.must_quit core.has_quit (nat_lt core.ate core.due) (drops_jobs failed begun_is) has_left first (g.D.Diner.calls old.diner) calls _ heeding goes_on.0 goes_on.1 c.eat.ensures.calls
+            (ap (λ (ok : Bool). not ok && core.resigns && has_left) c.is_ok-ok.ensures.value));
+        resigns = ap (λ (core : SeenCore). core.resigns) is;
+        site = ap (λ (core : SeenCore). core.site) is;
+        expects = c.eat.ensures.stays;
+      };
+      timed = λ timed.
+          let ports = seen_ports g.L.Lane c.args.self.now.ports.items in
+          let first = alone c.args.self.now.clock.events c.args.self.now.journal.items ports event.Begin (last_moment c.args.self.now.clock.events + c.first.result.at + 1) (omega arith) timed c.push_reserved.new.self.items c.push_reserved.ensures.items c.after-self.result.events c.after-self.ensures refl in
+          alone c.after-self.result.events c.push_reserved.new.self.items ports event.End (last_moment c.after-self.result.events + c.first-2.result.at + 1) (omega arith) first c.push_reserved-2.new.self.items c.push_reserved-2.ensures.items c.after-self-2.result.events c.after-self-2.ensures refl;
+    }
 
-pub returns-clause-resigns : goal.returns-clause-resigns
-returns-clause-resigns g c = ap (λ (core : SeenCore). core.resigns) c.end.ensures.core ∙ ap (λ (core : SeenCore). core.resigns) c.begin-meal.ensures.core
+pub eat-requires-clause-own : goal.eat-requires-clause-own
+eat-requires-clause-own g c i fork at =
+    let meal = c.begin-meal.result in
+    let is = c.begin-meal.ensures.meal in
+    let within = slice_get_within meal.forks i fork at in
+    let fits : FitsMeal c.begin-meal.new.self i fork = subst (FitsMeal c.begin-meal.new.self i) (get_or_from_slice_get meal.forks i fork fork at) (is.forks i fork (omega (arith, within, is.count))) in
+    (fits.fits.here ∙ sym is.site, ap (λ (s : ℕ). meals_of s fork.log) is.site ∙ fits.fits.eaten ∙ sym is.k)
 
-pub returns-clause-site : goal.returns-clause-site
-returns-clause-site g c = ap (λ (core : SeenCore). core.site) c.end.ensures.core ∙ ap (λ (core : SeenCore). core.site) c.begin-meal.ensures.core
+pub eat-requires-clause-whole : goal.eat-requires-clause-whole
+eat-requires-clause-whole g c =
+    let running = c.requires.ready.running in
+    let plan = running.0 in
+    let before = running.2 in
+    let began = c.begin-meal.ensures.step plan before.state before.has.keeps before.has.stands in
+    let meal = c.begin-meal.ensures.meal in
+    let site = meal.site ∙ ap (λ (core : SeenCore). core.site) c.begin-meal.ensures.core in
+    (plan, whole_meal plan _ c.begin-meal.new.self c.begin-meal.result began.stands began.keeps meal, subst (g.D.Diner.expects c.args.self.now.diner plan) (sym site) c.requires.ready.expects)

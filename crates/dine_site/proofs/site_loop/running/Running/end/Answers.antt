@@ -6,7 +6,7 @@ use Rattle.dine_site.proofs.site_loop.running.Running.end.Goals as goal
 
 pub returns-clause-end : goal.returns-clause-end
 returns-clause-end g c plan given may =
-    let run : SeenRun g.L.Lane.Identity = seen_run g.L.Lane.seen_tx g.L.Lane.seen_closed g.L.Lane.seen_rx c.args.self in
+    let run : SeenRun g.L.Lane.Identity = seen_run g.L.Lane c.args.self in
     let forks = c.into_parts-parts.result.forks.items in
     let tokens = c.into_parts-parts.result.tokens.items in
     let ended = site_end plan given run forks tokens c.into_parts-parts.ensures.forks_by_lists c.into_parts-parts.ensures.tokens_by_lists c.letters_cut_short_are_in_order.ensures.front c.letters_cut_short_are_in_order.ensures.closed c.args.stray c.args.fault may in

@@ -10,24 +10,24 @@ use Rattle.dine_site.proofs.site_loop.running.Running.hear.Goals as goal
 
 pub returns-in-Err-clause-way : goal.returns-in-Err-clause-way
 returns-in-Err-clause-way g c plan given running =
-    let run : SeenRun g.L.Lane.Identity = seen_run g.L.Lane.seen_tx g.L.Lane.seen_closed g.L.Lane.seen_rx c.args.self.now in
+    let run : SeenRun g.L.Lane.Identity = seen_run g.L.Lane c.args.self.now in
     let new : SeenRun g.L.Lane.Identity = record { core = run.core; ports = run.ports; bell = c.wait_for.new.self; journal = run.journal } in
     subst (λ (stop : Stop). IsStopped stop.stray stop.fault plan given new) (sym c.lost_bell.ensures) (bell_stops plan given run c.wait_for.new.self (ap (λ (b : SeenBell). b.refused) c.in-Err.ensures.told) running)
 
 pub returns-in-Ok-clause-way : goal.returns-in-Ok-clause-way
 returns-in-Ok-clause-way g c plan given running =
-    let run : SeenRun g.L.Lane.Identity = seen_run g.L.Lane.seen_tx g.L.Lane.seen_closed g.L.Lane.seen_rx c.args.self.now in
+    let run : SeenRun g.L.Lane.Identity = seen_run g.L.Lane c.args.self.now in
     heard_runs plan given run c.wait_for.new.self (ap (λ (b : SeenBell). b.refused) c.in-Ok.ensures.told) running
 
 pub take-requires-clause-running : goal.take-requires-clause-running
 take-requires-clause-running g c κs ls =
-    let run : SeenRun g.L.Lane.Identity = seen_run g.L.Lane.seen_tx g.L.Lane.seen_closed g.L.Lane.seen_rx c.args.self.now in
+    let run : SeenRun g.L.Lane.Identity = seen_run g.L.Lane c.args.self.now in
     let p = c.requires.running in
     (p.0, p.1, heard_runs p.0 p.1 run c.wait_for.new.self (ap (λ (b : SeenBell). b.refused) c.in-Ok.ensures.told) p.2)
 
 pub take-requires-clause-place : goal.take-requires-clause-place
 take-requires-clause-place g c κs ls =
-    let ports = length-map c.args.self.now.ports.items (seen_port g.L.Lane.seen_tx g.L.Lane.seen_closed g.L.Lane.seen_rx) in
+    let ports = length-map c.args.self.now.ports.items (seen_port g.L.Lane) in
     let degree = ap (λ (b : SeenBell). b.degree) c.in-Ok.ensures.told in
     omega (arith, c.in-Ok.ensures.below, degree, c.requires.bell, c.requires.running.2.has.places, ports)
 
@@ -36,7 +36,7 @@ take-requires-clause-not_closed g c κs ls plan state keeps stands = sym (c.has_
 
 pub returns-in-Ok-2-clause-way : goal.returns-in-Ok-2-clause-way
 returns-in-Ok-2-clause-way g c plan given running =
-    let run : SeenRun g.L.Lane.Identity = seen_run g.L.Lane.seen_tx g.L.Lane.seen_closed g.L.Lane.seen_rx c.args.self.now in
+    let run : SeenRun g.L.Lane.Identity = seen_run g.L.Lane c.args.self.now in
     c.take.ensures.way plan given (heard_runs plan given run c.wait_for.new.self (ap (λ (b : SeenBell). b.refused) c.in-Ok.ensures.told) running)
 
 pub returns-in-Ok-2-clause-same : goal.returns-in-Ok-2-clause-same

@@ -8,7 +8,7 @@ use Rattle.dine_site.proofs.site_loop.running.Running.make_room.Goals as goal
 
 pub returns-in-Ok-clause-running : goal.returns-in-Ok-clause-running
 returns-in-Ok-clause-running g c =
-    let run : SeenRun g.L.Lane.Identity = seen_run g.L.Lane.seen_tx g.L.Lane.seen_closed g.L.Lane.seen_rx c.args.self.now in
+    let run : SeenRun g.L.Lane.Identity = seen_run g.L.Lane c.args.self.now in
     ap (λ (kinds : List EventKind). record run { journal = kinds }) c.reserve.ensures.items
 
 pub returns-in-Ok-clause-way : goal.returns-in-Ok-clause-way
@@ -16,5 +16,5 @@ returns-in-Ok-clause-way g c plan given running = subst (λ (run : SeenRun g.L.L
 
 pub returns-in-Err-clause-way : goal.returns-in-Err-clause-way
 returns-in-Err-clause-way g c plan given running =
-    let run : SeenRun g.L.Lane.Identity = seen_run g.L.Lane.seen_tx g.L.Lane.seen_closed g.L.Lane.seen_rx c.args.self.now in
+    let run : SeenRun g.L.Lane.Identity = seen_run g.L.Lane c.args.self.now in
     subst (λ (kinds : List EventKind). IsStopped None fault.Memory plan given (record run { journal = kinds })) (sym c.reserve.ensures.items) (memory_stop plan given run running)

@@ -1,4 +1,4 @@
-use Rattle.std.proofs.Common.{◌≡◌, ◌||◌, true, Some, None, refl, subst, sym, ap, arith}
+use Rattle.std.proofs.Common.{◌≡◌, ◌+◌, ◌||◌, true, Some, None, Ok, refl, subst, sym, ap, arith}
 use Rattle.std.proofs.lemmas.Bool.{and_parts, or_left}
 use Rattle.std.specs.Prelude.{nat_lt}
 use Rattle.dine_core.specs.Core.{SeenCore}
@@ -12,151 +12,127 @@ use Rattle.dine_rules.specs.declared.events.EventKind.{EventKind}
 use Rattle.dine_rules.specs.declared.events.EventKind.TheVariants as event
 use Rattle.dine_rules.specs.declared.letters.Letter.{Letter}
 use Rattle.dine_rules.specs.declared.letters.Letter.TheVariants as letter
-use Rattle.dine_site.specs.Running.{SeenRun, IsHeeding, IsNext, seen_run}
+use Rattle.dine_site.specs.Running.{SeenRun, GoesOn, IsHeeding, IsNext, seen_run}
 use Rattle.dine_core.specs.Standing.{CorePuts}
 use Rattle.dine_rules.specs.Steps.{Give, Ask, Done, Close}
 use Rattle.dine_site.proofs.one_site.AtPlaces.{opens-give, opens-ask, opens-done, opens-close, putting}
 use Rattle.dine_site.proofs.one_site.Meals.{eaten_same}
-use Rattle.dine_site.proofs.one_site.Same.{ready_same, eats_same, heeds_same, same_but_place, same_but_phase}
+use Rattle.dine_clock.specs.Moments.{last_moment}
+use Rattle.dine_site.specs.Ports.{seen_ports}
+use Rattle.dine_site.proofs.one_site.Times.{alone, begins_put, on_ok}
+use Rattle.dine_site.proofs.one_site.Same.{same_but_place, same_but_phase}
+use Rattle.dine_site.proofs.one_site.Proceeding.{proceeds_same}
 use Rattle.dine_site.proofs.one_site.Ways.{hungry_runs, quit_runs}
 use Rattle.dine_site.proofs.one_site.Heeding.{heeding_as}
 use Rattle.dine_site.proofs.site_loop.running.Running.perform.Goals as goal
 
 pub put-requires-clause-putting : goal.put-requires-clause-putting
 put-requires-clause-putting g c κs ls =
-    let p = c.requires.running in
-    let run : SeenRun g.L.Lane.Identity = seen_run g.L.Lane.seen_tx g.L.Lane.seen_closed g.L.Lane.seen_rx c.args.self.now in
+    let p = c.requires.ready.running in
+    let run : SeenRun g.L.Lane.Identity = seen_run g.L.Lane c.args.self.now in
     (p.0, p.1, putting p.0 p.1 c.in-Give.i (Give c.in-Give.i) c.give-letter.result (opens-give c.in-Give.i) c.journals_grow_by_each_event.ensures.event (event.Give c.in-Give.i) refl refl run c.give-letter.new.self c.push_reserved.new.self.items c.push_reserved.ensures.items c.give-letter.ensures.step (subst (λ (kind : EventKind). IsNext (Some kind) c.args.self.now.core) c.in-Give.is c.requires.next) p.2)
 
 pub returns-in-Give : goal.returns-in-Give
 returns-in-Give g c =
-    let run : SeenRun g.L.Lane.Identity = seen_run g.L.Lane.seen_tx g.L.Lane.seen_closed g.L.Lane.seen_rx c.args.self.now in
+    let run : SeenRun g.L.Lane.Identity = seen_run g.L.Lane c.args.self.now in
     let core = c.args.self.now.core in
-    let same = same_but_place c.args.self.now c.put.new.self c.in-Give.i (record (place_at core c.in-Give.i) { fork = Away }) c.give-letter.new.self c.push_reserved.new.self c.give-letter.ensures.core c.put.ensures.same in
+    let same = same_but_place c.args.self.now c.put.new.self c.in-Give.i (record (place_at core c.in-Give.i) { fork = Away }) c.give-letter.new.self c.push_reserved.new.self c.after-self.result c.give-letter.ensures.core c.put.ensures.same in
     record {
-      way = λ plan given running. c.put.ensures.way plan given (putting plan given c.in-Give.i (Give c.in-Give.i) c.give-letter.result (opens-give c.in-Give.i) c.journals_grow_by_each_event.ensures.event (event.Give c.in-Give.i) refl refl run c.give-letter.new.self c.push_reserved.new.self.items c.push_reserved.ensures.items c.give-letter.ensures.step (subst (λ (kind : EventKind). IsNext (Some kind) c.args.self.now.core) c.in-Give.is c.requires.next) running);
-      ready = ready_same c.args.self.now c.put.new.self same g.D.Diner.room_left c.requires.ready;
-      eats = eats_same c.args.self.now c.put.new.self same g.D.Diner.calls g.D.Diner.marks g.D.Diner.fits;
-      heeds = heeds_same c.args.self.now c.put.new.self same g.D.Diner.calls;
-      resigns = same.resigns;
-      site = same.site;
+      proceeds = proceeds_same g.L.Lane g.D.Diner (GoesOn c.put.result) c.args.self.now c.put.new.self same c.requires.ready.ready (λ plan given running. c.put.ensures.way plan given (putting plan given c.in-Give.i (Give c.in-Give.i) c.give-letter.result (opens-give c.in-Give.i) c.journals_grow_by_each_event.ensures.event (event.Give c.in-Give.i) refl refl run c.give-letter.new.self c.push_reserved.new.self.items c.push_reserved.ensures.items c.give-letter.ensures.step (subst (λ (kind : EventKind). IsNext (Some kind) c.args.self.now.core) c.in-Give.is c.requires.next) running));
+      timed = on_ok c.put.result (λ goes timed. goes (begins_put c.args.self.now.clock.events c.args.self.now.journal.items (seen_ports g.L.Lane c.args.self.now.ports.items) (event.Give c.in-Give.i) (last_moment c.args.self.now.clock.events + c.first.result.at + 1) (omega arith) timed c.push_reserved.new.self.items c.push_reserved.ensures.items c.after-self.result.events c.after-self.ensures c.in-Give.i refl)) c.put.ensures.timed;
     }
 
 pub put-requires-in-Ask-clause-putting : goal.put-requires-in-Ask-clause-putting
 put-requires-in-Ask-clause-putting g c κs ls =
-    let p = c.requires.running in
-    let run : SeenRun g.L.Lane.Identity = seen_run g.L.Lane.seen_tx g.L.Lane.seen_closed g.L.Lane.seen_rx c.args.self.now in
+    let p = c.requires.ready.running in
+    let run : SeenRun g.L.Lane.Identity = seen_run g.L.Lane c.args.self.now in
     (p.0, p.1, putting p.0 p.1 c.in-Ask.i (Ask c.in-Ask.i) c.ask-letter.result (opens-ask c.in-Ask.i) c.journals_grow_by_each_event.ensures.event (event.Ask c.in-Ask.i) refl refl run c.ask-letter.new.self c.push_reserved-in-Ask.new.self.items c.push_reserved-in-Ask.ensures.items c.ask-letter.ensures.step (subst (λ (kind : EventKind). IsNext (Some kind) c.args.self.now.core) c.in-Ask.is c.requires.next) p.2)
 
 pub returns-in-Ask : goal.returns-in-Ask
 returns-in-Ask g c =
-    let run : SeenRun g.L.Lane.Identity = seen_run g.L.Lane.seen_tx g.L.Lane.seen_closed g.L.Lane.seen_rx c.args.self.now in
+    let run : SeenRun g.L.Lane.Identity = seen_run g.L.Lane c.args.self.now in
     let core = c.args.self.now.core in
-    let same = same_but_place c.args.self.now c.put-in-Ask.new.self c.in-Ask.i (record (place_at core c.in-Ask.i) { token = None }) c.ask-letter.new.self c.push_reserved-in-Ask.new.self c.ask-letter.ensures.core c.put-in-Ask.ensures.same in
+    let same = same_but_place c.args.self.now c.put-in-Ask.new.self c.in-Ask.i (record (place_at core c.in-Ask.i) { token = None }) c.ask-letter.new.self c.push_reserved-in-Ask.new.self c.after-self-in-Ask.result c.ask-letter.ensures.core c.put-in-Ask.ensures.same in
     record {
-      way = λ plan given running. c.put-in-Ask.ensures.way plan given (putting plan given c.in-Ask.i (Ask c.in-Ask.i) c.ask-letter.result (opens-ask c.in-Ask.i) c.journals_grow_by_each_event.ensures.event (event.Ask c.in-Ask.i) refl refl run c.ask-letter.new.self c.push_reserved-in-Ask.new.self.items c.push_reserved-in-Ask.ensures.items c.ask-letter.ensures.step (subst (λ (kind : EventKind). IsNext (Some kind) c.args.self.now.core) c.in-Ask.is c.requires.next) running);
-      ready = ready_same c.args.self.now c.put-in-Ask.new.self same g.D.Diner.room_left c.requires.ready;
-      eats = eats_same c.args.self.now c.put-in-Ask.new.self same g.D.Diner.calls g.D.Diner.marks g.D.Diner.fits;
-      heeds = heeds_same c.args.self.now c.put-in-Ask.new.self same g.D.Diner.calls;
-      resigns = same.resigns;
-      site = same.site;
+      proceeds = proceeds_same g.L.Lane g.D.Diner (GoesOn c.put-in-Ask.result) c.args.self.now c.put-in-Ask.new.self same c.requires.ready.ready (λ plan given running. c.put-in-Ask.ensures.way plan given (putting plan given c.in-Ask.i (Ask c.in-Ask.i) c.ask-letter.result (opens-ask c.in-Ask.i) c.journals_grow_by_each_event.ensures.event (event.Ask c.in-Ask.i) refl refl run c.ask-letter.new.self c.push_reserved-in-Ask.new.self.items c.push_reserved-in-Ask.ensures.items c.ask-letter.ensures.step (subst (λ (kind : EventKind). IsNext (Some kind) c.args.self.now.core) c.in-Ask.is c.requires.next) running));
+      timed = on_ok c.put-in-Ask.result (λ goes timed. goes (begins_put c.args.self.now.clock.events c.args.self.now.journal.items (seen_ports g.L.Lane c.args.self.now.ports.items) (event.Ask c.in-Ask.i) (last_moment c.args.self.now.clock.events + c.first-in-Ask.result.at + 1) (omega arith) timed c.push_reserved-in-Ask.new.self.items c.push_reserved-in-Ask.ensures.items c.after-self-in-Ask.result.events c.after-self-in-Ask.ensures c.in-Ask.i refl)) c.put-in-Ask.ensures.timed;
     }
 
 pub put-requires-in-Done-clause-putting : goal.put-requires-in-Done-clause-putting
 put-requires-in-Done-clause-putting g c κs ls =
-    let p = c.requires.running in
-    let run : SeenRun g.L.Lane.Identity = seen_run g.L.Lane.seen_tx g.L.Lane.seen_closed g.L.Lane.seen_rx c.args.self.now in
+    let p = c.requires.ready.running in
+    let run : SeenRun g.L.Lane.Identity = seen_run g.L.Lane c.args.self.now in
     (p.0, p.1, putting p.0 p.1 c.in-Done.i (Done c.in-Done.i) c.done-letter.result (opens-done c.in-Done.i) c.journals_grow_by_each_event.ensures.event (event.Done c.in-Done.i) refl refl run c.done-letter.new.self c.push_reserved-in-Done.new.self.items c.push_reserved-in-Done.ensures.items c.done-letter.ensures.step (subst (λ (kind : EventKind). IsNext (Some kind) c.args.self.now.core) c.in-Done.is c.requires.next) p.2)
 
 pub returns-in-Done : goal.returns-in-Done
 returns-in-Done g c =
-    let run : SeenRun g.L.Lane.Identity = seen_run g.L.Lane.seen_tx g.L.Lane.seen_closed g.L.Lane.seen_rx c.args.self.now in
+    let run : SeenRun g.L.Lane.Identity = seen_run g.L.Lane c.args.self.now in
     let core = c.args.self.now.core in
-    let same = same_but_place c.args.self.now c.put-in-Done.new.self c.in-Done.i (record (place_at core c.in-Done.i) { done_put = true }) c.done-letter.new.self c.push_reserved-in-Done.new.self c.done-letter.ensures.core c.put-in-Done.ensures.same in
+    let same = same_but_place c.args.self.now c.put-in-Done.new.self c.in-Done.i (record (place_at core c.in-Done.i) { done_put = true }) c.done-letter.new.self c.push_reserved-in-Done.new.self c.after-self-in-Done.result c.done-letter.ensures.core c.put-in-Done.ensures.same in
     record {
-      way = λ plan given running. c.put-in-Done.ensures.way plan given (putting plan given c.in-Done.i (Done c.in-Done.i) c.done-letter.result (opens-done c.in-Done.i) c.journals_grow_by_each_event.ensures.event (event.Done c.in-Done.i) refl refl run c.done-letter.new.self c.push_reserved-in-Done.new.self.items c.push_reserved-in-Done.ensures.items c.done-letter.ensures.step (subst (λ (kind : EventKind). IsNext (Some kind) c.args.self.now.core) c.in-Done.is c.requires.next) running);
-      ready = ready_same c.args.self.now c.put-in-Done.new.self same g.D.Diner.room_left c.requires.ready;
-      eats = eats_same c.args.self.now c.put-in-Done.new.self same g.D.Diner.calls g.D.Diner.marks g.D.Diner.fits;
-      heeds = heeds_same c.args.self.now c.put-in-Done.new.self same g.D.Diner.calls;
-      resigns = same.resigns;
-      site = same.site;
+      proceeds = proceeds_same g.L.Lane g.D.Diner (GoesOn c.put-in-Done.result) c.args.self.now c.put-in-Done.new.self same c.requires.ready.ready (λ plan given running. c.put-in-Done.ensures.way plan given (putting plan given c.in-Done.i (Done c.in-Done.i) c.done-letter.result (opens-done c.in-Done.i) c.journals_grow_by_each_event.ensures.event (event.Done c.in-Done.i) refl refl run c.done-letter.new.self c.push_reserved-in-Done.new.self.items c.push_reserved-in-Done.ensures.items c.done-letter.ensures.step (subst (λ (kind : EventKind). IsNext (Some kind) c.args.self.now.core) c.in-Done.is c.requires.next) running));
+      timed = on_ok c.put-in-Done.result (λ goes timed. goes (begins_put c.args.self.now.clock.events c.args.self.now.journal.items (seen_ports g.L.Lane c.args.self.now.ports.items) (event.Done c.in-Done.i) (last_moment c.args.self.now.clock.events + c.first-in-Done.result.at + 1) (omega arith) timed c.push_reserved-in-Done.new.self.items c.push_reserved-in-Done.ensures.items c.after-self-in-Done.result.events c.after-self-in-Done.ensures c.in-Done.i refl)) c.put-in-Done.ensures.timed;
     }
 
 pub close-requires-in-Close-clause-putting : goal.close-requires-in-Close-clause-putting
 close-requires-in-Close-clause-putting g c κs ls =
-    let p = c.requires.running in
-    let run : SeenRun g.L.Lane.Identity = seen_run g.L.Lane.seen_tx g.L.Lane.seen_closed g.L.Lane.seen_rx c.args.self.now in
+    let p = c.requires.ready.running in
+    let run : SeenRun g.L.Lane.Identity = seen_run g.L.Lane c.args.self.now in
     let puts : CorePuts c.in-Close.i (Close c.in-Close.i) c.args.self.now.core c.close.new.self letter.Close = subst (λ (l : Letter). CorePuts c.in-Close.i (Close c.in-Close.i) c.args.self.now.core c.close.new.self l) c.close.ensures.letter c.close.ensures.step in
     (p.0, p.1, putting p.0 p.1 c.in-Close.i (Close c.in-Close.i) letter.Close (opens-close c.in-Close.i) c.journals_grow_by_each_event.ensures.event (event.Close c.in-Close.i) refl refl run c.close.new.self c.push_reserved-in-Close.new.self.items c.push_reserved-in-Close.ensures.items puts (subst (λ (kind : EventKind). IsNext (Some kind) c.args.self.now.core) c.in-Close.is c.requires.next) p.2)
 
 pub returns-in-Close : goal.returns-in-Close
 returns-in-Close g c =
-    let run : SeenRun g.L.Lane.Identity = seen_run g.L.Lane.seen_tx g.L.Lane.seen_closed g.L.Lane.seen_rx c.args.self.now in
+    let run : SeenRun g.L.Lane.Identity = seen_run g.L.Lane c.args.self.now in
     let puts : CorePuts c.in-Close.i (Close c.in-Close.i) c.args.self.now.core c.close.new.self letter.Close = subst (λ (l : Letter). CorePuts c.in-Close.i (Close c.in-Close.i) c.args.self.now.core c.close.new.self l) c.close.ensures.letter c.close.ensures.step in
     let core = c.args.self.now.core in
-    let same = same_but_place c.args.self.now c.close-in-Close.new.self c.in-Close.i (record (place_at core c.in-Close.i) { close_put = true }) c.close.new.self c.push_reserved-in-Close.new.self c.close.ensures.core c.close-in-Close.ensures.same in
+    let same = same_but_place c.args.self.now c.close-in-Close.new.self c.in-Close.i (record (place_at core c.in-Close.i) { close_put = true }) c.close.new.self c.push_reserved-in-Close.new.self c.after-self-in-Close.result c.close.ensures.core c.close-in-Close.ensures.same in
     record {
-      way = λ plan given running. c.close-in-Close.ensures.way plan given (putting plan given c.in-Close.i (Close c.in-Close.i) letter.Close (opens-close c.in-Close.i) c.journals_grow_by_each_event.ensures.event (event.Close c.in-Close.i) refl refl run c.close.new.self c.push_reserved-in-Close.new.self.items c.push_reserved-in-Close.ensures.items puts (subst (λ (kind : EventKind). IsNext (Some kind) c.args.self.now.core) c.in-Close.is c.requires.next) running);
-      ready = ready_same c.args.self.now c.close-in-Close.new.self same g.D.Diner.room_left c.requires.ready;
-      eats = eats_same c.args.self.now c.close-in-Close.new.self same g.D.Diner.calls g.D.Diner.marks g.D.Diner.fits;
-      heeds = heeds_same c.args.self.now c.close-in-Close.new.self same g.D.Diner.calls;
-      resigns = same.resigns;
-      site = same.site;
+      proceeds = proceeds_same g.L.Lane g.D.Diner (GoesOn c.close-in-Close.result) c.args.self.now c.close-in-Close.new.self same c.requires.ready.ready (λ plan given running. c.close-in-Close.ensures.way plan given (putting plan given c.in-Close.i (Close c.in-Close.i) letter.Close (opens-close c.in-Close.i) c.journals_grow_by_each_event.ensures.event (event.Close c.in-Close.i) refl refl run c.close.new.self c.push_reserved-in-Close.new.self.items c.push_reserved-in-Close.ensures.items puts (subst (λ (kind : EventKind). IsNext (Some kind) c.args.self.now.core) c.in-Close.is c.requires.next) running));
+      timed = on_ok c.close-in-Close.result (λ goes timed. goes (begins_put c.args.self.now.clock.events c.args.self.now.journal.items (seen_ports g.L.Lane c.args.self.now.ports.items) (event.Close c.in-Close.i) (last_moment c.args.self.now.clock.events + c.first-in-Close.result.at + 1) (omega arith) timed c.push_reserved-in-Close.new.self.items c.push_reserved-in-Close.ensures.items c.after-self-in-Close.result.events c.after-self-in-Close.ensures c.in-Close.i refl)) c.close-in-Close.ensures.timed;
     }
 
 pub returns-in-Hungry : goal.returns-in-Hungry
 returns-in-Hungry g c =
-    let run : SeenRun g.L.Lane.Identity = seen_run g.L.Lane.seen_tx g.L.Lane.seen_closed g.L.Lane.seen_rx c.args.self.now in
-    let new : Running _ _ _ _ _ = record c.args.self.now { core = c.hungry.new.self; journal = c.push_reserved-in-Hungry.new.self } in
-    let same = same_but_phase c.args.self.now phase.Hungry c.hungry.new.self c.push_reserved-in-Hungry.new.self c.hungry.ensures.hungry in
+    let run : SeenRun g.L.Lane.Identity = seen_run g.L.Lane c.args.self.now in
+    let new : Running _ _ _ _ _ = record c.args.self.now { core = c.hungry.new.self; journal = c.push_reserved-in-Hungry.new.self; clock = c.after-self-in-Hungry.result } in
+    let same = same_but_phase c.args.self.now phase.Hungry c.hungry.new.self c.push_reserved-in-Hungry.new.self c.after-self-in-Hungry.result c.hungry.ensures.hungry in
     record {
-      way = λ plan given running. hungry_runs plan given run c.journals_grow_by_each_event.ensures.event c.hungry.new.self c.push_reserved-in-Hungry.new.self.items c.push_reserved-in-Hungry.ensures.items c.hungry.ensures.step (subst (λ (kind : EventKind). IsNext (Some kind) c.args.self.now.core) c.in-Hungry.is c.requires.next) running;
-      ready = ready_same c.args.self.now new same g.D.Diner.room_left c.requires.ready;
-      eats = eats_same c.args.self.now new same g.D.Diner.calls g.D.Diner.marks g.D.Diner.fits;
-      heeds = heeds_same c.args.self.now new same g.D.Diner.calls;
-      resigns = same.resigns;
-      site = same.site;
+      proceeds = proceeds_same g.L.Lane g.D.Diner (GoesOn (Ok tt)) c.args.self.now new same c.requires.ready.ready (λ plan given running. hungry_runs plan given run c.journals_grow_by_each_event.ensures.event c.hungry.new.self c.push_reserved-in-Hungry.new.self.items c.push_reserved-in-Hungry.ensures.items c.hungry.ensures.step (subst (λ (kind : EventKind). IsNext (Some kind) c.args.self.now.core) c.in-Hungry.is c.requires.next) running);
+      timed = λ timed. alone c.args.self.now.clock.events c.args.self.now.journal.items (seen_ports g.L.Lane c.args.self.now.ports.items) event.Hungry (last_moment c.args.self.now.clock.events + c.first-in-Hungry.result.at + 1) (omega arith) timed c.push_reserved-in-Hungry.new.self.items c.push_reserved-in-Hungry.ensures.items c.after-self-in-Hungry.result.events c.after-self-in-Hungry.ensures refl;
     }
 
-pub returns-in-Quit-clause-way : goal.returns-in-Quit-clause-way
-returns-in-Quit-clause-way g c plan given running =
-    let run : SeenRun g.L.Lane.Identity = seen_run g.L.Lane.seen_tx g.L.Lane.seen_closed g.L.Lane.seen_rx c.args.self.now in
-    quit_runs plan given run c.journals_grow_by_each_event.ensures.event c.quit.new.self c.push_reserved-in-Quit.new.self.items c.push_reserved-in-Quit.ensures.items c.quit.ensures.step (subst (λ (kind : EventKind). IsNext (Some kind) c.args.self.now.core) c.in-Quit.is c.requires.next) running
-
-pub returns-in-Quit-clause-heeds : goal.returns-in-Quit-clause-heeds
-returns-in-Quit-clause-heeds g c first heeding =
-    let core = c.args.self.now.core in
-    let calls = g.D.Diner.calls c.args.self.now.diner in
+pub returns-in-Quit : goal.returns-in-Quit
+returns-in-Quit g c =
+    let old = c.args.self.now in
+    let core = old.core in
+    let run : SeenRun g.L.Lane.Identity = seen_run g.L.Lane old in
+    let is = c.quit.ensures.quit in
+    let ready = c.requires.ready.ready in
+    let ate = ap (λ (core : SeenCore). core.ate) is in
+    let calls = g.D.Diner.calls old.diner in
     let can : can_quit core ≡ true = subst (λ (kind : EventKind). can_by_itself core kind ≡ true) c.in-Quit.is c.requires.may in
-    subst (λ (x : SeenCore). IsHeeding x.resigns (x.must_quit || x.has_quit) (nat_lt x.ate x.due) first calls) (sym c.quit.ensures.quit)
-    (heeding_as core.resigns (core.must_quit || core.has_quit) (nat_lt core.ate core.due) core.resigns true (nat_lt core.ate core.due) first calls calls refl
-    (sym (or_left core.must_quit core.has_quit (and_parts (is_thinking core.phase) core.must_quit can).1)) refl refl heeding)
+    record {
+      proceeds = record {
+        way = λ plan given running. quit_runs plan given run c.journals_grow_by_each_event.ensures.event c.quit.new.self c.push_reserved-in-Quit.new.self.items c.push_reserved-in-Quit.ensures.items c.quit.ensures.step (subst (λ (kind : EventKind). IsNext (Some kind) core) c.in-Quit.is c.requires.next) running;
+        ready = record { bell = ready.bell; room = omega (arith, ready.room, ate, ap (λ (core : SeenCore). core.due) is); failed = omega (arith, ready.failed, ate) };
+        eats = λ first eaten. eaten_same g.D.Diner.calls g.D.Diner.marks g.D.Diner.fits core.ate old.failed c.quit.new.self.ate old.failed first old.diner old.diner eaten ate refl refl;
+        heeds = λ first heeding.
+            subst (λ (x : SeenCore). IsHeeding x.resigns (x.must_quit || x.has_quit) (nat_lt x.ate x.due) first calls) (sym is)
+            (heeding_as core.resigns (core.must_quit || core.has_quit) (nat_lt core.ate core.due) core.resigns true (nat_lt core.ate core.due) first calls calls refl
+            (sym (or_left core.must_quit core.has_quit (and_parts (is_thinking core.phase) core.must_quit can).1)) refl refl heeding);
+        resigns = ap (λ (core : SeenCore). core.resigns) is;
+        site = ap (λ (core : SeenCore). core.site) is;
+        expects = λ plan site is. is;
+      };
+      timed = λ timed. alone c.args.self.now.clock.events c.args.self.now.journal.items (seen_ports g.L.Lane c.args.self.now.ports.items) event.Quit (last_moment c.args.self.now.clock.events + c.first-in-Quit.result.at + 1) (omega arith) timed c.push_reserved-in-Quit.new.self.items c.push_reserved-in-Quit.ensures.items c.after-self-in-Quit.result.events c.after-self-in-Quit.ensures refl;
+    }
 
 pub returns-in-Begin : goal.returns-in-Begin
-returns-in-Begin g c = let ate = c.eat.ensures in record { way = ate.way; ready = ate.ready; eats = ate.eats; heeds = ate.heeds; resigns = ate.resigns; site = ate.site }
-
-pub eat-requires-clause-running : goal.eat-requires-clause-running
-eat-requires-clause-running g c κs ls = c.requires.running
-
-pub eat-requires-clause-next : goal.eat-requires-clause-next
-eat-requires-clause-next g c κs ls = subst (λ (kind : EventKind). IsNext (Some kind) c.args.self.now.core) c.in-Begin.is c.requires.next
+returns-in-Begin g c = c.eat.ensures
 
 pub eat-requires-clause-ready : goal.eat-requires-clause-ready
 eat-requires-clause-ready g c κs ls = c.requires.ready
 
-pub returns-in-Quit-clause-ready : goal.returns-in-Quit-clause-ready
-returns-in-Quit-clause-ready g c =
-    let ready = c.requires.ready in
-    let ate = ap (λ (core : SeenCore). core.ate) c.quit.ensures.quit in
-    record { bell = ready.bell; room = omega (arith, ready.room, ate, ap (λ (core : SeenCore). core.due) c.quit.ensures.quit); failed = omega (arith, ready.failed, ate) }
-
-pub returns-in-Quit-clause-eats : goal.returns-in-Quit-clause-eats
-returns-in-Quit-clause-eats g c first eaten =
-    let run = c.args.self.now in
-    eaten_same g.D.Diner.calls g.D.Diner.marks g.D.Diner.fits run.core.ate run.failed c.quit.new.self.ate run.failed first run.diner run.diner eaten (ap (λ (core : SeenCore). core.ate) c.quit.ensures.quit) refl refl
-
-pub returns-in-Quit-clause-resigns : goal.returns-in-Quit-clause-resigns
-returns-in-Quit-clause-resigns g c = ap (λ (core : SeenCore). core.resigns) c.quit.ensures.quit
-
-pub returns-in-Quit-clause-site : goal.returns-in-Quit-clause-site
-returns-in-Quit-clause-site g c = ap (λ (core : SeenCore). core.site) c.quit.ensures.quit
+pub eat-requires-clause-next : goal.eat-requires-clause-next
+eat-requires-clause-next g c κs ls = subst (λ (kind : EventKind). IsNext (Some kind) c.args.self.now.core) c.in-Begin.is c.requires.next

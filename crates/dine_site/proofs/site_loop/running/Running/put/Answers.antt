@@ -1,6 +1,8 @@
-use Rattle.std.proofs.Common.{◌<◌, List, length, set, Some, None, refl, sym, subst, arith}
+use Rattle.std.proofs.Common.{ℕ, ◌<◌, List, length, set, Some, None, refl, sym, subst, arith}
 use Rattle.std.proofs.lemmas.List.{length-map}
 use Rattle.dine_rules.specs.declared.letters.Letter.{Letter}
+use Rattle.dine_site.specs.Times.{IsTimed, late_at, none_late}
+use Rattle.dine_site.proofs.one_site.Times.{ends_put}
 use Rattle.dine_site.specs.declared.site_end.SiteFault.TheVariants as fault
 use Rattle.dine_site.specs.Ports.{SeenPort, put_on, put_unheard_on, refused_on, seen_port, seen_ports}
 use Rattle.dine_site.specs.Running.{SeenRun, IsRunning, IsStopped, seen_run}
@@ -14,59 +16,74 @@ use Rattle.dine_site.proofs.site_loop.running.Running.put.Goals as goal
 
 pub put-requires-clause-live : goal.put-requires-clause-live
 put-requires-clause-live g c κs ls =
-    let f = seen_port g.L.Lane.seen_tx g.L.Lane.seen_closed g.L.Lane.seen_rx in
+    let f = seen_port g.L.Lane in
     let items = c.args.self.now.ports.items in
     let p = c.requires.putting in
-    let within : c.args.i < length items = omega (arith, putting_within p.0 p.1 (seen_run g.L.Lane.seen_tx g.L.Lane.seen_closed g.L.Lane.seen_rx c.args.self.now) c.args.i c.args.letter p.2, length-map items f) in
+    let within : c.args.i < length items = omega (arith, putting_within p.0 p.1 (seen_run g.L.Lane c.args.self.now) c.args.i c.args.letter p.2, length-map items f) in
     let at = seen_at f items c.args.i c.index_mut.result.now within c.index_mut.ensures.value in
-    put_live p.0 p.1 (seen_run g.L.Lane.seen_tx g.L.Lane.seen_closed g.L.Lane.seen_rx c.args.self.now) c.args.i c.args.letter p.2 (f c.index_mut.result.now) at
+    put_live p.0 p.1 (seen_run g.L.Lane c.args.self.now) c.args.i c.args.letter p.2 (f c.index_mut.result.now) at
 
 pub put-requires-clause-room : goal.put-requires-clause-room
 put-requires-clause-room g c κs ls =
-    let f = seen_port g.L.Lane.seen_tx g.L.Lane.seen_closed g.L.Lane.seen_rx in
+    let f = seen_port g.L.Lane in
     let items = c.args.self.now.ports.items in
     let p = c.requires.putting in
-    let within : c.args.i < length items = omega (arith, putting_within p.0 p.1 (seen_run g.L.Lane.seen_tx g.L.Lane.seen_closed g.L.Lane.seen_rx c.args.self.now) c.args.i c.args.letter p.2, length-map items f) in
+    let within : c.args.i < length items = omega (arith, putting_within p.0 p.1 (seen_run g.L.Lane c.args.self.now) c.args.i c.args.letter p.2, length-map items f) in
     let at = seen_at f items c.args.i c.index_mut.result.now within c.index_mut.ensures.value in
-    put_room p.0 p.1 (seen_run g.L.Lane.seen_tx g.L.Lane.seen_closed g.L.Lane.seen_rx c.args.self.now) c.args.i c.args.letter p.2 (f c.index_mut.result.now) at c.few_letters_are_put.ensures.letters
+    put_room p.0 p.1 (seen_run g.L.Lane c.args.self.now) c.args.i c.args.letter p.2 (f c.index_mut.result.now) at c.few_letters_are_put.ensures.letters
 
 pub returns-in-Heard-clause-way : goal.returns-in-Heard-clause-way
 returns-in-Heard-clause-way g c plan given putting =
-    let f = seen_port g.L.Lane.seen_tx g.L.Lane.seen_closed g.L.Lane.seen_rx in
+    let f = seen_port g.L.Lane in
     let items = c.args.self.now.ports.items in
-    let run : SeenRun g.L.Lane.Identity = seen_run g.L.Lane.seen_tx g.L.Lane.seen_closed g.L.Lane.seen_rx c.args.self.now in
+    let run : SeenRun g.L.Lane.Identity = seen_run g.L.Lane c.args.self.now in
     let within : c.args.i < length items = omega (arith, putting_within plan given run c.args.i c.args.letter putting, length-map items f) in
     let at = seen_at f items c.args.i c.index_mut.result.now within c.index_mut.ensures.value in
-    let ports = seen_set f items c.args.i c.put.new.self (put_on c.args.letter (f c.index_mut.result.now)) c.in-Heard.ensures in
-    let runs = put_runs plan given run c.args.i c.args.letter putting (f c.index_mut.result.now) at c.requires.letter in
+    let ports = seen_set f items c.args.i c.put.new.self (put_on c.last-stamp.result.at c.args.letter (f c.index_mut.result.now)) c.in-Heard.ensures in
+    let runs = put_runs plan given run c.args.i c.args.letter putting (f c.index_mut.result.now) at c.last-stamp.result.at c.requires.letter in
     subst (λ (ps : List (SeenPort g.L.Lane.Identity)). IsRunning plan given (record { core = run.core; ports = ps; bell = run.bell; journal = run.journal })) (sym ports) runs
 
 pub returns-in-Refused-clause-way : goal.returns-in-Refused-clause-way
 returns-in-Refused-clause-way g c plan given putting =
-    let f = seen_port g.L.Lane.seen_tx g.L.Lane.seen_closed g.L.Lane.seen_rx in
+    let f = seen_port g.L.Lane in
     let items = c.args.self.now.ports.items in
-    let run : SeenRun g.L.Lane.Identity = seen_run g.L.Lane.seen_tx g.L.Lane.seen_closed g.L.Lane.seen_rx c.args.self.now in
+    let run : SeenRun g.L.Lane.Identity = seen_run g.L.Lane c.args.self.now in
     let within : c.args.i < length items = omega (arith, putting_within plan given run c.args.i c.args.letter putting, length-map items f) in
     let at = seen_at f items c.args.i c.index_mut.result.now within c.index_mut.ensures.value in
     let ports = seen_set f items c.args.i c.put.new.self (refused_on (f c.index_mut.result.now)) c.in-Refused.ensures.1 in
     let stops = put_stops plan given run c.args.i c.args.letter c.requires.letter putting (f c.index_mut.result.now) at in
-    let new : SeenRun g.L.Lane.Identity = record { core = run.core; ports = seen_ports g.L.Lane.seen_tx g.L.Lane.seen_closed g.L.Lane.seen_rx (set items c.args.i c.put.new.self); bell = run.bell; journal = run.journal } in
+    let new : SeenRun g.L.Lane.Identity = record { core = run.core; ports = seen_ports g.L.Lane (set items c.args.i c.put.new.self); bell = run.bell; journal = run.journal } in
     let there : IsStopped (Some (record { link = c.args.i; letter = c.args.letter })) (fault.Lost c.args.i) plan given new =
     subst (λ (ps : List (SeenPort g.L.Lane.Identity)). IsStopped (Some (record { link = c.args.i; letter = c.args.letter })) (fault.Lost c.args.i) plan given (record { core = run.core; ports = ps; bell = run.bell; journal = run.journal })) (sym ports) stops in
     subst (λ (l : Letter). IsStopped (Some (record { link = c.args.i; letter = l })) (fault.Lost c.args.i) plan given new) (sym c.in-Refused.ensures.0) there
 
 pub returns-in-Unheard-clause-way : goal.returns-in-Unheard-clause-way
 returns-in-Unheard-clause-way g c plan given putting =
-    let f = seen_port g.L.Lane.seen_tx g.L.Lane.seen_closed g.L.Lane.seen_rx in
+    let f = seen_port g.L.Lane in
     let items = c.args.self.now.ports.items in
-    let run : SeenRun g.L.Lane.Identity = seen_run g.L.Lane.seen_tx g.L.Lane.seen_closed g.L.Lane.seen_rx c.args.self.now in
+    let run : SeenRun g.L.Lane.Identity = seen_run g.L.Lane c.args.self.now in
     let within : c.args.i < length items = omega (arith, putting_within plan given run c.args.i c.args.letter putting, length-map items f) in
     let at = seen_at f items c.args.i c.index_mut.result.now within c.index_mut.ensures.value in
     let old = f c.index_mut.result.now in
-    let ports = seen_set f items c.args.i c.put.new.self (put_unheard_on c.args.letter old) c.in-Unheard.ensures in
-    let stops = unheard_stops plan given run c.args.i c.args.letter putting old (put_unheard_on c.args.letter old) at (record { tx = refl; rx = refl; bell = refl; number = refl })
-    (stops-unheard (traffic_at putting.before c.args.i) old (putting.lists c.args.i old at) c.args.letter putting.open_place) refl refl in
-    let new : SeenRun g.L.Lane.Identity = record { core = run.core; ports = seen_ports g.L.Lane.seen_tx g.L.Lane.seen_closed g.L.Lane.seen_rx (set items c.args.i c.put.new.self); bell = run.bell; journal = run.journal } in
+    let ports = seen_set f items c.args.i c.put.new.self (put_unheard_on c.last-stamp.result.at c.args.letter old) c.in-Unheard.ensures in
+    let stops = unheard_stops plan given run c.args.i c.args.letter putting old (put_unheard_on c.last-stamp.result.at c.args.letter old) at (record { tx = refl; rx = refl; bell = refl; number = refl })
+    (stops-unheard (traffic_at putting.before c.args.i) old (putting.lists c.args.i old at) c.last-stamp.result.at c.args.letter putting.open_place) refl refl in
+    let new : SeenRun g.L.Lane.Identity = record { core = run.core; ports = seen_ports g.L.Lane (set items c.args.i c.put.new.self); bell = run.bell; journal = run.journal } in
     let there : IsStopped None (fault.Lost (length c.args.self.now.core.places)) plan given new =
     subst (λ (ps : List (SeenPort g.L.Lane.Identity)). IsStopped None (fault.Lost (length c.args.self.now.core.places)) plan given (record { core = run.core; ports = ps; bell = run.bell; journal = run.journal })) (sym ports) stops in
     subst (λ (stop : Stop). IsStopped stop.stray stop.fault plan given new) (sym c.lost_bell.ensures) there
+
+pub returns-in-Heard-clause-timed : goal.returns-in-Heard-clause-timed
+returns-in-Heard-clause-timed g c = λ timed.
+    let f = seen_port g.L.Lane in
+    let items = c.args.self.now.ports.items in
+    let run : SeenRun g.L.Lane.Identity = seen_run g.L.Lane c.args.self.now in
+    let p = c.requires.putting in
+    let within : c.args.i < length items = omega (arith, putting_within p.0 p.1 run c.args.i c.args.letter p.2, length-map items f) in
+    let at = seen_at f items c.args.i c.index_mut.result.now within c.index_mut.ensures.value in
+    let old : SeenPort g.L.Lane.Identity = f c.index_mut.result.now in
+    let new : SeenPort g.L.Lane.Identity = put_on c.last-stamp.result.at c.args.letter old in
+    let ports = seen_set f items c.args.i c.put.new.self new c.in-Heard.ensures in
+    let late = subst (λ (z : ℕ). IsTimed (late_at c.args.i z) c.args.self.now.clock.events c.args.self.now.journal.items run.ports) (sym c.last-stamp.ensures) timed in
+    subst (IsTimed none_late c.args.self.now.clock.events c.args.self.now.journal.items) (sym ports)
+    (ends_put c.args.self.now.clock.events c.args.self.now.journal.items run.ports c.args.i c.last-stamp.result.at old new late at refl refl)

@@ -1,6 +1,11 @@
 use Rattle.std.proofs.Common.{◌<◌, List, length, set, Some, None, sym, ◌∙◌, ap, subst, arith}
 use Rattle.std.proofs.lemmas.List.{length-map}
 use Rattle.dine_rules.specs.declared.letters.Letter.{Letter}
+use Rattle.std.specs.Prelude.{◌+◌, refl}
+use Rattle.dine_clock.specs.Moments.{last_moment}
+use Rattle.dine_rules.specs.declared.events.EventKind.TheVariants as event
+use Rattle.dine_site.specs.Times.{IsTimed, none_late}
+use Rattle.dine_site.proofs.one_site.Times.{takes_one}
 use Rattle.dine_site.specs.declared.site_end.SiteFault.TheVariants as fault
 use Rattle.dine_site.specs.Ports.{SeenPort, seen_port, seen_ports, taken_on, untaken_on}
 use Rattle.dine_site.specs.Running.{SeenRun, IsRunning, IsStopped, seen_run}
@@ -13,9 +18,9 @@ use Rattle.dine_site.proofs.site_loop.running.Running.take_noted.Goals as goal
 
 pub take-requires-clause-open : goal.take-requires-clause-open
 take-requires-clause-open g c κs ls =
-    let f = seen_port g.L.Lane.seen_tx g.L.Lane.seen_closed g.L.Lane.seen_rx in
+    let f = seen_port g.L.Lane in
     let items = c.args.self.now.ports.items in
-    let run : SeenRun g.L.Lane.Identity = seen_run g.L.Lane.seen_tx g.L.Lane.seen_closed g.L.Lane.seen_rx c.args.self.now in
+    let run : SeenRun g.L.Lane.Identity = seen_run g.L.Lane c.args.self.now in
     let p = c.requires.running in
     let within : c.args.i < length items = omega (arith, c.requires.place, p.2.has.places, length-map items f) in
     let at = seen_at f items c.args.i c.index_mut.result.now within c.index_mut.ensures.value in
@@ -23,9 +28,9 @@ take-requires-clause-open g c κs ls =
 
 pub take-requires-clause-room : goal.take-requires-clause-room
 take-requires-clause-room g c κs ls =
-    let f = seen_port g.L.Lane.seen_tx g.L.Lane.seen_closed g.L.Lane.seen_rx in
+    let f = seen_port g.L.Lane in
     let items = c.args.self.now.ports.items in
-    let run : SeenRun g.L.Lane.Identity = seen_run g.L.Lane.seen_tx g.L.Lane.seen_closed g.L.Lane.seen_rx c.args.self.now in
+    let run : SeenRun g.L.Lane.Identity = seen_run g.L.Lane c.args.self.now in
     let p = c.requires.running in
     let within : c.args.i < length items = omega (arith, c.requires.place, p.2.has.places, length-map items f) in
     let at = seen_at f items c.args.i c.index_mut.result.now within c.index_mut.ensures.value in
@@ -33,36 +38,48 @@ take-requires-clause-room g c κs ls =
 
 pub returns-in-Ok-take-clause-way : goal.returns-in-Ok-take-clause-way
 returns-in-Ok-take-clause-way g c plan given running =
-    let f = seen_port g.L.Lane.seen_tx g.L.Lane.seen_closed g.L.Lane.seen_rx in
+    let f = seen_port g.L.Lane in
     let items = c.args.self.now.ports.items in
-    let run : SeenRun g.L.Lane.Identity = seen_run g.L.Lane.seen_tx g.L.Lane.seen_closed g.L.Lane.seen_rx c.args.self.now in
+    let run : SeenRun g.L.Lane.Identity = seen_run g.L.Lane c.args.self.now in
     let within : c.args.i < length items = omega (arith, c.requires.place, running.has.places, length-map items f) in
     let at = seen_at f items c.args.i c.index_mut.result.now within c.index_mut.ensures.value in
-    let ports = seen_set f items c.args.i c.take.new.self (taken_on c.in-Ok.letter (f c.index_mut.result.now)) c.in-Ok.ensures in
-    let runs = take_runs plan given run c.journals_grow_by_each_event.ensures.event c.args.i c.in-Ok.letter c.take-in-Ok.new.self c.push_reserved.new.self.items c.push_reserved.ensures.items c.requires.place c.in-Ok-take.ensures.step c.requires.quiet running (f c.index_mut.result.now) at in
+    let ports = seen_set f items c.args.i c.take.new.self (taken_on c.in-Ok.stamp.at c.in-Ok.letter (f c.index_mut.result.now)) c.in-Ok.ensures in
+    let runs = take_runs plan given run c.journals_grow_by_each_event.ensures.event c.in-Ok.stamp.at c.args.i c.in-Ok.letter c.take-in-Ok.new.self c.push_reserved.new.self.items c.push_reserved.ensures.items c.requires.place c.in-Ok-take.ensures.step c.requires.quiet running (f c.index_mut.result.now) at in
     subst (λ (ps : List (SeenPort g.L.Lane.Identity)). IsRunning plan given (record { core = c.take-in-Ok.new.self; ports = ps; bell = run.bell; journal = c.push_reserved.new.self.items })) (sym ports) runs
 
 pub returns-in-Err-take-clause-way : goal.returns-in-Err-take-clause-way
 returns-in-Err-take-clause-way g c plan given running =
-    let f = seen_port g.L.Lane.seen_tx g.L.Lane.seen_closed g.L.Lane.seen_rx in
+    let f = seen_port g.L.Lane in
     let items = c.args.self.now.ports.items in
-    let run : SeenRun g.L.Lane.Identity = seen_run g.L.Lane.seen_tx g.L.Lane.seen_closed g.L.Lane.seen_rx c.args.self.now in
+    let run : SeenRun g.L.Lane.Identity = seen_run g.L.Lane c.args.self.now in
     let within : c.args.i < length items = omega (arith, c.requires.place, running.has.places, length-map items f) in
     let at = seen_at f items c.args.i c.index_mut.result.now within c.index_mut.ensures.value in
-    let ports = seen_set f items c.args.i c.take.new.self (taken_on c.in-Ok.letter (f c.index_mut.result.now)) c.in-Ok.ensures in
+    let ports = seen_set f items c.args.i c.take.new.self (taken_on c.in-Ok.stamp.at c.in-Ok.letter (f c.index_mut.result.now)) c.in-Ok.ensures in
     let told = c.in-Err-take.ensures in
-    let stops = breach_stops plan given run c.args.i c.in-Ok.letter c.in-Err-take.breach c.requires.place told.taken running (f c.index_mut.result.now) at in
+    let stops = breach_stops plan given run c.in-Ok.stamp.at c.args.i c.in-Ok.letter c.in-Err-take.breach c.requires.place told.taken running (f c.index_mut.result.now) at in
     let new = subst (λ (ps : List (SeenPort g.L.Lane.Identity)). IsStopped (Some (record { link = c.args.i; letter = c.in-Ok.letter })) (fault.Breach c.args.i c.in-Err-take.breach) plan given (record { core = run.core; ports = ps; bell = run.bell; journal = run.journal })) (sym ports) stops in
-    let core = subst (λ (k : SeenCore). IsStopped (Some (record { link = c.args.i; letter = c.in-Ok.letter })) (fault.Breach c.args.i c.in-Err-take.breach) plan given (record { core = k; ports = seen_ports g.L.Lane.seen_tx g.L.Lane.seen_closed g.L.Lane.seen_rx (set items c.args.i c.take.new.self); bell = run.bell; journal = run.journal })) (sym told.core.0) new in
-    subst (λ (l : Letter). IsStopped (Some (record { link = c.args.i; letter = l })) (fault.Breach c.args.i c.in-Err-take.breach) plan given (record { core = c.take-in-Ok.new.self; ports = seen_ports g.L.Lane.seen_tx g.L.Lane.seen_closed g.L.Lane.seen_rx (set items c.args.i c.take.new.self); bell = run.bell; journal = run.journal })) (sym told.core.1) core
+    let core = subst (λ (k : SeenCore). IsStopped (Some (record { link = c.args.i; letter = c.in-Ok.letter })) (fault.Breach c.args.i c.in-Err-take.breach) plan given (record { core = k; ports = seen_ports g.L.Lane (set items c.args.i c.take.new.self); bell = run.bell; journal = run.journal })) (sym told.core.0) new in
+    subst (λ (l : Letter). IsStopped (Some (record { link = c.args.i; letter = l })) (fault.Breach c.args.i c.in-Err-take.breach) plan given (record { core = c.take-in-Ok.new.self; ports = seen_ports g.L.Lane (set items c.args.i c.take.new.self); bell = run.bell; journal = run.journal })) (sym told.core.1) core
 
 pub returns-in-Err-clause-way : goal.returns-in-Err-clause-way
 returns-in-Err-clause-way g c plan given running =
-    let f = seen_port g.L.Lane.seen_tx g.L.Lane.seen_closed g.L.Lane.seen_rx in
+    let f = seen_port g.L.Lane in
     let items = c.args.self.now.ports.items in
-    let run : SeenRun g.L.Lane.Identity = seen_run g.L.Lane.seen_tx g.L.Lane.seen_closed g.L.Lane.seen_rx c.args.self.now in
+    let run : SeenRun g.L.Lane.Identity = seen_run g.L.Lane c.args.self.now in
     let within : c.args.i < length items = omega (arith, c.requires.place, running.has.places, length-map items f) in
     let at = seen_at f items c.args.i c.index_mut.result.now within c.index_mut.ensures.value in
     let ports = seen_set f items c.args.i c.take.new.self (untaken_on (f c.index_mut.result.now)) c.in-Err.ensures in
     subst (λ (ps : List (SeenPort g.L.Lane.Identity)). IsStopped None (fault.Lost c.args.i) plan given (record { core = run.core; ports = ps; bell = run.bell; journal = run.journal })) (sym ports)
     (take_stops plan given run c.args.i c.requires.place running (f c.index_mut.result.now) at)
+
+pub returns-in-Ok-take-clause-timed : goal.returns-in-Ok-take-clause-timed
+returns-in-Ok-take-clause-timed g c = λ timed.
+    let f = seen_port g.L.Lane in
+    let items = c.args.self.now.ports.items in
+    let run : SeenRun g.L.Lane.Identity = seen_run g.L.Lane c.args.self.now in
+    let within : c.args.i < length items = omega (arith, c.requires.place, c.requires.running.2.has.places, length-map items f) in
+    let at = seen_at f items c.args.i c.index_mut.result.now within c.index_mut.ensures.value in
+    let ports = seen_set f items c.args.i c.take.new.self (taken_on c.in-Ok.stamp.at c.in-Ok.letter (f c.index_mut.result.now)) c.in-Ok.ensures in
+    subst (IsTimed none_late c.after-self.result.events c.push_reserved.new.self.items) (sym ports)
+    (takes_one c.args.self.now.clock.events c.args.self.now.journal.items run.ports (event.Take c.args.i) (last_moment c.args.self.now.clock.events + c.in-Ok.stamp.at + 1) (omega arith) timed
+    c.push_reserved.new.self.items c.push_reserved.ensures.items c.after-self.result.events c.after-self.ensures c.args.i c.in-Ok.stamp.at c.in-Ok.letter (f c.index_mut.result.now) refl (omega arith) at)

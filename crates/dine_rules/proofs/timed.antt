@@ -1,0 +1,5 @@
+-- Journals whose events have moments: they have an order.
+pub mod Merging
+pub mod Counts
+pub mod Orders
+pub mod OrdersShown
