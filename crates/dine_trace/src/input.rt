@@ -1,4 +1,5 @@
 //! An input whose first line is a LIST.
+ghost use Rattle.std.specs.Prelude.{◌≤◌, length};
 
 use crate::fault_lines::Fault;
 use crate::words::choices_of;
@@ -25,7 +26,9 @@ pub fn split_list(alloc: Global, bytes: &[u8]) -> Result<(Vec<u32>, &[u8]), Faul
 }
 
 // How many bytes are before the first line feed, or in all where there is none.
-fn length_of_line(bytes: &[u8]) -> usize {
+fn length_of_line(bytes: &[u8]) -> usize
+    ensures { result ≤ length bytes.now }
+{
     for (place, byte) in bytes.iter().enumerate() {
         if *byte == LINE_FEED {
             return place;
