@@ -5,7 +5,7 @@
 ghost use Rattle.std.specs.Prelude.{◌<◌};
 
 use anyhow::{Result, bail};
-use dine_run::{Job, JobFault, Place, Plan, PlanBuilder, PlanFault, SiteId, Table, on_rings};
+use dine_run::{Job, OpenFault, Place, Plan, PlanBuilder, PlanFault, SiteId, Table, on_rings};
 use std::alloc::{AllocError, Global};
 use std::time::Instant;
 
@@ -75,12 +75,12 @@ fn cell_at(tile: SiteId, neighbour: SiteId, i: usize) -> usize
 }
 
 impl Job<Vec<u32>> for Tile {
-    type Fault = JobFault;
+    type Fault = OpenFault;
 
-    fn run(&mut self, table: &Table<'_, Vec<u32>>) -> Result<(), JobFault> {
+    fn run(&mut self, table: &Table<'_, Vec<u32>>) -> Result<(), OpenFault> {
         for place in 0..table.places() {
             let place = Place(place);
-            let neighbour = table.neighbour(place).ok_or(JobFault)?;
+            let neighbour = table.neighbour(place).ok_or(OpenFault::NoEdge)?;
             let mut guard = table.open(place)?;
             let strip = &mut *guard;
             for i in 0..CELLS {
