@@ -67,7 +67,8 @@ def is_current(name, program):
         noted = Path(f"{program}.made").read_text("utf-8")
     except OSError:
         return False
-    seen = subprocess.run([f"{HOME}/tools/seen", program], capture_output=True, text=True, check=False).stdout
+    words = [f"{HOME}/tools/seen", os.path.relpath(program, HOME)]
+    seen = subprocess.run(words, capture_output=True, text=True, check=False).stdout
     if not os.access(program, os.X_OK) or noted != f"{sum_of_sources(name)} {sum_of(program)}\n":
         return False
     replace(f"{program}.seen", seen)

@@ -1,4 +1,5 @@
-"""The pages that a reader opens, README.md, CONTRIBUTING.md, docs/, bench/README.md and crates/*/README.md: what they name is there.
+"""The pages that a reader opens, README.md, CONTRIBUTING.md, docs/, and the READMEs of bench, lessons, tools and crates: what they name is
+there.
 
 Each crate has a README. A word in backticks on a page is a word of the sources, and a path in backticks is a file that is there, except
 paths with a word that stands for others, such as NAME. A file that a page names is the target of a link on that page. A link leads to a
@@ -24,7 +25,7 @@ SOURCES = ["crates/*/src/**/*.rt", "crates/*/specs/**/*.antt", "crates/*/proofs/
 
 def pages():
     """The paths of the pages."""
-    return ["README.md", "CONTRIBUTING.md", "bench/README.md", *paths("docs/*.md"), *paths("tools/*/README.md"), *paths("crates/*/README.md")]
+    return ["README.md", "CONTRIBUTING.md", "bench/README.md", *paths("docs/*.md"), *paths("lessons/*.md"), *paths("tools/*/README.md"), *paths("crates/*/README.md")]
 
 
 def prose_of(page):

@@ -1,10 +1,10 @@
 // Runs with real threads.
 use crate::asserts::same;
 use crate::diners::{Taster, Waiter, waiters};
-use crate::graphs::{Shape, graph_of, plan_of};
 use dine_link::{ChannelLane, Lane, RingLane};
 use dine_plan::{Plan, read_plan};
 use dine_run::{CallLog, RunFault, SiteOut, run, run_within};
+use dine_test_plans::{PAIR, PATH};
 use std::alloc::Global;
 use std::process::Abort;
 use std::sync::atomic::{AtomicU32, Ordering};
@@ -20,11 +20,6 @@ const SIXTEEN: &str = "version = 1\n\
     [[site]]\nname = \"k\"\njobs = [{ name = \"x\" }]\n[[site]]\nname = \"l\"\njobs = [{ name = \"x\" }]\n\
     [[site]]\nname = \"m\"\njobs = [{ name = \"x\" }]\n[[site]]\nname = \"n\"\njobs = [{ name = \"x\" }]\n\
     [[site]]\nname = \"o\"\njobs = [{ name = \"x\" }]\n[[site]]\nname = \"p\"\njobs = [{ name = \"x\" }]\n";
-
-const PATH: &str = "version = 1\n\
-    [[site]]\nname = \"a\"\njobs = [{ name = \"x\" }]\n[[site]]\nname = \"b\"\njobs = [{ name = \"x\" }]\n\
-    [[site]]\nname = \"c\"\njobs = [{ name = \"x\" }]\n\
-    [[edge]]\nends = [\"a\", \"b\"]\n[[edge]]\nends = [\"b\", \"c\"]\n";
 
 // Each of the sites had one meal, whose job went well.
 fn ate_once(rt: &impl Abort, sites: &[SiteOut<Waiter>]) {
@@ -92,12 +87,6 @@ fn diners_for_one(rt: &impl Abort, alloc: Global, count: usize) -> Vec<Taster> {
     diners
 }
 
-// The plan of two sites without an edge, with a job each.
-fn two_apart(rt: &impl Abort, alloc: Global) -> Plan {
-    let graph = graph_of(rt, alloc, Shape::Apart { sites: 2, jobs: 1 });
-    plan_of(rt, alloc, &graph)
-}
-
 // These are the first of them, and none was called.
 fn were_not_called(rt: &impl Abort, diners: &[Taster]) {
     for (each, diner) in (1..4u32).zip(diners) {
@@ -106,17 +95,21 @@ fn were_not_called(rt: &impl Abort, diners: &[Taster]) {
 }
 
 // Two sites are not run with so many diners, at most 3 and not 2. They come back in order, and none was called.
-fn handed_back<R: Threads + Wait + Abort + Copy + Send + 'static>(
+fn handed_back<L: Lane + 'static, R: Threads + Wait + Abort + Copy + Send + 'static>(
     rt: &R,
     alloc: Global,
     count: usize,
-) {
-    let plan = two_apart(rt, alloc);
+)
+where
+    L::Tx: 'static,
+    L::ClosedTx: 'static,
+    L::Rx: 'static,
+{
+    let plan = read_plan(alloc, PAIR).expect(rt, "a plan");
     let diners = diners_for_one(rt, alloc, count);
     assert!(rt; diners.len() != plan.sites() as usize);
-    let Err(RunFault::DinersDiffer { given, diners }) = run::<ChannelLane, Taster>(
-        rt, alloc, &plan, diners,
-    ) else {
+    let Err(RunFault::DinersDiffer { given, diners }) = run::<L, Taster>(rt, alloc, &plan, diners)
+    else {
         panic!(rt; "a run");
     };
     same(rt, &(given, diners.len()), &(count, count));
@@ -125,9 +118,10 @@ fn handed_back<R: Threads + Wait + Abort + Copy + Send + 'static>(
 
 #[test]
 fn too_few_or_too_many_diners_come_back(rt: HostRuntime) {
-    handed_back(&rt, rt.alloc(), 1);
-    handed_back(&rt, rt.alloc(), 0);
-    handed_back(&rt, rt.alloc(), 3)
+    for count in [1, 0, 3] {
+        handed_back::<ChannelLane, HostRuntime>(&rt, rt.alloc(), count);
+        handed_back::<RingLane, HostRuntime>(&rt, rt.alloc(), count);
+    }
 }
 
 // A path of three sites on fewer threads than sites: the one that would need one more is told, and no diner is called.
