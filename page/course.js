@@ -1,136 +1,254 @@
-// What happened, drawn: a row for each site, a bar for each meal, a line for each wait, an arrow for each fork's move.
+// The timeline: a row for each site, a bar for each meal, a line for each wait, an arrow for each move of a fork. Only
+// what is in view is drawn, so that it takes as long with many events as with few.
 
-import { between, element, shortened } from "./picture.js";
+import { between, element, setAttribute, shortened } from "./marks.js";
+import { firstBehind, spanAt, spansOf } from "./spans.js";
 
-const TOP = 20;
-const EVENT = { least: 5, most: 16 };
-// How far apart two numbers of events stand at least, in points.
-const APART = 46;
+const TOP = 18;
+// How wide an event is: the least, what it gets if there are few, and the most, in points.
+const EVENT = { least: 0.001, fit: 16, most: 32 };
+// How far apart two numbers of events are at least, in points.
+const APART = 52;
+// From which width of an event on the moves of forks have their arrows, and how many are drawn at most.
+const ARROWS = { from: 2.5, most: 3000 };
 
 // How high a row is, by how many there are.
-function rowOf(count) {
-  return count <= 12 ? 26 : count <= 24 ? 20 : 14;
+function rowHeight(count) {
+  return count <= 6 ? 19 : count <= 12 ? 17 : 13;
 }
 
-// The spans and moves of the events, each by its places in the list, as far as the events are known.
-export function partsOf(events, total) {
-  const parts = { waits: [], meals: [], moves: [] };
-  const [hungry, begun, given] = [new Map(), new Map(), new Map()];
-  let place = 0;
-  for (; place < total && events[place]; place += 1) {
-    const event = events[place];
-    if (event.kind === "hungry") hungry.set(event.site, place);
-    if (event.kind === "begin") {
-      if (hungry.has(event.site)) parts.waits.push({ site: event.site, from: hungry.get(event.site) + 0.5, to: place });
-      hungry.delete(event.site);
-      begun.set(event.site, place);
-    }
-    if (event.kind === "end") {
-      parts.meals.push({ site: event.site, from: begun.get(event.site) ?? place, to: place + 1 });
-      begun.delete(event.site);
-    }
-    if (event.kind === "give") given.set(event.edge, { site: event.site, place });
-    if (event.letter === "fork" && given.has(event.edge)) {
-      const { site, place: from } = given.get(event.edge);
-      parts.moves.push({ edge: event.edge, site, from, other: event.site, to: place });
-      given.delete(event.edge);
-    }
+// A step between numbers: 1, 2 or 5 and noughts.
+function stepOf(wide) {
+  for (let ten = 1; ; ten *= 10) {
+    for (const step of [ten, 2 * ten, 5 * ten]) if (step * wide >= APART) return step;
   }
-  for (const [site, from] of hungry) parts.waits.push({ site, from: from + 0.5, to: place });
-  for (const [site, from] of begun) parts.meals.push({ site, from, to: place });
-  return parts;
 }
 
 export class Course {
-  constructor({ names, svg, scroll, jump }) {
-    Object.assign(this, { names, svg, scroll });
-    svg.addEventListener("click", (event) => {
-      const far = event.clientX - svg.getBoundingClientRect().left;
-      jump(between(0, Math.round(far / this.wide), this.total));
+  // `parts` has the elements, and `jump`, which is called with the place that the reader chose.
+  constructor(parts) {
+    Object.assign(this, parts);
+    this.left = 0;
+    this.isFitted = true;
+    this.version = null;
+    this.scroll.addEventListener("scroll", () => {
+      this.left = this.scroll.scrollLeft;
+      this.drawView();
+    });
+    this.scroll.addEventListener("wheel", (event) => {
+      if (!event.ctrlKey && !event.altKey) return;
+      event.preventDefault();
+      this.zoom(event.deltaY < 0 ? 1.25 : 0.8, event.clientX - this.scroll.getBoundingClientRect().left);
+    }, { passive: false });
+    this.listenToPointer();
+    new ResizeObserver(() => this.measure()).observe(this.scroll);
+  }
+
+  // A press goes to its place, and a drag of a mouse along. A finger that drags moves the timeline.
+  listenToPointer() {
+    const placeOf = (event) => {
+      const far = event.clientX - this.scroll.getBoundingClientRect().left + this.left;
+      return between(0, Math.round(far / this.wide), this.total);
+    };
+    this.scroll.addEventListener("pointerdown", (event) => {
+      if (event.button !== 0 || event.offsetY > this.scroll.clientHeight) return;
+      if (event.pointerType === "mouse") this.view.setPointerCapture(event.pointerId);
+      this.jump(placeOf(event));
+    });
+    this.scroll.addEventListener("pointermove", (event) => {
+      if (event.pointerType === "mouse" && event.buttons === 1 && this.view.hasPointerCapture(event.pointerId)) {
+        this.jump(placeOf(event));
+      }
+      this.tellOf(event, placeOf(event));
     });
   }
 
-  draw(sites, events, total) {
-    this.total = total;
-    this.row = rowOf(sites.length);
-    this.height = TOP + sites.length * this.row + 6;
-    this.drawNames(sites);
-    const room = this.scroll.clientWidth - 16;
-    this.wide = between(EVENT.least, room / Math.max(total, 1), EVENT.most);
-    const width = Math.max(room, total * this.wide + 12);
-    this.svg.replaceChildren();
-    this.svg.setAttribute("viewBox", `0 0 ${width} ${this.height}`);
-    this.svg.style.width = `${width}px`;
-    this.svg.style.height = `${this.height}px`;
-    sites.forEach((_, site) => element("line", { class: "base", x1: 0, x2: width, y1: this.y(site), y2: this.y(site) }, this.svg));
-    this.drawNumbers();
-    const parts = partsOf(events, total);
-    for (const wait of parts.waits) this.drawWait(wait);
-    for (const meal of parts.meals) this.drawMeal(meal, sites[meal.site].name, parts.meals);
-    for (const move of parts.moves) this.drawMove(move, sites);
-    this.veil = element("rect", { class: "veil", y: 0, height: this.height, width: 0 }, this.svg);
-    this.cursor = element("line", { class: "cursor", y1: 4, y2: this.height }, this.svg);
+  // Tells what the site under the pointer does there.
+  tellOf(event, place) {
+    const site = Math.floor((event.clientY - this.view.getBoundingClientRect().top - TOP) / this.row);
+    const name = this.titles?.[site];
+    this.hint(name === undefined ? "" : spanAt(this.spans, site, name, place));
+  }
+
+  measure() {
+    const { clientWidth } = this.scroll;
+    // While the picture is as large as the window, there is no timeline.
+    if (clientWidth === 0) return;
+    this.room = clientWidth;
+    if (!this.spans) return;
+    this.fit();
+    this.drawAll();
+  }
+
+  // Draws the events of a schedule if they are others than before.
+  draw(schedule) {
+    const { events, list, state, version } = schedule;
+    if (this.schedule === schedule && this.version === version) return;
+    const isOther = this.schedule !== schedule;
+    Object.assign(this, { schedule, version, total: list.length });
+    this.spans = spansOf(events, state.sites, state.edges);
+    if (isOther) this.openSites(state.sites);
+    if (isOther) this.isFitted = true;
+    this.fit();
+    this.drawAll();
+  }
+
+  openSites(sites) {
+    this.titles = sites.map((site) => site.name);
+    this.row = rowHeight(sites.length);
+    this.height = TOP + sites.length * this.row + 4;
+    const size = Math.min(13, this.row - 2);
+    const most = this.scroll.parentElement.clientWidth < 500 ? 9 : 16;
+    const longest = Math.max(...sites.map((site) => Math.min(site.name.length, most)));
+    const width = longest * size * 0.62 + 12;
+    this.names.replaceChildren();
+    this.names.setAttribute("width", width);
+    this.names.setAttribute("height", this.height);
+    sites.forEach((site, number) => {
+      const at = { x: width - 8, y: this.y(number) + size * 0.36, "font-size": size };
+      element("text", at, this.names).textContent = shortened(site.name, most);
+    });
+    this.room = this.scroll.clientWidth;
   }
 
   y(site) {
     return TOP + (site + 0.5) * this.row;
   }
 
-  drawNames(sites) {
-    const size = Math.min(13, this.row - 2);
-    const most = this.scroll.parentElement.clientWidth < 500 ? 9 : 16;
-    const longest = Math.max(...sites.map((site) => Math.min(site.name.length, most)));
-    const width = longest * size * 0.62 + 12;
-    this.names.replaceChildren();
-    this.names.style.width = `${width}px`;
-    this.names.style.height = `${this.height}px`;
-    sites.forEach((site, number) => {
-      const at = { x: width - 8, y: this.y(number) + size * 0.36, "font-size": size };
-      element("text", at, this.names).textContent = shortened(site.name, most);
-    });
+  // Makes events as wide as fits, unless the reader has zoomed.
+  fit() {
+    const least = Math.max(EVENT.least, (this.room - 14) / Math.max(this.total, 1));
+    if (this.isFitted) this.wide = Math.min(least, EVENT.fit);
+    else this.wide = between(Math.min(least, EVENT.fit), this.wide, EVENT.most);
   }
 
-  drawNumbers() {
-    const step = [1, 2, 5, 10, 20, 50, 100].find((it) => it * this.wide >= APART) ?? 200;
-    for (let place = 0; place <= this.total; place += step) {
-      const x = place * this.wide;
-      element("line", { class: "tick", x1: x, x2: x, y1: TOP - 4, y2: this.height }, this.svg);
-      element("text", { class: "number", x: x + 2, y: 12 }, this.svg).textContent = place;
+  // Makes events so many times as wide, and keeps the event under the point where it is.
+  zoom(times, point = this.cursorX()) {
+    if (!this.spans) return;
+    const place = (this.left + point) / this.wide;
+    this.isFitted = false;
+    this.wide *= times;
+    this.fit();
+    this.drawAll();
+    this.scroll.scrollLeft = place * this.wide - point;
+    this.left = this.scroll.scrollLeft;
+    this.drawView();
+  }
+
+  zoomOut() {
+    this.isFitted = true;
+    if (!this.spans) return;
+    this.fit();
+    this.drawAll();
+  }
+
+  cursorX() {
+    return between(0, this.at * this.wide - this.left, this.room);
+  }
+
+  drawAll() {
+    this.inside.style.width = `${Math.max(this.room, this.total * this.wide + 14)}px`;
+    this.view.style.width = `${this.room}px`;
+    this.view.style.height = `${this.height}px`;
+    this.left = this.scroll.scrollLeft;
+    this.drawView();
+  }
+
+  // Draws what is in view.
+  drawView() {
+    if (!this.spans) return;
+    const [from, to] = [this.left / this.wide - 1, (this.left + this.room) / this.wide + 1];
+    setAttribute(this.svg, "width", this.room);
+    setAttribute(this.svg, "height", this.height);
+    this.svg.replaceChildren();
+    const end = Math.min(this.room, this.x(this.total));
+    const bases = this.titles.map((_, site) => `M0,${this.y(site)}H${end}`).join("");
+    element("path", { class: "base", d: bases }, this.svg);
+    this.drawNumbers(from, to);
+    for (const kind of ["waits", "meals", "failed"]) {
+      const path = this.titles.map((_, site) => this.rowPath(kind, site, from, to)).join("");
+      if (path) element("path", { class: kind, d: path }, this.svg);
     }
+    if (this.wide >= ARROWS.from) this.drawMoves(from, to);
+    this.placeCursor();
   }
 
-  drawWait({ site, from, to }) {
-    element("line", { class: "wait", x1: from * this.wide, x2: to * this.wide, y1: this.y(site), y2: this.y(site) }, this.svg);
+  x(place) {
+    return Math.round((place * this.wide - this.left) * 10) / 10;
   }
 
-  drawMeal({ site, from, to }, name) {
-    const high = this.row * 0.62;
-    const at = { x: from * this.wide + 1, y: this.y(site) - high / 2, width: Math.max((to - from) * this.wide - 2, 3), height: high };
-    const bar = element("rect", { class: "meal", rx: 3, ...at }, this.svg);
-    element("title", {}, bar).textContent = `${name} eats, events ${from + 1} to ${to}`;
+  drawNumbers(from, to) {
+    const step = stepOf(this.wide);
+    let ticks = "";
+    for (let place = Math.max(0, Math.ceil(from / step) * step); place <= Math.min(to, this.total); place += step) {
+      ticks += `M${this.x(place)},${TOP - 4}V${this.height}`;
+      element("text", { class: "number", x: this.x(place) + 2, y: 11 }, this.svg).textContent = place;
+    }
+    element("path", { class: "tick", d: ticks }, this.svg);
   }
 
-  drawMove({ edge, site, from, other, to }, sites) {
-    const begin = { x: (from + 0.5) * this.wide, y: this.y(site) };
-    const end = { x: (to + 0.5) * this.wide, y: this.y(other) };
-    const angle = Math.atan2(end.y - begin.y, end.x - begin.x);
-    const group = element("g", { class: "move" }, this.svg);
-    element("title", {}, group).textContent = `the fork of edge ${edge} goes from ${sites[site].name} to ${sites[other].name}`;
-    element("circle", { cx: begin.x, cy: begin.y, r: 2.2 }, group);
-    const before = { x: end.x - 5 * Math.cos(angle), y: end.y - 5 * Math.sin(angle) };
-    element("line", { x1: begin.x, y1: begin.y, x2: before.x, y2: before.y }, group);
-    const turned = `translate(${end.x},${end.y}) rotate(${(angle * 180) / Math.PI})`;
-    element("path", { d: "M-7,-3.6L0,0L-7,3.6Z", transform: turned }, group);
+  // The path of the meals or the waits of a site that are in view. Those that would be less than a point apart are one.
+  rowPath(kind, site, from, to) {
+    const row = this.spans[kind === "failed" ? "meals" : kind][site];
+    const half = kind === "waits" ? 2 : this.row * 0.31;
+    const [top, bottom] = [this.y(site) - half, this.y(site) + half];
+    const parts = [];
+    for (let place = firstBehind(row, from); place < row.length && row[place].from <= to; place += 1) {
+      if (kind === "failed" && !row[place].hasFailed) continue;
+      const inset = kind !== "waits" && this.wide > 4 ? 1 : 0;
+      const begin = this.x(row[place].from) + inset;
+      const end = Math.max(this.x(row[place].to) - inset, begin + 0.7);
+      const last = parts.at(-1);
+      if (last && begin - last.end < 0.7) last.end = end;
+      else parts.push({ begin, end });
+    }
+    return parts.map(({ begin, end }) => `M${begin},${top}H${end}V${bottom}H${begin}Z`).join("");
+  }
+
+  drawMoves(from, to) {
+    const { moves } = this.spans;
+    let [lines, heads] = ["", ""];
+    let count = 0;
+    for (let turn = firstBehind(moves, from); turn < moves.length && count < ARROWS.most; turn += 1) {
+      const { site, from: given, other, to: taken } = moves[turn];
+      if (given > to) continue;
+      count += 1;
+      const begin = { x: this.x(given + 0.5), y: this.y(site) };
+      const end = { x: this.x(taken === null ? this.total : taken + 0.5), y: this.y(other) };
+      lines += `M${begin.x - 2},${begin.y}a2,2 0 1 0 4,0a2,2 0 1 0 -4,0`;
+      lines += `M${begin.x},${begin.y}L${end.x},${end.y}`;
+      if (taken !== null) heads += headPath(begin, end);
+    }
+    element("path", { class: "moves", d: lines }, this.svg);
+    element("path", { class: "heads", d: heads }, this.svg);
+  }
+
+  placeCursor() {
+    const x = between(-2, this.x(this.at ?? 0), this.room);
+    this.cursor.style.transform = `translateX(${x}px)`;
+    this.veil.style.transform = `translateX(${Math.max(0, x)}px)`;
   }
 
   // Shows where in the list the picture is.
   show(at) {
-    const x = at * this.wide;
-    this.cursor.setAttribute("x1", x);
-    this.cursor.setAttribute("x2", x);
-    this.veil.setAttribute("x", x);
-    this.veil.setAttribute("width", Math.max(0, this.svg.viewBox.baseVal.width - x));
-    const { scrollLeft, clientWidth } = this.scroll;
-    if (x < scrollLeft + 20 || x > scrollLeft + clientWidth - 40) this.scroll.scrollLeft = x - clientWidth / 2;
+    this.at = at;
+    const far = at * this.wide;
+    if (far < this.left || far > this.left + this.room - 20) {
+      this.scroll.scrollLeft = far - this.room / 2;
+      this.left = this.scroll.scrollLeft;
+      this.drawView();
+    } else {
+      this.placeCursor();
+    }
   }
+}
+
+// The head of an arrow that goes from a point to another.
+function headPath(begin, end) {
+  const angle = Math.atan2(end.y - begin.y, end.x - begin.x);
+  const corner = (turn) => {
+    const at = angle + turn;
+    return `${(end.x - 7 * Math.cos(at)).toFixed(1)},${(end.y - 7 * Math.sin(at)).toFixed(1)}`;
+  };
+  return `M${corner(0.45)}L${end.x},${end.y}L${corner(-0.45)}Z`;
 }

@@ -1,390 +1,24 @@
-// The page: its buttons and keys, what it says of a state, and its address. Each state comes from the program, by
-// schedule.js.
+// The page: its buttons and keys, and what it begins with. Each state comes from the program.
 
-import { Course } from "./course.js";
-import { Picture, between, drawLegend, element, outline } from "./picture.js";
-import { LEARNT, Schedule, ask, choicesOf, drawn } from "./schedule.js";
-
-// How many acts may wait for their turn, so that a key that is held down does not run ahead.
-const WAITING = 12;
-// How long an address gets, in characters, with a plan of one's own in it.
-const ADDRESS = 12000;
-// After how many milliseconds the run is drawn again, while it is learnt what its events were.
-const REDRAWN = 250;
-const START = "all forks are dirty, at the lower ends of their edges; the tokens are at the higher ends";
-const DIGITS = /^[0-9]+(,[0-9]+)*$/;
-
-const found = (name) => document.getElementById(name);
-const main = document.querySelector("main");
-const picture = new Picture(found("picture"));
-const course = new Course({
-  names: found("course-names"), svg: found("course"), scroll: found("course-scroll"), jump: (count) => jump(() => count),
-});
-
-let offered = new Map();
-// The path of the plan that the server was begun with.
-let first = null;
-let schedule = null;
-// The text of the plan that was asked for last, which may be refused.
-let wanted = "";
-let timer = null;
-let isPlaying = false;
-
-// ---- One act after the other
-
-let tail = Promise.resolve();
-let waiting = 0;
-
-// Does the work once all before it is done, and tells of its fault.
-function act(work) {
-  if (waiting >= WAITING) return tail;
-  waiting += 1;
-  main.setAttribute("aria-busy", "true");
-  tail = tail.then(work).then(() => tell(""), (fault) => {
-    pause();
-    tell(fault.message);
-  }).finally(() => {
-    waiting -= 1;
-    if (waiting === 0) main.setAttribute("aria-busy", "false");
-  });
-  return tail;
-}
-
-function tell(line) {
-  found("fault").textContent = line;
-  found("fault").hidden = line === "";
-}
-
-// ---- What the buttons do
-
-function choose(number) {
-  return act(async () => {
-    if (number >= schedule.state.enabled.length) return;
-    await schedule.choose(number);
-    show();
-  });
-}
-
-function chooseRandom() {
-  return act(async () => {
-    const count = schedule.state.enabled.length;
-    if (count === 0) return;
-    await schedule.choose(drawn(seed(), schedule.at, count));
-    show();
-  });
-}
-
-function jump(count) {
-  pause();
-  return act(async () => {
-    await schedule.go(between(0, count(schedule), schedule.list.length));
-    show();
-  });
-}
-
-// Does the event that follows, and stops playing where there is none.
-async function step() {
-  const number = schedule.next(found("pick").value, seed());
-  if (number === null) {
-    pause();
-    return;
-  }
-  await schedule.choose(number);
-  show();
-  if (schedule.next("first", 0) === null) pause();
-}
-
-async function playOn() {
-  if (!isPlaying) return;
-  const begun = performance.now();
-  await act(step);
-  if (isPlaying) timer = setTimeout(playOn, Math.max(0, 1000 / rate() - (performance.now() - begun)));
-}
-
-function play() {
-  if (isPlaying) {
-    pause();
-    return;
-  }
-  isPlaying = true;
-  found("play").textContent = "Pause";
-  playOn();
-}
-
-function pause() {
-  isPlaying = false;
-  clearTimeout(timer);
-  found("play").textContent = "Play";
-}
-
-// Runs the plan on threads, and plays what they did.
-function runOnThreads() {
-  pause();
-  return act(async () => {
-    const choices = choicesOf(await ask("/run", "", schedule.plan));
-    await schedule.open(choices, false);
-    schedule.isOfThreads = true;
-    show();
-    play();
-  });
-}
-
-function seed() {
-  return between(0, Math.floor(Number(found("seed").value) || 0), 999999);
-}
-
-function rate() {
-  return 2 ** Number(found("speed").value);
-}
-
-function showRate() {
-  found("rate").textContent = `${Number(rate().toPrecision(2))}/s`;
-  document.documentElement.style.setProperty("--move", `${Math.min(350, 800 / rate())}ms`);
-}
-
-function quicker(by) {
-  found("speed").value = Number(found("speed").value) + by;
-  showRate();
-}
-
-// ---- Plans
-
-// Shows a plan from its start, or after the choices.
-async function open(path, plan, choices = []) {
-  wanted = plan;
-  const opened = new Schedule(path, plan);
-  await opened.open(choices, true);
-  pause();
-  schedule = opened;
-  if (path === null) offerOwn();
-  found("plans").value = path ?? "";
-  found("about").textContent = aboutOf(plan);
-  openPicture();
-  show();
-}
-
-// What a plan says of itself: its first line, where that is a comment.
-function aboutOf(plan) {
-  return /^# (.*)$/.exec(plan.split("\n")[0])?.[1] ?? "";
-}
-
-function openPicture() {
-  picture.open(schedule.state, found("picture").parentElement.clientWidth);
-  drawLegend(found("legend"), picture.size);
-}
-
-function offerOwn() {
-  if (![...found("plans").options].some((option) => option.value === "")) found("plans").add(new Option("own plan", ""));
-}
-
-function openOffered() {
-  const path = found("plans").value;
-  return act(async () => {
-    if (path !== "") await open(path, offered.get(path));
-  });
-}
-
-function writeOwn() {
-  pause();
-  found("text").value = wanted;
-  found("own-fault").textContent = "";
-  found("own-plan").showModal();
-}
-
-// Shows the plan that was written, or below it why it is none.
-function useOwn() {
-  return act(async () => {
-    try {
-      await open(null, found("text").value);
-      found("own-plan").close();
-    } catch (fault) {
-      found("own-fault").textContent = fault.message;
-    }
-  });
-}
-
-// ---- The address
-
-let address = null;
-
-function noteAddress() {
-  clearTimeout(address);
-  address = setTimeout(() => {
-    const choices = schedule.list.slice(0, schedule.at).join(",");
-    const own = `#text=${encodeURIComponent(schedule.plan)}&choices=${choices}`;
-    const named = `#plan=${encodeURIComponent(schedule.path).replaceAll("%2F", "/")}&choices=${choices}`;
-    if (schedule.path !== null || own.length <= ADDRESS) history.replaceState(null, "", schedule.path === null ? own : named);
-  }, 150);
-}
-
-// Shows what the address says, or else the plan that the server was begun with.
-function openAddress() {
-  return act(async () => {
-    const said = new URLSearchParams(location.hash.slice(1));
-    const choices = said.get("choices") ?? "";
-    const path = said.get("plan") ?? first;
-    if (choices !== "" && !DIGITS.test(choices)) throw new Error(`the choices of the address are no list: ${choices}`);
-    if (said.has("text")) {
-      await open(null, said.get("text"), choicesOf(choices));
-    } else if (!offered.has(path)) {
-      throw new Error(`there is no plan ${path} here`);
-    } else {
-      await open(path, offered.get(path), choicesOf(choices));
-    }
-  });
-}
-
-// ---- What the page says of a state
-
-function show() {
-  const { state } = schedule;
-  picture.show(state);
-  showTold(state);
-  showEnabled(state);
-  showCount(state);
-  showLogs(state);
-  showSites(state);
-  showEdges(state);
-  showCourse();
-  learn(schedule);
-  noteAddress();
-}
-
-// Learns what the events of the choices were, and draws them as they are known.
-function learn(learning) {
-  let last = performance.now();
-  const more = (isAll) => {
-    if (learning !== schedule || (!isAll && performance.now() - last < REDRAWN)) return;
-    showCourse();
-    last = performance.now();
-  };
-  learning.learn(more).catch((fault) => {
-    learning.learnt = null;
-    tell(fault.message);
-  });
-}
-
-function showTold(state) {
-  const [words, rule] = found("told").children;
-  const last = schedule.events[schedule.at - 1];
-  const isOver = state.enabled.length === 0;
-  words.textContent = schedule.at === 0 ? "The start" : last?.words ?? `After event ${schedule.at}`;
-  rule.textContent = schedule.at === 0 ? START : last?.rule ?? "";
-  if (isOver) rule.textContent += `${rule.textContent ? "; " : ""}no event is enabled any more`;
-}
-
-function showEnabled(state) {
-  const list = found("enabled");
-  const focused = [...list.querySelectorAll("button")].indexOf(document.activeElement);
-  const next = schedule.at < schedule.list.length ? schedule.list[schedule.at] : null;
-  list.replaceChildren(...state.enabled.map((event) => enabledItem(event, event.number === next)));
-  if (state.enabled.length === 0) list.append(textElement("li", "none: nothing is left to do", "none"));
-  found("many").textContent = state.enabled.length ? state.enabled.length : "";
-  picture.light(null, null);
-  if (focused >= 0) (list.querySelectorAll("button")[focused] ?? found("step")).focus();
-}
-
-function enabledItem(event, isNext) {
-  const item = document.createElement("li");
-  const button = document.createElement("button");
-  button.type = "button";
-  button.dataset.number = event.number;
-  button.classList.toggle("next", isNext);
-  const light = () => picture.light(event.site, event.edge);
-  button.addEventListener("click", () => choose(event.number));
-  for (const kind of ["pointerenter", "focus"]) button.addEventListener(kind, light);
-  for (const kind of ["pointerleave", "blur"]) button.addEventListener(kind, () => picture.light(null, null));
-  button.append(textElement("kbd", event.number), textElement("span", event.words, "words"), textElement("small", event.rule));
-  item.append(button);
-  return item;
-}
-
-function textElement(name, text, kind = "") {
-  const made = document.createElement(name);
-  made.textContent = text;
-  if (kind) made.className = kind;
-  return made;
-}
-
-function showCount(state) {
-  found("count").textContent = `event ${state.events} of at most ${state.bound}`;
-  found("progress").max = Math.max(state.bound, 1);
-  found("progress").value = state.events;
-  found("back").disabled = found("reset").disabled = schedule.at === 0;
-  for (const name of ["step", "play", "first", "random"]) found(name).disabled = state.enabled.length === 0;
-}
-
-function showLogs(state) {
-  found("logs").textContent = [...state.logs, `events ${state.events} of ${state.bound}`].join("\n");
-  const done = schedule.list.slice(0, schedule.at).join(",");
-  const words = done ? `replay --choices ${done}` : "replay";
-  found("line").textContent = `./dine ${words} < ${quoted(schedule.path ?? "plan.toml")}`;
-  const own = schedule.path === null ? "Save the text of your plan as plan.toml. " : "";
-  found("line-note").textContent = `${own}It does these events, and then the first enabled one until there is none.`;
-  const rest = schedule.list.slice(schedule.at).join(",");
-  const parts = [textElement("b", done || "none"), textElement("span", rest && `${done ? "," : " then "}${rest}`)];
-  found("choices").replaceChildren(...parts);
-}
-
-// A path as a shell reads it.
-function quoted(path) {
-  return /^[\w./-]+$/.test(path) ? path : `'${path.replaceAll("'", "'\\''")}'`;
-}
-
-function rowOf(cells) {
-  const row = document.createElement("tr");
-  for (const cell of cells) {
-    const made = document.createElement("td");
-    made.append(...[cell].flat());
-    row.append(made);
-  }
-  return row;
-}
-
-function showSites(state) {
-  found("sites").tBodies[0].replaceChildren(...state.sites.map((site) => {
-    const svg = element("svg", { viewBox: "-10 -10 20 20", width: 16, height: 16, "aria-hidden": "true" });
-    const group = element("g", { class: `site ${site.phase}` }, svg);
-    element("path", { class: "shape", d: outline(site.phase, 7) }, group);
-    return rowOf([site.name, [svg, ` ${site.phase}`], `${site.eaten} of ${site.jobs}${site.resigns ? ", resigns at a fault" : ""}`]);
-  }));
-}
-
-function showEdges(state) {
-  const name = (site) => state.sites[site].name;
-  const where = (place) => ("at" in place ? `at ${name(place.at)}` : `on its way to ${name(place.to)}`);
-  found("edges").tBodies[0].replaceChildren(...state.edges.map((edge, number) => {
-    const ends = edge.ends.map((site, turn) => [`${name(site)} `, textElement("i", edge.roles[turn], edge.roles[turn])]);
-    return rowOf([String(number), ...ends, `${edge.dirty ? "dirty" : "clean"}, ${where(edge.fork)}`, where(edge.token)]);
-  }));
-}
-
-function showCourse() {
-  const { list, at, events, state } = schedule;
-  course.draw(state.sites, events, list.length);
-  course.show(at);
-  found("course-name").textContent = schedule.isOfThreads ? "What the threads did" : "The run so far";
-  found("course-note").textContent = courseNote();
-  showTold(state);
-}
-
-function courseNote() {
-  const { list, at, isOfThreads, state } = schedule;
-  const count = `${list.length} ${list.length === 1 ? "event" : "events"}`;
-  if (list.length > LEARNT) return `${count}; the first ${LEARNT} are drawn`;
-  if (isOfThreads) {
-    const threads = state.sites.length === 1 ? "One thread" : `${state.sites.length} threads, one for each site,`;
-    return `${threads} did these ${count}. They are played in one order that fits. Run again for another.`;
-  }
-  if (list.length === 0) return "A bar will be a meal, a thin line a hungry site that waits, an arrow a fork on its way.";
-  return at < list.length ? `${count}, of which ${list.length - at} were taken back` : count;
-}
-
-// ---- Keys and buttons
+import { momentOf } from "./address.js";
+import { Keys, openMenu } from "./keys.js";
+import { between, setAttribute, textElement } from "./marks.js";
+import { found, mind } from "./mind.js";
+import { keep, kept, saveFile, tomlOf } from "./moments.js";
+import { acts, course, ownPlan, player, tell } from "./parts.js";
+import { programOf } from "./program.js";
+import {
+  choose, chooseRandom, jump, leaveLesson, openOffered, openPlan, openWritten, pause, quicker, runOnThreads, scrub,
+  showRate, step,
+} from "./steps.js";
+import {
+  keepMoment, lessonOf, offerLessons, openLesson, openMoment, openScheduleOf, removeMoment, writeMoment,
+} from "./teach.js";
+import { noteAddress, openPicture, select, shellLine, show } from "./view.js";
 
 async function copyLine() {
   try {
-    await navigator.clipboard.writeText(found("line").textContent);
+    await navigator.clipboard.writeText(shellLine());
     found("copy").textContent = "Copied";
   } catch {
     getSelection().selectAllChildren(found("line"));
@@ -398,11 +32,17 @@ function turnTheme() {
   const isDark = getComputedStyle(root).colorScheme === "dark"
     || (!root.dataset.theme && matchMedia("(prefers-color-scheme: dark)").matches);
   root.dataset.theme = isDark ? "light" : "dark";
+  keep("dine-theme", root.dataset.theme);
 }
 
-const back = () => jump((it) => it.at - 1);
-const reset = () => jump(() => 0);
-const turnPick = () => { found("pick").value = found("pick").value === "first" ? "random" : "first"; };
+// The picture as large as the window, and back.
+function turnLarge() {
+  const isLarge = document.body.classList.toggle("large");
+  setAttribute(found("large"), "aria-pressed", isLarge);
+}
+
+// Turns a switch, as a click on it does.
+const turn = (name) => () => found(name).click();
 
 // Pauses, and then does the work.
 const paused = (work) => () => {
@@ -410,66 +50,203 @@ const paused = (work) => () => {
   return work();
 };
 
+const back = () => jump((it) => it.at - 1);
+
 const BUTTONS = {
-  reset, back, play, first: paused(() => choose(0)), random: paused(chooseRandom), step: paused(() => act(step)),
-  threads: runOnThreads, own: writeOwn, use: useOwn, copy: copyLine, theme: turnTheme, help: () => found("keys").showModal(),
+  reset: () => jump(() => 0),
+  back,
+  step: paused(() => acts.do(step)),
+  play: () => player.play(),
+  first: paused(() => choose(0)),
+  random: paused(chooseRandom),
+  threads: runOnThreads,
+  own: paused(() => ownPlan.show(mind.wanted)),
+  use: () => ownPlan.use(),
+  again: () => ownPlan.again(mind.schedule?.plan ?? ""),
+  copy: copyLine,
+  theme: turnTheme,
+  large: turnLarge,
+  help: () => found("keys").showModal(),
+  unselect: () => select(null),
+  "zoom-in": () => course.zoom(2),
+  "zoom-out": () => course.zoom(0.5),
+  "zoom-all": () => course.zoomOut(),
+  previous: () => openMoment(mind.moment - 1),
+  next: () => openMoment(mind.moment + 1),
+  leave: leaveLesson,
+  keep: writeMoment,
+  "keep-it": keepMoment,
+  remove: removeMoment,
+  save: () => saveFile("lesson.toml", tomlOf(mind.lesson)),
 };
 
 // What can be done before there is a plan.
-const WITHOUT_PLAN = new Set(["own", "use", "theme", "help"]);
+const WITHOUT_PLAN = new Set(["own", "use", "theme", "help", "large"]);
+// What a page without a server leaves out.
+const WITH_PROGRAM = ["own", "threads", "first", "random", "keep", "how-steps"];
 
 const KEYS = {
-  ArrowRight: BUTTONS.step, ArrowLeft: back, Home: reset, End: () => jump((it) => it.list.length), " ": play,
-  f: BUTTONS.first, r: BUTTONS.random, "+": () => quicker(0.5), "=": () => quicker(0.5), "-": () => quicker(-0.5), g: turnPick,
-  s: () => found("seed").select(), t: runOnThreads, p: () => found("plans").focus(), o: writeOwn, c: copyLine, d: turnTheme,
+  ArrowRight: BUTTONS.step,
+  ArrowLeft: back,
+  Home: BUTTONS.reset,
+  End: () => jump((it) => it.list.length),
+  " ": BUTTONS.play,
+  PageDown: BUTTONS.next,
+  PageUp: BUTTONS.previous,
+  Escape: escape,
+  f: BUTTONS.first,
+  r: BUTTONS.random,
+  "+": () => quicker(0.5),
+  "=": () => quicker(0.5),
+  "-": () => quicker(-0.5),
+  g: () => turnPick(),
+  s: () => found("seed").select(),
+  t: runOnThreads,
+  p: () => openMenu(found("plans")),
+  l: () => openMenu(found("lessons")),
+  o: BUTTONS.own,
+  c: copyLine,
+  d: turnTheme,
+  v: turnLarge,
+  w: turn("ranks"),
+  q: turn("predict"),
+  n: turn("naive"),
+  k: writeMoment,
   "?": BUTTONS.help,
 };
 
-function hear(event) {
-  const { key, target } = event;
-  if (event.ctrlKey || event.metaKey || event.altKey || document.querySelector("dialog[open]")) return;
-  if (target.closest("input, select, textarea")) {
-    if (key === "Escape" || key === "Enter") target.blur();
-    return;
-  }
-  if (target.closest("button") && (key === " " || key === "Enter")) return;
-  const does = /^[0-9]$/.test(key) ? paused(() => choose(Number(key))) : KEYS[key.length === 1 ? key.toLowerCase() : key];
-  if (!does || !(schedule || /^[od?]$/i.test(key))) return;
-  event.preventDefault();
+function escape() {
+  if (document.body.classList.contains("large")) turnLarge();
+  else if (mind.selected !== null) select(null);
+}
+
+function turnPick() {
+  found("pick").value = found("pick").value === "first" ? "random" : "first";
+  noteAddress();
+}
+
+// Does the enabled event of this number, as the reader asks for it.
+function press(number) {
+  return paused(() => choose(number))();
+}
+
+// Does what a key does. A figure does the enabled event of its number.
+function doKey(key) {
+  const does = /^[0-9]$/.test(key) ? () => press(Number(key)) : KEYS[key];
+  if (!does || !(mind.schedule || [BUTTONS.own, BUTTONS.theme, BUTTONS.help].includes(does))) return false;
   does();
+  return true;
+}
+
+function doButton(name) {
+  const button = found(name);
+  if (button.getAttribute("aria-disabled") === "true") return;
+  if (mind.schedule || WITHOUT_PLAN.has(name)) BUTTONS[name]();
+}
+
+// Goes along the timeline by a tenth, if it has the focus and there is no lesson for these keys.
+function leap(event) {
+  const way = { PageDown: 1, PageUp: -1 }[event.key];
+  if (!way) return;
+  event.preventDefault();
+  event.stopPropagation();
+  jump((it) => it.at + way * Math.max(1, Math.round(it.list.length / 10)));
 }
 
 function listen() {
-  for (const [name, does] of Object.entries(BUTTONS)) {
-    found(name).addEventListener("click", () => { if (schedule || WITHOUT_PLAN.has(name)) does(); });
-  }
+  for (const name of Object.keys(BUTTONS)) found(name).addEventListener("click", () => doButton(name));
+  new Keys({ does: doKey, hasLetters: () => found("letters").checked });
   found("plans").addEventListener("change", openOffered);
+  found("lessons").addEventListener("change", openLesson);
+  found("pick").addEventListener("change", noteAddress);
+  found("seed").addEventListener("change", noteAddress);
   found("speed").addEventListener("input", showRate);
-  found("text").addEventListener("keydown", (event) => {
-    if (event.key === "Enter" && (event.ctrlKey || event.metaKey)) useOwn();
+  found("letters").addEventListener("change", () => keep("dine-letters", found("letters").checked ? "on" : "off"));
+  found("course-scroll").addEventListener("keydown", leap);
+  found("keep-form").addEventListener("submit", (event) => {
+    if (event.submitter?.value === "cancel") return;
+    event.preventDefault();
+    keepMoment();
   });
-  document.addEventListener("keydown", hear);
   addEventListener("hashchange", openAddress);
-  let width = 0;
-  new ResizeObserver(() => {
-    if (!schedule || main.clientWidth === width) return;
-    width = main.clientWidth;
+  for (const name of ["predict", "naive", "focus"]) {
+    found(name).addEventListener("change", () => mind.schedule && show());
+  }
+  found("ranks").addEventListener("change", showRanks);
+}
+
+function showRanks() {
+  found("real-side").classList.toggle("ranked", found("ranks").checked);
+  found("order").hidden = !found("ranks").checked;
+}
+
+// Draws the picture anew whenever its place has another size.
+function watchSize() {
+  const rem = parseFloat(getComputedStyle(document.documentElement).fontSize) / 16;
+  new ResizeObserver(([{ contentRect }]) => {
+    const { width, height } = contentRect;
+    if (width === 0 || (Math.abs(width - mind.room.width) < 1 && Math.abs(height - mind.room.height) < 1)) return;
+    mind.room = { width, height, rem };
+    if (!mind.schedule) return;
     openPicture();
     show();
-  }).observe(main);
+  }).observe(found("picture").parentElement);
 }
 
 async function begin() {
+  Object.assign(mind.does, { select, show, scrub, step, openWritten, press });
+  if (kept("dine-theme")) document.documentElement.dataset.theme = kept("dine-theme");
+  found("letters").checked = kept("dine-letters") !== "off";
+  found("choices").append(textElement("b", ""), textElement("span", ""));
+  mind.program = await programOf();
   showRate();
+  showRanks();
+  watchSize();
   listen();
-  const told = await (await fetch("/plans")).json();
-  first = told.first;
-  offered = new Map(told.plans.map((it) => [it.path, it.text]));
+  const told = await mind.program.plans();
+  Object.assign(mind, { first: told.first, lessons: told.lessons ?? [] });
+  for (const { path, text } of told.plans) mind.plans.set(path, text);
+  found("unproved").hidden = !told.unproved;
   const nameOf = (path) => path.replace(/^plans\/(.*)\.toml$/, "$1").replaceAll("_", " ");
-  for (const path of offered.keys()) found("plans").add(new Option(nameOf(path), path));
-  await openAddress();
+  for (const path of mind.plans.keys()) found("plans").add(new Option(nameOf(path), path));
+  if (mind.program.isRecorded) for (const name of WITH_PROGRAM) found(name).hidden = true;
+  offerLessons();
+  await openFirst(told);
+}
+
+// Shows what the address says, or else the plan or the lesson that the server was begun with.
+function openAddress() {
+  return acts.do(async () => {
+    const said = await momentOf(location.hash);
+    if (said.by) found("pick").value = said.by;
+    if (said.seed !== null) found("seed").value = said.seed;
+    if (said.speed !== null) found("speed").value = said.speed;
+    showRate();
+    const path = said.path ?? mind.first;
+    if (said.plan === null && !mind.plans.has(path)) throw new Error(`there is no plan ${path} here`);
+    const lesson = said.lesson ? lessonOf(said.lesson) : null;
+    Object.assign(mind, { lesson, moment: between(0, said.moment, Math.max(0, (lesson?.moments.length ?? 0) - 1)) });
+    found("lessons").value = lesson?.path ?? "";
+    if (lesson?.moments.length && said.path === null && said.plan === null) {
+      await openScheduleOf(lesson.moments[mind.moment]);
+      return;
+    }
+    const plan = said.plan ?? mind.plans.get(path);
+    await openPlan({ ...said, path: said.plan === null ? path : null, plan });
+  });
+}
+
+// Opens the lesson or the plan that the page begins with.
+async function openFirst(told) {
+  if (told.lesson && location.hash.length < 2) {
+    found("lessons").value = told.lesson;
+    await openLesson();
+    return;
+  }
+  await (mind.program.isRecorded ? openOffered() : openAddress());
   // An address that shows nothing leaves the plan to be seen that the server was begun with, and its fault.
-  if (!schedule && wanted !== offered.get(first)) await open(first, offered.get(first));
+  const plan = mind.plans.get(mind.first);
+  if (!mind.schedule && mind.wanted !== plan) await openPlan({ path: mind.first, plan });
 }
 
 begin().catch((fault) => tell(fault.message));

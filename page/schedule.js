@@ -1,30 +1,14 @@
 // A plan and the choices on it: which events were done, which may follow, and the state after each of them, as the
 // program tells it.
 
-// How many states are kept.
+import { between } from "./marks.js";
+
+// How many states are kept, and how many letters of them are asked for at a time beyond the one that is wanted.
 const KEPT = 300;
-// How many states are asked for at a time, to learn what the events of a list were, and of how many events that is
-// learnt.
-const ASKED = 3;
-export const LEARNT = 2500;
-
-// Asks the program, and returns its answer. A refusal is an error with the line of the refusal.
-export async function ask(question, word, plan) {
-  let answer;
-  let told;
-  try {
-    answer = await fetch(question, { method: "POST", body: `${word}\n${plan}` });
-    told = await answer.text();
-  } catch {
-    throw new Error("no answer: is ./show still running?");
-  }
-  if (!answer.ok) throw new Error(told.trim());
-  return told;
-}
-
-export function choicesOf(text) {
-  return text.trim() === "" ? [] : text.trim().split(",").map(Number);
-}
+const AHEAD = { states: 20, letters: 300000 };
+// The letter by which the program names a kind of event in a column.
+const KINDS = { hungry: "h", ask: "a", give: "g", begin: "b", end: "e", quit: "q", done: "d", close: "c" };
+const TAKEN = { request: "A", fork: "G", done: "D", close: "C" };
 
 // A number below `count` for this seed and place, the same each time.
 export function drawn(seed, place, count) {
@@ -35,108 +19,115 @@ export function drawn(seed, place, count) {
   return ((mixed ^ (mixed >>> 16)) >>> 0) % count;
 }
 
-// The event with this number in a state, and the letter that it takes, if it is one that does.
-function eventOf(state, number) {
-  const event = state.enabled[number];
-  const link = event.kind === "take" ? state.links.find((it) => it.edge === event.edge && it.to === event.site) : null;
-  return { ...event, letter: link?.letters[0] ?? null };
+function letterOf(event) {
+  if (event.kind === "take") return TAKEN[event.letter];
+  return event.kind === "end" && event.failed ? "x" : KINDS[event.kind];
+}
+
+// The events of a list in columns, so that many take little memory.
+class Events {
+  constructor({ sites, edges, kinds } = { sites: [], edges: [], kinds: "" }) {
+    Object.assign(this, { sites, edges, kinds: [...kinds] });
+  }
+
+  get length() {
+    return this.kinds.length;
+  }
+
+  // The same up to `count`, and then this event.
+  with(count, event) {
+    for (const column of [this.sites, this.edges, this.kinds]) column.length = count;
+    this.sites.push(event.site);
+    this.edges.push(event.edge);
+    this.kinds.push(letterOf(event));
+  }
 }
 
 export class Schedule {
-  constructor(path, plan) {
-    this.path = path;
-    this.plan = plan;
+  constructor(program, path, plan) {
+    Object.assign(this, { program, path, plan });
     // The choices, of which so many are done. A list that was handed out is never changed.
     this.list = [];
     this.at = 0;
     this.state = null;
     this.states = new Map();
-    // The event of each choice, as far as it is known.
-    this.events = [];
+    this.events = new Events();
+    // Counts the changes of the list, so that who draws the events knows whether they are others.
+    this.version = 0;
     this.isOfThreads = false;
-    // The list whose events were last asked for.
-    this.learnt = null;
+    // How many of the choices that it was opened with were left out, and where that is to be told.
+    this.left = { count: 0, at: 0 };
+    // About how many letters a state has.
+    this.letters = AHEAD.letters;
   }
 
-  async stateAfter(count, list = this.list) {
-    const kept = list === this.list ? this.states.get(count) : null;
-    return kept ?? JSON.parse(await ask("/state", list.slice(0, count).join(","), this.plan));
+  // Has a list of choices, of which `at` are done, all if it is null. Those that name no event are left out.
+  async open(list, at) {
+    const told = list.length || this.program.isRecorded ? await this.program.events(this.plan, list) : null;
+    this.list = told?.done ?? [];
+    this.events = new Events(told ?? undefined);
+    this.states.clear();
+    this.version += 1;
+    await this.go(between(0, at ?? Math.min(list.length, this.list.length), this.list.length));
+    this.left = { count: Math.max(0, list.length - this.list.length), at: this.at };
   }
 
-  // Keeps a state after so many choices of the list, and the event that its next choice is.
+  // Asks for the states after so many choices, and keeps them.
+  async fetch(places) {
+    const list = this.list.slice(0, places.at(-1));
+    const states = await this.program.states(this.plan, list, places);
+    states.forEach((state, turn) => this.keep(places[turn], state));
+    this.letters = JSON.stringify(states[0]).length;
+  }
+
   keep(count, state) {
+    this.states.delete(count);
     this.states.set(count, state);
-    if (count < this.list.length) this.events[count] ??= eventOf(state, this.list[count]);
     if (this.states.size > KEPT) this.states.delete(this.states.keys().next().value);
   }
 
-  // Has a list of choices, which are done or still to be done. Those that name no event are left out.
-  async open(choices, areDone) {
-    const end = await this.stateAfter(choices.length, choices);
-    const state = areDone ? end : await this.stateAfter(0, []);
-    this.list = end.done;
-    this.states.clear();
-    this.events = [];
-    this.at = areDone ? end.done.length : 0;
-    this.state = state;
-    this.keep(this.at, state);
+  // The places to ask for together with this one: those that follow the way that the reader goes.
+  placesAt(count) {
+    const ahead = between(0, Math.floor(AHEAD.letters / this.letters), AHEAD.states);
+    if (Math.abs(count - this.at) !== 1) return [count];
+    const [least, most] = count < this.at ? [count - ahead, count] : [count, count + ahead];
+    const places = [];
+    for (let place = Math.max(0, least); place <= Math.min(most, this.list.length); place += 1) {
+      if (place === count || !this.states.has(place)) places.push(place);
+    }
+    return places;
   }
 
   // Goes to where so many choices are done.
   async go(count) {
-    const state = await this.stateAfter(count);
+    if (!this.states.has(count)) await this.fetch(this.placesAt(count));
     this.at = count;
-    this.state = state;
-    this.keep(count, state);
+    this.state = this.states.get(count);
   }
 
-  // Does the enabled event with this number. Where another was to follow, all that was to follow is forgotten.
+  // Does the enabled event with this number. If another was to follow, all that was to follow is forgotten.
   async choose(number) {
-    if (this.at === this.list.length || this.list[this.at] !== number) {
-      const list = [...this.list.slice(0, this.at), number];
-      const state = await this.stateAfter(list.length, list);
-      this.forget(list);
-      this.at = list.length;
-      this.state = state;
-      this.keep(this.at, state);
-    } else {
+    if (this.at < this.list.length && this.list[this.at] === number) {
       await this.go(this.at + 1);
+      return;
     }
-  }
-
-  forget(list) {
-    this.isOfThreads = false;
-    this.list = list;
+    const list = [...this.list.slice(0, this.at), number];
+    const [state] = await this.program.states(this.plan, list, [list.length]);
     for (const count of [...this.states.keys()]) if (count > this.at) this.states.delete(count);
-    this.events.length = Math.min(this.events.length, this.at);
-    this.keep(this.at, this.state);
+    this.events.with(this.at, this.state.enabled[number]);
+    this.list = list;
+    this.at = list.length;
+    this.state = state;
+    this.isOfThreads = false;
+    this.version += 1;
+    this.keep(this.at, state);
   }
 
-  // The number of the event that follows: that of the list, or else the first or a random one. Null where none is
-  // enabled.
-  next(pick, seed) {
+  // The number of the event that follows: that of the list, or else the first or a random one. Null if none is enabled.
+  next(by, seed) {
     if (this.at < this.list.length) return this.list[this.at];
     const count = this.state.enabled.length;
-    if (count === 0) return null;
-    return pick === "random" ? drawn(seed, this.at, count) : 0;
-  }
-
-  // Learns what the events of the list are, and calls `more` after each few, with whether that is all. It ends early
-  // where the list is another by then.
-  async learn(more) {
-    const list = this.list;
-    if (this.learnt === list) return;
-    this.learnt = list;
-    const last = this.at - 1;
-    const isMissing = (place) => this.events[place] === undefined && (place < LEARNT || place === last);
-    // The event that was done last is told in words, so it comes first.
-    const missing = [...list.keys()].filter(isMissing).sort((one, other) => (other === last) - (one === last));
-    while (missing.length && this.list === list) {
-      const places = missing.splice(0, ASKED);
-      const states = await Promise.all(places.map((place) => this.stateAfter(place, list)));
-      if (this.list !== list) return;
-      places.forEach((place, turn) => this.keep(place, states[turn]));
-      more(missing.length === 0);
-    }
+    if (count === 0 || this.program.isRecorded) return null;
+    return by === "random" ? drawn(seed, this.at, count) : 0;
   }
 }

@@ -1,24 +1,43 @@
-"""A headless Chromium for the tools that try a page: it is spoken to by the DevTools protocol over two pipes, with the standard library
-alone. It keeps what it knows in a folder of its own, which goes with it."""
-import base64
-import json
-import os
-import select
+"""A headless Chromium for the tools that try a page, by selenium. It does what a person can do: it presses keys, and
+clicks what is visible and not covered. On Debian all of it comes by
+`apt-get install chromium chromium-driver python3-selenium`."""
+import importlib
 import shutil
-import subprocess
-import tempfile
+import sys
 import time
 
-NAMES = ("chromium", "chromium-browser", "google-chrome")
+# Where Debian has its modules, for a Python that is not Debian's own.
+DEBIAN = "/usr/lib/python3/dist-packages"
+BROWSERS = ("chromium", "chromium-browser", "google-chrome")
+DRIVERS = ("chromedriver", "chromium.chromedriver")
 # A root user gets no sandbox from Chromium, and a container little shared memory.
-WORDS = ("--headless=new", "--no-sandbox", "--disable-dev-shm-usage", "--disable-gpu", "--no-first-run", "--remote-debugging-pipe")
-WORDS += ("--disable-background-networking", "--disable-component-update", "--disable-sync", "--hide-scrollbars")
+WORDS = ("--headless=new", "--no-sandbox", "--disable-dev-shm-usage", "--disable-gpu", "--no-first-run")
+WORDS += ("--hide-scrollbars", "--disable-background-networking", "--disable-component-update", "--disable-sync")
 SECONDS = 30
+# The keys by their names in JavaScript, as WebDriver types them.
+KEYS = {"ArrowLeft": "\ue012", "ArrowUp": "\ue013", "ArrowRight": "\ue014", "ArrowDown": "\ue015"}
+KEYS |= {"Home": "\ue011", "End": "\ue010", "PageUp": "\ue00e", "PageDown": "\ue00f"}
+KEYS |= {"Escape": "\ue00c", "Enter": "\ue007"}
+CONTROL, BACKSPACE = "\ue009", "\ue003"
 
 
-def chromium():
-    """Returns the path of Chromium, or None where it is not installed."""
-    return next((path for path in map(shutil.which, NAMES) if path), None)
+def path_of(names):
+    return next((path for path in map(shutil.which, names) if path), None)
+
+
+def missing():
+    """Says what a browser lacks here, which is empty if it lacks nothing."""
+    try:
+        importlib.import_module("selenium")
+    except ImportError:
+        sys.path.append(DEBIAN)
+        try:
+            importlib.import_module("selenium")
+        except ImportError:
+            return "selenium is not installed"
+    if not path_of(BROWSERS):
+        return "Chromium is not installed"
+    return "" if path_of(DRIVERS) else "chromedriver is not installed"
 
 
 class BrowserFault(Exception):
@@ -26,93 +45,53 @@ class BrowserFault(Exception):
 
 
 class Browser:
-    """One page in a Chromium of its own, which is to be used in a with statement."""
+    """One page in a Chromium of its own, to be used in a with statement. It is made only if nothing is missing()."""
 
     def __enter__(self):
-        self.folder = tempfile.TemporaryDirectory(prefix="dine-browser-", ignore_cleanup_errors=True)
-        (theirs, self.tell), (self.hear, mine) = os.pipe(), os.pipe()
-        # Chromium reads from 3 and writes to 4. The shell that puts them there becomes Chromium.
-        words = [chromium(), *WORDS, f"--user-data-dir={self.folder.name}", "about:blank"]
-        shell = ["sh", "-c", f'exec "$@" 3<&{theirs} 4>&{mine}', "sh", *words]
-        how = {"stdin": subprocess.DEVNULL, "stdout": subprocess.DEVNULL, "stderr": subprocess.DEVNULL}
-        self.child = subprocess.Popen(shell, pass_fds=(theirs, mine), **how)
-        os.close(theirs)
-        os.close(mine)
-        self.rest, self.number, self.attached = b"", 0, None
-        # What the page wrote on its console as a warning or an error, and what it threw.
-        self.errors = []
+        self.by = importlib.import_module("selenium.webdriver.common.by").By.CSS_SELECTOR
+        self.chains = importlib.import_module("selenium.webdriver.common.action_chains").ActionChains
+        self.fault = importlib.import_module("selenium.common.exceptions").WebDriverException
+        webdriver = importlib.import_module("selenium.webdriver")
+        service = importlib.import_module("selenium.webdriver.chrome.service").Service
+        options = webdriver.ChromeOptions()
+        options.binary_location = path_of(BROWSERS)
+        for word in WORDS:
+            options.add_argument(word)
+        options.set_capability("goog:loggingPrefs", {"browser": "ALL"})
         try:
-            self.attach()
-        except BaseException:
-            self.__exit__()
-            raise
+            self.driver = webdriver.Chrome(service=service(path_of(DRIVERS)), options=options)
+        except self.fault as fault:
+            raise BrowserFault(fault.msg) from None
+        self.driver.set_script_timeout(SECONDS)
+        # What the page wrote on its console as a warning or an error, and what it threw.
+        self.noted = []
         return self
 
     def __exit__(self, *_):
-        os.close(self.tell)
-        os.close(self.hear)
-        self.child.terminate()
+        self.driver.quit()
+
+    @property
+    def errors(self):
+        """What stands on the console."""
+        self.noted += [it["message"] for it in self.driver.get_log("browser") if it["level"] in ("WARNING", "SEVERE")]
+        return self.noted
+
+    def forget_errors(self):
+        self.driver.get_log("browser")
+        self.noted = []
+
+    def guarded(self, does):
         try:
-            self.child.wait(SECONDS)
-        except subprocess.TimeoutExpired:
-            self.child.kill()
-            self.child.wait()
-        self.folder.cleanup()
-
-    def attach(self):
-        targets = self.call("Target.getTargets")["targetInfos"]
-        page = next(it["targetId"] for it in targets if it["type"] == "page")
-        self.attached = self.call("Target.attachToTarget", targetId=page, flatten=True)["sessionId"]
-        for domain in ("Page", "Runtime", "Log"):
-            self.call(f"{domain}.enable")
-
-    def next(self, end):
-        """Returns the next message."""
-        while b"\0" not in self.rest:
-            if not select.select([self.hear], [], [], max(0, end - time.monotonic()))[0]:
-                raise BrowserFault(f"no answer of the browser within {SECONDS} seconds")
-            more = os.read(self.hear, 1 << 16)
-            if not more:
-                raise BrowserFault("the browser ended")
-            self.rest += more
-        line, _, self.rest = self.rest.partition(b"\0")
-        return json.loads(line)
-
-    def note(self, message):
-        """Keeps what a message tells of an error of the page."""
-        told = message.get("params", {})
-        if message.get("method") == "Runtime.exceptionThrown":
-            self.errors.append(told["exceptionDetails"].get("exception", {}).get("description", "thrown"))
-        elif message.get("method") == "Log.entryAdded" and told["entry"]["level"] in ("warning", "error"):
-            self.errors.append(f"{told['entry']['text']} {told['entry'].get('url', '')}".strip())
-        elif message.get("method") == "Runtime.consoleAPICalled" and told["type"] in ("warning", "error", "assert"):
-            self.errors.append(" ".join(str(it.get("value", it.get("description"))) for it in told["args"]))
-
-    def call(self, method, **words):
-        self.number += 1
-        told = {"id": self.number, "method": method, "params": words}
-        if self.attached:
-            told["sessionId"] = self.attached
-        os.write(self.tell, json.dumps(told).encode() + b"\0")
-        end = time.monotonic() + SECONDS
-        while True:
-            message = self.next(end)
-            if message.get("id") == self.number:
-                break
-            self.note(message)
-        if "error" in message:
-            raise BrowserFault(f"{method}: {message['error']['message']}")
-        return message["result"]
+            return does()
+        except self.fault as fault:
+            raise BrowserFault(" ".join((fault.msg or str(fault)).split("\n")[:2])) from None
 
     def open(self, address):
-        self.call("Page.navigate", url=address)
+        self.guarded(lambda: self.driver.get(address))
 
     def value(self, code):
-        """Returns the value of JavaScript in the page."""
-        told = self.call("Runtime.evaluate", expression=code, returnByValue=True, awaitPromise=True)
-        if "exceptionDetails" in told:
-            raise BrowserFault(told["exceptionDetails"].get("exception", {}).get("description", "thrown"))
-        return told["result"].get("value")
+        """Returns the value of JavaScript in the page, which is looked at by it and not changed."""
+        return self.guarded(lambda: self.driver.execute_script(f"return ({code})"))
 
     def wait_for(self, code, seconds=SECONDS):
         """Waits until JavaScript in the page is true."""
@@ -122,19 +101,61 @@ class Browser:
                 raise BrowserFault(f"not within {seconds} seconds: {code}")
             time.sleep(0.01)
 
+    def click(self, where, times=1):
+        """Scrolls what is there into view and clicks it. It fails if that is hidden, or if another thing covers it."""
+
+        def does():
+            found = self.driver.find_element(self.by, where)
+            if times == 1:
+                found.click()
+            else:
+                self.chains(self.driver, duration=0).move_to_element(found).double_click().perform()
+
+        self.guarded(does)
+
+    def click_at(self, where, part):
+        """Clicks so far along what is there, from 0 at its left to 1 at its right, at half its height."""
+
+        def does():
+            found = self.driver.find_element(self.by, where)
+            far = round((part - 0.5) * found.size["width"])
+            self.chains(self.driver, duration=0).move_to_element_with_offset(found, far, 0).click().perform()
+
+        self.guarded(does)
+
+    def type(self, keys):
+        """Types a text to whatever has the focus."""
+        self.guarded(lambda: self.chains(self.driver, duration=0).send_keys(keys).perform())
+
     def press(self, key):
         """Presses a key, by its name in JavaScript."""
-        words = {"key": key, **({"text": key} if len(key) == 1 else {})}
-        self.call("Input.dispatchKeyEvent", type="keyDown", **words)
-        self.call("Input.dispatchKeyEvent", type="keyUp", key=key)
+        self.type(KEYS.get(key, key))
+
+    def fill(self, where, text):
+        """Clicks into a text, and types another in its place."""
+        self.click(where)
+
+        def does():
+            chain = self.chains(self.driver, duration=0)
+            chain.key_down(CONTROL).send_keys("a").key_up(CONTROL).send_keys(BACKSPACE).send_keys(text).perform()
+
+        self.guarded(does)
 
     def look(self, width, height, scheme):
         """Gives the page a size in points and a colour scheme, light or dark."""
-        self.call("Emulation.setDeviceMetricsOverride", width=width, height=height, deviceScaleFactor=1, mobile=False)
-        self.call("Emulation.setEmulatedMedia", features=[{"name": "prefers-color-scheme", "value": scheme}])
+        size = {"width": width, "height": height, "deviceScaleFactor": 1, "mobile": False}
+        self.driver.execute_cdp_cmd("Emulation.setDeviceMetricsOverride", size)
+        media = {"features": [{"name": "prefers-color-scheme", "value": scheme}]}
+        self.driver.execute_cdp_cmd("Emulation.setEmulatedMedia", media)
 
-    def picture(self, path, is_whole=True):
-        """Writes a picture of the page, a PNG, of all of it or of what its window shows."""
-        told = self.call("Page.captureScreenshot", format="png", captureBeyondViewport=is_whole)
-        with open(path, "wb") as file:
-            file.write(base64.b64decode(told["data"]))
+    def download_to(self, folder):
+        """Has what is saved put into a folder."""
+        self.driver.execute_cdp_cmd("Browser.setDownloadBehavior", {"behavior": "allow", "downloadPath": folder})
+
+    def tree(self):
+        """Returns the nodes of the page as a screen reader gets them."""
+        return self.driver.execute_cdp_cmd("Accessibility.getFullAXTree", {})["nodes"]
+
+    def picture(self, path):
+        """Writes a picture of what the window shows, a PNG."""
+        self.driver.save_screenshot(path)

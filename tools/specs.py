@@ -11,18 +11,19 @@ from trying import paths, text_of
 STARTS = re.compile(r"((?:(?:abbrev|unfoldable|pub|record|data) )*)(\S+)( :)?")
 WORD = re.compile(r"(?<![\w.])[A-Za-z_]\w*")
 FIELD = re.compile(r"^\s+(?:pub )?(\w+) :", re.M)
-PASSES = re.compile(r"^(.*)\((?:[^()∷]+) ∷ (\w+)\)(.*?) = (.*)$")
 
 
 @dataclass
 class Definition:
-    """A definition: where it stands, the comment directly above it, the block that it stands in, and its lines, without comments."""
+    """A definition: where it is, the comment directly above it, the block that it is in, its lines without comments, and its lines with
+    the comments between them."""
     place: str
     module: str
     name: str
     comment: list
     block: str
     lines: list
+    text: list
 
     @property
     def is_record(self):
@@ -46,6 +47,8 @@ class Module:
             if text.startswith("--"):
                 now = now if margin > level else None
                 comment.append(text[2:].strip())
+                if now:
+                    now.text.append(line[level:])
                 continue
             above, comment = comment, []
             level = level if margin or not text else 0
@@ -55,10 +58,11 @@ class Module:
             elif text.startswith("module "):
                 level, block, now = 2, text, None
             elif margin == level and (name := name_begun(text)):
-                now = Definition(f"{self.path}:{number}", self.name, name, above, block if level else "", [line[level:]])
+                now = Definition(f"{self.path}:{number}", self.name, name, above, block if level else "", [line[level:]], [line[level:]])
                 self.definitions[name] = now
             elif now and text and (margin > level or text.startswith((now.name + " ", "unfolding ", "}", ")"))):
                 now.lines.append(line[level:])
+                now.text.append(line[level:])
             elif text:
                 self.strange.append(f"{self.path}:{number}: no definition and no part of one: {text}")
 
@@ -82,10 +86,9 @@ def all_modules():
     return {module.name: module for module in map(Module, paths("crates/*/specs/**/*.antt"))}
 
 
-def words_of(definition, left_out=()):
-    """The names in a definition, in order, without the names of its fields, and without the lines that name one that is left out."""
-    lines = [line for line in definition.lines if not any(name in re.findall(r"\w+", line) for name in left_out)]
-    return WORD.findall(definition.block + "\n" + FIELD.sub(" :", "\n".join(lines)))
+def words_of(definition):
+    """The names in a definition, in order, without the names of its fields."""
+    return WORD.findall(definition.block + "\n" + FIELD.sub(" :", "\n".join(definition.lines)))
 
 
 def defined(modules, source, name):
@@ -97,10 +100,10 @@ def defined(modules, source, name):
     return of[0] if of else None
 
 
-def used_by(modules, definition, left_out=()):
+def used_by(modules, definition):
     """What a definition uses, in order: definitions of the repository, and the module of each type that a crate's code declares."""
     module, found = modules[definition.module], []
-    for word in words_of(definition, left_out):
+    for word in words_of(definition):
         source, name = module.uses.get(word, ("", None))
         ones = []
         if word == definition.name:
@@ -118,18 +121,12 @@ def used_by(modules, definition, left_out=()):
     return found
 
 
-def needed_by(modules, roots, left_out=()):
-    """The roots and all that they need, in order of use, but what is only needed by lines that name one of those left out."""
+def needed_by(modules, roots):
+    """The roots and all that they need, in order of use."""
     found, left = [], list(roots)
     while left:
         one = left.pop(0)
         if one not in found:
             found.append(one)
-            left[:0] = used_by(modules, one, left_out) if isinstance(one, Definition) else []
+            left[:0] = used_by(modules, one) if isinstance(one, Definition) else []
     return found
-
-
-def passes_over(line):
-    """The clause only goes on behind the head of a list."""
-    found = PASSES.match(line)
-    return bool(found) and found[1] + found[2] + found[3] == found[4]

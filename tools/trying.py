@@ -1,5 +1,6 @@
-"""What the tools that try things share: where all stands, a program's answer and how it differs from the one that is wanted, copies of
+"""What the tools that try things share: their arguments, where all stands, a program's answer and how it differs from the one that is wanted, copies of
 crates, and the lines and the count at the end."""
+import argparse
 import glob
 import os
 import re
@@ -18,6 +19,21 @@ EXPECTED = re.compile(r"^# ((?:no words|check|replay|run)[\w ,=-]*)> (.*)$", re.
 SECONDS = 120
 # How much of a text is shown before and behind the place where it goes wrong.
 SHOWN = 100
+# Before a command: it gets SIGTERM when the process that began it ends, however that ends. PR_SET_PDEATHSIG is 1.
+BOUND = "import ctypes, os, sys; ctypes.CDLL(None).prctl(1, 15); os.getppid() == int(sys.argv[1]) and os.execvp(sys.argv[2], sys.argv[2:])"
+BOUND = [sys.executable, "-ISc", BOUND, str(os.getpid())]
+# What is tried is the proved program, whatever the shell says.
+os.environ.pop("DINE_UNPROVED", None)
+
+
+class Words(argparse.ArgumentParser):
+    """The arguments of a tool, whose help is the text at the head of its file. A wrong one is refused in one line, with status 2."""
+
+    def __init__(self, text):
+        super().__init__(description=text, formatter_class=argparse.RawDescriptionHelpFormatter)
+
+    def error(self, message):
+        self.exit(2, f"{self.prog}: {message}; {' '.join(self.format_usage().split())}\n")
 
 
 def program_of(crate):
@@ -49,8 +65,10 @@ class Answer(NamedTuple):
 
 def answer_of(words, program=DINE, seconds=SECONDS, **how):
     """Runs a program with words, as subprocess.run takes `how`, and returns its answer."""
+    # A build has no limit, and starts programs of its own, which are to end with this one.
+    bound = BOUND if seconds is None else []
     try:
-        ran = subprocess.run([program, *words], capture_output=True, timeout=seconds, check=False, **how)
+        ran = subprocess.run([*bound, program, *words], capture_output=True, timeout=seconds, check=False, **how)
     except subprocess.TimeoutExpired:
         return Answer(None, "", f"no end within {seconds} seconds")
     # A byte that is no UTF-8 becomes a character of its own, so that texts are the same only where all bytes are.
@@ -127,6 +145,11 @@ def in_a_line(name, fault):
     return (f"{name}: FAILED: {fault}", False) if fault else (f"{name}: ok", True)
 
 
+def skip(name, why):
+    """Returns a try as `counted` takes it, of something that this machine can't do. verify prints its line again at its end."""
+    return f"{name}: skipped: {why}", None
+
+
 def tried(name, wanted, words, **how):
     """Returns a try of the program, whose answer to the words is to be the one that is wanted."""
     return in_a_line(name, difference(wanted, answer_of(words, **how)))
@@ -137,27 +160,18 @@ def a_line_each(tool, faults):
     return "\n".join(f"{tool}: {fault}" for fault in faults), not faults
 
 
-def counted(tries):
-    """Prints what is told of each try, where that is anything, and last the count. A try is that text and whether all was right. Returns
-    the exit status."""
+def counted(tries, skipped=0):
+    """Prints what is told of each try, where that is anything, and last the count. A try is that text and whether all was right, which is
+    None for one that is skipped. Returns the exit status."""
     passed = failed = 0
     for text, is_right in tries:
         if text:
             print(text, flush=True)
-        passed, failed = passed + is_right, failed + (not is_right)
-    return ended(passed, failed)
-
-
-def is_current(program):
-    """Returns whether a program is there and no source is newer, as ./dine looks."""
-    if not os.access(program, os.X_OK):
-        return False
-    made = os.stat(program).st_mtime_ns
-    sources = [f"{HOME}/crates.txt"]
-    for folder, folders, names in os.walk(f"{HOME}/crates"):
-        folders[:] = [it for it in folders if it != "out"]
-        sources += [f"{folder}/{it}" for it in names if it.endswith((".rt", ".antt"))]
-    return all(os.stat(it).st_mtime_ns <= made for it in sources)
+        if is_right is None:
+            skipped += 1
+        else:
+            passed, failed = passed + is_right, failed + (not is_right)
+    return ended(passed, failed, skipped)
 
 
 def try_program(tool, tries, *others):
@@ -167,7 +181,7 @@ def try_program(tool, tries, *others):
     # The program itself never ends with 1.
     failed = answer.error if answer.status == 1 else ""
     for crate in others:
-        if not failed and not is_current(program_of(crate)):
+        if not failed:
             built = answer_of([crate], os.path.join(HOME, "tools", "build"), None, stdin=subprocess.DEVNULL)
             failed = built.error if built.status else ""
     if failed:
@@ -177,7 +191,8 @@ def try_program(tool, tries, *others):
     sys.exit(counted(tries))
 
 
-def ended(passed, failed):
-    """Prints the count, and returns the exit status: 0 where something was tried and nothing failed."""
-    print(f"{passed} passed, {failed} failed")
-    return 0 if passed and not failed else 1
+def ended(passed, failed, skipped=0):
+    """Prints the count, and returns the exit status: 0 where nothing failed, and something was tried or skipped. What this machine can't do is
+    skipped."""
+    print(f"{passed} passed, {failed} failed" + (f", {skipped} skipped" if skipped else ""))
+    return 0 if passed + skipped and not failed else 1

@@ -30,4 +30,4 @@ fits_marks marks k ok = if mark_of marks k then not ok else ok
 
 -- what a diner of a plan tells of itself
 abbrev pub plan_diner : diners.Ghosts SeenPlanDiner
-plan_diner = record { calls = λ d. d.calls; marks = λ d. d.marks; fits = fits_marks; room_left = λ d. d.room }
+plan_diner = record { calls = λ d. d.calls; marks = λ d. d.marks; fits = fits_marks; room_left = λ d. d.room; expects = λ d plan site. Unit {0} }

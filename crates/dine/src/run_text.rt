@@ -55,7 +55,7 @@ where
 {
     laws::values_are_those_of_the_logs();
     let diners = open_diners(alloc, plan)?;
-    let gathered = run::<L, PlanDiner, H>(rt, alloc, plan, diners)?;
+    let gathered = run::<L, PlanDiner>(rt, alloc, plan, diners)?;
     Ok(table_text(alloc, plan, &gathered, table)?)
 }
 

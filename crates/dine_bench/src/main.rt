@@ -39,7 +39,7 @@ where
     let large: Vec<u8> = Vec::with_capacity(alloc, SETTLING)?;
     drop(large);
     let start = Instant::now(rt)?;
-    let Ok(gathered) = run::<L, PlanDiner, R>(rt, alloc, plan, diners) else {
+    let Ok(gathered) = run::<L, PlanDiner>(rt, alloc, plan, diners) else {
         bail!("the run did not end in order");
     };
     let taken = start.elapsed(rt)?;

@@ -96,7 +96,7 @@ fn settle<R: Threads + Wait + Copy + Send + 'static>(
     ensures apart { IfOk result (λ settled. NeighboursEatApart plan.now settled.1.items) }
 {
     let tellers = open_tellers(alloc, plan)?;
-    let Ok(gathered) = run::<ChannelLane, Teller, R>(rt, alloc, plan, tellers) else {
+    let Ok(gathered) = run::<ChannelLane, Teller>(rt, alloc, plan, tellers) else {
         bail!("memory or a thread was refused");
     };
     let books = books_of(alloc, plan, gathered.sites.as_slice())?;

@@ -105,11 +105,7 @@ fn search<J: AsSlice<EventKind>>(
 }
 
 // The lowest site with events left, where so many of each site's were placed.
-fn first_left<J: AsSlice<EventKind>>(
-    plan: &Plan,
-    journals: &[J],
-    counts: &[u32],
-) -> Option<u32>
+fn first_left<J: AsSlice<EventKind>>(plan: &Plan, journals: &[J], counts: &[u32]) -> Option<u32>
     requires journals { length journals.now ≡ site_count plan.now }
     requires counts { length counts.now ≡ site_count plan.now }
     ensures { FirstLeft (site_count plan.now) (map J.items journals.now) counts.now result }

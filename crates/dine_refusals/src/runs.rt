@@ -53,7 +53,7 @@ where
 {
     let plan = pair(alloc)?;
     let diners = open_diners(alloc, &plan)?;
-    match run::<L, PlanDiner, R>(rt, alloc, &plan, diners) {
+    match run::<L, PlanDiner>(rt, alloc, &plan, diners) {
         Ok(_gathered) => Ok(Told::Whole),
         Err(fault) => Ok(told_of(&fault)),
     }

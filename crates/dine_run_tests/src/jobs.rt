@@ -62,7 +62,7 @@ fn gathered<R: Threads + Wait + Abort + Copy + Send + 'static>(
     let Ok(diners) = Jobs::seat(alloc, plan, counters(rt, alloc, 2, fails_at)) else {
         panic!(rt; "no diners");
     };
-    let Ok(gathered) = run::<RingLane, Jobs<Counter>, R>(rt, alloc, plan, diners) else {
+    let Ok(gathered) = run::<RingLane, Jobs<Counter>>(rt, alloc, plan, diners) else {
         panic!(rt; "no run");
     };
     gathered

@@ -44,7 +44,7 @@ where
     L::Rx: 'static,
 {
     let diners = tasters(alloc, plan, fails_each).expect(rt, "memory");
-    match run::<L, Taster, R>(rt, alloc, plan, diners) {
+    match run::<L, Taster>(rt, alloc, plan, diners) {
         Ok(gathered) => gathered,
         Err(_) => panic!(rt; "no run"),
     }

@@ -64,7 +64,7 @@ where
     let plan = read_plan(alloc, text).expect(rt, "a plan");
     let entered = Arc::new(alloc, AtomicU32::new(0)).expect(rt, "memory");
     let diners = seated(rt, alloc, &plan, all, plan.edges() == 0, &entered);
-    let Ok(gathered) = run::<L, Jobs<Waiter>, R>(rt, alloc, &plan, diners) else {
+    let Ok(gathered) = run::<L, Jobs<Waiter>>(rt, alloc, &plan, diners) else {
         panic!(rt; "no run");
     };
     same(rt, &gathered.sites.len(), &(plan.sites() as usize));
@@ -129,7 +129,7 @@ where
     let plan = read_plan(alloc, PAIR).expect(rt, "a plan");
     let diners = diners_for_one(rt, alloc, count);
     assert!(rt; diners.len() != plan.sites() as usize);
-    let Err(RunFault::DinersDiffer { given, diners }) = run::<L, Taster, R>(
+    let Err(RunFault::DinersDiffer { given, diners }) = run::<L, Taster>(
         rt, alloc, &plan, diners,
     ) else {
         panic!(rt; "a run");
@@ -160,7 +160,7 @@ where
     let plan = read_plan(alloc, PATH).expect(rt, "a plan");
     let entered = Arc::new(alloc, AtomicU32::new(0)).expect(rt, "memory");
     let diners = seated(rt, alloc, &plan, 1, true, &entered);
-    let ended = run_within::<L, Jobs<Waiter>, R>(rt, alloc, &plan, diners, threads);
+    let ended = run_within::<L, Jobs<Waiter>>(rt, alloc, &plan, diners, threads);
     assert!(rt; matches!(ended, Err(RunFault::Thread(site)) if site == threads));
     same(rt, &entered.load(Ordering::SeqCst), &0);
     // Each diner held it, so the threads that were started have ended.

@@ -5,6 +5,7 @@ pub mod AtPlaces
 pub mod Meals
 pub mod Heeding
 pub mod Same
+pub mod WholeMeals
 pub mod Proceeding
 pub mod Quits
 pub mod Ways

@@ -1,5 +1,7 @@
 pub mod Doings
 pub mod Diners
+pub mod WholeMeals
+pub mod Starts
 pub mod CallLogs
 pub mod Ports
 pub mod Times

@@ -203,13 +203,14 @@ module _ {Lane Tx Closed Rx Diner : Type 0} (diner : diners.Ghosts Diner) where
       → IsHeeding new.core.resigns (new.core.must_quit || new.core.has_quit) (nat_lt new.core.ate new.core.due) first (diner.calls new.diner)
 
 module _ {Lane Tx Closed Rx Diner : Type 0} (lane : Ghosts Lane Tx Closed Rx) (diner : diners.Ghosts Diner) where
-  -- what a site has between two events, so that it may do the next
+  -- what a site has between two events, so that it may do the next; its diner expects to eat there, in that plan
   pub record MayProceed (run : Running Lane Diner Tx Closed Rx) : Type 0 where
     pub running : ForSome lane IsRunning run
     pub ready : IsReady diner run
+    pub expects : diner.expects run.diner running.0 run.core.site
 
   -- What a site keeps as it goes on: from where it ran it came where it says, it is ready still, its diner was called
-  -- for each meal, and its failures were heeded.
+  -- for each meal and expects what it did, and its failures were heeded.
   pub record Proceeds (To : Way lane.Identity) (old new : Running Lane Diner Tx Closed Rx) : Type 0 where
     pub way : Leads lane IsRunning To old new
     pub ready : IsReady diner new
@@ -217,6 +218,7 @@ module _ {Lane Tx Closed Rx Diner : Type 0} (lane : Ghosts Lane Tx Closed Rx) (d
     pub heeds : HeedsOn diner old new
     pub resigns : new.core.resigns ≡ old.core.resigns
     pub site : new.core.site ≡ old.core.site
+    pub expects : (plan : SeenPlan) (site : ℕ) → diner.expects old.diner plan site → diner.expects new.diner plan site
 
 module _ {Lane Tx Closed Rx Diner : Type 0} where
   -- The site, its meals, its policy, the diner and the bell are as they were, and so is the number of ports.

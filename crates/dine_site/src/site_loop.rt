@@ -1,10 +1,11 @@
 //! One site on its thread, from its first step to its last.
 ghost use Rattle.std.specs.Prelude.{◌≡◌, ◌≤◌, ◌+◌, All, None, false, length, vec_len};
 ghost use Rattle.dine_graph.specs.Plan.{SeenPlan};
-ghost use Rattle.dine_core.specs.Standing.{IsFresh, IsFreshFor};
+ghost use Rattle.dine_core.specs.Standing.{IsFreshFor};
 ghost use Rattle.dine_site.specs.Diners.{HasEaten, HeedsFailures};
 ghost use Rattle.dine_site.specs.Ports.{IsFreshPort, seen_ports};
 ghost use Rattle.dine_site.specs.SiteEnds.{IsSiteEnd, seen_site_end};
+ghost use Rattle.dine_site.specs.Starts.{MayStart};
 ghost use Rattle.dine_site.specs.Times.{IsTimed, none_late};
 
 mod running;
@@ -40,7 +41,7 @@ pub fn run_site<R: Wait, L: Lane, D: Diner>(
     bell: Bell,
     diner: D,
 ) -> SiteEnd<L, D>
-    requires fresh { IsFresh core }
+    requires fresh { MayStart D.Diner diner core }
     requires ports { vec_len ports ≡ length core.places }
     requires unused { All IsFreshPort (seen_ports L.Lane ports.items) }
     requires bell { bell.degree ≡ length core.places }

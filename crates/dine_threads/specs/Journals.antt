@@ -1,7 +1,7 @@
 -- The journals of a run: the events of each site, in the order in which it did them on its thread.
 use Rattle.std.specs.Prelude.{◌≡◌, ℕ, ◌<◌, nat_lt, false, List, length, map}
 use Rattle.std.specs.List.{range_with_len}
-use Rattle.dine_graph.specs.Plan.{SeenPlan, site_count, edges_of, job_count}
+use Rattle.dine_graph.specs.Plan.{SeenPlan, IsPlan, site_count, edges_of, job_count}
 use Rattle.dine_rules.specs.declared.events.EventKind.{EventKind}
 use Rattle.dine_rules.specs.declared.phase.Phase.TheVariants.{Thinking}
 use Rattle.dine_rules.specs.declared.events.Event.{Event}
@@ -36,6 +36,7 @@ module _ (plan : SeenPlan) (ates : List ℕ) (links : List SeenLink) where
 -- There is one journal for each site, and an order of them: a list that holds each, which a world of the plan accepts,
 -- where jobs fail as the journals show, and which makes it complete. That it is the order of time is not said.
 pub record HaveOrder (plan : SeenPlan) (journals : List (List EventKind)) : Type 0 where
+  pub is_plan : IsPlan plan
   pub count : length journals ≡ site_count plan
   pub events : List Event
   pub is_order : IsWholeOrder (plan_shown plan journals) journals events

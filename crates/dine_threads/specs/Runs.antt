@@ -14,6 +14,11 @@ abbrev pub HaveRoom : {D : Type 0} → diners.Ghosts D → SeenPlan → Vec D �
 HaveRoom {D} eater plan given = vec_len given ≡ site_count plan → (s : ℕ) (one : D) → slice_get given.items s ≡ Some one
     → job_count plan s ≤ eater.room_left one
 
+-- where there are as many diners as sites, each expects to eat at the site of its number, in this plan
+abbrev pub HaveSites : {D : Type 0} → diners.Ghosts D → SeenPlan → Vec D → Type 0
+HaveSites {D} eater plan given = vec_len given ≡ site_count plan → (s : ℕ) (one : D) → slice_get given.items s ≡ Some one
+    → eater.expects one plan s
+
 -- What `run` gathered where it answers Ok, of a plan and the diners that it was given: there were as many as sites,
 -- each site did all, the headline holds, and each journal, token and diner is as its line says.
 pub record IsRun {D : Type 0} (eater : diners.Ghosts D) (plan : SeenPlan) (given : Vec D) (gathered : Gathered D) : Type 0 where

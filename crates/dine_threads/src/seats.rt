@@ -276,6 +276,7 @@ pub fn seat_all<L: Lane, D: Diner>(
     requires diners { vec_len diners ≡ site_count plan.now }
     requires each { AreStands L.Lane plan.now stands.items }
     requires rooms { (s : _) (diner : _) → slice_get diners.items s ≡ Some diner → job_count plan.now s ≤ D.room_left diner }
+    requires expected { (s : _) (diner : _) → slice_get diners.items s ≡ Some diner → D.expects diner plan.now s }
     requires capacity { site_count plan.now ≤ vec_capacity seats.old }
     requires none { vec_len seats.old ≡ 0 }
     ensures len { OnOk result (vec_len seats.new ≡ site_count plan.now) }

@@ -4,7 +4,7 @@ ghost use Rattle.dine_graph.specs.Plan.{job_count, site_count};
 ghost use Rattle.dine_threads.specs.private.Collecting.{IsRoomFor};
 ghost use Rattle.dine_threads.specs.private.Setups.{IsSetUp};
 ghost use Rattle.dine_threads.specs.Headline.{FallsShort, FaultIs};
-ghost use Rattle.dine_threads.specs.Runs.{HaveRoom, IsRun};
+ghost use Rattle.dine_threads.specs.Runs.{HaveRoom, HaveSites, IsRun};
 
 use crate::collecting::{Room, RoomOf, collect, first_fault, make_room};
 use crate::gathered::{Gathered, RunFault};
@@ -56,6 +56,7 @@ fn set_up<L: Lane, D: Diner>(
 ) -> Result<Setup<L, D>, AllocError>
     requires diners { vec_len diners ≡ site_count plan.now }
     requires rooms { (s : _) (diner : _) → slice_get diners.items s ≡ Some diner → job_count plan.now s ≤ D.room_left diner }
+    requires expected { (s : _) (diner : _) → slice_get diners.items s ≡ Some diner → D.expects diner plan.now s }
     ensures { IfOk result (IsSetUp L.Lane D.Diner plan.now diners.items) }
 {
     let gate = Arc::new(alloc, Gate::new())?;
@@ -83,8 +84,8 @@ fn set_up<L: Lane, D: Diner>(
 /// memory is refused; with `Thread` where a thread is refused, and then those that were started have ended and no
 /// letter moved, though no clause says so; and with `Broken` where a site ended with a fault, with all that was found:
 /// at most one fork of each edge, and each breach that a site tells is a Close that came early.
-pub fn run<L: Lane + 'static, D: Diner + 'static, R: Threads + Wait + Copy + Send + 'static>(
-    rt: &R,
+pub fn run<L: Lane + 'static, D: Diner + 'static>(
+    rt: &(impl Threads + Wait + Copy + Send + 'static),
     alloc: Global,
     plan: &Plan,
     diners: Vec<D>,
@@ -94,18 +95,19 @@ where
     L::ClosedTx: 'static,
     L::Rx: 'static,
     requires room { HaveRoom D.Diner plan.now diners }
+    requires expected { HaveSites D.Diner plan.now diners }
     ensures ok { IfOk result (IsRun D.Diner plan.now diners) }
     ensures fault { IfErr result (FaultIs D.Diner plan.now diners) }
 {
-    run_within::<L, D, R>(rt, alloc, plan, diners, MAX_SITES)
+    run_within::<L, D>(rt, alloc, plan, diners, MAX_SITES)
 }
 
 /// As [`run`], with at most `threads` threads. Where the plan has more sites, nothing is run: the first site that would
 /// need one thread more is told as `Thread`, or one before it that was refused its thread.
 ///
 /// Differing diners come first, and then want of memory. It may wait, since the threads that were started are joined.
-pub fn run_within<L: Lane + 'static, D: Diner + 'static, R: Threads + Wait + Copy + Send + 'static>(
-    rt: &R,
+pub fn run_within<L: Lane + 'static, D: Diner + 'static>(
+    rt: &(impl Threads + Wait + Copy + Send + 'static),
     alloc: Global,
     plan: &Plan,
     diners: Vec<D>,
@@ -116,6 +118,7 @@ where
     L::ClosedTx: 'static,
     L::Rx: 'static,
     requires room { HaveRoom D.Diner plan.now diners }
+    requires expected { HaveSites D.Diner plan.now diners }
     ensures ok { IfOk result (IsRun D.Diner plan.now diners) }
     ensures fault { IfErr result (FaultIs D.Diner plan.now diners) }
     ensures limit { threads < site_count plan.now → FallsShort threads result }

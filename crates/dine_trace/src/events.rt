@@ -5,6 +5,86 @@ use dine_plan::Plan;
 use dine_world::World;
 use std::alloc::AllocError;
 
+/// An event that is enabled in a world, with what is to be said of it once it is done too.
+#[derive(Clone, Copy)]
+pub struct Enabled {
+    /// Its number among the enabled events.
+    pub number: u32,
+    pub event: Event,
+    /// The letter that it takes or puts.
+    pub letter: Option<Kind4>,
+    /// The number of the meal that it begins or ends.
+    pub meal: Option<u32>,
+    /// Whether it ends a meal that failed.
+    pub failed: bool,
+}
+
+impl Enabled {
+    /// The enabled event with this number. None where there are not so many.
+    pub fn find(plan: &Plan, world: &World, number: u32) -> Option<Enabled> {
+        let event = world.enabled(number)?;
+        let meal = meal_of(world, event);
+        Some(Enabled {
+            number,
+            event,
+            letter: letter_of(world, event),
+            meal,
+            failed: event.kind == EventKind::End && has_failed(plan, event.site, meal),
+        })
+    }
+
+    /// The edge of the event. None where it has none.
+    pub fn edge(self, plan: &Plan) -> Option<u32> {
+        edge_at(plan, self.event.site, place_of(self.event.kind)?)
+    }
+
+    /// The site at the other end of the edge of the event. None where it has no edge.
+    pub fn neighbour(self, plan: &Plan) -> Option<u32> {
+        let (lower, higher) = ends_of(plan, self.edge(plan)?)?;
+        if self.event.site == lower {
+            Some(higher)
+        } else {
+            Some(lower)
+        }
+    }
+}
+
+// The letter that the event takes or puts.
+fn letter_of(world: &World, event: Event) -> Option<Kind4> {
+    match event.kind {
+        EventKind::Take(i) => world.letter_to(event.site, i, 0),
+        EventKind::Give(_) => Some(Kind4::Fork),
+        EventKind::Ask(_) => Some(Kind4::Request),
+        EventKind::Done(_) => Some(Kind4::Done),
+        EventKind::Close(_) => Some(Kind4::Close),
+        EventKind::End | EventKind::Begin | EventKind::Quit | EventKind::Hungry => None,
+    }
+}
+
+// The number of the meal that the event begins or ends.
+fn meal_of(world: &World, event: Event) -> Option<u32> {
+    match event.kind {
+        EventKind::Begin => Some(ate(world, event.site).saturating_add(1)),
+        EventKind::End => Some(ate(world, event.site)),
+        _ => None,
+    }
+}
+
+// Whether the job of the meal fails. A meal without a job does not.
+fn has_failed(plan: &Plan, site: u32, meal: Option<u32>) -> bool {
+    match meal {
+        Some(k) if site < plan.sites() && 1 <= k && k <= plan.jobs(site) => {
+            plan.job(site, k).fails
+        }
+        _ => false,
+    }
+}
+
+/// How many meals the site began. None of a number that is no site.
+pub fn ate(world: &World, site: u32) -> u32 {
+    world.ate(site).unwrap_or(0)
+}
+
 /// The name of the site. A number that is no site has none.
 pub fn name_of(plan: &Plan, site: u32) -> &str {
     if site < plan.sites() {
@@ -35,6 +115,15 @@ pub fn edge_at(plan: &Plan, site: u32, place: u32) -> Option<u32> {
     }
 }
 
+// The ends of the edge, the lower first. None where there is no such edge.
+fn ends_of(plan: &Plan, edge: u32) -> Option<(u32, u32)> {
+    if edge < plan.edges() {
+        Some(plan.ends(edge))
+    } else {
+        None
+    }
+}
+
 /// The name of the kind.
 pub fn name_of_kind(kind: EventKind) -> &'static str {
     match kind {
@@ -50,10 +139,20 @@ pub fn name_of_kind(kind: EventKind) -> &'static str {
     }
 }
 
+/// The name of a kind of letters.
+pub fn name_of_letter(kind: Kind4) -> &'static str {
+    match kind {
+        Kind4::Fork => "fork",
+        Kind4::Request => "request",
+        Kind4::Done => "done",
+        Kind4::Close => "close",
+    }
+}
+
 /// The rule that the event follows, in a line.
-pub fn rule_of(world: &World, event: Event) -> &'static str {
-    match event.kind {
-        EventKind::Take(i) => rule_of_take(world, event.site, i),
+pub fn rule_of(enabled: Enabled) -> &'static str {
+    match enabled.event.kind {
+        EventKind::Take(_) => rule_of_take(enabled.letter),
         EventKind::Give(_) => {
             "release rule: a site that does not eat and holds the token gives a dirty fork, clean"
         }
@@ -72,9 +171,9 @@ pub fn rule_of(world: &World, event: Event) -> &'static str {
     }
 }
 
-// The rule of a Take, by the letter that comes next.
-fn rule_of_take(world: &World, site: u32, place: u32) -> &'static str {
-    match world.letter_to(site, place, 0) {
+// The rule of a Take of this letter.
+fn rule_of_take(letter: Option<Kind4>) -> &'static str {
+    match letter {
         Some(Kind4::Fork) => "a fork that arrives is held, clean",
         Some(Kind4::Request) => "a token that arrives is held",
         Some(Kind4::Done) => "a neighbour that says done asks no more",
@@ -83,60 +182,58 @@ fn rule_of_take(world: &World, site: u32, place: u32) -> &'static str {
     }
 }
 
-/// Adds the event to the text in words: its site, and what it does.
-pub fn push_event(
-    text: &mut String,
-    plan: &Plan,
-    world: &World,
-    event: Event,
-) -> Result<(), AllocError> {
-    let site = event.site;
-    text.push_str(name_of(plan, site))?;
-    match event.kind {
-        EventKind::Take(i) => push_at(text, plan, site, i, words_of_take(world, site, i)),
-        EventKind::Give(i) => push_at(text, plan, site, i, " gives the fork of edge "),
-        EventKind::End => push_meal(text, " ends meal ", ate(world, site)),
-        EventKind::Begin => push_meal(text, " begins meal ", ate(world, site).saturating_add(1)),
+/// Adds the event to the text in words: its site, what it does, and which neighbour it does that with.
+pub fn push_event(text: &mut String, plan: &Plan, enabled: Enabled) -> Result<(), AllocError> {
+    text.push_str(name_of(plan, enabled.event.site))?;
+    match enabled.event.kind {
+        EventKind::Take(_) => push_with(text, plan, enabled, words_of_take(enabled.letter), ""),
+        EventKind::Give(_) => push_with(text, plan, enabled, " gives ", " their fork"),
+        EventKind::End if enabled.failed => push_meal(text, " ends meal ", enabled, ", which failed"),
+        EventKind::End => push_meal(text, " ends meal ", enabled, ""),
+        EventKind::Begin => push_meal(text, " begins meal ", enabled, ""),
         EventKind::Quit => text.push_str(" quits"),
         EventKind::Hungry => text.push_str(" grows hungry"),
-        EventKind::Ask(i) => push_at(text, plan, site, i, " asks for the fork of edge "),
-        EventKind::Done(i) => push_at(text, plan, site, i, " says done over edge "),
-        EventKind::Close(i) => push_at(text, plan, site, i, " closes edge "),
+        EventKind::Ask(_) => push_with(text, plan, enabled, " asks ", " for their fork"),
+        EventKind::Done(_) => push_with(text, plan, enabled, " says done to ", ""),
+        EventKind::Close(_) => push_with(text, plan, enabled, " closes to ", ""),
     }
 }
 
-// Adds the words to the text, and the number of the edge at the place of the site.
-fn push_at(
+// Adds the words to the text, with the name of the neighbour between them.
+fn push_with(
     text: &mut String,
     plan: &Plan,
-    site: u32,
-    place: u32,
-    words: &str,
+    enabled: Enabled,
+    before: &str,
+    behind: &str,
 ) -> Result<(), AllocError> {
-    text.push_str(words)?;
-    match edge_at(plan, site, place) {
-        Some(edge) => write!(text, "{edge}"),
+    text.push_str(before)?;
+    if let Some(neighbour) = enabled.neighbour(plan) {
+        text.push_str(name_of(plan, neighbour))?;
+    }
+    text.push_str(behind)
+}
+
+// Adds the words to the text, with the number of the meal between them.
+fn push_meal(
+    text: &mut String,
+    before: &str,
+    enabled: Enabled,
+    behind: &str,
+) -> Result<(), AllocError> {
+    match enabled.meal {
+        Some(k) => write!(text, "{before}{k}{behind}"),
         None => Ok(()),
     }
 }
 
-// Adds the words to the text, and the number of the meal.
-fn push_meal(text: &mut String, words: &str, k: u32) -> Result<(), AllocError> {
-    write!(text, "{words}{k}")
-}
-
-/// How many meals the site began. None of a number that is no site.
-pub fn ate(world: &World, site: u32) -> u32 {
-    world.ate(site).unwrap_or(0)
-}
-
-// The words of a Take, by the letter that comes next.
-fn words_of_take(world: &World, site: u32, place: u32) -> &'static str {
-    match world.letter_to(site, place, 0) {
-        Some(Kind4::Fork) => " takes a fork over edge ",
-        Some(Kind4::Request) => " takes a request over edge ",
-        Some(Kind4::Done) => " takes done over edge ",
-        Some(Kind4::Close) => " takes close over edge ",
-        None => " takes nothing over edge ",
+// The words of a Take of this letter, with the name of the one who sent it behind them.
+fn words_of_take(letter: Option<Kind4>) -> &'static str {
+    match letter {
+        Some(Kind4::Fork) => " takes the fork of ",
+        Some(Kind4::Request) => " takes the request of ",
+        Some(Kind4::Done) => " takes done of ",
+        Some(Kind4::Close) => " takes close of ",
+        None => " takes nothing of ",
     }
 }

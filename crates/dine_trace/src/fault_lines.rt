@@ -8,7 +8,9 @@ use std::alloc::{AllocError, AllocFailed};
 use std::io::Write;
 
 const USAGE: &str =
-    "dine_trace: usage: dine_trace [[--json] [LIST] | --run [--links channel|ring]] < PLAN";
+    "dine_trace: usage: dine_trace [[--json | --events | --states PLACES] [LIST] | --run [--links channel|ring]] < PLAN";
+
+const NO_LIST: &str = "dine_trace: the first line of the input is no LIST";
 
 const NO_ORDER: &str = "dine_trace: no order of the run";
 
@@ -17,6 +19,8 @@ const NO_ORDER: &str = "dine_trace: no order of the run";
 pub enum Fault {
     /// The words are refused.
     Usage,
+    /// The first line of the input is to be a LIST, and is none.
+    NoList,
     /// What the threads of a run did is in no order that a world of the plan accepts and that leads to the logs that
     /// were gathered.
     NoOrder,
@@ -31,6 +35,10 @@ impl Fault {
         match self {
             Fault::Usage => {
                 let _ = write_line(faults, USAGE);
+                Status::Usage
+            }
+            Fault::NoList => {
+                let _ = write_line(faults, NO_LIST);
                 Status::Usage
             }
             Fault::NoOrder => {

@@ -5,26 +5,35 @@
 //! end of each edge is. After the last choice the first enabled event is done until there is none, and the last lines
 //! are those that `dine replay` prints.
 //!
-//! With `--json` the state after the choices, in one line. With `--run` it runs the plan on threads, and prints the
-//! LIST that goes as the run went.
+//! With `--json` the state after the choices, in one line; with `--events` all events of the choices; with `--states`
+//! a line for the state after each of so many of them as PLACES says. With `--run` it runs the plan on threads, and
+//! prints the LIST that goes as the run went. If LIST is `-`, it is the first line of the input, and the plan is behind
+//! it.
 //!
-//! usage: dine_trace [[--json] [LIST] | --run [--links channel|ring]] < PLAN
+//! usage: dine_trace [[--json | --events | --states PLACES] [LIST] | --run [--links channel|ring]] < PLAN
 #![tactic(auto)]
 
+mod course;
 mod edges;
 mod events;
 mod fault_lines;
+mod input;
+mod past;
+mod precedence;
+mod reasons;
 mod schedule;
 mod state;
 mod trace;
 mod words;
 
+use course::course_text;
 use dine::words_of;
 use dine_plan::Plan;
 use dine_words::{Status, exit_of, plan_of_bytes, read_input, write_line};
 use fault_lines::Fault;
+use input::split_list;
 use schedule::choices_of_run;
-use state::state_text;
+use state::{state_text, write_states};
 use std::alloc::Global;
 use std::io::{Read, Write};
 use std::process::ExitCode;
@@ -32,7 +41,7 @@ use std::sync::Wait;
 use std::thread::Threads;
 use std::{env, io};
 use trace::show_plan;
-use words::{Asked, asked_of};
+use words::{Asked, Choices, Form, asked_of};
 
 // Reads the plan, and shows what the words ask for.
 fn show<H: Threads + Wait + Copy + Send + 'static, R: Read, W: Write>(
@@ -44,25 +53,61 @@ fn show<H: Threads + Wait + Copy + Send + 'static, R: Read, W: Write>(
 ) -> Result<(), Fault> {
     let asked = asked_of(alloc, words_of(alloc, given)?.as_slice())?;
     let bytes = read_input(alloc, input)?;
-    let plan = match plan_of_bytes(alloc, bytes.as_slice()) {
-        Ok(plan) => plan,
-        Err(fault) => return Err(Fault::from(fault)),
-    };
-    show_asked(rt, alloc, &plan, asked, output)
+    match asked {
+        Asked::Of(form, choices) => show_of(alloc, bytes.as_slice(), form, choices, output),
+        Asked::Run(links) => {
+            let plan = plan_of(alloc, bytes.as_slice())?;
+            let choices = choices_of_run(rt, alloc, &plan, links)?;
+            write_line(output, list_of(alloc, choices.as_slice())?.as_str())?;
+            Ok(())
+        }
+    }
 }
 
-// Shows what is asked of the plan.
-fn show_asked<H: Threads + Wait + Copy + Send + 'static, W: Write>(
-    rt: &H,
+// Shows what is asked of the choices, and of the plan that the input is or has behind them.
+fn show_of<W: Write>(
     alloc: Global,
-    plan: &Plan,
-    asked: Asked,
+    bytes: &[u8],
+    form: Form,
+    choices: Choices,
     output: &mut W,
 ) -> Result<(), Fault> {
-    let line = match asked {
-        Asked::Steps(choices) => return show_plan(alloc, plan, choices.as_slice(), output),
-        Asked::State(choices) => state_text(alloc, plan, choices.as_slice())?,
-        Asked::Run(links) => list_of(alloc, choices_of_run(rt, alloc, plan, links)?.as_slice())?,
+    match choices {
+        Choices::Given(choices) => {
+            let plan = plan_of(alloc, bytes)?;
+            show_form(alloc, &plan, form, choices.as_slice(), output)
+        }
+        Choices::InInput => {
+            let (choices, rest) = split_list(alloc, bytes)?;
+            let plan = plan_of(alloc, rest)?;
+            show_form(alloc, &plan, form, choices.as_slice(), output)
+        }
+    }
+}
+
+// The plan that the bytes are.
+fn plan_of(alloc: Global, bytes: &[u8]) -> Result<Plan, Fault> {
+    match plan_of_bytes(alloc, bytes) {
+        Ok(plan) => Ok(plan),
+        Err(fault) => Err(Fault::from(fault)),
+    }
+}
+
+// Shows what is asked of the plan and the choices.
+fn show_form<W: Write>(
+    alloc: Global,
+    plan: &Plan,
+    form: Form,
+    choices: &[u32],
+    output: &mut W,
+) -> Result<(), Fault> {
+    let line = match form {
+        Form::Steps => return show_plan(alloc, plan, choices, output),
+        Form::States(places) => {
+            return write_states(alloc, plan, places.as_slice(), choices, output);
+        }
+        Form::State => state_text(alloc, plan, choices)?,
+        Form::Events => course_text(alloc, plan, choices)?,
     };
     write_line(output, line.as_str())?;
     Ok(())

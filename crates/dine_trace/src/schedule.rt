@@ -39,7 +39,7 @@ where
     L::Rx: 'static,
 {
     let diners = open_diners(alloc, plan)?;
-    let gathered = run::<L, PlanDiner, H>(rt, alloc, plan, diners)?;
+    let gathered = run::<L, PlanDiner>(rt, alloc, plan, diners)?;
     let events = order_of(alloc, plan, &gathered)?;
     choices_to(alloc, plan, events.as_slice(), gathered.forks.as_slice())
 }

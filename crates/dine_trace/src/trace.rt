@@ -1,7 +1,7 @@
 //! The steps of a schedule.
 
 use crate::edges::push_edges;
-use crate::events::push_event;
+use crate::events::{Enabled, push_event};
 use crate::fault_lines::Fault;
 use dine_core::Event;
 use dine_log_text::replay_text;
@@ -79,9 +79,9 @@ fn show_step<W: Write>(
 // Adds a line for each enabled event to the text: its number, and what it is in words.
 fn push_enabled(text: &mut String, plan: &Plan, world: &World) -> Result<(), AllocError> {
     for n in 0..world.count() {
-        if let Some(event) = world.enabled(n) {
+        if let Some(event) = Enabled::find(plan, world, n) {
             write!(text, "  {n} ")?;
-            push_event(text, plan, world, event)?;
+            push_event(text, plan, event)?;
             text.push('\n')?;
         }
     }

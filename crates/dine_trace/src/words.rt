@@ -4,13 +4,36 @@ use crate::fault_lines::Fault;
 use dine_words::{Command, Links, Table, command_of};
 use std::alloc::Global;
 
+// The word for a LIST that is the first line of the input.
+const IN_INPUT: &str = "-";
+
+/// Where the choices are.
+#[derive(Drop)]
+pub enum Choices {
+    /// These are the choices.
+    Given(Vec<u32>),
+    /// The first line of the input is their LIST, and the plan is behind it.
+    InInput,
+}
+
+/// What the program is asked to show of a plan and choices.
+#[derive(Drop)]
+pub enum Form {
+    /// The steps of the choices, and those after them.
+    Steps,
+    /// The state after the choices, as JSON.
+    State,
+    /// All events of the choices, as JSON.
+    Events,
+    /// The states after so many events of the choices, as a line of JSON each.
+    States(Vec<u32>),
+}
+
 /// What the program is asked to show.
 #[derive(Drop)]
 pub enum Asked {
-    /// The steps of these choices, and those after them.
-    Steps(Vec<u32>),
-    /// The state after these choices, as JSON.
-    State(Vec<u32>),
+    /// Something of choices.
+    Of(Form, Choices),
     /// The choices that go as a run on threads went, over links of this kind.
     Run(Links),
 }
@@ -18,24 +41,46 @@ pub enum Asked {
 /// What the words ask for, of which the first is the program's own name.
 pub fn asked_of(alloc: Global, words: &[String]) -> Result<Asked, Fault> {
     match words.get(1) {
-        None => Ok(Asked::Steps(Vec::new(alloc))),
+        None => of(alloc, Form::Steps, &[]),
         Some(word) => match word.as_str() {
-            "--json" => Ok(Asked::State(choices_in(alloc, &words[2..])?)),
+            "--json" => of(alloc, Form::State, &words[2..]),
+            "--events" => of(alloc, Form::Events, &words[2..]),
+            "--states" => states_in(alloc, &words[2..]),
             "--run" => Ok(Asked::Run(links_in(alloc, &words[2..])?)),
-            _ => Ok(Asked::Steps(choices_in(alloc, &words[1..])?)),
+            _ => of(alloc, Form::Steps, &words[1..]),
         },
     }
 }
 
-// The choices of the words: one that is a LIST as for `dine replay --choices`, or no word, and then there are none.
-fn choices_in(alloc: Global, words: &[String]) -> Result<Vec<u32>, Fault> {
+// This form of the choices of the words.
+fn of(alloc: Global, form: Form, words: &[String]) -> Result<Asked, Fault> {
+    Ok(Asked::Of(form, choices_in(alloc, words)?))
+}
+
+// The states at the places that the first of the words lists.
+fn states_in(alloc: Global, words: &[String]) -> Result<Asked, Fault> {
+    match words.get(0) {
+        Some(places) => of(alloc, Form::States(choices_of(alloc, places.as_str())?), &words[1..]),
+        None => Err(Fault::Usage),
+    }
+}
+
+// The choices of the words: one that is a LIST as for `dine replay --choices`, or says that the input has it, or no
+// word, and then there are none.
+fn choices_in(alloc: Global, words: &[String]) -> Result<Choices, Fault> {
     match words.len() {
-        0 => Ok(Vec::new(alloc)),
-        1 => match said_to_dine(alloc, ["replay", "--choices", words[0].as_str()].as_slice())? {
-            Command::Replay(choices) => Ok(choices),
-            Command::Run(..) | Command::Check => Err(Fault::Usage),
-        },
+        0 => Ok(Choices::Given(Vec::new(alloc))),
+        1 if words[0].as_str() == IN_INPUT => Ok(Choices::InInput),
+        1 => Ok(Choices::Given(choices_of(alloc, words[0].as_str())?)),
         _ => Err(Fault::Usage),
+    }
+}
+
+/// The choices of a LIST as for `dine replay --choices`.
+pub fn choices_of(alloc: Global, list: &str) -> Result<Vec<u32>, Fault> {
+    match said_to_dine(alloc, ["replay", "--choices", list].as_slice())? {
+        Command::Replay(choices) => Ok(choices),
+        Command::Run(..) | Command::Check => Err(Fault::Usage),
     }
 }
 

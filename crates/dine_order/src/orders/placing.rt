@@ -64,11 +64,7 @@ fn place_next<J: AsSlice<EventKind>>(
 
 // The next event of the site's journal, where so many of each site's were placed. None where there is none, or no such
 // site.
-fn next_kind<J: AsSlice<EventKind>>(
-    journals: &[J],
-    counts: &[u32],
-    site: u32,
-) -> Option<EventKind>
+fn next_kind<J: AsSlice<EventKind>>(journals: &[J], counts: &[u32], site: u32) -> Option<EventKind>
     ensures { result ≡ kind_at (map J.items journals.now) counts.now site }
 {
     let journal = journals.get(site as usize)?;

@@ -1,5 +1,5 @@
 -- How a site goes on: by no step, by one step after others, and by one in which nothing of its meals changes.
-use Rattle.std.proofs.Common.{refl, ◌∙◌}
+use Rattle.std.proofs.Common.{refl, sym, subst, ◌∙◌}
 use Rattle.dine_link.specs.declared.lane.Lane as lanes
 use Rattle.dine_site.specs.declared.diner.Diner as diners
 use Rattle.dine_site.specs.declared.site_loop.running.Running.{Running}
@@ -15,6 +15,7 @@ module _ {Lane Tx Closed Rx Diner : Type 0} (lane : lanes.Ghosts Lane Tx Closed 
     heeds = λ first heeding. heeding;
     resigns = refl;
     site = refl;
+    expects = λ plan site is. is;
   }
 
   module _ (To : Way lane.Identity) where
@@ -26,6 +27,7 @@ module _ {Lane Tx Closed Rx Diner : Type 0} (lane : lanes.Ghosts Lane Tx Closed 
       heeds = λ first heeding. did.heeds first (was.heeds first heeding);
       resigns = did.resigns ∙ was.resigns;
       site = did.site ∙ was.site;
+      expects = λ plan site is. did.expects plan site (was.expects plan site is);
     }
 
     pub proceeds_same : (old new : Running Lane Diner Tx Closed Rx) → SameMeals old new → IsReady diner old → Leads lane IsRunning To old new → Proceeds lane diner To old new
@@ -36,6 +38,7 @@ module _ {Lane Tx Closed Rx Diner : Type 0} (lane : lanes.Ghosts Lane Tx Closed 
       heeds = heeds_same diner old new same;
       resigns = same.resigns;
       site = same.site;
+      expects = λ plan site is. subst (λ (one : Diner). diner.expects one plan site) (sym same.diner) is;
     }
 
     pub proceeds_to : {old new : Running Lane Diner Tx Closed Rx} → Leads lane IsRunning To new new → Proceeds lane diner IsRunning old new → Proceeds lane diner To old new
@@ -46,9 +49,14 @@ module _ {Lane Tx Closed Rx Diner : Type 0} (lane : lanes.Ghosts Lane Tx Closed 
       heeds = did.heeds;
       resigns = did.resigns;
       site = did.site;
+      expects = did.expects;
     }
 
   pub may_then : {a b : Running Lane Diner Tx Closed Rx} → MayProceed lane diner a → Proceeds lane diner IsRunning a b → MayProceed lane diner b
-  may_then may did =
+  may_then {a = a} {b = b} may did =
       let p = may.running in
-      record { running = (p.0, p.1, did.way p.0 p.1 p.2); ready = did.ready }
+      record {
+        running = (p.0, p.1, did.way p.0 p.1 p.2);
+        ready = did.ready;
+        expects = subst (diner.expects b.diner p.0) (sym did.site) (did.expects p.0 a.core.site may.expects);
+      }

@@ -123,4 +123,4 @@ module _ (plan : SeenPlan) (ates : List ℕ) (links : List SeenLink) where
           }
 
           pub order_of_run : length journals ≡ site_count plan → AreTimed plan journals → HaveOrder plan journals
-          order_of_run count times = let order = order_shown plan journals states is_plan states_after none_must complete times in record { count = count; events = order.0; is_order = order.1 }
+          order_of_run count times = let order = order_shown plan journals states is_plan states_after none_must complete times in record { is_plan = is_plan; count = count; events = order.0; is_order = order.1 }

@@ -2,12 +2,13 @@
 use Rattle.std.specs.Prelude.{◌≡◌, ℕ, ◌≤◌, false, List, All, length, slice_get, Some, None}
 use Rattle.dine_graph.specs.Plan.{SeenPlan}
 use Rattle.std.specs.declared.thread.PromisedHandle.{PromisedHandle}
-use Rattle.dine_core.specs.Standing.{IsFresh, IsFreshFor}
+use Rattle.dine_core.specs.Standing.{IsFreshFor}
 use Rattle.dine_threads.specs.declared.seats.EndOf.{EndOf}
 use Rattle.dine_threads.specs.declared.seats.Seat.{Seat}
 use Rattle.dine_site.specs.declared.site_end.SiteEnd.{SiteEnd}
 use Rattle.dine_site.specs.Diners.{HasEaten, HeedsFailures}
 use Rattle.dine_site.specs.Ports.{IsFreshPort, seen_ports}
+use Rattle.dine_site.specs.Starts.{MayStart}
 use Rattle.dine_site.specs.Times.{IsTimed, none_late}
 use Rattle.dine_site.specs.SiteEnds.{IsLeft, seen_site_end}
 use Rattle.dine_link.specs.declared.lane.Lane.{Ghosts}
@@ -19,9 +20,9 @@ seat_of child = child.promise.seat.value
 
 module _ {Lane Tx Closed Rx D : Type 0} (lane : Ghosts Lane Tx Closed Rx) where
   -- What moves into a thread is ready: a core without events with unused link ends and a bell for its places, and a
-  -- diner with room for all its meals.
+  -- diner with room for all its meals, which expects to eat there.
   pub record IsReady (eater : diners.Ghosts D) (seat : Seat Lane D Tx Closed Rx) : Type 0 where
-    pub fresh : IsFresh seat.packed
+    pub fresh : MayStart eater seat.diner seat.packed
     pub ports : length seat.ports.items ≡ length seat.packed.places
     pub unused : All IsFreshPort (seen_ports lane seat.ports.items)
     pub bell : seat.bell.degree ≡ length seat.packed.places

@@ -31,7 +31,7 @@ returns-in-Ok-clause-lowest g c =
 pub returns-in-Ok-clause-apart : goal.returns-in-Ok-clause-apart
 returns-in-Ok-clause-apart g c =
     let journals = map (λ (out : SiteOut _). out.journal.items) c.as_slice.result.now in
-    c.neighbours_eat_apart_in_each_order.ensures.shown c.args.plan.now journals c.in-Ok.events.items c.sites.ensures.plan c.in-Ok.ensures.order
+    c.neighbours_eat_apart_in_each_order.ensures.shown c.args.plan.now journals c.in-Ok.events.items c.requires.ordered.is_plan c.in-Ok.ensures.order
 
 pub unreachable-requires : goal.unreachable-requires
 unreachable-requires g c =

@@ -19,7 +19,11 @@ work-requires-clause-ready g c κs ls =
     let count : length ports ≡ length c.args.core.places = omega (arith, length-map c.args.ports.items (seen_port g.L.Lane), c.requires.ports, c.args.ports.ok.0) in
     let plan = c.requires.fresh.0 in
     let running : IsRunning plan ports (seen_run g.L.Lane c.new-site.result) = subst (λ (site : Running _ _ _ _ _). IsRunning plan ports (seen_run g.L.Lane site)) (sym c.new-site.ensures) (start_runs plan c.args.core ports c.streams_are_kept.ensures.start c.requires.fresh.1 count c.requires.unused c.args.bell c.requires.unheard c.new.result.items c.new.ensures.items) in
-    record { running = (plan, ports, running); ready = search rules }
+    record {
+      running = (plan, ports, running);
+      ready = search rules;
+      expects = subst (λ (site : Running _ _ _ _ _). g.D.Diner.expects site.diner plan site.core.site) (sym c.new-site.ensures) c.requires.fresh.2;
+    }
 
 pub end-requires-clause-may_end : goal.end-requires-clause-may_end
 end-requires-clause-may_end g c κs ls =

@@ -39,6 +39,8 @@ loop-stand-init g c =
           subst (λ n. IsStandOf g.L.Lane plan n stand) (sym (zero-add k)) (c.requires.each k stand (subst (λ xs. slice_get xs k ≡ Some stand) gives at));
       rooms = λ k diner at.
           subst (λ n. job_count plan n ≤ g.D.Diner.room_left diner) (sym (zero-add k)) (c.requires.rooms k diner (subst (λ xs. slice_get xs k ≡ Some diner) rest at));
+      expected = λ k diner at.
+          subst (λ n. g.D.Diner.expects diner plan n) (sym (zero-add k)) (c.requires.expected k diner (subst (λ xs. slice_get xs k ≡ Some diner) rest at));
       ready = λ k d within. absurd (omega (arith, within, ap length none));
       fresh = λ s seat at. absurd (omega (arith, slice_get_within (vec_items c.args.seats.now) s seat at, ap length none));
       diners = ap (λ l. map (λ (seat : Seat _ _ _ _ _). seat.diner) l ++ into_iter_items c.into_iter-waiting.result) none ∙ rest;
@@ -69,12 +71,13 @@ loop-stand-preserved g c =
     let still : n + 0 ≡ n = omega arith in
     let here : IsStandOf lane plan n stand = subst (λ m. IsStandOf lane plan m stand) still (was.stands 0 stand (ap (λ xs. slice_get xs 0) c.in-Some.ensures.steps.0)) in
     let room : job_count plan n ≤ g.D.Diner.room_left diner = subst (λ m. job_count plan m ≤ g.D.Diner.room_left diner) still (was.rooms 0 diner (ap (λ xs. slice_get xs 0) next.0)) in
+    let expected : g.D.Diner.expects diner plan n = subst (λ m. g.D.Diner.expects diner plan m) still (was.expected 0 diner (ap (λ xs. slice_get xs 0) next.0)) in
     let fresh_for = is.fresh in
     let sited : packed.site ≡ n = is.site in
     let places : length packed.places ≡ length (edges_of plan n) = fresh_for.stands.degree ∙ length-map (edges_of plan packed.site) (λ edge. no_traffic) ∙ ap (λ s. length (edges_of plan s)) sited in
     let due : packed.due ≡ job_count plan n = fresh_for.stands.due ∙ ap (job_count plan) sited in
     let ready_here : IsReady lane g.D.Diner seat = record {
-      fresh = (plan, fresh_for);
+      fresh = (plan, fresh_for, subst (g.D.Diner.expects diner plan) (sym sited) expected);
       ports = here.ports ∙ sym places;
       unused = here.unused;
       bell = here.bell ∙ sym places;
@@ -89,6 +92,7 @@ loop-stand-preserved g c =
       room = omega (arith, was.room, c.push_reserved.ensures.capacity);
       stands = λ k s at. subst (λ m. IsStandOf lane plan m s) (shift k) (was.stands (suc k) s (ap (λ xs. slice_get xs (suc k)) c.in-Some.ensures.steps.0 ∙ at));
       rooms = λ k d at. subst (λ m. job_count plan m ≤ g.D.Diner.room_left d) (shift k) (was.rooms (suc k) d (ap (λ xs. slice_get xs (suc k)) next.0 ∙ at));
+      expected = λ k d at. subst (λ m. g.D.Diner.expects d plan m) (shift k) (was.expected (suc k) d (ap (λ xs. slice_get xs (suc k)) next.0 ∙ at));
       ready = all_more (IsReady lane g.D.Diner) old new seat grown was.ready ready_here;
       fresh = λ s x at.
           elim (slice_get-push old seat x s (subst (λ xs. slice_get xs s ≡ Some x) grown at)) [

@@ -15,6 +15,7 @@ invariant-loop-stand g l = record {
   room : site_count l.plan ≤ vec_capacity l.seats;
   stands : (k : ℕ) (stand : Stand _ _ _ _) → slice_get (into_iter_items l.stand-iterator) k ≡ Some stand → IsStandOf g.L.Lane l.plan (l.number + k) stand;
   rooms : (k : ℕ) (diner : _) → slice_get (into_iter_items l.waiting) k ≡ Some diner → job_count l.plan (l.number + k) ≤ g.D.Diner.room_left diner;
+  expected : (k : ℕ) (diner : _) → slice_get (into_iter_items l.waiting) k ≡ Some diner → g.D.Diner.expects diner l.plan (l.number + k);
   ready : All (IsReady g.L.Lane g.D.Diner) (vec_items l.seats);
   fresh : AreSeatsOf l.plan (vec_items l.seats);
   diners : map (λ (seat : Seat _ _ _ _ _). seat.diner) (vec_items l.seats) ++ into_iter_items l.waiting ≡ vec_items l.fn.diners;

@@ -14,3 +14,8 @@ returns g c =
     let left_it = rw c.unpack-core.ensures at c.not_started.ensures.left in
     let heeds = rw c.unpack-core.ensures at c.not_started.ensures.heeds in
     record { left = left_it; eaten = c.not_started.ensures.eaten; timed = λ none. absurd (none-some site_fault.NotStarted (sym none ∙ c.not_started.ensures.fault)); heeds = heeds }
+
+pub not_started-requires-clause-fresh : goal.not_started-requires-clause-fresh
+not_started-requires-clause-fresh g c κs ls =
+    let starts = rw (sym c.unpack-core.ensures) at c.requires.fresh in
+    (starts.0, starts.1)

@@ -38,6 +38,9 @@ seat_all-requires-clause-each g c κs ls = c.in_ok-stands.ensures.each
 pub seat_all-requires-clause-rooms : goal.seat_all-requires-clause-rooms
 seat_all-requires-clause-rooms g c κs ls = c.requires.rooms
 
+pub seat_all-requires-clause-expected : goal.seat_all-requires-clause-expected
+seat_all-requires-clause-expected g c κs ls = c.requires.expected
+
 pub seat_all-requires-clause-capacity : goal.seat_all-requires-clause-capacity
 seat_all-requires-clause-capacity g c κs ls = omega (arith, c.in_ok-seats.ensures.capacity, c.sites.ensures.count)
 

@@ -7,8 +7,11 @@ use Rattle.std.specs.Prelude.{nat_lt}
 use Rattle.dine_clock.specs.Moments.{last_moment}
 use Rattle.dine_site.proofs.one_site.Times.{alone}
 use Rattle.dine_site.specs.Running.{SeenRun, IsHeeding, seen_run}
+use Rattle.std.proofs.lemmas.Option.{slice_get_within, get_or_from_slice_get}
+use Rattle.dine_token.specs.Log.{meals_of}
 use Rattle.dine_core.specs.Core.{SeenCore}
-use Rattle.dine_core.specs.Places.{begun, drops_jobs, ended}
+use Rattle.dine_core.specs.Places.{FitsMeal, begun, drops_jobs, ended}
+use Rattle.dine_site.proofs.one_site.WholeMeals.{whole_meal}
 use Rattle.dine_site.proofs.one_site.Heeding.{heeds_meal, hungry_goes_on}
 use Rattle.dine_site.proofs.one_site.Meals.{eaten_more, failed_by}
 use Rattle.dine_site.proofs.one_site.Ways.{eat_runs}
@@ -46,9 +49,28 @@ returns g c =
             (ap (λ (ok : Bool). not ok && core.resigns && has_left) c.is_ok-ok.ensures.value));
         resigns = ap (λ (core : SeenCore). core.resigns) is;
         site = ap (λ (core : SeenCore). core.site) is;
+        expects = c.eat.ensures.stays;
       };
       timed = λ timed.
           let ports = seen_ports g.L.Lane c.args.self.now.ports.items in
           let first = alone c.args.self.now.clock.events c.args.self.now.journal.items ports event.Begin (last_moment c.args.self.now.clock.events + c.first.result.at + 1) (omega arith) timed c.push_reserved.new.self.items c.push_reserved.ensures.items c.after-self.result.events c.after-self.ensures refl in
           alone c.after-self.result.events c.push_reserved.new.self.items ports event.End (last_moment c.after-self.result.events + c.first-2.result.at + 1) (omega arith) first c.push_reserved-2.new.self.items c.push_reserved-2.ensures.items c.after-self-2.result.events c.after-self-2.ensures refl;
     }
+
+pub eat-requires-clause-own : goal.eat-requires-clause-own
+eat-requires-clause-own g c i fork at =
+    let meal = c.begin-meal.result in
+    let is = c.begin-meal.ensures.meal in
+    let within = slice_get_within meal.forks i fork at in
+    let fits : FitsMeal c.begin-meal.new.self i fork = subst (FitsMeal c.begin-meal.new.self i) (get_or_from_slice_get meal.forks i fork fork at) (is.forks i fork (omega (arith, within, is.count))) in
+    (fits.fits.here ∙ sym is.site, ap (λ (s : ℕ). meals_of s fork.log) is.site ∙ fits.fits.eaten ∙ sym is.k)
+
+pub eat-requires-clause-whole : goal.eat-requires-clause-whole
+eat-requires-clause-whole g c =
+    let running = c.requires.ready.running in
+    let plan = running.0 in
+    let before = running.2 in
+    let began = c.begin-meal.ensures.step plan before.state before.has.keeps before.has.stands in
+    let meal = c.begin-meal.ensures.meal in
+    let site = meal.site ∙ ap (λ (core : SeenCore). core.site) c.begin-meal.ensures.core in
+    (plan, whole_meal plan _ c.begin-meal.new.self c.begin-meal.result began.stands began.keeps meal, subst (g.D.Diner.expects c.args.self.now.diner plan) (sym site) c.requires.ready.expects)

@@ -123,6 +123,7 @@ returns-in-Quit g c =
             (sym (or_left core.must_quit core.has_quit (and_parts (is_thinking core.phase) core.must_quit can).1)) refl refl heeding);
         resigns = ap (λ (core : SeenCore). core.resigns) is;
         site = ap (λ (core : SeenCore). core.site) is;
+        expects = λ plan site is. is;
       };
       timed = λ timed. alone c.args.self.now.clock.events c.args.self.now.journal.items (seen_ports g.L.Lane c.args.self.now.ports.items) event.Quit (last_moment c.args.self.now.clock.events + c.first-in-Quit.result.at + 1) (omega arith) timed c.push_reserved-in-Quit.new.self.items c.push_reserved-in-Quit.ensures.items c.after-self-in-Quit.result.events c.after-self-in-Quit.ensures refl;
     }

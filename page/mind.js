@@ -1,0 +1,39 @@
+// What the page has in mind, and where it finds its elements.
+
+export const found = (name) => document.getElementById(name);
+
+export const mind = {
+  // The program that is asked, and the plans and lessons that it offers, the plans by their paths.
+  program: null,
+  plans: new Map(),
+  first: null,
+  lessons: [],
+  // The schedule that is shown.
+  schedule: null,
+  // The text of the plan that was asked for last, which may be refused.
+  wanted: "",
+  // The site that was clicked, the one in focus, and the one that has the most edges.
+  selected: null,
+  focus: null,
+  hub: 0,
+  // The lesson that is shown, and the number of its moment.
+  lesson: null,
+  moment: 0,
+  // The table without the rules.
+  naive: null,
+  // How large the picture may be, and how large the reader's letters are.
+  room: { width: 600, height: 400, rem: 1 },
+  // The place on the timeline that a pointer went to last.
+  scrubbed: 0,
+  // What the parts of the page do when they are used.
+  does: {},
+};
+
+export function seed() {
+  return Math.max(0, Math.min(Math.floor(Number(found("seed").value) || 0), 999999));
+}
+
+// How many events are played in a second.
+export function rate() {
+  return 2 ** Number(found("speed").value);
+}

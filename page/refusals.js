@@ -1,0 +1,45 @@
+// Why a plan is refused, in a sentence, and the line of its text that it is about.
+
+const SENTENCES = {
+  NotToml: "The text is not TOML.",
+  Version: "The plan must begin with version = 1 or version = 2.",
+  UnknownKey: "A table has a key that plans do not have, or not in this version.",
+  MissingKey: "A site or a job has no name, or an edge has no ends.",
+  WrongKind: "A value is of the wrong kind: a text for a number, or a number below 0.",
+  BadName: "A name of this site or of a job of it is not 1 to 32 letters, digits, _ or -.",
+  SiteTwice: "An earlier site has the same name.",
+  NoSite: "The plan has no site.",
+  TooManySites: "The plan has more than 64 sites.",
+  TooManyJobs: "This site has more than 1,000 jobs.",
+  TurnsTooLarge: "A job of this site has turns above 1,000,000.",
+  UnknownEnd: "An end of this edge is not the name of a site.",
+  Loop: "Both ends of this edge are one site.",
+  EdgeTwice: "An earlier edge joins the same two sites.",
+  TooManyEdges: "The plan has more than 512 edges.",
+  TwoActs: "A job of this site has both add and set.",
+  ActTooLarge: "A job of this site has add or set above 1,000,000.",
+  ValueTooLarge: "The value of this edge is above 1,000,000.",
+  UnknownPolicy: "on_fault of this site is neither \"go\" nor \"resign\".",
+};
+
+// The lines, from 0, of the site or edge with this number: from its header to the one before the next header.
+function linesOfTable(text, table, number) {
+  const lines = text.split("\n");
+  const isHeader = (line) => /^\s*\[/.test(line);
+  const begins = [...lines.keys()].filter((line) => new RegExp(`^\\s*\\[\\[\\s*${table}\\s*\\]\\]`).test(lines[line]));
+  const from = begins[number];
+  if (from === undefined) return null;
+  const next = lines.findIndex((line, place) => place > from && isHeader(line));
+  let to = next < 0 ? lines.length - 1 : next - 1;
+  while (to > from && lines[to].trim() === "") to -= 1;
+  return { from, to };
+}
+
+// The sentence for the program's line, and the lines of the text that it is about, or null.
+export function refusalOf(told, text) {
+  const [, name, table, number] = /plan refused: \d+ (\w+)(?: at (site|edge) (\d+))?/.exec(told) ?? [];
+  if (!SENTENCES[name]) return { sentence: told, lines: null };
+  const lines = table ? linesOfTable(text, table, Number(number)) : null;
+  const where = lines ? ` Line ${lines.from + 1}.` : table ? ` It is ${table} ${number}, counted from 0.` : "";
+  return { sentence: `${SENTENCES[name]}${where}`, lines };
+}
