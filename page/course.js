@@ -44,16 +44,21 @@ export class Course {
     new ResizeObserver(() => this.measure()).observe(this.scroll);
   }
 
-  // A press goes to its place, and a drag of a mouse along. A finger that drags moves the timeline.
+  // A press of a mouse goes to its place, and a drag along. A finger taps to go to a place, and drags to move the
+  // timeline.
   listenToPointer() {
     const placeOf = (event) => {
       const far = event.clientX - this.scroll.getBoundingClientRect().left + this.left;
       return between(0, Math.round(far / this.wide), this.total);
     };
     this.scroll.addEventListener("pointerdown", (event) => {
-      if (event.button !== 0 || event.offsetY > this.scroll.clientHeight) return;
-      if (event.pointerType === "mouse") this.view.setPointerCapture(event.pointerId);
+      // What is pressed outside of the inside is the scroll bar.
+      if (event.button !== 0 || event.pointerType !== "mouse" || event.target === this.scroll) return;
+      this.view.setPointerCapture(event.pointerId);
       this.jump(placeOf(event));
+    });
+    this.scroll.addEventListener("click", (event) => {
+      if (event.pointerType !== "mouse" && event.target !== this.scroll) this.jump(placeOf(event));
     });
     this.scroll.addEventListener("pointermove", (event) => {
       if (event.pointerType === "mouse" && event.buttons === 1 && this.view.hasPointerCapture(event.pointerId)) {

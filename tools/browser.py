@@ -123,6 +123,19 @@ class Browser:
 
         self.guarded(does)
 
+    def drag(self, where, begin, end):
+        """Presses so far along what is there, as click_at() has it, drags to another part, and lets go."""
+
+        def does():
+            found = self.driver.find_element(self.by, where)
+            wide = found.size["width"]
+            chain = self.chains(self.driver, duration=0)
+            chain.move_to_element_with_offset(found, round((begin - 0.5) * wide), 0).click_and_hold()
+            chain.move_by_offset(round((end - begin) * wide / 2), 0)
+            chain.move_by_offset(round((end - begin) * wide / 2), 0).release().perform()
+
+        self.guarded(does)
+
     def type(self, keys):
         """Types a text to whatever has the focus."""
         self.guarded(lambda: self.chains(self.driver, duration=0).send_keys(keys).perform())

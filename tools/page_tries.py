@@ -2,6 +2,7 @@
 nothing is, or a generator of such lines."""
 import random
 import re
+import time
 import urllib.parse
 from functools import partial
 
@@ -294,6 +295,23 @@ def fault_of_threads(seen):
     return seen.fault_of_end()
 
 
+# ---- The timeline
+
+
+def faults_of_timeline(seen):
+    """A click on the timeline goes to its place, and a drag goes along. What a site does there is told."""
+    seen.open(f"{RING}&choices={ASKED}")
+    for does, wanted in ((lambda: seen.browser.click_at("#course-scroll", 0.04), range(1, 4)),
+                         (lambda: seen.browser.drag("#course-scroll", 0.04, 0.14), range(6, 9))):
+        does()
+        time.sleep(0.2)
+        seen.wait()
+        if seen.event() not in wanted:
+            yield f"it goes to event {seen.event()}, wanted {wanted}"
+    if seen.text("#course-hint") != "c waits, events 3 to 10":
+        yield f"it says {seen.text('#course-hint')!r}"
+
+
 # ---- Long runs
 
 
@@ -360,6 +378,7 @@ def tries_of_page(seen):
     yield "choices that are left out", partial(fault_of_left_out, seen)
     yield "long addresses", partial(fault_of_packed, seen)
     yield "what the threads did", partial(fault_of_threads, seen)
+    yield "the timeline", partial(faults_of_timeline, seen)
     yield "a long run", partial(faults_of_long_run, seen)
     yield "the speed with 16 sites", partial(fault_of_speed, seen, "few", plan_of(16, 2, ring_of(16) + across(14)))
     yield "the speed with 512 edges", partial(fault_of_speed, seen, "many", plan_of(64, 2, crowd()))

@@ -7,7 +7,7 @@ use dine_core::site::{fresh_forks, fresh_tokens};
 use dine_core::{EventKind, SiteCore};
 use dine_link::{Bell, Lane};
 use dine_plan::{Plan, PlanBuilder, PlanFault, read_plan};
-use dine_run::{Job, JobFault, Jobs, OrderFault, SeatFault, SiteFault, order};
+use dine_run::{OrderFault, SiteFault, order};
 use dine_test_plans::PAIR;
 use dine_token::Fork;
 use dine_world::World;
@@ -68,30 +68,6 @@ pub fn builder(alloc: Global) -> Told {
         Ok(plan) if plan.sites() == 1 && plan.edges() == 0 => Told::Whole,
         Err(PlanFault::Memory) => Told::Memory,
         _ => Told::Another,
-    }
-}
-
-/// Does nothing.
-#[derive(Drop)]
-struct Idle;
-
-impl Job for Idle {
-    fn run(&mut self, _k: u32) -> Result<(), JobFault> {
-        Ok(())
-    }
-}
-
-/// Diners of the pair's jobs.
-pub fn jobs(alloc: Global) -> Result<Told, AllocError> {
-    let plan = pair(alloc)?;
-    let mut jobs = Vec::new(alloc);
-    for _ in 0..plan.sites() {
-        jobs.push(Idle)?;
-    }
-    match Jobs::seat(alloc, &plan, jobs) {
-        Ok(_) => Ok(Told::Whole),
-        Err(SeatFault::Memory(_)) => Ok(Told::Memory),
-        Err(SeatFault::JobsDiffer(_)) => Ok(Told::Another),
     }
 }
 

@@ -1,12 +1,9 @@
 // Runs with real threads.
-ghost use Rattle.std.specs.Prelude.{◌≡◌, ◌≤◌, Some, slice_get};
-ghost use Rattle.dine_graph.specs.Plan.{job_count};
-
 use crate::asserts::same;
 use crate::diners::{Taster, Waiter, waiters};
 use dine_link::{ChannelLane, Lane, RingLane};
 use dine_plan::{Plan, read_plan};
-use dine_run::{CallLog, Jobs, RunFault, SiteOut, run, run_within};
+use dine_run::{CallLog, RunFault, SiteOut, run, run_within};
 use dine_test_plans::{PAIR, PATH};
 use std::alloc::Global;
 use std::process::Abort;
@@ -25,28 +22,10 @@ const SIXTEEN: &str = "version = 1\n\
     [[site]]\nname = \"o\"\njobs = [{ name = \"x\" }]\n[[site]]\nname = \"p\"\njobs = [{ name = \"x\" }]\n";
 
 // Each of the sites had one meal, whose job went well.
-fn ate_once(rt: &impl Abort, sites: &[SiteOut<Jobs<Waiter>>]) {
+fn ate_once(rt: &impl Abort, sites: &[SiteOut<Waiter>]) {
     for site in sites {
         same(rt, &(site.ate, site.failed), &(1, 0));
     }
-}
-
-// Waiting diners, as `waiters` says.
-fn seated(
-    rt: &impl Abort,
-    alloc: Global,
-    plan: &Plan,
-    all: u32,
-    everyone: bool,
-    entered: &Arc<AtomicU32, Global>,
-) -> Vec<Jobs<Waiter>>
-    ensures { (s : _) (diner : _) → slice_get result.items s ≡ Some diner → job_count plan.now s ≤ diner.log.room }
-{
-    let jobs = waiters(alloc, plan, all, everyone, entered).expect(rt, "memory");
-    let Ok(diners) = Jobs::seat(alloc, plan, jobs) else {
-        panic!(rt; "no diners");
-    };
-    diners
 }
 
 // Runs with waiting diners, none of which fails, over links of a lane.
@@ -63,8 +42,8 @@ where
 {
     let plan = read_plan(alloc, text).expect(rt, "a plan");
     let entered = Arc::new(alloc, AtomicU32::new(0)).expect(rt, "memory");
-    let diners = seated(rt, alloc, &plan, all, plan.edges() == 0, &entered);
-    let Ok(gathered) = run::<L, Jobs<Waiter>>(rt, alloc, &plan, diners) else {
+    let diners = waiters(alloc, &plan, all, plan.edges() == 0, &entered).expect(rt, "memory");
+    let Ok(gathered) = run::<L, Waiter>(rt, alloc, &plan, diners) else {
         panic!(rt; "no run");
     };
     same(rt, &gathered.sites.len(), &(plan.sites() as usize));
@@ -129,9 +108,8 @@ where
     let plan = read_plan(alloc, PAIR).expect(rt, "a plan");
     let diners = diners_for_one(rt, alloc, count);
     assert!(rt; diners.len() != plan.sites() as usize);
-    let Err(RunFault::DinersDiffer { given, diners }) = run::<L, Taster>(
-        rt, alloc, &plan, diners,
-    ) else {
+    let Err(RunFault::DinersDiffer { given, diners }) = run::<L, Taster>(rt, alloc, &plan, diners)
+    else {
         panic!(rt; "a run");
     };
     same(rt, &(given, diners.len()), &(count, count));
@@ -159,8 +137,8 @@ where
 {
     let plan = read_plan(alloc, PATH).expect(rt, "a plan");
     let entered = Arc::new(alloc, AtomicU32::new(0)).expect(rt, "memory");
-    let diners = seated(rt, alloc, &plan, 1, true, &entered);
-    let ended = run_within::<L, Jobs<Waiter>>(rt, alloc, &plan, diners, threads);
+    let diners = waiters(alloc, &plan, 1, true, &entered).expect(rt, "memory");
+    let ended = run_within::<L, Waiter>(rt, alloc, &plan, diners, threads);
     assert!(rt; matches!(ended, Err(RunFault::Thread(site)) if site == threads));
     same(rt, &entered.load(Ordering::SeqCst), &0);
     // Each diner held it, so the threads that were started have ended.
