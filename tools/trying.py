@@ -3,6 +3,7 @@ crates, and the lines and the count at the end."""
 import argparse
 import glob
 import os
+import re
 import shutil
 import subprocess
 import sys
@@ -12,6 +13,8 @@ from typing import NamedTuple
 HOME = os.path.dirname(os.path.dirname(os.path.realpath(__file__)))
 DINE = os.path.join(HOME, "dine")
 REFUSED = "dine: plan refused: "
+# A line of a plan's head: a command, and a line that it prints.
+EXPECTED = re.compile(r"^# ((?:no words|check|replay|run)[\w ,=-]*)> (.*)$", re.M)
 # How long an answer may take, where nothing else is said.
 SECONDS = 120
 # How much of a text is shown before and behind the place where it goes wrong.
@@ -76,6 +79,14 @@ def answer_with(lines):
     """Returns the answer to a plan that has these lines: they say that it is refused, or are what was asked for."""
     text = "".join(f"{line}\n" for line in lines)
     return Answer(3, "", text) if text.startswith(REFUSED) else Answer(0, text, "")
+
+
+def told_by(head):
+    """Returns the lines that the head of a plan's text says of each command."""
+    lines = {}
+    for command, line in EXPECTED.findall(head):
+        lines.setdefault(command, []).append(line)
+    return lines
 
 
 def first_difference(wanted, got):

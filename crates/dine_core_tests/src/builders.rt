@@ -224,23 +224,3 @@ fn refuses_numbers(rt: HostRuntime) {
         "a 1/0/false 2/0/true 3/100/false;b 1/1000000/false;c; 0-1 1-2 2: a! +1000000 +10 +0 b =1000000 c 5 1000000";
     tells(&rt, rt.alloc(), &plan, want);
 }
-
-// The plan has the site that was told, or its fault is want of memory, or that no site could be told for that.
-fn is_built(rt: &impl Abort, plan: Result<Plan, PlanFault>, is_told: bool) {
-    match plan {
-        Ok(plan) => {
-            assert!(rt; plan.sites() == 1);
-            same(rt, &(is_told, plan.jobs(0)), &(true, 2));
-        }
-        Err(PlanFault::Memory) => {}
-        Err(fault) => same(rt, &(is_told, fault), &(false, PlanFault::NoSite)),
-    }
-}
-
-// Under `--fail-alloc` each allocation fails in turn: what was told stays, and the answer is then want of memory.
-#[test]
-fn builds_the_plan_or_answers_memory(rt: HostRuntime) {
-    let mut plan = PlanBuilder::open(rt.alloc());
-    let is_told = plan.site("a", 2).is_ok();
-    is_built(&rt, plan.finish(), is_told);
-}

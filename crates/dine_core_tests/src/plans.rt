@@ -197,17 +197,3 @@ fn reads_values_acts_and_policies(rt: HostRuntime) {
     let found = second_in_short(&rt, rt.alloc(), &plan);
     same(&rt, &found.as_str(), &"2: a! +10 =0 +0 b 1000000");
 }
-
-// This many sites and edges are read, or memory is refused.
-fn reads_or_not(rt: &impl Abort, alloc: Global, text: &str, count: (u32, u32)) {
-    match read_plan(alloc, text) {
-        Ok(plan) => same(rt, &(plan.sites(), plan.edges()), &count),
-        Err(fault) => same(rt, &fault, &PlanFault::Memory),
-    }
-}
-
-// Under `--fail-alloc` each allocation fails in turn, and the answer is then want of memory.
-#[test]
-fn answers_the_plan_or_memory(rt: HostRuntime) {
-    reads_or_not(&rt, rt.alloc(), WHOLE, (3, 2));
-}

@@ -9,6 +9,7 @@ use crate::plans::read;
 use dine_core::site::{fresh_forks, fresh_tokens};
 use dine_core::{Breach, EventKind, Kind4, Letter, Packed, Parts, Phase, SiteCore};
 use dine_plan::Plan;
+use dine_test_plans::{FAILING_PAIR, PAIR, RESIGNING_PAIR};
 use dine_token::{Act, Entry, Fork, Token};
 use script::{A, B, C, Step, leave, play, plays, seat, seated};
 use std::alloc::{AllocError, Global};
@@ -30,6 +31,11 @@ const THREE_JOBS: &str = "{ name = \"x\" }, { name = \"y\" }, { name = \"z\" }";
 fn plan_of(rt: &impl Abort, alloc: Global, lower: &str, higher: &str) -> Plan {
     let text = pair_text(lower, higher, alloc).expect(rt, "memory");
     read(rt, alloc, text.as_str())
+}
+
+// Two sites with an edge, and a job each.
+fn pair(rt: &impl Abort, alloc: Global) -> Plan {
+    read(rt, alloc, PAIR)
 }
 
 // Three sites in a row, and a job at the last.
@@ -164,17 +170,26 @@ fn told_of(rt: &impl Abort, core: &SiteCore, i: u32) -> Told {
     }
 }
 
-// The letter is refused and handed back, of the same kind, and the core tells the same as before.
+// The kind of a letter and its edge, where it has one, and how long the log of its fork is.
+fn told_of_letter(letter: &Letter) -> (Kind4, Option<u32>, u32) {
+    match letter {
+        Letter::Fork(fork) => (Kind4::Fork, Some(fork.edge()), fork.len()),
+        Letter::Request(token) => (Kind4::Request, Some(token.edge()), 0),
+        Letter::Done | Letter::Close => (letter.kind(), None, 0),
+    }
+}
+
+// The letter is refused and handed back, and the core tells the same as before.
 fn refuse(rt: &impl Abort, core: &mut SiteCore, letter: Letter, cause: Breach) -> Letter {
     let before = told_of(rt, core, 0);
-    let kind = letter.kind();
+    let put = told_of_letter(&letter);
     assert!(rt; 0 < core.degree());
     let Err((back, breach)) = core.take(0, letter) else {
         assert!(rt; false);
         return Letter::Close;
     };
     same(rt, &breach, &cause);
-    same(rt, &back.kind(), &kind);
+    same(rt, &told_of_letter(&back), &put);
     same(rt, &told_of(rt, core, 0), &before);
     back
 }
@@ -202,7 +217,7 @@ fn fork_left<'a>(rt: &impl Abort, left: &'a [Parts], n: usize) -> &'a Fork {
 
 #[test]
 fn two_sites_eat_one_after_the_other(rt: HostRuntime) {
-    let plan = plan_of(&rt, rt.alloc(), JOB, JOB);
+    let plan = pair(&rt, rt.alloc());
     let steps = [
         Step::Hungry(A),
         Step::Eat(A),
@@ -264,7 +279,7 @@ fn events_come_in_the_fixed_order(rt: HostRuntime) {
 
 #[test]
 fn events_follow_the_phase(rt: HostRuntime) {
-    let plan = plan_of(&rt, rt.alloc(), JOB, JOB);
+    let plan = pair(&rt, rt.alloc());
     let steps = [
         Step::Next(A, Some(EventKind::Hungry)),
         Step::Hungry(A),
@@ -338,15 +353,16 @@ fn no_site_quits_without_cause(rt: HostRuntime) {
 #[test]
 fn done_comes_before_all_meals_of_a_site_that_resigns(rt: HostRuntime) {
     let refused = Step::Refuse(B, Breach::DoneOutOfTurn);
-    for (policy, last) in [("resign", Step::Take(B, 0)), ("go", refused)] {
-        let plan = policy_plan(&rt, rt.alloc(), policy);
+    for (text, last) in [(RESIGNING_PAIR, Step::Take(B, 0)), (FAILING_PAIR, refused)] {
+        let plan = read(&rt, rt.alloc(), text);
         let steps = [
             Step::Hungry(B),
+            Step::Ask(B, 0),
             Step::Hungry(A),
             Step::Eat(A),
-            Step::Ask(B, 0),
             Step::Take(A, 0),
             Step::Give(A, 0),
+            Step::LiesForkOf(&[Entry::Meal { site: 0, k: 1 }, Entry::Move { to: 1 }]),
             Step::Take(B, 0),
             Step::Done,
             last,
@@ -397,7 +413,7 @@ fn what_a_site_waits_for_follows_its_forks(rt: HostRuntime) {
 
 #[test]
 fn second_break_off_gives_nothing(rt: HostRuntime) {
-    let plan = plan_of(&rt, rt.alloc(), JOB, JOB);
+    let plan = pair(&rt, rt.alloc());
     let steps = [
         Step::BreakOff(A),
         Step::Lies(Kind4::Close),
@@ -472,17 +488,6 @@ fn packed_core_comes_back_as_it_was(rt: HostRuntime) {
     are_left(&rt, &leave(&rt, rt.alloc(), cores), A, 1, 0);
 }
 
-fn pack_and_drop(rt: &impl Abort, alloc: Global, plan: &Plan, site: u32) {
-    let _ = packed_site(rt, alloc, plan, site);
-}
-
-#[test]
-fn packed_core_may_be_dropped(rt: HostRuntime) {
-    let plan = plan_of(&rt, rt.alloc(), JOB, TWO_JOBS);
-    pack_and_drop(&rt, rt.alloc(), &plan, 0);
-    pack_and_drop(&rt, rt.alloc(), &plan, 1);
-}
-
 // Two sites with an edge of value 5 and a job each: that of `a` adds 10, and that of `b` does this.
 fn valued(rt: &impl Abort, alloc: Global, act: &str) -> Plan {
     let text = format!(in alloc;
@@ -511,6 +516,14 @@ fn eat_with(rt: &impl Abort, core: &mut SiteCore, value: u64) {
     assert!(rt; 0 < meal.len());
     same(rt, &meal.fork(0).value(), &value);
     core.end(meal, false);
+}
+
+// The fork in the letter has exactly this log.
+fn lies_fork_of(rt: &impl Abort, letter: &Letter, log: &[Entry]) {
+    match letter {
+        Letter::Fork(fork) => has_log(rt, fork, log),
+        _ => panic!(rt; "no fork"),
+    }
 }
 
 fn value_of(rt: &impl Abort, letter: &Letter) -> u64 {

@@ -11,6 +11,7 @@ use crate::forks::{has_log, has_periods};
 use crate::plans::read;
 use dine_plan::Plan;
 use dine_rules::{Event, EventKind, Phase};
+use dine_test_plans::{ONE_SIDED_PAIR, PAIR};
 use dine_token::{Act, Entry, Fork, Period};
 use dine_world::{NotEnabled, World};
 use graph::{Graph, graph_of};
@@ -105,7 +106,7 @@ fn plan_of(rt: &impl Abort, alloc: Global, sites: usize, jobs: u32, edges: &[(u3
 
 // Two sites with an edge, and a job each.
 fn pair(rt: &impl Abort, alloc: Global) -> Plan {
-    plan_of(rt, alloc, 2, 1, [(0, 1)].as_slice())
+    read(rt, alloc, PAIR)
 }
 
 fn opened(rt: &impl Abort, alloc: Global, plan: &Plan) -> World {
@@ -328,6 +329,9 @@ fn pair_opens_with_two_events(rt: HostRuntime) {
     ];
     let plan = pair(&rt, rt.alloc());
     let _forks = goes(&rt, rt.alloc(), &plan, &steps);
+    let refusal = NotEnabled;
+    let words = format!(in rt.alloc(); "{refusal}").expect(&rt, "memory");
+    same(&rt, &words.as_str(), &"the event is not enabled");
 }
 
 #[test]
@@ -406,24 +410,28 @@ fn choices_are_replayed(rt: HostRuntime) {
 fn choices_of_no_event_are_passed_over(rt: HostRuntime) {
     let steps = [
         Step::Replays(&[9, 2], 0),
+        Step::Replays(&[1, 1], 2),
         Step::Count(2),
-        Step::Replays(&[1, 1, 2, 0, 0], 4),
+        Step::Enabled(2, None),
+        Step::Replays(&[2], 0),
+        Step::Count(2),
+        Step::Replays(&[2, 0, 0], 2),
         Step::Finishes(18),
         Step::Complete,
     ];
     higher_eats_first(&rt, rt.alloc(), &steps);
 }
 
-// After the choices and all that is left, the fork of two sites with these jobs has these periods, each as its site,
-// its first meal and how many.
+// After the choices and all that is left, the fork of two sites has these periods, each as its site, its first meal and
+// how many.
 fn ends_with_periods(
     rt: &impl Abort,
     alloc: Global,
-    jobs: &[u32],
+    text: &str,
     choices: &[u32],
     periods: &[(u32, u32, u32)],
 ) {
-    let plan = plan_with(rt, alloc, jobs, [(0, 1)].as_slice());
+    let plan = read(rt, alloc, text);
     let mut world = opened(rt, alloc, &plan);
     let _ = world.replay(choices);
     let _ = world.finish();
@@ -434,13 +442,13 @@ fn ends_with_periods(
 
 #[test]
 fn forks_of_pairs_have_these_periods(rt: HostRuntime) {
-    let runs: [(&[u32], &[u32], &[(u32, u32, u32)]); 3] = [
-        (&[1, 1], &[], &[(0, 1, 1), (1, 1, 1)]),
-        (&[1, 1], &[1, 1, 0, 0], &[(0, 1, 0), (1, 1, 1), (0, 1, 1)]),
-        (&[3, 0], &[], &[(0, 1, 3)]),
+    let runs: [(&str, &[u32], &[(u32, u32, u32)]); 3] = [
+        (PAIR, &[], &[(0, 1, 1), (1, 1, 1)]),
+        (PAIR, &[1, 1, 0, 0], &[(0, 1, 0), (1, 1, 1), (0, 1, 1)]),
+        (ONE_SIDED_PAIR, &[], &[(0, 1, 3)]),
     ];
-    for (jobs, choices, periods) in runs {
-        ends_with_periods(&rt, rt.alloc(), jobs, choices, periods);
+    for (text, choices, periods) in runs {
+        ends_with_periods(&rt, rt.alloc(), text, choices, periods);
     }
 }
 

@@ -1,1 +1,2 @@
-pub mod JobsSeated
+pub mod JobRuns
+pub mod JobFaults

@@ -1,6 +1,18 @@
-//! Jobs of which nothing is to be proved, and the diners that do them.
+//! Jobs, the values that they share, and whole runs of them: each edge of a plan has a value, which its two sites open
+//! in their meals alone. `dine_run` re-exports all of it.
 #![tactic(auto)]
 
-mod jobs;
+mod done;
+mod given;
+mod ids;
+mod job;
+mod runs;
+mod seated;
+mod table;
+mod values;
 
-pub use jobs::{Job, Jobs, SeatFault};
+pub use done::{Done, JobsCause, JobsFault, SiteDone};
+pub use ids::{EdgeId, Place, SiteId};
+pub use job::{Failure, Job};
+pub use runs::{no_values, on_channels, on_rings, run_jobs};
+pub use table::{OpenFault, Table};

@@ -1,6 +1,6 @@
 // Rings of one thread and of several.
 use crate::asserts::same;
-use dine_link::{Bell, LinkFault, Lost, Ringer, Wants};
+use dine_link::{Bell, Lost, Ringer, Wants};
 use dine_rules::Kind4;
 use dine_set::BitSet64;
 use std::alloc::Global;
@@ -186,15 +186,6 @@ fn ringers_ring_their_own_bell(rt: HostRuntime) {
     tells(&rt, &mut bell, &[Ok(0), Err(Lost)]);
 }
 
-// Under `--fail-alloc` each allocation fails in turn, and the answer is then want of memory.
-#[test]
-fn opens_a_bell_or_tells_of_memory(rt: HostRuntime) {
-    match Bell::open(rt.alloc(), 3) {
-        Ok((ringers, _bell)) => same(&rt, &ringers.len(), &3),
-        Err(fault) => same(&rt, &fault, &LinkFault::Memory),
-    }
-}
-
 // A Request of ringer 1, the second of two Forks, Done and Close.
 fn few() -> Wants {
     let mut requests = BitSet64::empty();
@@ -235,22 +226,32 @@ fn note(heard: &Heard, told: Result<u32, Lost>) {
     heard.count.fetch_add(1, Ordering::SeqCst);
 }
 
-// Has the bell tell so many numbers. It wants few.
-fn tell<R: Wait>(rt: &R, mut bell: Bell, heard: Arc<Heard, Global>, count: u32) {
+// What a bell waits for: few rings, or each.
+#[derive(Clone, Copy, PartialEq, Eq)]
+enum Waits {
+    Few,
+    Each,
+}
+
+// Has the bell tell so many numbers.
+fn tell<R: Wait>(rt: &R, mut bell: Bell, heard: Arc<Heard, Global>, waits: Waits, count: u32) {
     for _ in 0..count {
-        let told = bell.wait_for(rt, few());
+        let told = match waits {
+            Waits::Few => bell.wait_for(rt, few()),
+            Waits::Each => bell.wait(rt),
+        };
         note(&heard, told);
     }
 }
 
 // The same in a thread of its own.
-fn set_apart<R>(rt: R, alloc: Global, bell: Bell, count: u32) -> Apart
+fn set_apart<R>(rt: R, alloc: Global, bell: Bell, waits: Waits, count: u32) -> Apart
 where
     R: Abort + Threads + Wait + Copy + Send + 'static,
 {
     let heard = Arc::new(alloc, nothing()).expect(&rt, "memory");
     let theirs = Arc::try_clone(&heard).expect(&rt, "a second hand");
-    let Ok(child) = thread::spawn(&rt, move || tell(&rt, bell, theirs, count)) else {
+    let Ok(child) = thread::spawn(&rt, move || tell(&rt, bell, theirs, waits, count)) else {
         panic!(rt; "no thread");
     };
     Apart { child, heard }
@@ -333,17 +334,48 @@ fn goes_on<R: Abort + Wait>(rt: &R, apart: &Apart, ringers: &mut Vec<Ringer>, st
     }
 }
 
-// A bell of that degree tells so many numbers while its ringers go through the steps, in this order.
+// A bell of that degree tells so many numbers while its ringers go through the steps, in this order. It waits for few.
 fn hears<R>(rt: R, alloc: Global, degree: u32, steps: &[Step], count: u32, order: u64)
 where
     R: Abort + Threads + Wait + Copy + Send + 'static,
 {
+    hears_by(rt, alloc, (degree, Waits::Few), steps, count, order)
+}
+
+// The same of a bell that waits for this.
+fn hears_by<R>(rt: R, alloc: Global, bell: (u32, Waits), steps: &[Step], count: u32, order: u64)
+where
+    R: Abort + Threads + Wait + Copy + Send + 'static,
+{
+    let (degree, waits) = bell;
     let (mut ringers, bell) = opened(&rt, alloc, degree);
-    let apart = set_apart(rt, alloc, bell, count);
+    let apart = set_apart(rt, alloc, bell, waits, count);
     for step in steps {
         goes_on(&rt, &apart, &mut ringers, *step);
     }
     same(&rt, &apart.end(&rt, u64::from(count)), &Some(order));
+}
+
+// A plain wait sleeps over no letter, of whatever kind.
+#[test]
+fn a_plain_wait_is_woken_by_each_ring(rt: HostRuntime) {
+    let steps = [
+        Step::FallsAsleep,
+        Step::RingFor(0, Kind4::Request),
+        Step::Told(1),
+        Step::FallsAsleep,
+        Step::RingFor(1, Kind4::Fork),
+        Step::Told(2),
+        Step::FallsAsleep,
+        Step::RingFor(0, Kind4::Done),
+        Step::Told(3),
+        Step::FallsAsleep,
+        Step::RingFor(1, Kind4::Close),
+        Step::Told(4),
+        Step::FallsAsleep,
+        Step::Ring(0),
+    ];
+    hears_by(rt, rt.alloc(), (2, Waits::Each), &steps, 5, 12121);
 }
 
 #[test]
@@ -413,7 +445,7 @@ fn a_bell_wakes_before_it_is_full(rt: HostRuntime) {
 #[test]
 fn four_threads_ring_often(rt: HostRuntime) {
     let (ringers, bell) = opened(&rt, rt.alloc(), 4);
-    let apart = set_apart(rt, rt.alloc(), bell, 40000);
+    let apart = set_apart(rt, rt.alloc(), bell, Waits::Few, 40000);
     let threads = ring_apart(rt, rt.alloc(), ringers, 10000, false);
     assert!(rt; apart.tells(&rt, 40000));
     for count in &apart.heard.each {

@@ -9,6 +9,9 @@ use std::thread;
 use std::thread::{JoinHandle, Parker, Threads};
 use std::time::Duration;
 
+// How often a test looks again, each time after a pause of a millisecond. After that it fails, and does not hang.
+const LOOKS: u32 = 20000;
+
 // A gate that was told the signal lets pass or not, again and again.
 fn lets_pass<R: Wait + Abort>(rt: &R, signal: Signal, is_open: bool) {
     let gate = Gate::new();
@@ -44,15 +47,19 @@ fn go_through<R: Wait>(rt: &R, at: &Threshold) -> bool {
     is_open
 }
 
-// Waits until so many threads have come to the gate, and then a moment, in which they could have left it.
-fn see_them_wait<R: Wait>(rt: &R, came: &AtomicU64, threads: u64) {
-    for _ in rt.forever() {
-        if came.load(Ordering::SeqCst) == threads {
+fn pause<R: Wait>(rt: &R, millis: u64) {
+    Parker::new().park_timeout(rt, Duration::from_millis(millis));
+}
+
+// So many threads are counted by the end of the looks.
+fn are_counted<R: Wait + Abort>(rt: &R, count: &AtomicU64, threads: u64) {
+    for _ in 0..LOOKS {
+        if count.load(Ordering::SeqCst) == threads {
             break;
         }
-        thread::yield_now();
+        pause(rt, 1);
     }
-    Parker::new().park_timeout(rt, Duration::from_millis(20));
+    same(rt, &count.load(Ordering::SeqCst), &threads);
 }
 
 // Three threads that go through the gate.
@@ -80,13 +87,15 @@ where
     let gate = Gate::new();
     let at = Arc::new(alloc, Threshold { gate, came, left }).expect(&rt, "memory");
     let threads = three_go(rt, alloc, &at);
-    see_them_wait(&rt, &at.came, 3);
+    are_counted(&rt, &at.came, 3);
+    // In this time they could have left the gate.
+    pause(&rt, 20);
     same(&rt, &at.left.load(Ordering::SeqCst), &0);
     at.gate.tell(&rt, signal);
+    are_counted(&rt, &at.left, 3);
     for child in threads {
         same(&rt, &child.join(&rt), &is_open);
     }
-    same(&rt, &at.left.load(Ordering::SeqCst), &3);
 }
 
 #[test]

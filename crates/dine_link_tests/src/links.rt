@@ -8,7 +8,7 @@ mod steps;
 mod waits;
 
 use crate::asserts::same;
-use dine_link::{ChannelLane, FaultLane, Lane, RingLane, TxEnd};
+use dine_link::{ChannelLane, FaultLane, Lane, LinkFault, Lost, RingLane, TxEnd};
 use dine_rules::{Kind4, Letter};
 use dine_token::{Act, Fork, Held, Meal, Token};
 use exchange::exchange;
@@ -173,8 +173,8 @@ fn two_threads_pass_forks_with_their_logs(rt: HostRuntime) {
     goes_over_both(rt, rt.alloc(), sending, (200, 200, false));
 }
 
-// 20 Requests and Close, all taken; and three Requests, of which one is taken. What is left in a link is dropped with
-// its LinkEnd, and counts as put alone.
+// 20 Requests and Close, all taken, also over a FaultLane's link as it is opened; and three Requests, of which one is
+// taken. What is left in a link is dropped with its LinkEnd, and counts as put alone.
 #[test]
 fn two_threads_close_a_link_or_leave_letters(rt: HostRuntime) {
     let all = Sending {
@@ -184,6 +184,7 @@ fn two_threads_close_a_link_or_leave_letters(rt: HostRuntime) {
         taken: 21,
     };
     goes_over_both(rt, rt.alloc(), all, (21, 21, true));
+    goes_over::<FaultLane, HostRuntime>(rt, rt.alloc(), all, (21, 21, true));
     let one = Sending {
         kind: Kind4::Request,
         letters: 3,
@@ -191,4 +192,12 @@ fn two_threads_close_a_link_or_leave_letters(rt: HostRuntime) {
         taken: 1,
     };
     goes_over_both(rt, rt.alloc(), one, (3, 1, false));
+}
+
+#[test]
+fn faults_of_links_have_their_words(rt: HostRuntime) {
+    let (memory, lost) = (LinkFault::Memory, Lost);
+    let words = format!(in rt.alloc(); "{memory}; {lost}").expect(&rt, "memory");
+    let wanted = "1 Memory; the other end of the link is gone";
+    same(&rt, &words.as_str(), &wanted);
 }

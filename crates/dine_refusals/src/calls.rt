@@ -2,12 +2,13 @@
 ghost use Rattle.std.specs.Prelude.{◌≡◌, IfOk, length};
 ghost use Rattle.dine_world.specs.Worlds.{AreOutcomesFor, lists_of};
 
-use crate::pair::{PAIR, pair};
+use crate::pair::pair;
 use dine_core::site::{fresh_forks, fresh_tokens};
 use dine_core::{EventKind, SiteCore};
 use dine_link::{Bell, Lane};
-use dine_plan::{Plan, PlanFault, read_plan};
+use dine_plan::{Plan, PlanBuilder, PlanFault, read_plan};
 use dine_run::{OrderFault, SiteFault, order};
+use dine_test_plans::PAIR;
 use dine_token::Fork;
 use dine_world::World;
 use std::alloc::{AllocError, Global};
@@ -54,6 +55,19 @@ pub fn plan(alloc: Global) -> Told {
         Ok(_) => Told::Whole,
         Err(PlanFault::Memory) => Told::Memory,
         Err(_) => Told::Another,
+    }
+}
+
+/// The plan of one site with two jobs, as a program tells it: its answer, or that of the call that tells the site.
+pub fn builder(alloc: Global) -> Told {
+    let mut plan = PlanBuilder::open(alloc);
+    if plan.site("a", 2).is_err() {
+        return Told::Memory;
+    }
+    match plan.finish() {
+        Ok(plan) if plan.sites() == 1 && plan.edges() == 0 => Told::Whole,
+        Err(PlanFault::Memory) => Told::Memory,
+        _ => Told::Another,
     }
 }
 

@@ -4,10 +4,10 @@
 //!
 //! usage: dine_refusals CALL
 //!
-//! CALL is `plan`, `fork`, `core`, `world`, `world_with`, `channel`, `ring`, `bell`, `order`, `diner`, `edge_table`,
-//! `site_table`, `write_edges`, `write_sites` or `world_text`, each a call that answers at once; `run_channels` or
-//! `run_rings`: a run of a pair over links of that kind; or `site`: the lower site of a pair, over rings that are
-//! filled before it starts.
+//! CALL is `plan`, `builder`, `fork`, `core`, `world`, `world_with`, `channel`, `ring`, `bell`, `order`, `diner`,
+//! `edge_table`, `site_table`, `write_edges`, `write_sites` or `world_text`, each a call that answers at once;
+//! `run_channels` or `run_rings`: a run of a pair over links of that kind; `run_jobs`: a run of jobs of a pair, over
+//! rings; or `site`: the lower site of a pair, over rings that are filled before it starts.
 #![tactic(auto)]
 
 mod calls;
@@ -33,6 +33,7 @@ fn told<R: Threads + Wait + Copy + Send + 'static>(
     let told = match name {
         "run_channels" => runs::run_pair::<ChannelLane, R>(rt, alloc)?,
         "run_rings" => runs::run_pair::<RingLane, R>(rt, alloc)?,
+        "run_jobs" => runs::run_idle(rt, alloc)?,
         _ => return told_at_once(alloc, name),
     };
     Ok(Some(told))
@@ -42,6 +43,7 @@ fn told<R: Threads + Wait + Copy + Send + 'static>(
 fn told_at_once(alloc: Global, name: &str) -> Result<Option<Told>, AllocError> {
     let told = match name {
         "plan" => calls::plan(alloc),
+        "builder" => calls::builder(alloc),
         "fork" => calls::fork(alloc),
         "core" => calls::core(alloc)?,
         "world" => calls::world(alloc)?,

@@ -3,7 +3,9 @@ use crate::calls::Told;
 use crate::pair::pair;
 use dine::{PlanDiner, open_diners};
 use dine_link::Lane;
-use dine_run::{Joined, RunFault, run};
+use dine_run::{
+    Job, JobFault, JobsCause, Joined, RunCause, RunFault, Table, no_values, on_rings, run,
+};
 use std::alloc::{AllocError, Global};
 use std::sync::Wait;
 use std::thread::Threads;
@@ -56,5 +58,44 @@ where
     match run::<L, PlanDiner>(rt, alloc, &plan, diners) {
         Ok(_gathered) => Ok(Told::Whole),
         Err(fault) => Ok(told_of(&fault)),
+    }
+}
+
+// Does nothing.
+#[derive(Drop)]
+struct Idle;
+
+impl Job<()> for Idle {
+    type Fault = JobFault;
+
+    fn run(&mut self, _table: &Table<'_, ()>) -> Result<(), JobFault> {
+        Ok(())
+    }
+}
+
+// What a run of jobs answered that has nothing left.
+fn told_of_jobs(cause: JobsCause) -> Told {
+    match cause {
+        JobsCause::Memory | JobsCause::Run(RunCause::Memory) => Told::Memory,
+        JobsCause::Run(RunCause::Thread(site)) => Told::Thread(site),
+        JobsCause::Run(RunCause::Broken(site, fault)) => Told::Broken(site, fault),
+        _ => Told::Another,
+    }
+}
+
+/// A run of jobs that share nothing, over rings. It may wait.
+pub fn run_idle<R: Threads + Wait + Copy + Send + 'static>(
+    rt: &R,
+    alloc: Global,
+) -> Result<Told, AllocError> {
+    let plan = pair(alloc)?;
+    let values = no_values(alloc, &plan)?;
+    let mut jobs = Vec::new(alloc);
+    for _ in 0..plan.sites() {
+        jobs.push(Idle)?;
+    }
+    match on_rings(rt, alloc, &plan, values, jobs) {
+        Ok(_done) => Ok(Told::Whole),
+        Err(fault) => Ok(told_of_jobs(fault.cause)),
     }
 }

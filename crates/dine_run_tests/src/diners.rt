@@ -1,10 +1,10 @@
-// Diners and jobs for tests.
+// Diners for tests.
 ghost use Rattle.std.specs.Prelude.{◌≡◌, ◌≤◌, ◌∷◌, [], Some, true, length, slice_get, IfOk};
 ghost use Rattle.dine_graph.specs.Plan.{job_count};
 ghost use Rattle.dine_world.specs.Worlds.{AreOutcomesFor, lists_of};
 
 use dine_plan::Plan;
-use dine_run::{CallLog, Diner, Job, JobFault};
+use dine_run::{CallLog, Diner, JobFault};
 use dine_token::Meal;
 use std::alloc::{AllocError, Global};
 use std::sync::Arc;
@@ -83,6 +83,7 @@ fn outcomes_at(alloc: Global, jobs: u32, fails_each: u32) -> Result<Vec<bool>, A
 // not wait where `all` is 0.
 #[derive(Drop)]
 pub struct Waiter {
+    pub log: CallLog,
     pub entered: Arc<AtomicU32, Global>,
     pub all: u32,
 }
@@ -104,30 +105,47 @@ impl Waiter {
     }
 }
 
-impl Job for Waiter {
-    fn run(&mut self, k: u32) -> Result<(), JobFault> {
+impl Diner for Waiter {
+    ghost calls = { λ diner. diner.log.calls };
+
+    ghost marks = { λ diner. [] };
+
+    ghost fits = { λ marks k ok. true };
+
+    ghost room_left = { λ diner. diner.log.room };
+
+    fn room(&self) -> u32 {
+        self.log.room()
+    }
+
+    fn eat(&mut self, k: u32, _meal: &Meal) -> Result<(), JobFault> {
         if k == 1 && !self.meets() {
+            self.log.note(k, false);
             return Err(JobFault);
         }
+        self.log.note(k, true);
         Ok(())
     }
 }
 
 // One for each site, of which each one or each second one waits until `all` have entered. Those that wait count at
-// `entered`.
+// `entered`. Each has room for its site's jobs.
 pub fn waiters(
     alloc: Global,
     plan: &Plan,
     all: u32,
     everyone: bool,
     entered: &Arc<AtomicU32, Global>,
-) -> Result<Vec<Waiter>, AllocError> {
-    let mut waiters = Vec::new(alloc);
+) -> Result<Vec<Waiter>, AllocError>
+    ensures { IfOk result (λ diners. (s : _) (diner : _) → slice_get diners.items s ≡ Some diner → job_count plan.now s ≤ diner.log.room) }
+{
+    let mut diners = Vec::new(alloc);
     for site in 0..plan.sites() {
         let is_one = everyone || site % 2 == 0;
         let all = if is_one { all } else { 0 };
         let entered = Arc::try_clone(entered)?;
-        waiters.push(Waiter { entered, all })?;
+        let log = CallLog::open(alloc, plan.jobs(site))?;
+        diners.push(Waiter { log, entered, all })?;
     }
-    Ok(waiters)
+    Ok(diners)
 }

@@ -39,8 +39,19 @@ fn broken(alloc: Global, fault: SiteFault) -> Result<RunFault<Taster>, AllocErro
     })
 }
 
-fn says<R: Abort>(rt: &R, alloc: Global, fault: RunFault<Taster>, words: &str) -> Result<(), Fail> {
-    same(rt, &fault.to_string(alloc)?.as_str(), &words);
+// The fault is told in these words, and by this name.
+fn says<R: Abort>(
+    rt: &R,
+    alloc: Global,
+    fault: RunFault<Taster>,
+    wanted: (&str, &str),
+) -> Result<(), Fail> {
+    let name = format!(in alloc; "{fault:?}")?;
+    same(
+        rt,
+        &(fault.to_string(alloc)?.as_str(), name.as_str()),
+        &wanted,
+    );
     Ok(())
 }
 
@@ -49,10 +60,12 @@ fn a_run_that_did_not_begin_says_why(rt: HostRuntime) -> Result<(), Fail> {
     let alloc = rt.alloc();
     let diners = Vec::new(alloc);
     let differ = RunFault::DinersDiffer { given: 0, diners };
-    says(&rt, alloc, differ, "run refused: diners differ")?;
-    says(&rt, alloc, RunFault::Memory, "out of memory")?;
+    let words = ("run refused: diners differ", "DinersDiffer");
+    says(&rt, alloc, differ, words)?;
+    says(&rt, alloc, RunFault::Memory, ("out of memory", "Memory"))?;
     let thread = RunFault::Thread(2);
-    says(&rt, alloc, thread, "run refused: thread of site 2")
+    let words = ("run refused: thread of site 2", "Thread(2)");
+    says(&rt, alloc, thread, words)
 }
 
 #[test]
@@ -61,11 +74,23 @@ fn a_run_that_broke_names_its_site_and_the_fault_of_it(rt: HostRuntime) -> Resul
     let cases = [
         (
             SiteFault::Breach(0, Breach::ClosedEarly),
-            "run broken at site 1: Breach 6 on link 0",
+            (
+                "run broken at site 1: Breach 6 on link 0",
+                "Broken(1, Breach(0, ClosedEarly))",
+            ),
         ),
-        (SiteFault::Lost(2), "run broken at site 1: Lost on link 2"),
-        (SiteFault::NotStarted, "run broken at site 1: NotStarted"),
-        (SiteFault::Memory, "run broken at site 1: Memory"),
+        (
+            SiteFault::Lost(2),
+            ("run broken at site 1: Lost on link 2", "Broken(1, Lost(2))"),
+        ),
+        (
+            SiteFault::NotStarted,
+            ("run broken at site 1: NotStarted", "Broken(1, NotStarted)"),
+        ),
+        (
+            SiteFault::Memory,
+            ("run broken at site 1: Memory", "Broken(1, Memory)"),
+        ),
     ];
     for (fault, words) in cases {
         says(&rt, alloc, broken(alloc, fault)?, words)?;

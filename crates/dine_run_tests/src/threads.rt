@@ -1,13 +1,10 @@
 // Runs with real threads.
-ghost use Rattle.std.specs.Prelude.{◌≡◌, ◌≤◌, Some, slice_get};
-ghost use Rattle.dine_graph.specs.Plan.{job_count};
-
 use crate::asserts::same;
 use crate::diners::{Taster, Waiter, waiters};
-use crate::graphs::{Shape, graph_of, plan_of};
 use dine_link::{ChannelLane, Lane, RingLane};
 use dine_plan::{Plan, read_plan};
-use dine_run::{CallLog, Jobs, RunFault, SiteOut, run, run_within};
+use dine_run::{CallLog, RunFault, SiteOut, run, run_within};
+use dine_test_plans::{PAIR, PATH};
 use std::alloc::Global;
 use std::process::Abort;
 use std::sync::atomic::{AtomicU32, Ordering};
@@ -24,34 +21,11 @@ const SIXTEEN: &str = "version = 1\n\
     [[site]]\nname = \"m\"\njobs = [{ name = \"x\" }]\n[[site]]\nname = \"n\"\njobs = [{ name = \"x\" }]\n\
     [[site]]\nname = \"o\"\njobs = [{ name = \"x\" }]\n[[site]]\nname = \"p\"\njobs = [{ name = \"x\" }]\n";
 
-const PATH: &str = "version = 1\n\
-    [[site]]\nname = \"a\"\njobs = [{ name = \"x\" }]\n[[site]]\nname = \"b\"\njobs = [{ name = \"x\" }]\n\
-    [[site]]\nname = \"c\"\njobs = [{ name = \"x\" }]\n\
-    [[edge]]\nends = [\"a\", \"b\"]\n[[edge]]\nends = [\"b\", \"c\"]\n";
-
 // Each of the sites had one meal, whose job went well.
-fn ate_once(rt: &impl Abort, sites: &[SiteOut<Jobs<Waiter>>]) {
+fn ate_once(rt: &impl Abort, sites: &[SiteOut<Waiter>]) {
     for site in sites {
         same(rt, &(site.ate, site.failed), &(1, 0));
     }
-}
-
-// Waiting diners, as `waiters` says.
-fn seated(
-    rt: &impl Abort,
-    alloc: Global,
-    plan: &Plan,
-    all: u32,
-    everyone: bool,
-    entered: &Arc<AtomicU32, Global>,
-) -> Vec<Jobs<Waiter>>
-    ensures { (s : _) (diner : _) → slice_get result.items s ≡ Some diner → job_count plan.now s ≤ diner.log.room }
-{
-    let jobs = waiters(alloc, plan, all, everyone, entered).expect(rt, "memory");
-    let Ok(diners) = Jobs::seat(alloc, plan, jobs) else {
-        panic!(rt; "no diners");
-    };
-    diners
 }
 
 // Runs with waiting diners, none of which fails, over links of a lane.
@@ -68,8 +42,8 @@ where
 {
     let plan = read_plan(alloc, text).expect(rt, "a plan");
     let entered = Arc::new(alloc, AtomicU32::new(0)).expect(rt, "memory");
-    let diners = seated(rt, alloc, &plan, all, plan.edges() == 0, &entered);
-    let Ok(gathered) = run::<L, Jobs<Waiter>>(rt, alloc, &plan, diners) else {
+    let diners = waiters(alloc, &plan, all, plan.edges() == 0, &entered).expect(rt, "memory");
+    let Ok(gathered) = run::<L, Waiter>(rt, alloc, &plan, diners) else {
         panic!(rt; "no run");
     };
     same(rt, &gathered.sites.len(), &(plan.sites() as usize));
@@ -113,12 +87,6 @@ fn diners_for_one(rt: &impl Abort, alloc: Global, count: usize) -> Vec<Taster> {
     diners
 }
 
-// The plan of two sites without an edge, with a job each.
-fn two_apart(rt: &impl Abort, alloc: Global) -> Plan {
-    let graph = graph_of(rt, alloc, Shape::Apart { sites: 2, jobs: 1 });
-    plan_of(rt, alloc, &graph)
-}
-
 // These are the first of them, and none was called.
 fn were_not_called(rt: &impl Abort, diners: &[Taster]) {
     for (each, diner) in (1..4u32).zip(diners) {
@@ -127,17 +95,21 @@ fn were_not_called(rt: &impl Abort, diners: &[Taster]) {
 }
 
 // Two sites are not run with so many diners, at most 3 and not 2. They come back in order, and none was called.
-fn handed_back<R: Threads + Wait + Abort + Copy + Send + 'static>(
+fn handed_back<L: Lane + 'static, R: Threads + Wait + Abort + Copy + Send + 'static>(
     rt: &R,
     alloc: Global,
     count: usize,
-) {
-    let plan = two_apart(rt, alloc);
+)
+where
+    L::Tx: 'static,
+    L::ClosedTx: 'static,
+    L::Rx: 'static,
+{
+    let plan = read_plan(alloc, PAIR).expect(rt, "a plan");
     let diners = diners_for_one(rt, alloc, count);
     assert!(rt; diners.len() != plan.sites() as usize);
-    let Err(RunFault::DinersDiffer { given, diners }) = run::<ChannelLane, Taster>(
-        rt, alloc, &plan, diners,
-    ) else {
+    let Err(RunFault::DinersDiffer { given, diners }) = run::<L, Taster>(rt, alloc, &plan, diners)
+    else {
         panic!(rt; "a run");
     };
     same(rt, &(given, diners.len()), &(count, count));
@@ -146,9 +118,10 @@ fn handed_back<R: Threads + Wait + Abort + Copy + Send + 'static>(
 
 #[test]
 fn too_few_or_too_many_diners_come_back(rt: HostRuntime) {
-    handed_back(&rt, rt.alloc(), 1);
-    handed_back(&rt, rt.alloc(), 0);
-    handed_back(&rt, rt.alloc(), 3)
+    for count in [1, 0, 3] {
+        handed_back::<ChannelLane, HostRuntime>(&rt, rt.alloc(), count);
+        handed_back::<RingLane, HostRuntime>(&rt, rt.alloc(), count);
+    }
 }
 
 // A path of three sites on fewer threads than sites: the one that would need one more is told, and no diner is called.
@@ -164,8 +137,8 @@ where
 {
     let plan = read_plan(alloc, PATH).expect(rt, "a plan");
     let entered = Arc::new(alloc, AtomicU32::new(0)).expect(rt, "memory");
-    let diners = seated(rt, alloc, &plan, 1, true, &entered);
-    let ended = run_within::<L, Jobs<Waiter>>(rt, alloc, &plan, diners, threads);
+    let diners = waiters(alloc, &plan, 1, true, &entered).expect(rt, "memory");
+    let ended = run_within::<L, Waiter>(rt, alloc, &plan, diners, threads);
     assert!(rt; matches!(ended, Err(RunFault::Thread(site)) if site == threads));
     same(rt, &entered.load(Ordering::SeqCst), &0);
     // Each diner held it, so the threads that were started have ended.

@@ -3,16 +3,12 @@ use crate::asserts::same;
 use dine_core::{Event, EventKind};
 use dine_plan::{Plan, read_plan};
 use dine_run::{OrderFault, order};
+use dine_test_plans::PAIR;
 use dine_world::World;
 use std::alloc::Global;
 use std::process::Abort;
 
-const PAIR: &str = "version = 1\n\
-    [[site]]\nname = \"a\"\njobs = [{ name = \"x\" }]\n\
-    [[site]]\nname = \"b\"\njobs = [{ name = \"y\" }]\n\
-    [[edge]]\nends = [\"a\", \"b\"]\n";
-
-// The lower site has two jobs more, and resigns.
+// The lower site of the pair has two jobs more, and resigns.
 const RESIGNING: &str = "version = 2\n\
     [[site]]\nname = \"a\"\non_fault = \"resign\"\njobs = [{ name = \"x\" }, { name = \"y\" }, { name = \"z\" }]\n\
     [[site]]\nname = \"b\"\njobs = [{ name = \"y\" }]\n\
@@ -80,13 +76,35 @@ fn order_of(
     order(alloc, plan, journals.as_slice())
 }
 
-// The events are those of these sites, one after another.
-fn are_of(rt: &impl Abort, events: &[Event], sites: &[u32]) {
-    same(rt, &events.len(), &sites.len());
-    for (event, site) in events.iter().zip(sites) {
-        same(rt, &event.site, site);
+// These are the events, one after another, each as its site and its kind.
+fn are(rt: &impl Abort, events: &[Event], wanted: &[(u32, EventKind)]) {
+    same(rt, &events.len(), &wanted.len());
+    for (event, told) in events.iter().zip(wanted) {
+        same(rt, &(event.site, event.kind), told);
     }
 }
+
+// The order of both.
+const LOWEST_FIRST: [(u32, EventKind); 18] = [
+    (0, EventKind::Hungry),
+    (0, EventKind::Begin),
+    (0, EventKind::End),
+    (0, EventKind::Done(0)),
+    (1, EventKind::Hungry),
+    (1, EventKind::Ask(0)),
+    (0, EventKind::Take(0)),
+    (0, EventKind::Give(0)),
+    (1, EventKind::Take(0)),
+    (1, EventKind::Take(0)),
+    (1, EventKind::Begin),
+    (1, EventKind::End),
+    (1, EventKind::Done(0)),
+    (0, EventKind::Take(0)),
+    (0, EventKind::Close(0)),
+    (1, EventKind::Close(0)),
+    (0, EventKind::Take(0)),
+    (1, EventKind::Take(0)),
+];
 
 // A world of the plan goes through all events to its end.
 fn goes_through(rt: &impl Abort, alloc: Global, plan: &Plan, events: &[Event]) {
@@ -104,8 +122,7 @@ fn each_event_is_that_of_the_lowest_site_that_was_ready(rt: HostRuntime) {
     let plan = pair(&rt, alloc);
     let events = order_of(&rt, alloc, &plan, LOWER.as_slice(), HIGHER.as_slice());
     let events = events.expect(&rt, "an order");
-    let sites = [0, 0, 0, 0, 1, 1, 0, 0, 1, 1, 1, 1, 1, 0, 0, 1, 0, 1];
-    are_of(&rt, events.as_slice(), sites.as_slice());
+    are(&rt, events.as_slice(), LOWEST_FIRST.as_slice());
     goes_through(&rt, alloc, &plan, events.as_slice());
 }
 
@@ -124,10 +141,20 @@ fn events_that_wait_for_ever_are_stuck(rt: HostRuntime) {
 }
 
 #[test]
-fn line_of_what_is_stuck_names_its_site(rt: HostRuntime) {
-    let stuck = OrderFault::Stuck { site: 3, placed: 7 };
-    let line = format!(in rt.alloc(); "{stuck}").expect(&rt, "memory");
-    same(&rt, &line.as_str(), &"2 Stuck at site 3, 7 placed");
+fn faults_of_orders_have_their_words(rt: HostRuntime) {
+    let faults = [
+        (OrderFault::CountDiffers, "1 CountDiffers"),
+        (
+            OrderFault::Stuck { site: 3, placed: 7 },
+            "2 Stuck at site 3, 7 placed",
+        ),
+        (OrderFault::NotClosed, "3 NotClosed"),
+        (OrderFault::Memory, "4 Memory"),
+    ];
+    for (fault, words) in faults {
+        let line = format!(in rt.alloc(); "{fault}").expect(&rt, "memory");
+        same(&rt, &line.as_str(), &words);
+    }
 }
 
 #[test]

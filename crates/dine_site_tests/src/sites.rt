@@ -19,6 +19,7 @@ use dine_link::{Bell, ChannelLane, Lane, RingLane, Ringer, TxEnd};
 use dine_plan::{Plan, read_plan};
 use dine_rules::{Breach, Kind4};
 use dine_run::{Call, CallLog, Port, SiteFault, run_site};
+use dine_test_plans::PAIR;
 use dine_token::Entry;
 use diners::Fixed;
 use ends::{Ends, Letters, Put, ends_of, fill, finds, finds_fork, link_from, one_ringer, ring_for};
@@ -26,11 +27,6 @@ use left::{Left, is_left};
 use std::alloc::Global;
 use std::process::Abort;
 use std::sync::Wait;
-
-// Two sites with one job each, and an edge between them.
-const PAIR: &str = "version = 1\n\
-    [[site]]\nname = \"a\"\njobs = [{ name = \"x\" }]\n[[site]]\nname = \"b\"\njobs = [{ name = \"x\" }]\n\
-    [[edge]]\nends = [\"a\", \"b\"]\n";
 
 // The lower site of the pair ate and said Done, and has its fork.
 const LOWER_ATE: Left = Left {

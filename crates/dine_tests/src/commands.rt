@@ -1,8 +1,9 @@
 // Whole runs, from words and input to what is printed and told.
-use super::input::stuttered;
-use super::output::{takes_pieces, writes};
+use super::input::{stuttered, stuttered_of};
+use super::output::{takes_pieces, writes, writes_of};
 use crate::asserts::same;
 use dine::run_cmd;
+use dine_test_plans::{PAIR, RING};
 use std::alloc::{AllocError, Global};
 use std::io;
 use std::io::{Read, Write};
@@ -12,18 +13,6 @@ use std::thread::Threads;
 
 const USAGE: &str =
     "dine: usage: dine [run [--table edges|sites] [--links channel|ring] | replay [--choices LIST] | check]\n";
-
-// Two sites with a job each, and the edge between them.
-pub const PAIR: &str = "version = 1
-[[site]]
-name = \"a\"
-jobs = [{ name = \"x\" }]
-[[site]]
-name = \"b\"
-jobs = [{ name = \"y\" }]
-[[edge]]
-ends = [\"a\", \"b\"]
-";
 
 // What a run leaves: the number of its status, what it printed, and what it told of a fault.
 pub type Left<'a> = (u8, &'a str, &'a str);
@@ -89,6 +78,25 @@ fn a_run_reads_and_writes_as_the_other_commands(rt: HostRuntime) {
         let mut output = takes_pieces(rt.alloc(), 0);
         writes(&rt, line, &mut output, (6, "", "dine: writing failed\n"));
     }
+}
+
+const WRITING_FAILED: Left<'static> = (6, "", "dine: writing failed\n");
+
+#[test]
+fn a_ring_without_words_is_read_and_written(rt: HostRuntime) {
+    for (step, bad_read) in [(8192, 1), (100, 3)] {
+        let given = (step, bad_read, io::ErrorKind::Other);
+        let read = stuttered_of(&rt, RING, "dine", given, READING_FAILED);
+        same(&rt, &read.0, &bad_read);
+    }
+    let mut output = takes_pieces(rt.alloc(), 100);
+    output.bad_write = 1;
+    writes_of(&rt, RING, "dine", &mut output, WRITING_FAILED);
+    same(&rt, &output.writes, &1);
+    let table =
+        "edge,lo,hi,lo_meals,hi_meals\n0,a,b,2,2\n1,b,c,2,2\n2,c,d,2,2\n3,d,e,2,2\n4,a,e,2,2\n";
+    let mut output = takes_pieces(rt.alloc(), 100);
+    writes_of(&rt, RING, "dine", &mut output, (0, table, ""));
 }
 
 #[test]

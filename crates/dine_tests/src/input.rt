@@ -1,6 +1,7 @@
 // How an input is read: in pieces of any size, to its end or to the first byte past the limit.
-use super::commands::{Left, PAIR, leaves};
+use super::commands::{Left, leaves};
 use crate::asserts::same;
+use dine_test_plans::PAIR;
 use std::io;
 use std::io::Read;
 use std::process::Abort;
@@ -38,9 +39,20 @@ pub fn stuttered<H: Threads + Wait + AllocGlobal + Abort + Copy + Send + 'static
     given: (usize, usize, io::ErrorKind),
     wanted: Left,
 ) -> (usize, usize) {
+    stuttered_of(rt, PAIR, line, given, wanted)
+}
+
+// The same with the plan of a text.
+pub fn stuttered_of<H: Threads + Wait + AllocGlobal + Abort + Copy + Send + 'static>(
+    rt: &H,
+    text: &'static str,
+    line: &str,
+    given: (usize, usize, io::ErrorKind),
+    wanted: Left,
+) -> (usize, usize) {
     let (step, bad_read, kind) = given;
     let mut input = Stuttering {
-        bytes: PAIR.as_bytes(),
+        bytes: text.as_bytes(),
         step,
         reads: 0,
         bad_read,

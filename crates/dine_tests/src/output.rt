@@ -1,6 +1,7 @@
 // How a text and a fault's line are written: in pieces of any size, to their end or to the first write that fails.
-use super::commands::{Left, PAIR, run_into};
+use super::commands::{Left, run_into};
 use crate::asserts::same;
+use dine_test_plans::PAIR;
 use std::alloc::Global;
 use std::io;
 use std::io::Write;
@@ -13,8 +14,8 @@ use std::thread::Threads;
 pub struct Choppy {
     held: Vec<u8>,
     step: usize,
-    writes: usize,
-    bad_write: usize,
+    pub writes: usize,
+    pub bad_write: usize,
     kind: io::ErrorKind,
     flushes: usize,
     bad_flush: bool,
@@ -63,7 +64,18 @@ pub fn writes<H: Threads + Wait + AllocGlobal + Abort + Copy + Send + 'static>(
     output: &mut Choppy,
     wanted: Left,
 ) {
-    let mut input = PAIR.as_bytes();
+    writes_of(rt, PAIR, line, output, wanted)
+}
+
+// The same with the plan of a text.
+pub fn writes_of<H: Threads + Wait + AllocGlobal + Abort + Copy + Send + 'static>(
+    rt: &H,
+    text: &str,
+    line: &str,
+    output: &mut Choppy,
+    wanted: Left,
+) {
+    let mut input = text.as_bytes();
     let mut told = Vec::new(rt.alloc());
     let number = run_into(rt, line, &mut input, output, &mut told);
     let held = std::str::from_utf8(output.held.as_slice()).ok();

@@ -188,7 +188,12 @@ pub fn push_event(text: &mut String, plan: &Plan, enabled: Enabled) -> Result<()
     match enabled.event.kind {
         EventKind::Take(_) => push_with(text, plan, enabled, words_of_take(enabled.letter), ""),
         EventKind::Give(_) => push_with(text, plan, enabled, " gives ", " their fork"),
-        EventKind::End if enabled.failed => push_meal(text, " ends meal ", enabled, ", which failed"),
+        EventKind::End if enabled.failed => push_meal(
+            text,
+            " ends meal ",
+            enabled,
+            ", which failed",
+        ),
         EventKind::End => push_meal(text, " ends meal ", enabled, ""),
         EventKind::Begin => push_meal(text, " begins meal ", enabled, ""),
         EventKind::Quit => text.push_str(" quits"),

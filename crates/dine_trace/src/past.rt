@@ -37,7 +37,12 @@ impl Past {
     }
 
     /// Does the enabled event with this number, and notes it. Where there is none nothing is done.
-    pub fn choose(&mut self, plan: &Plan, world: &mut World, choice: u32) -> Result<(), AllocError> {
+    pub fn choose(
+        &mut self,
+        plan: &Plan,
+        world: &mut World,
+        choice: u32,
+    ) -> Result<(), AllocError> {
         if let Some(enabled) = Enabled::find(plan, world, choice) {
             self.note(enabled)?;
             let _ = world.replay([choice].as_slice());
@@ -55,9 +60,11 @@ impl Past {
                 *quit = true;
             }
         }
-        if let (true, Some(meal), Some(failed)) =
-            (enabled.failed, enabled.meal, self.failed.get_mut(site))
-        {
+        if let (true, Some(meal), Some(failed)) = (
+            enabled.failed,
+            enabled.meal,
+            self.failed.get_mut(site),
+        ) {
             failed.push(meal)?;
         }
         Ok(())

@@ -87,11 +87,7 @@ impl OwnState {
                 _ => Some("not_eating"),
             },
             begin: match self.phase {
-                Some(Phase::Hungry) => if waits {
-                    Some("waits")
-                } else {
-                    None
-                },
+                Some(Phase::Hungry) => if waits { Some("waits") } else { None },
                 Some(Phase::Eating) => Some("eating"),
                 Some(Phase::Thinking) | None => Some("not_hungry"),
             },

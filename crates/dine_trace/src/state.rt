@@ -1,9 +1,7 @@
 //! The state of a world as JSON.
 
 use crate::edges::role;
-use crate::events::{
-    Enabled, ate, name_of_kind, name_of_letter, place_of, push_event, rule_of,
-};
+use crate::events::{Enabled, ate, name_of_kind, name_of_letter, place_of, push_event, rule_of};
 use crate::fault_lines::Fault;
 use crate::past::Past;
 use crate::precedence::{order_of_precedence, preferred_end};
@@ -11,8 +9,8 @@ use crate::reasons::{End, OwnState, PlaceReasons, SiteReasons, Wait, said_at};
 use dine_core::{Phase, Said};
 use dine_log_text::edges_text;
 use dine_plan::Plan;
-use dine_world::{Whereabouts, World};
 use dine_words::write_line;
+use dine_world::{Whereabouts, World};
 use serde::Serialize;
 use std::alloc::{AllocError, Global};
 use std::io::Write;

@@ -60,7 +60,11 @@ fn of(alloc: Global, form: Form, words: &[String]) -> Result<Asked, Fault> {
 // The states at the places that the first of the words lists.
 fn states_in(alloc: Global, words: &[String]) -> Result<Asked, Fault> {
     match words.get(0) {
-        Some(places) => of(alloc, Form::States(choices_of(alloc, places.as_str())?), &words[1..]),
+        Some(places) => of(
+            alloc,
+            Form::States(choices_of(alloc, places.as_str())?),
+            &words[1..],
+        ),
         None => Err(Fault::Usage),
     }
 }

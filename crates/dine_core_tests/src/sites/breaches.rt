@@ -1,9 +1,10 @@
 // What a core refuses, and a letter just within each rule that it takes.
 use super::script::{A, B, C, Step, leave, play, plays, seat, seated};
-use super::{JOB, ROW, THREE_JOBS, TWO_JOBS, are_left, core_of, plan_of};
+use super::{JOB, ROW, TWO_JOBS, are_left, core_of, pair, plan_of};
 use crate::asserts::same;
 use crate::plans::read;
 use dine_core::{Breach, Kind4, Parts};
+use dine_test_plans::{ONE_SIDED_PAIR, PAIR};
 use std::alloc::Global;
 use std::process::Abort;
 
@@ -23,15 +24,15 @@ const LEND: [Step; 12] = [
     Step::Eat(A),
 ];
 
-// What two sites with so many jobs, and an edge, leave after these steps.
-fn pair_plays(
+// What these sites leave after these steps, in the plan of a text.
+fn text_plays(
     rt: &impl Abort,
     alloc: Global,
-    jobs: (&str, &str),
+    text: &str,
     sites: &[u32],
     steps: &[Step],
 ) -> Vec<Parts> {
-    let plan = plan_of(rt, alloc, jobs.0, jobs.1);
+    let plan = read(rt, alloc, text);
     plays(rt, alloc, &plan, sites, steps)
 }
 
@@ -49,7 +50,7 @@ fn second_request_is_refused(rt: HostRuntime) {
         Step::Done,
         Step::Take(A, 0),
     ];
-    pair_plays(&rt, rt.alloc(), (JOB, JOB), &[0], &steps);
+    text_plays(&rt, rt.alloc(), PAIR, &[0], &steps);
 }
 
 #[test]
@@ -60,7 +61,7 @@ fn request_of_another_edge_is_refused(rt: HostRuntime) {
         Step::Request(0),
         Step::Take(A, 0),
     ];
-    pair_plays(&rt, rt.alloc(), (JOB, JOB), &[0], &steps);
+    text_plays(&rt, rt.alloc(), PAIR, &[0], &steps);
 }
 
 #[test]
@@ -77,7 +78,7 @@ fn request_where_the_fork_is_away_is_refused(rt: HostRuntime) {
         Step::Give(A, 0),
         Step::Take(B, 0),
     ];
-    pair_plays(&rt, rt.alloc(), (JOB, JOB), &[0, 1], &steps);
+    text_plays(&rt, rt.alloc(), PAIR, &[0, 1], &steps);
 }
 
 #[test]
@@ -112,7 +113,7 @@ fn lower_site_refuses_a_fork_and_an_early_done(rt: HostRuntime) {
         Step::Request(0),
         Step::Take(A, 0),
     ];
-    pair_plays(&rt, rt.alloc(), (JOB, JOB), &[0], &steps);
+    text_plays(&rt, rt.alloc(), PAIR, &[0], &steps);
 }
 
 #[test]
@@ -128,7 +129,7 @@ fn fork_that_was_not_asked_for_is_refused(rt: HostRuntime) {
         Step::Lose,
         Step::Take(B, 0),
     ];
-    pair_plays(&rt, rt.alloc(), (JOB, JOB), &[0, 1], &steps);
+    text_plays(&rt, rt.alloc(), PAIR, &[0, 1], &steps);
 }
 
 // Another edge, other ends, and a fork that was never sent.
@@ -160,13 +161,13 @@ fn fork_of_another_edge_is_refused(rt: HostRuntime) {
         Step::Give(A, 0),
         Step::Take(B, 0),
     ];
-    pair_plays(&rt, rt.alloc(), (JOB, JOB), &[0, 1], &steps);
+    text_plays(&rt, rt.alloc(), PAIR, &[0, 1], &steps);
 }
 
 // The third site of the script is the lower one of another plan.
 #[test]
 fn fork_with_another_due_number_is_refused(rt: HostRuntime) {
-    let plan = plan_of(&rt, rt.alloc(), JOB, JOB);
+    let plan = pair(&rt, rt.alloc());
     let longer = plan_of(&rt, rt.alloc(), TWO_JOBS, JOB);
     let mut cores = seated(&rt, rt.alloc(), &plan, &[0, 1]);
     seat(&rt, &mut cores, core_of(&rt, rt.alloc(), &longer, 0));
@@ -209,7 +210,7 @@ fn fork_with_another_number_of_meals_is_refused(rt: HostRuntime) {
 // The fork was sent to the lower site, which takes it, and the higher refuses it.
 #[test]
 fn fork_sent_to_the_other_end_is_refused(rt: HostRuntime) {
-    let plan = plan_of(&rt, rt.alloc(), JOB, JOB);
+    let plan = pair(&rt, rt.alloc());
     let mut cores = seated(&rt, rt.alloc(), &plan, &[0, 1, 1]);
     let asks = [Step::Hungry(C), Step::Ask(C, 0)];
     play(&rt, rt.alloc(), &mut cores, &asks);
@@ -242,7 +243,7 @@ fn fork_after_done_with_a_meal_missing_is_refused(rt: HostRuntime) {
         Step::Give(A, 0),
         Step::Take(B, 0),
     ];
-    pair_plays(&rt, rt.alloc(), (JOB, JOB), &[0, 1, 0], &steps);
+    text_plays(&rt, rt.alloc(), PAIR, &[0, 1, 0], &steps);
 }
 
 #[test]
@@ -273,7 +274,8 @@ fn second_done_is_refused(rt: HostRuntime) {
         Step::CloseLetter,
         Step::Take(A, 0),
     ];
-    pair_plays(&rt, rt.alloc(), ("", ""), &[0], &steps);
+    let plan = plan_of(&rt, rt.alloc(), "", "");
+    plays(&rt, rt.alloc(), &plan, &[0], &steps);
 }
 
 #[test]
@@ -296,7 +298,7 @@ fn close_before_done_was_put_is_early(rt: HostRuntime) {
         Step::Lose,
         Step::Take(B, 0),
     ];
-    pair_plays(&rt, rt.alloc(), (JOB, JOB), &[0, 1], &steps);
+    text_plays(&rt, rt.alloc(), PAIR, &[0, 1], &steps);
 }
 
 // The second step is that of the higher site, whose number in the script is 0.
@@ -312,7 +314,8 @@ fn close_before_done_was_taken_is_early(rt: HostRuntime) {
         Step::Take(A, 0),
         Step::Take(A, 0),
     ];
-    pair_plays(&rt, rt.alloc(), (JOB, ""), &[1], &steps);
+    let plan = plan_of(&rt, rt.alloc(), JOB, "");
+    plays(&rt, rt.alloc(), &plan, &[1], &steps);
 }
 
 // The one site of the script is the higher one.
@@ -342,7 +345,7 @@ fn nothing_comes_after_close(rt: HostRuntime) {
         Step::Finished(A),
         Step::Closed(A, true),
     ];
-    let left = pair_plays(&rt, rt.alloc(), (THREE_JOBS, ""), &[1], &steps);
+    let left = text_plays(&rt, rt.alloc(), ONE_SIDED_PAIR, &[1], &steps);
     are_left(&rt, &left, A, 0, 1);
 }
 

@@ -2,14 +2,14 @@
 // one function goes through, so that each call is proved once and not once more in each test.
 use super::{
     Told, ask_at, break_off, close, core_of, eat, eat_with, foreign, give_at, grow_hungry,
-    is_broken_off, may_do, next_is, quit, refuse, say_done_at, spend, take_at, told_of, value_of,
-    waits,
+    is_broken_off, lies_fork_of, may_do, next_is, quit, refuse, say_done_at, spend, take_at,
+    told_of, value_of, waits,
 };
 use crate::asserts::same;
 use crate::forks::opened;
 use dine_core::{Breach, EventKind, Kind4, Letter, Parts, SiteCore};
 use dine_plan::Plan;
-use dine_token::Token;
+use dine_token::{Entry, Token};
 use std::alloc::Global;
 use std::process::Abort;
 
@@ -62,6 +62,8 @@ pub enum Step {
     Finished(usize),
     // The topmost letter is of this kind.
     Lies(Kind4),
+    // The topmost letter is a fork of this log.
+    LiesForkOf(&'static [Entry]),
     // The topmost letter is a fork of this value, and is gone then.
     LiesWith(u64),
     // The topmost letter is gone.
@@ -173,6 +175,11 @@ fn lands(rt: &impl Abort, cores: &mut Vec<SiteCore>, pile: &mut Vec<Letter>, ste
         Step::Lies(kind) => {
             let letter = top(rt, pile);
             same(rt, &letter.kind(), &kind);
+            pile.push(letter).expect(rt, "memory");
+        }
+        Step::LiesForkOf(log) => {
+            let letter = top(rt, pile);
+            lies_fork_of(rt, &letter, log);
             pile.push(letter).expect(rt, "memory");
         }
         Step::LiesWith(value) => same(rt, &value_of(rt, &top(rt, pile)), &value),

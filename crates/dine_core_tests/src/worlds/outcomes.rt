@@ -5,7 +5,9 @@ ghost use Rattle.dine_world.specs.Worlds.{AreOutcomesFor, lists_of};
 use super::graph::Graph;
 use super::{RESIGNING, entry_at, opened, plan_by, spend};
 use crate::asserts::same;
+use crate::plans::read;
 use dine_plan::Plan;
+use dine_test_plans::RESIGNING_PAIR;
 use dine_token::Entry;
 use dine_world::World;
 use std::alloc::Global;
@@ -50,7 +52,7 @@ pub(super) fn opened_with(rt: &impl Abort, alloc: Global, plan: &Plan, graph: Gr
 
 #[test]
 fn outcomes_are_given_in_place_of_the_plans(rt: HostRuntime) {
-    let plan = plan_by(&rt, rt.alloc(), RESIGNING);
+    let plan = read(&rt, rt.alloc(), RESIGNING_PAIR);
     let none = Graph {
         failing: &[0, 0],
         ..RESIGNING

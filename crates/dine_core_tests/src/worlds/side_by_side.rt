@@ -558,7 +558,7 @@ const RESIGNING_LOWER: Graph = Graph {
 #[test]
 fn resigning_sites_run_alike_in_all_ways(rt: HostRuntime) {
     same(&rt, &run_whole(&rt, rt.alloc(), RESIGNING_ALONE), &1);
-    assert!(rt; run_whole(&rt, rt.alloc(), RESIGNING_LOWER) != 0);
+    same(&rt, &run_whole(&rt, rt.alloc(), RESIGNING_LOWER), &252);
 }
 
 // The edges of a ring, and one from every second site to the fifth from it.

@@ -1,4 +1,5 @@
-// A full link makes the one who puts wait.
+// A full link makes the one who puts wait. A test looks at most so often for what another thread does, so that it fails
+// and does not hang.
 ghost use Rattle.std.specs.Prelude.{◌≡◌, []};
 
 use super::steps::puts;
@@ -12,7 +13,11 @@ use std::sync::atomic::{AtomicU64, Ordering};
 use std::sync::{Arc, Wait};
 use std::test::Fail;
 use std::thread;
-use std::thread::Threads;
+use std::thread::{Parker, Threads};
+use std::time::Duration;
+
+// How often a test looks again, each time after a pause of a millisecond.
+const LOOKS: u32 = 20000;
 
 // Puts five letters, and counts each that was put.
 fn put_five<L: Lane, R: Wait + Abort>(rt: &R, mut tx: L::Tx, count: &AtomicU64) -> L::Tx
@@ -23,6 +28,21 @@ fn put_five<L: Lane, R: Wait + Abort>(rt: &R, mut tx: L::Tx, count: &AtomicU64) 
         count.fetch_add(1, Ordering::SeqCst);
     }
     tx
+}
+
+fn pause<R: Wait>(rt: &R) {
+    Parker::new().park_timeout(rt, Duration::from_millis(1));
+}
+
+// So many are counted by the end of the looks.
+fn comes_to<R: Wait + Abort>(rt: &R, count: &AtomicU64, wanted: u64) {
+    for _ in 0..LOOKS {
+        if count.load(Ordering::SeqCst) >= wanted {
+            break;
+        }
+        pause(rt);
+    }
+    same(rt, &count.load(Ordering::SeqCst), &wanted);
 }
 
 // Over a link of a lane the fifth letter waits until one is taken.
@@ -42,19 +62,14 @@ where
             requires { (L.seen_tx tx).letters ≡ [] }
         { put_five::<L, R>(&rt, tx, &theirs) },
     )?;
-    for _ in rt.forever() {
-        if count.load(Ordering::SeqCst) == 4 {
-            break;
-        }
-        thread::yield_now();
-    }
-    for _ in 0..1000 {
-        thread::yield_now();
+    comes_to(&rt, &count, 4);
+    for _ in 0..20 {
+        pause(&rt);
     }
     same(&rt, &count.load(Ordering::SeqCst), &4);
     assert!(rt; L::take(&rt, &mut rx).is_ok());
+    comes_to(&rt, &count, 5);
     child.join(&rt);
-    same(&rt, &count.load(Ordering::SeqCst), &5);
     Ok(())
 }
 

@@ -6,12 +6,10 @@ use super::diners::Marked;
 use super::*;
 use crate::journals::HIGHER;
 use dine_rules::Letter;
+use dine_run::JobFault;
+use dine_test_plans::ALONE;
 
-// One site without edges, with two jobs.
-const ALONE: &str =
-    "version = 1\n[[site]]\nname = \"a\"\njobs = [{ name = \"x\" }, { name = \"y\" }]\n";
-
-// What such a site does.
+// What a site without edges does that has two jobs.
 const TWO_MEALS: [EventKind; 6] = [
     EventKind::Hungry,
     EventKind::Begin,
@@ -195,4 +193,11 @@ fn answers_of_a_marked_diner_fit_its_marks(rt: HostRuntime) {
     );
     same(&rt, &(end.ate, end.failed), &(2, 2));
     assert!(rt; !end.diner.goes_well && end.fault.is_none());
+}
+
+#[test]
+fn job_that_failed_has_its_words(rt: HostRuntime) {
+    let fault = JobFault;
+    let words = format!(in rt.alloc(); "{fault}").expect(&rt, "memory");
+    same(&rt, &words.as_str(), &"the job failed");
 }

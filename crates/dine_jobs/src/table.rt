@@ -1,0 +1,151 @@
+//! What a job has before it in a meal.
+ghost use Rattle.std.specs.Prelude.{◌≡◌, ◌<◌, ◌≤◌, ◌↔◌, IfSome, IsErrOf, IsNone, OnOk, Some, length, slice_get};
+ghost use Rattle.dine_token.specs.Fork.{SeenFork, other_end};
+
+use crate::ids::{EdgeId, Place, SiteId};
+use crate::values::Values;
+use dine_site::JobFault;
+use dine_token::Meal;
+use std::marker::Model;
+use std::sync::MutexGuard;
+use thiserror::Error;
+
+/// Why a value was not opened.
+#[derive(Clone, Copy, Debug, PartialEq, Eq, Error)]
+pub enum OpenFault {
+    /// The site has no such place, edge or neighbour.
+    #[error("the site has no such edge")]
+    NoEdge,
+    /// The value is open: the job opened it, and has it still.
+    #[error("the value is open already")]
+    Open,
+}
+
+/// So `?` ends a job that could not open a value. The job failed.
+impl From<OpenFault> for JobFault {
+    fn from(_fault: OpenFault) -> JobFault {
+        JobFault
+    }
+}
+
+/// A meal of a site, and the values of the edges whose forks it eats with.
+///
+/// The edges of the site have places, from 0, in the order of their numbers. A value is opened by its place, by its
+/// edge, or by the neighbour with whom the site shares it.
+#[derive(Drop)]
+pub struct Table<'a, T: Drop> {
+    meal: &'a Meal,
+    values: &'a Values<T>,
+}
+
+impl<'a, T: Drop> Model for Table<'a, T> {
+    ghost use Rattle.dine_token.specs.Meal.{SeenMeal};
+
+    ghost Value = { SeenMeal };
+
+    ghost view = { λ table. table.meal.now };
+}
+
+impl<'a, T: Drop> Table<'a, T> {
+    // The table of a meal.
+    pub(crate) fn lay(meal: &'a Meal, values: &'a Values<T>) -> Table<'a, T>
+        ensures { result ≡ meal.now }
+    {
+        Table { meal, values }
+    }
+
+    /// The site that eats.
+    pub fn site(&self) -> SiteId
+        ensures { result.0 ≡ self.now.site }
+    {
+        SiteId(self.meal.site())
+    }
+
+    /// The number of the meal, from 1, and so of the job.
+    pub fn k(&self) -> u32
+        ensures { result ≡ self.now.k }
+    {
+        self.meal.k()
+    }
+
+    /// How many edges the site has.
+    pub fn places(&self) -> u32
+        ensures { result ≡ length self.now.forks }
+    {
+        self.meal.len()
+    }
+
+    /// The edge at a place. None exactly if the site has no such place.
+    pub fn edge(&self, place: Place) -> Option<EdgeId>
+        ensures edge { IfSome result (λ edge. (fork : SeenFork) × (slice_get self.now.forks place.0 ≡ Some fork) × (fork.edge ≡ edge.0)) }
+        ensures none { length self.now.forks ≤ place.0 ↔ IsNone result }
+    {
+        if place.0 >= self.meal.len() {
+            return None;
+        }
+        Some(EdgeId(self.meal.fork(place.0).edge()))
+    }
+
+    /// The site at the other end of the edge at a place. None exactly if the site has no such place.
+    pub fn neighbour(&self, place: Place) -> Option<SiteId>
+        ensures site { IfSome result (λ site. (fork : SeenFork) × (slice_get self.now.forks place.0 ≡ Some fork) × (site.0 ≡ other_end fork self.now.site)) }
+        ensures none { length self.now.forks ≤ place.0 ↔ IsNone result }
+    {
+        if place.0 >= self.meal.len() {
+            return None;
+        }
+        let (lower, higher) = self.meal.fork(place.0).ends();
+        Some(SiteId(if lower == self.meal.site() {
+            higher
+        } else {
+            lower
+        }))
+    }
+
+    /// Opens the value of the edge at a place, until the guard is dropped, and at most for this meal. It never waits.
+    ///
+    /// # Errors
+    ///
+    /// `NoEdge` if the site has no such place. `Open` if the job has the value open.
+    pub fn open(&self, place: Place) -> Result<MutexGuard<'_, T>, OpenFault>
+        ensures within { OnOk result (place.0 < length self.now.forks) }
+        ensures outside { length self.now.forks ≤ place.0 → IsErrOf result OpenFault.NoEdge }
+    {
+        let Some(edge) = self.edge(place) else {
+            return Err(OpenFault::NoEdge);
+        };
+        self.values.open(edge.0)
+    }
+
+    /// Opens the value of an edge, as [`Table::open`] does.
+    ///
+    /// # Errors
+    ///
+    /// `NoEdge` if it is no edge of the site. `Open` if the job has the value open.
+    pub fn open_edge(&self, edge: EdgeId) -> Result<MutexGuard<'_, T>, OpenFault>
+        ensures { OnOk result ((place : _) × (fork : SeenFork) × (slice_get self.now.forks place ≡ Some fork) × (fork.edge ≡ edge.0)) }
+    {
+        for place in 0..self.meal.len() {
+            if self.meal.fork(place).edge() == edge.0 {
+                return self.open(Place(place));
+            }
+        }
+        Err(OpenFault::NoEdge)
+    }
+
+    /// Opens the value that the site shares with a neighbour, as [`Table::open`] does.
+    ///
+    /// # Errors
+    ///
+    /// `NoEdge` if the site has no edge to that one. `Open` if the job has the value open.
+    pub fn open_with(&self, neighbour: SiteId) -> Result<MutexGuard<'_, T>, OpenFault>
+        ensures { OnOk result ((place : _) × (fork : SeenFork) × (slice_get self.now.forks place ≡ Some fork) × (neighbour.0 ≡ other_end fork self.now.site)) }
+    {
+        for place in 0..self.meal.len() {
+            if self.neighbour(Place(place)) == Some(neighbour) {
+                return self.open(Place(place));
+            }
+        }
+        Err(OpenFault::NoEdge)
+    }
+}

@@ -1,0 +1,70 @@
+// Runs of jobs that are refused, and what is handed back.
+use crate::plans::band_of;
+use dine_run::{Job, JobFault, JobsCause, JobsFault, Table, on_rings};
+use std::alloc::Global;
+use std::process::Abort;
+use std::test::Fail;
+
+#[derive(Drop)]
+struct Idle(u32);
+
+impl Job<u32> for Idle {
+    type Fault = JobFault;
+
+    fn run(&mut self, _table: &Table<'_, u32>) -> Result<(), JobFault> {
+        Ok(())
+    }
+}
+
+// The numbers below n.
+fn numbers(rt: &impl Abort, alloc: Global, n: u32) -> Vec<u32> {
+    let mut numbers = Vec::new(alloc);
+    for i in 0..n {
+        numbers.push(i).expect(rt, "memory");
+    }
+    numbers
+}
+
+// The fault has this cause and these words, and hands back so many values and jobs, in order.
+fn hands_back(
+    rt: &impl Abort,
+    alloc: Global,
+    fault: JobsFault<u32, Idle>,
+    cause: JobsCause,
+    words: &str,
+    sizes: (u32, u32),
+) {
+    assert_eq!(rt; fault.cause, cause);
+    let told = fault.to_string(alloc).expect(rt, "memory");
+    assert_eq!(rt; told.as_str(), words);
+    let values = numbers(rt, alloc, sizes.0);
+    assert_eq!(rt; fault.values.as_slice(), values.as_slice());
+    assert_eq!(rt; fault.jobs.len(), sizes.1 as usize);
+    for (job, n) in fault.jobs.iter().zip(0..64u32) {
+        assert_eq!(rt; job.0, n);
+    }
+}
+
+#[test]
+fn values_and_jobs_that_are_not_as_many_are_handed_back(rt: HostRuntime) -> Result<(), Fail> {
+    let alloc = rt.alloc();
+    // Three sites with three edges.
+    let plan = band_of(&rt, alloc, 3, 2);
+    for (values, jobs, cause, words) in [
+        (2, 3, JobsCause::ValuesDiffer, "run refused: values differ"),
+        (4, 3, JobsCause::ValuesDiffer, "run refused: values differ"),
+        (0, 0, JobsCause::ValuesDiffer, "run refused: values differ"),
+        (3, 2, JobsCause::JobsDiffer, "run refused: jobs differ"),
+        (3, 4, JobsCause::JobsDiffer, "run refused: jobs differ"),
+    ] {
+        let mut idle = Vec::new(alloc);
+        for n in 0..jobs {
+            idle.push(Idle(n))?;
+        }
+        match on_rings(&rt, alloc, &plan, numbers(&rt, alloc, values), idle) {
+            Ok(_done) => panic!(rt; "it ran"),
+            Err(fault) => hands_back(&rt, alloc, fault, cause, words, (values, jobs)),
+        }
+    }
+    Ok(())
+}

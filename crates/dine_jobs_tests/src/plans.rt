@@ -1,0 +1,36 @@
+// Plans for the tests.
+use dine_run::{Plan, PlanBuilder, PlanFault};
+use std::alloc::Global;
+use std::process::Abort;
+
+// Sites round a band: each has an edge to the next and to the one after it. Each has so many jobs. Of site 0 it is told
+// whether it resigns.
+fn band(alloc: Global, sites: u32, jobs: u32, resigns: bool) -> Result<Plan, PlanFault> {
+    let mut plan = PlanBuilder::open(alloc);
+    for n in 0..sites {
+        let name = format!(in alloc; "s{n}")?;
+        plan.site(name.as_str(), jobs)?;
+    }
+    if resigns {
+        plan.resign(0);
+    }
+    for n in 0..sites {
+        if n + 1 < sites {
+            plan.edge(n, n + 1)?;
+        }
+        if n + 2 < sites {
+            plan.edge(n, n + 2)?;
+        }
+    }
+    plan.finish()
+}
+
+// The band, with the edges 0-1, 0-2, 1-2, 1-3, .. in this order.
+pub fn band_of(rt: &impl Abort, alloc: Global, sites: u32, jobs: u32) -> Plan {
+    band(alloc, sites, jobs, false).expect(rt, "a plan")
+}
+
+// The same, where site 0 resigns.
+pub fn resigning(rt: &impl Abort, alloc: Global, sites: u32, jobs: u32) -> Plan {
+    band(alloc, sites, jobs, true).expect(rt, "a plan")
+}
