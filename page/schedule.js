@@ -3,9 +3,11 @@
 
 import { between } from "./marks.js";
 
-// How many states are kept, and how many letters of them are asked for at a time beyond the one that is wanted.
-const KEPT = 300;
-const AHEAD = { states: 20, letters: 300000 };
+// How many states are kept, the least and the most, and of how many letters in all.
+const KEPT = { least: 40, most: 300, letters: 30e6 };
+// How many states are asked for at a time beyond the one that is wanted, of how many letters, and how near the reader
+// may come to the last that is kept before the following are asked for.
+const AHEAD = { states: 20, letters: 1.5e6, margin: 8 };
 // The letter by which the program names a kind of event in a column.
 const KINDS = { hungry: "h", ask: "a", give: "g", begin: "b", end: "e", quit: "q", done: "d", close: "c" };
 const TAKEN = { request: "A", fork: "G", done: "D", close: "C" };
@@ -59,6 +61,8 @@ export class Schedule {
     this.left = { count: 0, at: 0 };
     // About how many letters a state has.
     this.letters = AHEAD.letters;
+    // What is asked for while the reader looks at a state.
+    this.pending = null;
   }
 
   // Has a list of choices, of which `at` are done, all if it is null. Those that name no event are left out.
@@ -72,25 +76,26 @@ export class Schedule {
     this.left = { count: Math.max(0, list.length - this.list.length), at: this.at };
   }
 
-  // Asks for the states after so many choices, and keeps them.
+  // Asks for the states after so many choices, and keeps them, if the list is still the same by then.
   async fetch(places) {
-    const list = this.list.slice(0, places.at(-1));
-    const states = await this.program.states(this.plan, list, places);
-    states.forEach((state, turn) => this.keep(places[turn], state));
+    const { list } = this;
+    const states = await this.program.states(this.plan, list.slice(0, places.at(-1)), places);
+    if (list !== this.list) return;
     this.letters = JSON.stringify(states[0]).length;
+    states.forEach((state, turn) => this.keep(places[turn], state));
   }
 
   keep(count, state) {
     this.states.delete(count);
     this.states.set(count, state);
-    if (this.states.size > KEPT) this.states.delete(this.states.keys().next().value);
+    const most = between(KEPT.least, KEPT.letters / this.letters, KEPT.most);
+    if (this.states.size > most) this.states.delete(this.states.keys().next().value);
   }
 
-  // The places to ask for together with this one: those that follow the way that the reader goes.
-  placesAt(count) {
+  // The places to ask for together with this one: those that follow on the way.
+  placesFrom(count, way) {
     const ahead = between(0, Math.floor(AHEAD.letters / this.letters), AHEAD.states);
-    if (Math.abs(count - this.at) !== 1) return [count];
-    const [least, most] = count < this.at ? [count - ahead, count] : [count, count + ahead];
+    const [least, most] = way < 0 ? [count - ahead, count] : [count, count + ahead];
     const places = [];
     for (let place = Math.max(0, least); place <= Math.min(most, this.list.length); place += 1) {
       if (place === count || !this.states.has(place)) places.push(place);
@@ -98,11 +103,26 @@ export class Schedule {
     return places;
   }
 
-  // Goes to where so many choices are done.
+  // Goes to where so many choices are done. A step of one asks for those that follow too, some of them meanwhile.
   async go(count) {
-    if (!this.states.has(count)) await this.fetch(this.placesAt(count));
+    const way = Math.abs(count - this.at) === 1 ? count - this.at : 0;
+    if (!this.states.has(count)) await this.pending;
+    if (!this.states.has(count)) await this.fetch(way ? this.placesFrom(count, way) : [count]);
     this.at = count;
     this.state = this.states.get(count);
+    if (way) this.askAhead(way);
+  }
+
+  // Asks for what follows on the way while the reader looks, if not enough of it is kept.
+  askAhead(way) {
+    let place = this.at + way;
+    while (this.states.has(place)) place += way;
+    const isThere = place >= 0 && place <= this.list.length;
+    if (this.pending || !isThere || Math.abs(place - this.at) > AHEAD.margin) return;
+    // A fault is told when the state is asked for again.
+    this.pending = this.fetch(this.placesFrom(place, way)).catch(() => {}).finally(() => {
+      this.pending = null;
+    });
   }
 
   // Does the enabled event with this number. If another was to follow, all that was to follow is forgotten.

@@ -11,8 +11,8 @@ import { showTicks } from "./ticks.js";
 const START = "all forks are dirty, at the lower ends of their edges; the tokens are at the higher ends";
 // With more sites or edges than these a picture has one site in focus.
 const MANY = { sites: 16, edges: 40 };
-// From how many letters on a line of choices is shown without its middle.
-const WHOLE = 4000;
+// Up to how many letters a line of choices is shown whole, and a line of a log.
+const WHOLE = { choices: 4000, log: 1200 };
 // How long the page waits before it writes its address, in milliseconds.
 const QUIET = 150;
 
@@ -118,13 +118,14 @@ export function shellLine() {
 }
 
 // A text without its middle if it is long: to lay out the whole would cost more than all else in a step.
-function cut(text) {
-  return text.length <= WHOLE ? text : `${text.slice(0, WHOLE / 4)} … ${text.slice(-WHOLE / 4)}`;
+function cut(text, most = WHOLE.choices) {
+  return text.length <= most ? text : `${text.slice(0, most / 4)} … ${text.slice(-most / 4)}`;
 }
 
 function showLogs(state) {
   const { list, at, path } = mind.schedule;
-  setText(found("logs"), [...state.logs, `events ${state.events} of ${state.bound}`].join("\n"));
+  const logs = state.logs.map((log) => cut(log, WHOLE.log));
+  setText(found("logs"), [...logs, `events ${state.events} of ${state.bound}`].join("\n"));
   const done = list.slice(0, at).join(",");
   setText(found("line"), cut(shellLine()));
   const own = path === null ? "Save the text of your plan as plan.toml. " : "";

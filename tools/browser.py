@@ -51,6 +51,8 @@ class Browser:
         self.by = importlib.import_module("selenium.webdriver.common.by").By.CSS_SELECTOR
         self.chains = importlib.import_module("selenium.webdriver.common.action_chains").ActionChains
         self.fault = importlib.import_module("selenium.common.exceptions").WebDriverException
+        # What the library raises if the driver is gone.
+        self.lost = importlib.import_module("urllib3.exceptions").HTTPError
         webdriver = importlib.import_module("selenium.webdriver")
         service = importlib.import_module("selenium.webdriver.chrome.service").Service
         options = webdriver.ChromeOptions()
@@ -68,12 +70,17 @@ class Browser:
         return self
 
     def __exit__(self, *_):
-        self.driver.quit()
+        try:
+            self.driver.quit()
+        except self.lost:
+            # It has ended by itself, which the tries have told.
+            pass
 
     @property
     def errors(self):
         """What stands on the console."""
-        self.noted += [it["message"] for it in self.driver.get_log("browser") if it["level"] in ("WARNING", "SEVERE")]
+        told = self.guarded(lambda: self.driver.get_log("browser"))
+        self.noted += [it["message"] for it in told if it["level"] in ("WARNING", "SEVERE")]
         return self.noted
 
     def forget_errors(self):
@@ -85,6 +92,8 @@ class Browser:
             return does()
         except self.fault as fault:
             raise BrowserFault(" ".join((fault.msg or str(fault)).split("\n")[:2])) from None
+        except self.lost:
+            raise BrowserFault("the browser ended") from None
 
     def open(self, address):
         self.guarded(lambda: self.driver.get(address))

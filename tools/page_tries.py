@@ -268,7 +268,7 @@ def fault_of_packed(seen):
     if seen.said() != before or seen.event() != 3:
         return "a reload shows another moment"
     dice = random.Random("long")
-    seen.write_plan(plan + "# " + "".join(chr(dice.randrange(0x4E00, 0x9FFF)) for _ in range(60_000)))
+    seen.write_plan(plan + "# " + "".join(chr(dice.randrange(0x4E00, 0x9FFF)) for _ in range(26_000)))
     seen.browser.wait_for("location.hash === '' && !document.getElementById('too-long').hidden", 10)
     return ""
 
