@@ -44,7 +44,7 @@ none_failed marks ate failed old new none eaten had =
     let ill = had.failed in
     cc
 
-pub have_sent : (marks : Teller → List Bool) (room : Teller → ℕ) (plan : SeenPlan) (given : List Teller) (outs : List (SiteOut Teller)) → AreFresh plan given → AreOutsOf (record { calls = λ teller. teller.log.calls; marks = marks; fits = λ m k ok. ok; room_left = room }) plan given outs → AreFinishedOuts plan outs → HaveSent plan outs
+pub have_sent : (marks : Teller → List Bool) (room : Teller → ℕ) (plan : SeenPlan) (given : List Teller) (outs : List (SiteOut Teller)) → AreFresh plan given → AreOutsOf (record { calls = λ teller. teller.log.calls; marks = marks; fits = λ m k ok. ok; room_left = room; expects = λ teller plan site. Unit {0} }) plan given outs → AreFinishedOuts plan outs → HaveSent plan outs
 have_sent marks room plan given outs fresh out_of finished s out at =
     let within : s < length given = omega (arith, slice_get_within outs s out at, out_of.count, fresh.count) in
     let old = there_is given s within in
