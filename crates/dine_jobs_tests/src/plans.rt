@@ -15,11 +15,12 @@ fn band(alloc: Global, sites: u32, jobs: u32, resigns: bool) -> Result<Plan, Pla
         plan.resign(0);
     }
     for n in 0..sites {
-        if n + 1 < sites {
-            plan.edge(n, n + 1)?;
+        let (next, second) = (n.saturating_add(1), n.saturating_add(2));
+        if next < sites {
+            plan.edge(n, next)?;
         }
-        if n + 2 < sites {
-            plan.edge(n, n + 2)?;
+        if second < sites {
+            plan.edge(n, second)?;
         }
     }
     plan.finish()
