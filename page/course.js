@@ -1,7 +1,7 @@
 // The timeline: a row for each site, a bar for each meal, a line for each wait, an arrow for each move of a fork. Only
 // what is in view is drawn, so that it takes as long with many events as with few.
 
-import { between, element, setAttribute, shortened } from "./marks.js";
+import { between, commonOf, element, setAttribute, shortened } from "./marks.js";
 import { firstBehind, spanAt, spansOf } from "./spans.js";
 
 const TOP = 18;
@@ -9,6 +9,8 @@ const TOP = 18;
 const EVENT = { least: 0.001, fit: 16, most: 32 };
 // How far apart two numbers of events are at least, in points.
 const APART = 52;
+// How wide a digit of such a number is.
+const DIGIT = 7;
 // From which width of an event on the moves of forks have their arrows, and how many are drawn at most.
 const ARROWS = { from: 2.5, most: 3000 };
 
@@ -106,12 +108,13 @@ export class Course {
     const most = this.scroll.parentElement.clientWidth < 500 ? 9 : 16;
     const longest = Math.max(...sites.map((site) => Math.min(site.name.length, most)));
     const width = longest * size * 0.62 + 12;
+    const common = commonOf(this.titles);
     this.names.replaceChildren();
     this.names.setAttribute("width", width);
     this.names.setAttribute("height", this.height);
     sites.forEach((site, number) => {
       const at = { x: width - 8, y: this.y(number) + size * 0.36, "font-size": size };
-      element("text", at, this.names).textContent = shortened(site.name, most);
+      element("text", at, this.names).textContent = shortened(site.name, most, common);
     });
     this.room = this.scroll.clientWidth;
   }
@@ -187,7 +190,9 @@ export class Course {
     let ticks = "";
     for (let place = Math.max(0, Math.ceil(from / step) * step); place <= Math.min(to, this.total); place += step) {
       ticks += `M${this.x(place)},${TOP - 4}V${this.height}`;
-      element("text", { class: "number", x: this.x(place) + 2, y: 11 }, this.svg).textContent = place;
+      // The last number has no space behind its place.
+      const x = Math.min(this.x(place) + 2, this.room - DIGIT * String(place).length);
+      element("text", { class: "number", x, y: 11 }, this.svg).textContent = place;
     }
     element("path", { class: "tick", d: ticks }, this.svg);
   }

@@ -8,6 +8,11 @@ function paragraphsOf(note) {
   return texts.map((text) => textElement("p", text.replace(/\s*\n\s*/g, " ")));
 }
 
+// How many events are done at a moment.
+function placeOf(moment) {
+  return moment?.at ?? (moment?.choices ? moment.choices.split(",").length : 0);
+}
+
 export class LessonPanel {
   // `parts` has the elements.
   constructor(parts) {
@@ -18,14 +23,16 @@ export class LessonPanel {
     });
   }
 
-  // Shows the moment of a lesson, or nothing if the lesson is null.
-  show(lesson, place, isOwn) {
+  // Shows the moment of a lesson, or nothing if the lesson is null. `at` is how many events are done in the picture.
+  show(lesson, place, isOwn, at) {
     this.panel.hidden = lesson === null;
     document.body.classList.toggle("has-lesson", lesson !== null);
     if (lesson === null) return;
     const moment = lesson.moments[place];
     const count = lesson.moments.length;
-    this.count.textContent = count ? `Moment ${place + 1} of ${count}` : "No moment yet";
+    const here = `${place + 1} of ${count}`;
+    const told = at === placeOf(moment) ? `Moment ${here}` : `Away from moment ${here}`;
+    this.count.textContent = count ? told : "No moment yet";
     this.count.title = lesson.title;
     this.title.textContent = moment?.title ?? "";
     this.note.replaceChildren(...paragraphsOf(moment?.note ?? "Keep this moment adds the one that is shown."));
@@ -60,7 +67,7 @@ export class LessonPanel {
     this.question.replaceChildren(textElement("p", moment.question), ...items, row, this.told);
   }
 
-  // Says whether the answer is right, and if it is, why.
+  // Says whether the answer is right, and why, or gives the hint of a wrong one.
   check() {
     const chosen = new FormData(this.question).get("answer");
     if (chosen === null) {
@@ -70,6 +77,8 @@ export class LessonPanel {
     const isRight = Number(chosen) === this.moment.answer;
     this.told.className = isRight ? "right" : "wrong";
     const right = `✓ Right. ${this.moment.because ?? ""}`;
-    this.told.textContent = isRight ? right : "✗ Not so. Look at the picture again.";
+    const hint = this.moment.hints?.[Number(chosen) - 1] || "Look at the picture again.";
+    this.told.textContent = isRight ? right : `✗ Not so. ${hint}`;
+    this.told.scrollIntoView({ block: "nearest" });
   }
 }

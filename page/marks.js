@@ -34,11 +34,21 @@ export function setOff(button, isOff) {
   setAttribute(button, "aria-disabled", isOff);
 }
 
-// A name with so many letters at most. Names often differ in their last letters, so the middle is left out.
-export function shortened(name, most) {
+// With how many letters all these names begin.
+export function commonOf(names) {
+  const [first, ...others] = names;
+  let count = 0;
+  while (others.length && count < first.length && others.every((name) => name[count] === first[count])) count += 1;
+  return count;
+}
+
+// A name with so many letters at most. Names often differ in their last letters, so the middle is left out. What comes
+// behind the `common` letters with which all names begin stays, if it fits.
+export function shortened(name, most, common = 0) {
   if (name.length <= most) return name;
-  const tail = Math.min(4, Math.floor((most - 1) / 2));
-  return `${name.slice(0, Math.max(1, most - 1 - tail))}…${tail ? name.slice(-tail) : ""}`;
+  const own = common && name.length - common < most ? name.length - common : 0;
+  const tail = Math.max(own, Math.min(4, Math.floor((most - 1) / 2)));
+  return `${name.slice(0, Math.max(own ? 0 : 1, most - 1 - tail))}…${tail ? name.slice(-tail) : ""}`;
 }
 
 // The outline of a site by its phase, round (0, 0).
@@ -109,11 +119,28 @@ export function drawLegend(list, size) {
     element("line", { x1: -10, y1: 0, x2: 10, y2: 0 }, group);
     element("path", { class: "head", d: "M-4,-5L6,0L-4,5Z" }, group);
   };
+  const lane = (inside) => {
+    element("line", { class: "lane", x1: -10, y1: 0, x2: 4, y2: 0 }, inside);
+    element("path", { class: "tip", d: "M3,-4L9,0L3,4Z" }, inside);
+  };
+  const closed = (inside) => {
+    element("line", { x1: -10, y1: 0, x2: 10, y2: 0 }, element("g", { class: "edge closed" }, inside));
+  };
+  const rank = (inside) => {
+    const group = element("g", { class: "rank" }, element("g", { class: "ranked" }, inside));
+    element("circle", { r: 9 }, group);
+    element("text", { "font-size": 12 }, group).textContent = "1";
+  };
+  const last = (inside) => {
+    const group = element("g", { class: "site last" }, inside);
+    element("path", { class: "halo", d: outline("thinking", 8) }, group);
+  };
   const entries = [
     ["thinking", shape("thinking")], ["hungry", shape("hungry")], ["eating", shape("eating")],
     ["dirty fork", fork("dirty")], ["clean fork", fork("clean")], ["token", (inside) => tokenMark(mark, inside)],
-    ["says done", (inside) => wordMark("done", 18, inside)], ["closes", (inside) => wordMark("close", 18, inside)],
-    ["goes before", arrow],
+    ["letter Done", (inside) => wordMark("done", 18, inside)],
+    ["letter Close", (inside) => wordMark("close", 18, inside)], ["on its way", lane], ["goes before", arrow],
+    ["place in the order", rank], ["changed last", last], ["done", shape("thinking done")], ["closed edge", closed],
   ];
   for (const [words, draw] of entries) {
     const item = document.createElement("li");

@@ -115,9 +115,11 @@ export class NaiveTable {
 
   told() {
     if (this.isCaught()) {
-      const names = this.ring.map((site) => this.names[site]);
-      const waits = names.map((name, turn) => `${name} ${turn ? "" : "waits "}for ${names[(turn + 1) % names.length]}`);
-      return `Deadlock: ${waits.join(", ")}. No event is left, and nobody has eaten.`;
+      // Each holds the fork towards the next one, and waits for the one before it.
+      const sites = [this.ring[0], ...this.ring.slice(1).reverse()];
+      const holder = (site) => this.names[this.waitsFor(site).holder];
+      const waits = sites.map((site, turn) => `${this.names[site]} ${turn ? "" : "waits "}for ${holder(site)}`);
+      return `Deadlock: ${waits.join(", ")}. None of them can ever eat.`;
     }
     if (this.ring === null) return `${this.words}. (Without a ring of sites plain forks can't lock.)`;
     return this.words;

@@ -9,6 +9,7 @@ import { found, mind, rate } from "./mind.js";
 import { OwnPlan } from "./own.js";
 import { Picture } from "./picture.js";
 import { Quiz } from "./quiz.js";
+import { faultText } from "./refusals.js";
 import { EdgeTable, SiteTable } from "./tables.js";
 import { Why } from "./why.js";
 
@@ -27,7 +28,7 @@ export const acts = new Acts({
   note: tell,
   told: (fault) => {
     if (fault) player.pause();
-    tell(fault ? fault.message : "");
+    tell(fault ? faultText(fault.message, mind.wanted) : "");
   },
 });
 export const picture = new Picture(found("picture"), turnSite);

@@ -1,13 +1,17 @@
 // The picture of a state: the sites, and on each edge its fork, its token and the letters in its links. With ranks, an
 // arrow on each edge goes from the end that has precedence to the other one.
 
-import { between, element, forkMark, outline, setAttribute, setText, shortened, tokenMark, wordMark } from "./marks.js";
+import {
+  between, commonOf, element, forkMark, outline, setAttribute, setText, shortened, tokenMark, wordMark,
+} from "./marks.js";
 import { MARK, SHOWN, SITE, TURN, linesOf, placesOf, pointOf } from "./places.js";
 
 // Up to how many edges each has its number in the picture, and from which size of the marks on.
 const NUMBERED = { edges: 24, size: 12 };
 // The size that a picture is drawn for. It is drawn larger where there is space for it, with its letters.
 const DRAWN = { width: 600, height: 400 };
+// The radius of what is hit by a click on a site, at least.
+const HIT = 10;
 // Which letter an event moves, and to which mark it belongs.
 const MOVED = { fork: "forks", request: "tokens", done: "words", close: "words" };
 
@@ -21,6 +25,33 @@ export function doesWhat(site) {
 // How many meals of a site have ended.
 export function mealsOf(site) {
   return site.eaten - (site.phase === "eating" ? 1 : 0);
+}
+
+// How long the head of an arrow is.
+function headWidth({ size }) {
+  return between(5, size * 0.5, 13);
+}
+
+// Half of how far a number reaches along a line.
+function halfOf({ along }, number) {
+  return 5 * Math.abs(along.y) + 4 * String(number).length * Math.abs(along.x);
+}
+
+// How far from the middle of a line its number is, behind the head of the arrow and before it.
+function numberPlaces(line) {
+  const apart = line.half + 2;
+  return { behind: 0.1 * line.size + apart, before: headWidth(line) - 0.1 * line.size + apart };
+}
+
+// How much of a line is free from its middle towards an end that has a token, a fork or nothing.
+function freeOf(line, end, mark) {
+  return line.length / 2 - line.begin[end] - { token: 1.75, fork: 0.9, none: 0 }[mark] * line.size;
+}
+
+// Whether a line has space for its number, wherever its fork and its token are.
+function hasSpace(line) {
+  const need = numberPlaces(line).before + line.half;
+  return [0, 1].every((end) => Math.max(freeOf(line, end, "token"), freeOf(line, 1 - end, "fork")) >= need);
 }
 
 export class Picture {
@@ -52,8 +83,11 @@ export class Picture {
     const [edges, lanes, drawn, marks] = [1, 2, 3, 4].map(() => element("g", {}, this.svg));
     const byEdge = (make) => new Map(this.numbers.map((edge, turn) => [edge, make(lines[turn], edge)]));
     this.lines = byEdge((line) => line);
-    this.isNumbered = lines.length <= NUMBERED.edges && (lines[0]?.size ?? 0) >= NUMBERED.size;
+    this.numbers.forEach((edge, turn) => { lines[turn].half = halfOf(lines[turn], edge); });
+    this.isNumbered = lines.length <= NUMBERED.edges && (this.hasValues || lines.every(hasSpace))
+      && (lines[0]?.size ?? 0) >= NUMBERED.size;
     this.edges = byEdge((line, edge) => this.openEdge(line, edge, edges));
+    this.common = commonOf(sites.map((site) => state.sites[site].name));
     this.lanes = byEdge(() => element("g", {}, lanes));
     this.sites = new Map(sites.map((site, turn) => {
       return [site, this.openSite(places[turn], state.sites[site], site, drawn)];
@@ -71,7 +105,7 @@ export class Picture {
     element("line", { x1: line.from.x, y1: line.from.y, x2: line.to.x, y2: line.to.y }, group);
     const title = element("title", {}, group);
     const at = pointOf(line, line.length / 2);
-    const wide = between(5, line.size * 0.5, 13);
+    const wide = headWidth(line);
     const begin = this.isNumbered && !this.hasValues ? -0.1 * line.size : -wide / 2;
     const tip = `M${begin},${-wide * 0.55}L${begin + wide},0L${begin},${wide * 0.55}Z`;
     const head = element("path", { class: "head", d: tip }, group);
@@ -91,6 +125,8 @@ export class Picture {
   openSite(place, site, number, inside) {
     const at = `translate(${place.x},${place.y})`;
     const group = element("g", { class: "site", transform: at, "data-site": number }, inside);
+    // A small site is hit by a click beside it too.
+    element("circle", { class: "hit", r: Math.max(HIT, place.radius) }, group);
     const halo = element("path", { class: "halo" }, group);
     const shape = element("path", { class: "shape" }, group);
     const title = element("title", {}, group);
@@ -98,12 +134,16 @@ export class Picture {
     if (place.radius < SITE.name) {
       this.nameBeside(place, site, group);
     } else {
-      const size = between(10, (1.75 * place.radius) / (0.64 * Math.min(site.name.length, SHOWN)), 17);
-      const most = Math.floor((1.75 * place.radius) / (0.64 * size));
-      const rows = place.radius >= SITE.meals ? [-11, 5, 19] : place.radius >= SITE.phase ? [-4, 11] : [4];
+      // The site in the middle of a star has its rank there.
+      const isWide = place.radius >= SITE.phase && place.angle !== null;
+      const rows = place.radius >= SITE.meals ? [-11, 5, 19] : isWide ? [-4, 11] : [4];
+      // A hungry site is narrower where its name is if there are rows below it.
+      const wide = (rows.length === 3 ? 1.55 : 1.75) * place.radius;
+      const size = between(10, wide / (0.64 * Math.min(site.name.length, SHOWN)), 17);
       const name = element("text", { class: "name", y: rows[0], "font-size": size }, group);
-      name.textContent = shortened(site.name, most);
-      for (const y of rows.slice(1)) texts.push(element("text", { class: "small", y }, group));
+      name.textContent = shortened(site.name, Math.floor(wide / (0.64 * size)), this.common);
+      const kind = place.radius < SITE.phase + 3 ? "small tight" : "small";
+      for (const y of rows.slice(1)) texts.push(element("text", { class: kind, y }, group));
     }
     return { group, halo, shape, title, texts, rank: this.openRank(place, group), radius: place.radius, key: null };
   }
@@ -126,7 +166,7 @@ export class Picture {
   // The name of a small site, outside of the circle and along its radius.
   nameBeside(place, site, group) {
     const name = element("text", { class: "beside", "font-size": place.radius < 7 ? 10 : 11 }, group);
-    name.textContent = shortened(site.name, SHOWN);
+    name.textContent = shortened(site.name, SHOWN, this.common);
     const angle = place.angle ?? -TURN / 4;
     const isLeft = Math.cos(angle) < -0.001;
     const far = 1.3 * place.radius + 5;
@@ -192,12 +232,15 @@ export class Picture {
     this.showMarks(edge, number, line);
   }
 
-  // The number of an edge stands behind the head of its arrow.
-  showLabel(label, line, text, { ends, preferred }) {
+  // The number of an edge stands behind the head of its arrow, or before it if there is a mark.
+  showLabel(label, line, text, { ends, preferred, token, fork }) {
     setText(label, text);
     if (this.hasValues) return;
-    const behind = (preferred === ends[1] ? 1 : -1) * (0.1 * line.size + 8);
-    const { x, y } = pointOf(line, line.length / 2 + behind);
+    const back = preferred === ends[1] ? 1 : 0;
+    const mark = token?.at === ends[back] ? "token" : fork.at === ends[back] ? "fork" : "none";
+    const { behind, before } = numberPlaces(line);
+    const far = freeOf(line, back, mark) >= behind + line.half ? behind : -before;
+    const { x, y } = pointOf(line, line.length / 2 + (back ? far : -far));
     setAttribute(label, "x", x);
     setAttribute(label, "y", y);
   }

@@ -4,7 +4,7 @@ import { between } from "./marks.js";
 
 export const TURN = 2 * Math.PI;
 // The radius of a site: the least, the largest, and from which on its name, its phase and its meals fit inside.
-export const SITE = { least: 5, most: 46, name: 21, phase: 28, meals: 37 };
+export const SITE = { least: 5, most: 46, name: 21, phase: 26, meals: 37 };
 // How large a mark on an edge is.
 export const MARK = { least: 6, most: 28 };
 // How many letters of a name a picture shows.

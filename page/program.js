@@ -52,14 +52,15 @@ class Served {
 
 // What an exported page has in itself.
 class Recorded {
-  constructor({ lesson, runs }) {
-    Object.assign(this, { isRecorded: true, lesson, runs });
+  constructor({ lesson, runs, unproved }) {
+    Object.assign(this, { isRecorded: true, lesson, runs, unproved });
   }
 
   async plans() {
     const plans = this.runs.map(({ plan, text }, run) => ({ path: plan ?? `run ${run + 1}`, text, run }));
     const lessons = this.lesson ? [this.lesson] : [];
-    return { first: plans[0].path, plans, lessons, lesson: this.lesson?.path ?? null };
+    const lesson = this.lesson?.path ?? null;
+    return { first: plans[0].path, plans, lessons, lesson, unproved: this.unproved };
   }
 
   listOf(path) {

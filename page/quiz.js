@@ -61,7 +61,7 @@ export class Quiz {
     const row = document.createElement("div");
     row.className = "row";
     row.append(this.button, this.told);
-    this.form.replaceChildren(textElement("p", "Which of these may happen next? Tick all that may."), ...items, row);
+    this.form.replaceChildren(textElement("p", "Tick all that may happen next."), ...items, row);
   }
 
   hide() {

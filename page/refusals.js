@@ -35,6 +35,12 @@ function linesOfTable(text, table, number) {
   return { from, to };
 }
 
+// A fault in words that the page shows at its head: the sentence of a refusal, or the line as it is.
+export function faultText(told, text) {
+  const { sentence } = refusalOf(told, text);
+  return sentence === told ? told : `The plan is refused. ${sentence}`;
+}
+
 // The sentence for the program's line, and the lines of the text that it is about, or null.
 export function refusalOf(told, text) {
   const [, name, table, number] = /plan refused: \d+ (\w+)(?: at (site|edge) (\d+))?/.exec(told) ?? [];

@@ -2,13 +2,14 @@
 
 // What a hungry site waits for, with the names of the neighbours, and how one says a word of them.
 const WAITS = {
-  not_asked: (it) => `it has not asked ${it} yet`,
+  not_asked: (it) => `it may ask ${it}, and has not done so yet`,
   request_sent: (it, of) => `its ${of("request")} to ${it} ${of("is", "are")} on ${of("its", "their")} way`,
   may_give: (it, of) => `${it} ${of("was", "were")} asked, and ${of("has", "have")} to give up the dirty fork`,
   eats: (it, of) => `${it} ${of("eats", "eat")} with the fork, and ${of("gives", "give")} it after the meal`,
-  keeps_clean: (it, of) => `${it} ${of("keeps", "keep")} the fork clean: ${it} ${of("goes", "go")} first`,
+  keeps_clean: (it, of) =>
+    `${it} ${of("keeps", "keep")} the clean ${of("fork")} until ${of("it has", "they have")} eaten`,
   fork_sent: (it, of) => `the ${of("fork")} from ${it} ${of("is", "are")} on ${of("its", "their")} way`,
-  owes: (it, of) => `${it} asked for the dirty fork and ${of("gets", "get")} it: ${it} ${of("goes", "go")} first`,
+  owes: (it, of) => `it has to give the dirty ${of("fork")} to ${it} first`,
 };
 
 const WHY_NOT = {

@@ -29,7 +29,7 @@ const TICKS = [
   ["one fork", "Each edge has one fork", (state) => isEachOnce(state, "fork", "fork")],
   ["one token", "Each edge has one token", (state) => isEachOnce(state, "token", "request")],
   ["no cycle", "The order fits all arrows, so precedence has no cycle", isOrderOf],
-  ["bound", "There are no more events than the bound of the plan", (state) => state.events <= state.bound],
+  ["bounded events", "There are no more events than the bound of the plan", (state) => state.events <= state.bound],
 ];
 
 export function showTicks(list, state) {

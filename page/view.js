@@ -27,6 +27,7 @@ export function show() {
   picture.light(null, null);
   showTold(state, last);
   setText(found("order"), orderText(state));
+  setAttribute(found("order"), "title", found("order").textContent);
   showTicks(found("ticks"), state);
   showEnabled(state);
   why.show(state, mind.selected, shownSites(state), isPredicting());
@@ -36,7 +37,7 @@ export function show() {
   edgeTable.show(state, last);
   showCourse();
   showNaive();
-  lessonPanel.show(mind.lesson, mind.moment, mind.lesson?.path === OWN);
+  lessonPanel.show(mind.lesson, mind.moment, mind.lesson?.path === OWN, schedule.at);
   noteAddress();
 }
 
@@ -61,9 +62,14 @@ function showTold(state, last) {
   const isOver = state.enabled.length === 0;
   const end = `the end: no event is enabled any more${failedText(state)}`;
   const parts = [isOver ? end : at === 0 ? START : last?.rule ?? ""];
-  if (left.count && left.at === at) parts.push(`${left.count} of the choices name no event here, and were left out`);
+  if (left.count && left.at === at) parts.unshift(leftText(left.count));
   setText(rule, parts.filter(Boolean).join("; "));
   setAttribute(rule, "title", rule.textContent);
+}
+
+function leftText(count) {
+  const are = count === 1 ? "names no event here, and was" : "name no event here, and were";
+  return `${count} of the choices ${are} left out`;
 }
 
 function failedText(state) {
@@ -157,10 +163,10 @@ function courseNote() {
   const { list, at, isOfThreads, state } = mind.schedule;
   const count = `${list.length.toLocaleString("en")} ${list.length === 1 ? "event" : "events"}`;
   if (isOfThreads) {
-    const threads = state.sites.length === 1 ? "One thread" : `${state.sites.length} threads, one for each site,`;
-    return `${threads} did these ${count}. They are played in one order that fits.`;
+    const threads = state.sites.length === 1 ? "one thread" : `${state.sites.length} threads`;
+    return `${count} of ${threads}, played in one order that fits`;
   }
-  if (list.length === 0) return "A bar is a meal, a thin line a hungry site that waits, an arrow a fork on its way.";
+  if (list.length === 0) return "bar: a meal; ochre line: a wait; arrow: a fork on its way";
   return at < list.length ? `${count}, of which ${(list.length - at).toLocaleString("en")} are still to come` : count;
 }
 

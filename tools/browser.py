@@ -2,6 +2,7 @@
 clicks what is visible and not covered. On Debian all of it comes by
 `apt-get install chromium chromium-driver python3-selenium`."""
 import importlib
+import json
 import shutil
 import sys
 import time
@@ -14,6 +15,18 @@ DRIVERS = ("chromedriver", "chromium.chromedriver")
 WORDS = ("--headless=new", "--no-sandbox", "--disable-dev-shm-usage", "--disable-gpu", "--no-first-run")
 WORDS += ("--hide-scrollbars", "--disable-background-networking", "--disable-component-update", "--disable-sync")
 SECONDS = 30
+# Where to click what a selector names, once it is scrolled into view: two numbers, or a line that says why it can't be
+# clicked.
+PLACE = """((where) => {
+  const it = document.querySelector(where);
+  if (!it) return `there is no ${where}`;
+  it.scrollIntoView({ block: 'nearest', inline: 'nearest', behavior: 'instant' });
+  const box = it.getClientRects()[0];
+  if (!box || !box.width || !box.height || getComputedStyle(it).visibility !== 'visible') return `${where} is hidden`;
+  const [x, y] = [(Math.max(box.left, 0) + Math.min(box.right, innerWidth)) / 2, (Math.max(box.top, 0) + Math.min(box.bottom, innerHeight)) / 2];
+  const at = document.elementFromPoint(x, y);
+  return it.contains(at) ? [x, y] : `${where} is covered by ${at && at.outerHTML.slice(0, 80)}`;
+})"""
 # The keys by their names in JavaScript, as WebDriver types them.
 KEYS = {"ArrowLeft": "\ue012", "ArrowUp": "\ue013", "ArrowRight": "\ue014", "ArrowDown": "\ue015"}
 KEYS |= {"Home": "\ue011", "End": "\ue010", "PageUp": "\ue00e", "PageDown": "\ue00f"}
@@ -41,7 +54,7 @@ def missing():
 
 
 class BrowserFault(Exception):
-    """The browser did not do what it was told, and why."""
+    """The browser did not do a command, for the reason that it has."""
 
 
 class Browser:
@@ -73,14 +86,14 @@ class Browser:
         try:
             self.driver.quit()
         except self.lost:
-            # It has ended by itself, which the tries have told.
+            # It has ended by itself, and the checks have reported that.
             pass
 
     @property
     def errors(self):
-        """What stands on the console."""
-        told = self.guarded(lambda: self.driver.get_log("browser"))
-        self.noted += [it["message"] for it in told if it["level"] in ("WARNING", "SEVERE")]
+        """Returns the messages on the console."""
+        logged = self.guarded(lambda: self.driver.get_log("browser"))
+        self.noted += [it["message"] for it in logged if it["level"] in ("WARNING", "SEVERE")]
         return self.noted
 
     def forget_errors(self):
@@ -112,15 +125,19 @@ class Browser:
 
     def click(self, where, times=1):
         """Scrolls what is there into view and clicks it. It fails if that is hidden, or if another thing covers it."""
+        place = self.value(f"{PLACE}({json.dumps(where)})")
+        if isinstance(place, str):
+            raise BrowserFault(place)
+        self.mouse("mouseMoved", place)
+        for turn in range(1, times + 1):
+            self.mouse("mousePressed", place, turn)
+            self.mouse("mouseReleased", place, turn)
 
-        def does():
-            found = self.driver.find_element(self.by, where)
-            if times == 1:
-                found.click()
-            else:
-                self.chains(self.driver, duration=0).move_to_element(found).double_click().perform()
-
-        self.guarded(does)
+    def mouse(self, kind, place, count=0):
+        """Moves, presses or releases the mouse. Chromium's own command for it takes half as long as the driver's."""
+        event = {"type": kind, "x": place[0], "y": place[1], "clickCount": count}
+        event["button"] = "left" if count else "none"
+        self.guarded(lambda: self.driver.execute_cdp_cmd("Input.dispatchMouseEvent", event))
 
     def click_at(self, where, part):
         """Clicks so far along what is there, from 0 at its left to 1 at its right, at half its height."""

@@ -1,6 +1,7 @@
 """What tools/page tries of the server of ./show beside its states: who may ask, how long a request may take, lessons, and what --export
 writes."""
 import base64
+import glob
 import gzip
 import http.client
 import json
@@ -11,12 +12,15 @@ import subprocess
 import threading
 import time
 from functools import partial
+from unittest import mock
 
 import desk
-from trying import HOME, text_of
+from trying import HOME, program_of, text_of
 
 SHOW = os.path.join(HOME, "show")
 RING = "plans/ring_of_five.toml"
+# How many seconds a request may take to come in, or a program to end, when it is tried that neither takes too long.
+SOON = 3
 
 
 # ---- Requests, byte by byte
@@ -86,24 +90,6 @@ def fault_of_crowd(port):
     return "" if (status, after) == (503, 200) else f"status {status} and then {after}, wanted 503 and 200"
 
 
-def fault_of_slow_body(port):
-    """Says how a body that comes byte by byte is not given up."""
-    begun = time.monotonic()
-    with socket.create_connection(("127.0.0.1", port), timeout=2) as line:
-        line.sendall(request("POST", port, "Content-Length: 1000").replace(b" / ", b" /state ").replace(b"Connection: close\r\n", b""))
-        answer = b""
-        while not answer and time.monotonic() < begun + desk.COMES_WITHIN + 15:
-            line.sendall(b"0")
-            try:
-                answer = line.recv(100)
-            except TimeoutError:
-                pass
-    took = time.monotonic() - begun
-    if not answer.startswith(b"HTTP/1.1 408 ") or took < desk.COMES_WITHIN - 1:
-        return f"{answer!r} after {took:.0f} seconds"
-    return ""
-
-
 def fault_of_pace(port):
     """Says how an answer waits for an acknowledgement of the line, which takes 40 milliseconds."""
     line, took = http.client.HTTPConnection("127.0.0.1", port, timeout=20), []
@@ -115,6 +101,32 @@ def fault_of_pace(port):
     line.close()
     middle = sorted(took)[10] * 1000
     return "" if middle < 30 else f"an answer takes {middle:.0f} milliseconds"
+
+
+# ---- Processes
+
+
+def slow_plan():
+    """A plan whose run takes longer than the server waits."""
+    jobs = '{ name = "x", turns = 1000000 }, ' * 1000
+    return "version = 1\n" + "".join(f'[[site]]\nname = "s{site}"\njobs = [{jobs}]\n' for site in range(64))
+
+
+def children_of(process):
+    """The numbers of the processes that a process has begun."""
+    while True:
+        try:
+            return [int(it) for path in glob.glob(f"/proc/{process}/task/*/children") for it in text_of(path).split()]
+        except (FileNotFoundError, ProcessLookupError):
+            # A thread has ended since its folder was named: another thread has its children now.
+            continue
+
+
+def is_there(process):
+    try:
+        return ") Z " not in text_of(f"/proc/{process}/stat")
+    except (FileNotFoundError, ProcessLookupError):
+        return False
 
 
 # ---- A server in this process
@@ -130,6 +142,37 @@ def served(serve):
     finally:
         server.shutdown()
         server.server_close()
+
+
+def fault_of_slow_body(server):
+    """Says how a body that comes byte by byte is not given up."""
+    port, begun = server.server_port, time.monotonic()
+    with mock.patch.object(desk, "COMES_WITHIN", SOON), socket.create_connection(("127.0.0.1", port), timeout=0.2) as line:
+        line.sendall(request("POST", port, "Content-Length: 1000").replace(b" / ", b" /state ").replace(b"Connection: close\r\n", b""))
+        answer = b""
+        while not answer and time.monotonic() < begun + SOON + 15:
+            line.sendall(b"0")
+            try:
+                answer = line.recv(100)
+            except TimeoutError:
+                pass
+    took = time.monotonic() - begun
+    if not answer.startswith(b"HTTP/1.1 408 ") or took < SOON - 1:
+        return f"{answer!r} after {took:.0f} seconds"
+    return ""
+
+
+def fault_of_limit(server):
+    """Says how a program that takes too long is not ended."""
+    port, before, body = server.server_port, children_of(os.getpid()), f"\n{slow_plan()}".encode()
+    asked = request("POST", port, f"Content-Length: {len(body)}").replace(b" / ", b" /run ") + body
+    run = {"/run": desk.QUESTIONS["/run"]._replace(seconds=SOON)}
+    with mock.patch.dict(desk.QUESTIONS, run), mock.patch.object(desk.CHILDREN, "program", program_of("dine_trace")):
+        status, text = raw(port, asked, SOON + 15)
+    if status != 504 or not text.endswith(f"\r\n\r\nthe program did not end within {SOON} seconds\n"):
+        return f"status {status}, {text[-80:]!r}"
+    left = set(children_of(os.getpid())) - set(before)
+    return f"processes {left} are left" if left else ""
 
 
 def fault_of_start(server):
@@ -242,6 +285,8 @@ def fault_of_run_file(server, folder):
     record = recorded_in(page)
     if record["lesson"] is not None or record["runs"][0]["events"]["done"] != [1, 1, 0, 0]:
         return "the run is another one"
+    if record["unproved"]:
+        return "it says that it is unproved"
     return fault_of_run_record(server, record["runs"][0], text_of("plans/pair.toml"))
 
 
@@ -274,7 +319,8 @@ def tries_of_desk(server, folder):
     yield "the head of a page", partial(fault_of_head, server.port)
     yield "many connections", partial(fault_of_crowd, server.port)
     yield "the pace of answers", partial(fault_of_pace, server.port)
-    yield "a body byte by byte", partial(fault_of_slow_body, server.port)
+    yield "a body byte by byte", partial(served, fault_of_slow_body)
+    yield "a program that takes too long", partial(served, fault_of_limit)
     yield "a program that can't be started", partial(served, fault_of_start)
     yield "port 80", partial(served, fault_of_port_80)
     yield "events and states of a list", partial(fault_of_list, server)

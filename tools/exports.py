@@ -1,6 +1,6 @@
 """Files that show a run without a server: a page with all that the program printed of it, and a trace for Perfetto.
 
-`ask` is a function that calls the program dine_trace with words and an input, and returns what it printed."""
+`ask` is a function that calls the program dine_trace with arguments and an input, and returns what it printed."""
 import base64
 import gzip
 import hashlib
@@ -17,14 +17,14 @@ PROCESS = 1
 
 
 class Fault(Exception):
-    """What is to be written can't be made, for the reason that it says."""
+    """The file cannot be made, for the reason that it has."""
 
 
-# ---- What the program says of a list of choices
+# ---- The states along a list of choices
 
 
 def given(choices, text):
-    """Returns an input of the program: the choices, and the plan behind them."""
+    """Returns an input of the program: the choices, and the plan after them."""
     return f"{choices}\n{text}".encode()
 
 
@@ -38,15 +38,15 @@ def recorded(ask, path, text, choices):
 
 def runs_of(ask, moments):
     """Returns the runs of the moments of a lesson, each once, and the moments with the number of their run."""
-    runs, numbers, told = [], {}, []
+    runs, numbers, placed = [], {}, []
     for moment in moments:
         key = (moment["text"], moment.get("choices", ""))
         if key not in numbers:
             numbers[key] = len(runs)
             runs.append(recorded(ask, moment.get("plan"), *key))
         at = moment.get("at", runs[numbers[key]]["events"]["events"])
-        told.append({**moment, "run": numbers[key], "at": at})
-    return runs, told
+        placed.append({**moment, "run": numbers[key], "at": at})
+    return runs, placed
 
 
 # ---- The page in one file
@@ -99,23 +99,24 @@ def page_of(folder, record):
     return page
 
 
-def lesson_page(ask, folder, lesson):
-    """Returns a lesson as a page in one file."""
+def lesson_page(ask, folder, lesson, is_unproved):
+    """Returns a lesson as a page in one file, which says so if the program is unproved."""
     runs, moments = runs_of(ask, lesson["moments"])
-    return page_of(folder, {"lesson": {**lesson, "moments": moments}, "runs": runs})
+    return page_of(folder, {"lesson": {**lesson, "moments": moments}, "runs": runs, "unproved": is_unproved})
 
 
-def run_page(ask, folder, path, text, choices):
-    """Returns a run of a plan as a page in one file."""
-    return page_of(folder, {"lesson": None, "runs": [recorded(ask, path, text, choices)]})
+def run_page(ask, folder, run, is_unproved):
+    """Returns a run as a page in one file, which says so if the program is unproved. The run is the path and the text of its plan, and
+    its choices."""
+    return page_of(folder, {"lesson": None, "runs": [recorded(ask, *run)], "unproved": is_unproved})
 
 
 # ---- A trace
 
 
-def slice_of(site, place, end, name, **told):
+def slice_of(site, place, end, name, **details):
     """Returns a slice of a site's line, from an event to a time, which is in events too."""
-    return {"ph": "X", "pid": PROCESS, "tid": site + 1, "ts": place * LONG, "dur": round((end - place) * LONG), "name": name, "args": told}
+    return {"ph": "X", "pid": PROCESS, "tid": site + 1, "ts": place * LONG, "dur": round((end - place) * LONG), "name": name, "args": details}
 
 
 def flow_of(phase, site, place, number, name):
@@ -160,8 +161,8 @@ def steps_of(events, ends, names):
     sent = {}
     for place, (site, edge, kind) in enumerate(zip(events["sites"], events["edges"], events["kinds"])):
         other = None if edge is None else sum(ends[edge]) - site
-        told = {"event": place} if edge is None else {"event": place, "edge": edge}
-        yield slice_of(site, place, place + 0.9, WORDS[kind].format("" if other is None else names[other]), **told)
+        details = {"event": place} if edge is None else {"event": place, "edge": edge}
+        yield slice_of(site, place, place + 0.9, WORDS[kind].format("" if other is None else names[other]), **details)
         if kind == "g":
             sent[edge] = place
             yield flow_of("s", site, place, place, f"fork of edge {edge}")
@@ -169,10 +170,13 @@ def steps_of(events, ends, names):
             yield flow_of("f", site, place, sent[edge], f"fork of edge {edge}")
 
 
-def trace_of(ask, title, text, choices):
-    """Returns a run of a plan in the trace-event format, which Perfetto and chrome://tracing read. A millisecond of it is an event."""
+def trace_of(ask, run, is_unproved):
+    """Returns a run in the trace-event format, which Perfetto and chrome://tracing read. A millisecond of it is an event. The run is as
+    for run_page(), and its name says so if the program is unproved."""
+    path, text, choices = run
     events = json.loads(ask(["--events", "-"], given(choices, text)))
     start = json.loads(ask(["--states", "0", "-"], given("", text)))
     names, ends = [it["name"] for it in start["sites"]], [it["ends"] for it in start["edges"]]
-    slices = [*names_of_lines(os.path.basename(title), names), *phases_of(events), *steps_of(events, ends, names)]
+    title = f"{os.path.basename(path)}{' (unproved)' if is_unproved else ''}"
+    slices = [*names_of_lines(title, names), *phases_of(events), *steps_of(events, ends, names)]
     return json.dumps({"displayTimeUnit": "ms", "traceEvents": slices}, separators=(",", ":"))

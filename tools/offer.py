@@ -11,7 +11,7 @@ CHOICES = re.compile("([0-9]{1,10}(,[0-9]{1,10})*)?")
 
 
 class Unfit(Exception):
-    """A file can't be offered, for the reason that it says."""
+    """A file cannot be offered, for the reason that it has."""
 
 
 def text_of(path):
@@ -58,14 +58,14 @@ def fault_of(moment):
 def lesson_of(path, text):
     """Returns the lesson that a text is, each moment with the text of its plan. None if it has no moments: then it is no lesson."""
     try:
-        told = tomllib.loads(text)
+        table = tomllib.loads(text)
     except tomllib.TOMLDecodeError as error:
         if re.search(r"^\s*\[\[\s*moment\s*\]\]", text, re.M):
             raise Unfit(f"{path} is no lesson: {error}") from None
         return None
-    if "moment" not in told:
+    if "moment" not in table:
         return None
-    moments = told.pop("moment")
+    moments = table.pop("moment")
     if not isinstance(moments, list) or not moments or not all(isinstance(it, dict) for it in moments):
         raise Unfit(f"{path} is no lesson: moment is no array of tables")
     shown = []
@@ -77,7 +77,7 @@ def lesson_of(path, text):
         except Unfit as fault:
             raise Unfit(f"{path}: moment {number}: {fault}") from None
         shown.append({"choices": "", **moment, "plan": plan, "text": plan_text})
-    return {"title": os.path.basename(path).removesuffix(".toml"), **told, "path": own_path(path), "moments": shown}
+    return {"title": os.path.basename(path).removesuffix(".toml"), **table, "path": own_path(path), "moments": shown}
 
 
 def offer(given):
@@ -89,9 +89,9 @@ def offer(given):
     first, lesson = FIRST, None
     if given is not None:
         path, text = own_path(given), text_of(given)
-        told = lesson_of(given, text)
-        if told:
-            lesson, lessons = path, {path: told, **lessons}
+        found = lesson_of(given, text)
+        if found:
+            lesson, lessons = path, {path: found, **lessons}
         else:
             first, plans = path, {path: text, **plans}
     return {

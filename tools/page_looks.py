@@ -34,6 +34,35 @@ def faults_of_grid(seen):
         yield f"a grid of three by three is drawn as {places}"
 
 
+# Which numbers of edges are covered by a mark, as the picture has them.
+COVERED = """[...document.querySelectorAll('#picture .edge text')].filter((number) => {
+  const box = number.getBoundingClientRect();
+  return [...document.querySelectorAll('#picture .token, #picture .fork .outer')].some((mark) => {
+    const other = mark.getBoundingClientRect();
+    const [x, y] = [(box.left + box.right) / 2, (box.top + box.bottom) / 2];
+    return x > other.left && x < other.right && y > other.top && y < other.bottom;
+  });
+}).map((it) => it.textContent)"""
+
+
+def faults_of_texts(seen):
+    """Numbers are not covered by marks, names that are cut still differ, and the order is whole."""
+    looks = (1280, "ring_of_five", ""), (1280, "ring_of_five", ASKED), (1920, "grid", ""), (390, "grid", "")
+    for width, path, choices in looks:
+        seen.browser.look(width, 1080 if width == 1920 else 844, "light")
+        seen.open(f"plan=plans/{path}.toml&choices={choices}")
+        told = f"{path} at {width}"
+        if seen.browser.value(COVERED):
+            yield f"{told}: the numbers {seen.browser.value(COVERED)} are covered"
+        names = seen.texts("#picture .site .name")
+        if len(set(names)) < len(names) or not names:
+            yield f"{told}: the names are {names}"
+        [over] = seen.each("#order", "(it) => it.scrollWidth - it.clientWidth")
+        if width > 390 and over > 0:
+            yield f"{told}: the order is cut"
+    seen.browser.look(1280, 800, "light")
+
+
 def faults_of_focus(seen):
     """Above 16 sites one site and its neighbours are shown, and a click on another site shows that one."""
     seen.open()
@@ -91,6 +120,10 @@ def faults_of_bad_plan(seen):
     seen.click("#again")
     if seen.value_of("#text") != text_of("plans/pair.toml"):
         yield "it does not begin again with the plan that is shown"
+    seen.open("text=version%20%3D%201")
+    if seen.text("#fault") != "The plan is refused. The plan has no site.":
+        yield f"of the plan in an address it says {seen.text('#fault')!r}"
+    seen.browser.forget_errors()
 
 
 def fault_of_own_plan(seen):
@@ -240,6 +273,7 @@ def tries_of_looks(seen):
     """Yields what is tried of looks, each by its name and how its faults are found."""
     yield "a room", partial(faults_of_room, seen)
     yield "a grid", partial(faults_of_grid, seen)
+    yield "texts of a picture", partial(faults_of_texts, seen)
     yield "many sites", partial(faults_of_focus, seen)
     yield "values, failures and ends", partial(faults_of_drawn, seen)
     yield "a plan that is refused", partial(faults_of_bad_plan, seen)

@@ -86,6 +86,7 @@ def fault_of_keeping(seen):
 def faults_of_quiz(seen):
     """Asked what may happen next, the page hides the list, and checks the answer by what the program says."""
     seen.open(f"{RING}&choices={ASKED}")
+    seen.click("#picture .site[data-site='4']")
     seen.click("#predict")
     enabled = {it["words"] for it in seen.state()["enabled"]}
     if seen.is_seen("#enabled") or seen.count("#enabled button"):
@@ -151,7 +152,7 @@ def faults_of_naive(seen):
     """Beside the rules plain forks end in a deadlock, drawn as a cycle, and labelled as no work of the program."""
     seen.open(RING)
     seen.press("n", *["ArrowRight"] * 12)
-    if seen.count("#naive-picture .edge.caught") != 5 or "Deadlock: a waits for b" not in seen.text("#naive-told"):
+    if seen.count("#naive-picture .edge.caught") != 5 or "Deadlock: a waits for e, e for d, d for c, c for b, b for a." not in seen.text("#naive-told"):
         yield f"no deadlock: {seen.text('#naive-told')!r}"
     if "nothing is proved of it" not in seen.text("#naive-side"):
         yield "it is not labelled"

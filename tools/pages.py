@@ -1,8 +1,8 @@
 """The pages that a reader opens, README.md, CONTRIBUTING.md, docs/, and the READMEs of bench, lessons, tools and crates: what they name is
 there.
 
-Each crate has a README. A word in backticks on a page is a word of the sources, and a path in backticks is a file that is there, except
-paths with a word that stands for others, such as NAME. A file that a page names is the target of a link on that page. A link leads to a
+Each crate has a README. A name in backticks on a page is a name in the sources, and a path in backticks is a file that exists, except
+paths with a placeholder such as NAME. A file that a page names is the target of a link on that page. A link leads to a
 file or a folder that is there, and to a heading that is there if it has a `#`. A folder and a module may be named without a link. What is in a fence, indented, or written by another tool is not
 looked at. Each file of lemmas in a crate's proofs/ begins with a comment that says what it proves, and is declared by a file above it."""
 import os

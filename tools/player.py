@@ -17,7 +17,7 @@ QUIET, ADDRESS = 0.5, 5
 
 
 class Seen:
-    """The page in a browser. `ask` returns the state after choices on a plan, as the server tells it."""
+    """The page in a browser. `ask` returns the state after choices on a plan, as the server sends it."""
 
     def __init__(self, browser, address, ask):
         self.browser, self.address, self.ask = browser, address, ask
@@ -97,7 +97,7 @@ class Seen:
         return self.browser.value("location.hash")[1:]
 
     def step_by_chance(self, chance):
-        """Does an event by one of the buttons. Answers whether there was one."""
+        """Does an event by one of the buttons. Returns whether there was one."""
         many = self.count("#enabled button")
         if many == 0:
             return False

@@ -1,6 +1,6 @@
 """The definitions in crates/*/specs: their names, comments and texts, and what each of them uses.
 
-A definition begins on a line of its own, at the margin or in a `module _` block, with its name behind `abbrev`, `unfoldable`,
+A definition begins on a line of its own, at the margin or in a `module _` block, with its name after `abbrev`, `unfoldable`,
 `record`, `data` or `pub`, or with a name and a colon. It goes on to the next one, or to a comment that does not belong to its fields."""
 import re
 import sys
@@ -67,7 +67,7 @@ class Module:
                 self.strange.append(f"{self.path}:{number}: no definition and no part of one: {text}")
 
     def use(self, text):
-        """Takes note of what a line uses."""
+        """Notes what a line uses."""
         if names := re.fullmatch(r"use (\S+?)\.\{(.*)\}", text):
             for name, _, alias in (one.partition(" as ") for one in names[2].split(", ")):
                 self.uses[alias or name] = (names[1], name)

@@ -1,5 +1,5 @@
-"""What the tools that try things share: their arguments, where all stands, a program's answer and how it differs from the one that is wanted, copies of
-crates, and the lines and the count at the end."""
+"""What the checks of tools/ share: their arguments, paths, running a program and comparing what it did with what is wanted, copies of crates, and the
+lines and the count at the end."""
 import argparse
 import glob
 import os
@@ -15,19 +15,19 @@ DINE = os.path.join(HOME, "dine")
 REFUSED = "dine: plan refused: "
 # A line of a plan's head: a command, and a line that it prints.
 EXPECTED = re.compile(r"^# ((?:no words|check|replay|run)[\w ,=-]*)> (.*)$", re.M)
-# How long an answer may take, where nothing else is said.
+# How long a program may take, if nothing else is given.
 SECONDS = 120
-# How much of a text is shown before and behind the place where it goes wrong.
+# How much of a text is shown before and after the place where it goes wrong.
 SHOWN = 100
 # Before a command: it gets SIGTERM when the process that began it ends, however that ends. PR_SET_PDEATHSIG is 1.
 BOUND = "import ctypes, os, sys; ctypes.CDLL(None).prctl(1, 15); os.getppid() == int(sys.argv[1]) and os.execvp(sys.argv[2], sys.argv[2:])"
 BOUND = [sys.executable, "-ISc", BOUND, str(os.getpid())]
-# What is tried is the proved program, whatever the shell says.
+# The checks are of the proved program, whatever the shell has set.
 os.environ.pop("DINE_UNPROVED", None)
 
 
 class Words(argparse.ArgumentParser):
-    """The arguments of a tool, whose help is the text at the head of its file. A wrong one is refused in one line, with status 2."""
+    """The arguments of a tool. Its help is the text at the head of its file. A wrong argument is refused with one line and status 2."""
 
     def __init__(self, text):
         super().__init__(description=text, formatter_class=argparse.RawDescriptionHelpFormatter)
@@ -42,47 +42,47 @@ def program_of(crate):
 
 
 def text_of(path):
-    """Returns the text of a file, whose path goes from the top."""
+    """Returns the text of a file, by its path from the top."""
     return Path(HOME, path).read_text("utf-8")
 
 
 def paths(pattern):
-    """Returns the paths that fit, from the top, in order."""
+    """Returns the paths that match, from the top, sorted."""
     return sorted(glob.glob(pattern, root_dir=HOME, recursive=True))
 
 
 def write(path, text):
-    """Writes the text of a file, whose path goes from the top."""
+    """Writes the text of a file, by its path from the top."""
     Path(HOME, path).write_text(text, "utf-8")
 
 
 class Answer(NamedTuple):
-    """The status that a program ended with, None where it did not end, and what it wrote to standard output and to standard error."""
+    """The status with which a program ended, None if it did not end, and what it wrote to standard output and to standard error."""
     status: int
     output: str
     error: str
 
 
 def answer_of(words, program=DINE, seconds=SECONDS, **how):
-    """Runs a program with words, as subprocess.run takes `how`, and returns its answer."""
-    # A build has no limit, and starts programs of its own, which are to end with this one.
+    """Runs a program with arguments, passing `how` to subprocess.run, and returns its status and output."""
+    # A build has no limit of time, and starts programs of its own, which end with it.
     bound = BOUND if seconds is None else []
     try:
         ran = subprocess.run([*bound, program, *words], capture_output=True, timeout=seconds, check=False, **how)
     except subprocess.TimeoutExpired:
         return Answer(None, "", f"no end within {seconds} seconds")
-    # A byte that is no UTF-8 becomes a character of its own, so that texts are the same only where all bytes are.
+    # A byte that is not UTF-8 becomes a character of its own, so that texts are the same only if all bytes are.
     return Answer(ran.returncode, *(it.decode(errors="surrogateescape") for it in (ran.stdout, ran.stderr)))
 
 
 def answer_with(lines):
-    """Returns the answer to a plan that has these lines: they say that it is refused, or are what was asked for."""
+    """Returns the status and output that these lines of a plan's head ask for: a refusal, or lines on standard output."""
     text = "".join(f"{line}\n" for line in lines)
     return Answer(3, "", text) if text.startswith(REFUSED) else Answer(0, text, "")
 
 
-def told_by(head):
-    """Returns the lines that the head of a plan's text says of each command."""
+def lines_by_command(head):
+    """Returns the lines that the head of a plan has for each command."""
     lines = {}
     for command, line in EXPECTED.findall(head):
         lines.setdefault(command, []).append(line)
@@ -98,15 +98,15 @@ def first_difference(wanted, got):
 
 
 def difference(wanted, got):
-    """Returns in a line how an answer differs from the one that is wanted, which is empty where it does not."""
+    """Returns in a line how status and output differ from those that are wanted, or an empty text."""
     if got.status is None:
         return got.error
-    told = [f"status {got.status}, wanted {wanted.status}"] if got.status != wanted.status else []
+    faults = [f"status {got.status}, wanted {wanted.status}"] if got.status != wanted.status else []
     for name in ("output", "error"):
         there, here = getattr(wanted, name), getattr(got, name)
         if there != here:
-            told.append(f"standard {name}, {first_difference(there, here)}")
-    return "; ".join(told)
+            faults.append(f"standard {name}, {first_difference(there, here)}")
+    return "; ".join(faults)
 
 
 def crates():
@@ -116,7 +116,7 @@ def crates():
 
 
 def with_those_below(name, known):
-    """Returns the names of a crate and of all that it stands on."""
+    """Returns the names of a crate and of all crates below it."""
     lower = [it for it in known[name].split(":")[1].split() if it in known]
     return {name}.union(*(with_those_below(it, known) for it in lower))
 
@@ -132,7 +132,7 @@ def copy_crates(name, folder):
 
 
 def add_program(name, line, source, folder):
-    """Adds a crate with a program to a repository that copy_crates made, whose crates.txt has this behind its name. Returns its folder."""
+    """Adds a crate with a program to a repository that copy_crates made. crates.txt gets its name and this line. Returns its folder."""
     crate = os.path.join(folder, "crates", name)
     os.makedirs(os.path.join(crate, "src"))
     write(f"{crate}/src/main.rt", source)
@@ -141,28 +141,28 @@ def add_program(name, line, source, folder):
 
 
 def in_a_line(name, fault):
-    """Returns a try as `counted` takes it, told in one line: of what has this fault, or, where that is empty, none."""
+    """Returns a check as `counted` takes it, reported in one line. It failed unless `fault` is empty."""
     return (f"{name}: FAILED: {fault}", False) if fault else (f"{name}: ok", True)
 
 
 def skip(name, why):
-    """Returns a try as `counted` takes it, of something that this machine can't do. verify prints its line again at its end."""
+    """Returns a check as `counted` takes it, of something that this machine cannot do. verify prints its line again at its end."""
     return f"{name}: skipped: {why}", None
 
 
 def tried(name, wanted, words, **how):
-    """Returns a try of the program, whose answer to the words is to be the one that is wanted."""
+    """Returns a check of the program: whether its status and output for these arguments are those that are wanted."""
     return in_a_line(name, difference(wanted, answer_of(words, **how)))
 
 
 def a_line_each(tool, faults):
-    """Returns a try as `counted` takes it, told in a line for each fault."""
+    """Returns a check as `counted` takes it, reported in a line for each fault."""
     return "\n".join(f"{tool}: {fault}" for fault in faults), not faults
 
 
 def counted(tries, skipped=0):
-    """Prints what is told of each try, where that is anything, and last the count. A try is that text and whether all was right, which is
-    None for one that is skipped. Returns the exit status."""
+    """Prints the report of each check, if it has one, and at last the count. A check is its report, and whether it passed: None if it was
+    skipped. Returns the exit status."""
     passed = failed = 0
     for text, is_right in tries:
         if text:
@@ -175,8 +175,7 @@ def counted(tries, skipped=0):
 
 
 def try_program(tool, tries, *others):
-    """Has ./dine build the program where it must, and tools/build the programs of other crates, and then ends the tool with the tries, of
-    which none is begun before."""
+    """Has ./dine build the program if it must, and tools/build the programs of other crates. Then it does the checks and ends the tool."""
     answer = answer_of(["check"], seconds=None, stdin=subprocess.DEVNULL)
     # The program itself never ends with 1.
     failed = answer.error if answer.status == 1 else ""
@@ -192,7 +191,7 @@ def try_program(tool, tries, *others):
 
 
 def ended(passed, failed, skipped=0):
-    """Prints the count, and returns the exit status: 0 where nothing failed, and something was tried or skipped. What this machine can't do is
-    skipped."""
+    """Prints the count, and returns the exit status: 0 if nothing failed, and something passed or was skipped. A check is skipped if this
+    machine cannot do it."""
     print(f"{passed} passed, {failed} failed" + (f", {skipped} skipped" if skipped else ""))
     return 0 if passed + skipped and not failed else 1

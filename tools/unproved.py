@@ -1,5 +1,5 @@
 """Builds a program without any proof, for a first look and for tools that try many programs. `rt try` compiles a
-program, runs it once and throws it away; here it is caught while it runs."""
+program, runs it once and deletes it; here it is copied while it runs."""
 import contextlib
 import glob
 import os
@@ -9,7 +9,7 @@ import time
 
 from trying import BOUND
 
-# What the program is run with when it is caught: a plan whose one site is at work for a second or two.
+# The input while the program is caught: a plan whose one site is at work for a second or two.
 BUSY = "version = 1\n[[site]]\nname = \"a\"\njobs = [" + "{ name = \"x\", turns = 1000000 }, " * 30 + "]\n"
 RUN = {"dine_trace": "--run"}
 

@@ -63,6 +63,10 @@
 #ifndef SPURIOUS
 #define SPURIOUS 0
 #endif
+/* The sites that are polite, a bit for each. The others are eager. */
+#ifndef POLITE
+#define POLITE 0
+#endif
 
 #define BIT(i) (1 << (i))
 /* of bell.rt: room_of */
@@ -76,7 +80,7 @@ byte degree[N];
 byte neighbour[N * D], outgoing[N * D], incoming[N * D], place_there[N * D];
 #define AT(i) (me * D + (i))
 
-/* Of each site: the lock around its Rest, and what Rest says */
+/* Of each site: the lock around its SleepState, and what SleepState says */
 bit locked[N];
 bit asleep[N]; byte wants_requests[N]; byte wants_forks[N]; byte room[N];
 /* .. the word of its Parker, and whether its thread sleeps in the kernel */
@@ -164,11 +168,11 @@ inline unpark(s) {
 #define WAKES(s, number, k) ((k == REQUEST && WANTED_REQUEST(s, number)) || \
   (k == FORK && LAST_FORK(s)) || ALWAYS(k) || LAST_PLACE(s))
 
-/* of sleeper.rt: Rest::wake */
+/* of sleeper.rt: SleepState::wake */
 #define WAKE(s) asleep[s] = 0; wants_requests[s] = 0; wants_forks[s] = 0; room[s] = 0
 
 /* Notes a ring under the lock, and sets `wakes` if the bell has to be woken.
-   of sleeper.rt: Rest::note; of wants.rt: Wants::note, Awaited::note */
+   of sleeper.rt: SleepState::note; of wants.rt: Wants::note, Awaited::note */
 inline note(s, number, k) {
   d_step {
     wakes = 0;
@@ -256,7 +260,7 @@ inline next_event() {
   }
 }
 
-/* of running.rt: Running::eat */
+/* of running.rt: Running::eat, Running::begin */
 inline eat() {
   d_step {
     eating[me] = 1; i = 0;
@@ -276,8 +280,8 @@ inline put() {
 }
 
 /* Notes under the lock that the bell sleeps, and what it wants.
-   of sleeper.rt: Rest::lie_down; of running.rt: Running::wants */
-inline lie_down() {
+   of sleeper.rt: SleepState::fall_asleep; of running.rt: Running::wants */
+inline fall_asleep() {
   d_step {
     asleep[me] = 1; wants_requests[me] = dirty; room[me] = CAPACITY(me); wants_forks[me] = 0; i = 0;
     do :: i < degree[me] -> if :: away & BIT(i) -> wants_forks[me]++ :: else fi; i++ :: else -> break od; i = 0
@@ -303,7 +307,7 @@ inline park() {
 }
 
 /* What the letter `kind` from place `number` does to the site, with the asserts that it is in turn.
-   of running.rt: Running::take, Running::take_noted */
+   of running.rt: Running::take_where_rung, Running::take, Running::take_noted */
 inline take() {
   TAKE_AFTER
   d_step {
@@ -346,7 +350,22 @@ go_on:
   MAY_BREAK;
   next_event();
   if
-  :: kind == BEGIN -> eat(); goto go_on
+  :: kind == BEGIN ->
+#if POLITE
+     /* A polite site eats only if a check of its bell finds no ring, and it never sleeps there.
+        of running.rt: Running::begin, Running::check_bell, Running::take_where_rung; of bell.rt: Bell::check */
+     if
+     :: (POLITE & BIT(me)) == 0
+     :: (POLITE & BIT(me)) && empty(bell[me])
+     :: atomic { (POLITE & BIT(me)) && nempty(bell[me]) -> HEAR };
+#ifdef BUG_CHECK_DROPS
+        number = 0; goto go_on
+#else
+        goto heard_one
+#endif
+     fi;
+#endif
+     eat(); goto go_on
   :: kind == HUNGRY -> goto go_on
   :: kind == NONE -> goto hear
   :: else -> put(); atomic { kind = 0; i = 0; word = 0; wakes = 0; goto go_on }
@@ -356,7 +375,7 @@ hear:
   :: IS_DONE && gone == BIT(degree[me]) - 1 && open == 0 -> goto finished
   :: else
   fi;
-  /* of bell.rt: Bell::wait_for, Bell::hear, Bell::lie_down */
+  /* of bell.rt: Bell::wait_for, Bell::hear, Bell::fall_asleep */
   if
   :: HEAR; goto heard_one
   :: empty(bell[me])
@@ -368,7 +387,7 @@ hear:
   :: empty(bell[me])
   fi;
 #endif
-  lie_down();
+  fall_asleep();
   UNLOCK(me);
   park();
 #ifndef MAY_RECV_WAIT

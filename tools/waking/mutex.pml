@@ -125,7 +125,7 @@ proctype thread(byte me) {
 }
 
 #ifdef GATE
-/* of gate.rt: Gate::tell */
+/* of gate.rt: Gate::send */
 proctype teller(byte me) {
   byte seen, slept, wanted, found, waiting; bit has, goes;
   lock(); opened = 1;

@@ -2,13 +2,14 @@
 
 use crate::plan::Plan;
 use crate::site::{Kind, Letter, Net, Ran, Site, Wants, LINK};
+use crate::turns::Watch;
 use std::cell::RefCell;
 use std::collections::VecDeque;
 use std::rc::Rc;
 
 /// Does the steps of the sites: whose bell rang first has the next turn.
-pub fn replay(plan: &Plan) -> Ran {
-    let mut sites = Site::<Queues>::all(plan);
+pub fn replay<W: Watch>(plan: &Plan) -> Ran {
+    let mut sites = Site::<Queues, W>::all(plan);
     for site in &mut sites {
         while site.step() {}
     }

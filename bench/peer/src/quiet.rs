@@ -3,15 +3,18 @@
 use crate::nets::{Consumer, Producer, Rings};
 use crate::site::{Kind, Letter, Net, Wants};
 use std::mem;
+use std::sync::atomic::{AtomicBool, Ordering};
 use std::sync::{Arc, Condvar, Mutex};
 
-/// Rings, with a door for each bell.
-pub struct Quiet;
+/// Rings, with a door for each bell. A polite site checks its door before each meal.
+pub struct Quiet<const IS_POLITE: bool>;
 
 /// A door between a site and its neighbours.
 pub struct Door {
     inside: Mutex<Inside>,
     woken: Condvar,
+    /// Whether letters came that the site was not told of, so that a check that finds none takes no mutex.
+    has_rung: AtomicBool,
 }
 
 struct Inside {
@@ -29,9 +32,10 @@ pub struct Bell {
     wakes: u64,
 }
 
-impl Net for Quiet {
+impl<const IS_POLITE: bool> Net for Quiet<IS_POLITE> {
     // Without it the first sites would be through before the last one starts.
     const GATE: bool = true;
+    const POLITE: bool = IS_POLITE;
     type Sender = Producer;
     type Receiver = Consumer;
     type Ringer = Arc<Door>;
@@ -40,8 +44,8 @@ impl Net for Quiet {
         Rings::link()
     }
     fn bell(_: usize, capacity: usize) -> (Arc<Door>, Bell) {
-        let inside = Inside { places: Vec::with_capacity(capacity), wants: None };
-        let door = Arc::new(Door { inside: Mutex::new(inside), woken: Condvar::new() });
+        let inside = Mutex::new(Inside { places: Vec::with_capacity(capacity), wants: None });
+        let door = Arc::new(Door { inside, woken: Condvar::new(), has_rung: AtomicBool::new(false) });
         let bell = Bell { door: door.clone(), places: Vec::with_capacity(capacity), wakes: 0 };
         (door, bell)
     }
@@ -56,6 +60,7 @@ impl Net for Quiet {
     fn ring(door: &mut Arc<Door>, place: u32, kind: Kind) {
         let mut inside = door.inside.lock().unwrap();
         inside.places.push(place);
+        door.has_rung.store(true, Ordering::Release);
         if inside.wants.as_mut().is_some_and(|wants| wants.are_met(place, kind)) {
             inside.wants = None;
             drop(inside);
@@ -72,8 +77,18 @@ impl Net for Quiet {
             bell.wakes += 1;
         }
         mem::swap(&mut inside.places, &mut bell.places);
+        bell.door.has_rung.store(false, Ordering::Relaxed);
         drop(inside);
         bell.places.pop().unwrap()
+    }
+    #[inline]
+    fn poll(bell: &mut Bell) -> Option<u32> {
+        if bell.places.is_empty() && bell.door.has_rung.load(Ordering::Acquire) {
+            let mut inside = bell.door.inside.lock().unwrap();
+            mem::swap(&mut inside.places, &mut bell.places);
+            bell.door.has_rung.store(false, Ordering::Relaxed);
+        }
+        bell.places.pop()
     }
     #[inline]
     fn more(bell: &mut Bell) -> Option<u32> {

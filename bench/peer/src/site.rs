@@ -1,7 +1,8 @@
 //! A site, over any kind of link and bell.
 
 use crate::plan::{Fork, Plan};
-use std::sync::Barrier;
+use crate::turns::{Note, Watch};
+use std::sync::{Arc, Barrier};
 use std::thread;
 
 pub enum Letter {
@@ -30,7 +31,8 @@ impl Letter {
     }
 }
 
-/// What lets a site do something that can do nothing: a token for a dirty fork, the last fork that is missing, Done and Close.
+/// What lets a site do something that can do nothing: a token for a dirty fork, the last fork that is missing, Done and
+/// Close.
 pub struct Wants {
     /// The places of the dirty forks, a bit each.
     dirty: u64,
@@ -58,6 +60,9 @@ pub const LINK: usize = 4;
 pub trait Net {
     /// Whether the sites wait at a gate until each has its thread.
     const GATE: bool = false;
+    /// Whether a site takes the letters that have arrived before each meal. If it does not, and has all its forks, it
+    /// eats meal after meal.
+    const POLITE: bool = false;
     type Sender;
     type Receiver;
     type Ringer: Clone;
@@ -72,6 +77,10 @@ pub trait Net {
     /// Another letter that came before the wait ended, for a bell that is told of many at once.
     #[inline]
     fn more(_: &mut Self::Bell) -> Option<u32> {
+        None
+    }
+    /// A letter that has arrived, if there is one. It never waits.
+    fn poll(_: &mut Self::Bell) -> Option<u32> {
         None
     }
     /// How often the site was woken, for a bell that counts that.
@@ -120,14 +129,16 @@ fn wants_of<N: Net>(ends: &[End<N>]) -> Wants {
     wants
 }
 
-/// What a run came to: the forks in the order of their edges, the letters taken, and how often a site was woken.
+/// What a run came to: the forks in the order of their edges, the letters taken, how often a site was woken, and the
+/// notes.
 pub struct Ran {
     pub forks: Vec<Fork>,
     pub letters: u64,
     pub wakes: u64,
+    pub notes: Vec<Note>,
 }
 
-pub struct Site<N: Net> {
+pub struct Site<N: Net, W: Watch> {
     name: usize,
     jobs: u64,
     turns: u32,
@@ -137,13 +148,18 @@ pub struct Site<N: Net> {
     pub bell: N::Bell,
     /// Letters taken.
     pub letters: u64,
+    watch: W,
 }
 
-impl<N: Net> Site<N> {
-    /// Gives and asks, and says Done and Close, at each end where that may be; then a meal, if one may begin. Was there any?
+impl<N: Net, W: Watch> Site<N, W> {
+    /// Gives and asks, and says Done and Close, at each end where that may be; then a meal, if one may begin. Was there
+    /// any?
     pub fn step(&mut self) -> bool {
         let (mut any, mut ready) = (false, true);
         let hungry = self.jobs > 0;
+        if hungry {
+            self.watch.hungry();
+        }
         for end in &mut self.ends {
             if end.token && end.dirty && end.fork.is_some() {
                 let mut fork = end.fork.take().unwrap();
@@ -158,6 +174,7 @@ impl<N: Net> Site<N> {
                     if end.token {
                         end.token = false;
                         end.send(Letter::Token);
+                        self.watch.ask(end.edge);
                         any = true;
                     }
                 }
@@ -177,6 +194,7 @@ impl<N: Net> Site<N> {
         // Here no end has its token beside a dirty fork.
         if hungry && ready {
             self.jobs -= 1;
+            self.watch.begin();
             for end in &mut self.ends {
                 end.dirty = true;
                 end.fork.as_mut().unwrap().eat(self.name);
@@ -214,7 +232,16 @@ impl<N: Net> Site<N> {
 
     fn run(&mut self) {
         loop {
-            while self.step() {}
+            loop {
+                if N::POLITE {
+                    while let Some(place) = N::poll(&mut self.bell) {
+                        self.take(place);
+                    }
+                }
+                if !self.step() {
+                    break;
+                }
+            }
             if self.is_finished() {
                 return;
             }
@@ -227,14 +254,15 @@ impl<N: Net> Site<N> {
     }
 
     /// The sites of the plan: each fork at the lower end, dirty, its token at the higher end.
-    pub fn all(plan: &Plan) -> Vec<Site<N>> {
+    pub fn all(plan: &Plan) -> Vec<Site<N, W>> {
+        let order = Arc::default();
         let at = plan.edges_at();
         let bells = at
             .iter()
             .enumerate()
             .map(|(site, edges)| N::bell(site, LINK * edges.len().max(1)));
         let (ringers, bells): (Vec<_>, Vec<_>) = bells.unzip();
-        let mut sites: Vec<Site<N>> = bells
+        let mut sites: Vec<Site<N, W>> = bells
             .into_iter()
             .enumerate()
             .map(|(name, bell)| Site {
@@ -245,6 +273,7 @@ impl<N: Net> Site<N> {
                 ends: Vec::new(),
                 bell,
                 letters: 0,
+                watch: W::new(name, &order),
             })
             .collect();
         for (edge, &(low, high)) in plan.edges.iter().enumerate() {
@@ -283,24 +312,27 @@ impl<N: Net> Site<N> {
         sites
     }
 
-    pub fn collect(sites: Vec<Site<N>>) -> Ran {
+    pub fn collect(sites: Vec<Site<N, W>>) -> Ran {
         let letters = sites.iter().map(|site| site.letters).sum();
         let wakes = sites.iter().map(|site| N::wakes(&site.bell)).sum();
-        let ends = sites.into_iter().flat_map(|site| site.ends);
-        let mut forks: Vec<(usize, Fork)> =
-            ends.filter_map(|end| Some((end.edge, end.fork?))).collect();
+        let mut forks: Vec<(usize, Fork)> = Vec::new();
+        let mut notes = Vec::new();
+        for site in sites {
+            forks.extend(site.ends.into_iter().filter_map(|end| Some((end.edge, end.fork?))));
+            notes.extend(site.watch.into_notes());
+        }
         forks.sort_unstable_by_key(|fork| fork.0);
         let forks = forks.into_iter().map(|fork| fork.1).collect();
-        Ran { forks, letters, wakes }
+        Ran { forks, letters, wakes, notes }
     }
 }
 
 /// Each site in a thread of its own.
-pub fn run<N: Net>(plan: &Plan) -> Ran
+pub fn run<N: Net, W: Watch>(plan: &Plan) -> Ran
 where
-    Site<N>: Send,
+    Site<N, W>: Send,
 {
-    let mut sites = Site::<N>::all(plan);
+    let mut sites = Site::<N, W>::all(plan);
     let gate = Barrier::new(plan.sites);
     thread::scope(|scope| {
         for site in &mut sites {

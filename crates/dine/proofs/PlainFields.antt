@@ -1,4 +1,4 @@
--- Fields of the bytes that a name has: they need no quotes.
+-- Fields of bytes that names may have need no quotes.
 use Rattle.std.proofs.Common.{◌≡◌, ℕ, ◌<◌, ◌≤◌, ◌^◌, nat_le, ◌&&◌, Bool, true, false, eqb, cond, List, [], ◌∷◌, ◌++◌, length, refl, sym, ◌∙◌, ap, arith}
 use Rattle.std.specs.Char.{is_ascii_digit}
 use Rattle.std.specs.Fmt.{decimal}
@@ -14,7 +14,7 @@ use Rattle.dine_graph.specs.Plan.{SeenPlan, IsPlan, is_name_byte, name_of, site_
 use Rattle.dine.specs.private.Records.{is_plain}
 use Rattle.dine.specs.Tables.{record_text}
 
--- a byte that no name has is another than a byte of a name
+-- a byte that no name may have differs from each byte of a name
 other_byte : (b n : ℕ) → is_name_byte n ≡ false → is_name_byte b ≡ true → eqb b n ≡ false
 other_byte b n lacks has = ne_eqb b n (λ e. false≢true (sym lacks ∙ ap is_name_byte (sym e) ∙ has))
 
@@ -27,7 +27,7 @@ plain_needs_none (b ∷ field) plain =
     let parts = and_parts (is_name_byte b) (is_plain field) plain in
     rw (plain_byte b parts.0, plain_needs_none field parts.1) refl
 
--- it is written as it is
+-- it is written unchanged
 plain_text : (field : List ℕ) → is_plain field ≡ true → field_text default_writer field ≡ field
 plain_text field plain = ap (λ (needs : Bool). cond needs (quoted default_writer field) field) (plain_needs_none field plain)
 

@@ -1,4 +1,4 @@
--- What ends the reading of a plan, by where it comes from.
+-- The faults that end the reading of a plan, by their origin.
 use Rattle.std.proofs.Common.{◌≡◌, ◌≢◌, ◌⊎◌, ◌<◌, ◌≤◌, List, ℕ, Option, Some, Result, Ok, Err, IfErr, IfSome, IsErrAnd, length, inl, inr, refl, sym, ap, subst}
 use Rattle.std.specs.Io.KnownBytes.{IsAtEnd}
 use Rattle.std.proofs.lemmas.Option.{IfSome_then}
@@ -13,7 +13,7 @@ use Rattle.dine.specs.private.InputFaults.{IsInputFault}
 use Rattle.dine.specs.declared.fault_lines.Fault.{Fault}
 use Rattle.dine.specs.declared.fault_lines.Fault.TheVariants as fault
 
--- a cause is want of memory, or it is told as it is
+-- a cause is a failed allocation, or it is the cause of the fault
 decided : (cause : PlanFault) → (cause ≡ text.Memory) ⊎ ((cause ≢ text.Memory) × (fault_of_text cause ≡ fault.NoPlan cause))
 decided text.NotToml = inr (λ e. absurd cc, refl)
 decided text.Version = inr (λ e. absurd cc, refl)
@@ -36,14 +36,14 @@ decided (text.ValueTooLarge edge) = inr (λ e. absurd cc, refl)
 decided (text.UnknownPolicy site) = inr (λ e. absurd cc, refl)
 decided text.Memory = inl refl
 
--- a cause that is no want of memory is told as it is
-pub told_as_it_is : (cause : PlanFault) → cause ≢ text.Memory → fault_of_text cause ≡ fault.NoPlan cause
-told_as_it_is cause other = elim (decided cause) [ inl is ↦ absurd (other is) | inr same ↦ same.1 ]
+-- a cause that is not a failed allocation is the cause of the fault
+pub is_no_plan : (cause : PlanFault) → cause ≢ text.Memory → fault_of_text cause ≡ fault.NoPlan cause
+is_no_plan cause other = elim (decided cause) [ inl is ↦ absurd (other is) | inr same ↦ same.1 ]
 
--- a fault that is neither of words nor of a plan, a run, an output or the length of the input
+-- the faults whose clauses hold since none of them applies
 of_memory : (left after : Option (List ℕ)) → IsInputFault left after fault.OutOfMemory
 of_memory left after = record {
-  no_words = λ e. absurd cc;
+  no_usage = λ e. absurd cc;
   no_output = λ e. absurd cc;
   no_run = λ e. absurd cc;
   too_long = λ e. absurd cc;
@@ -55,7 +55,7 @@ of_memory left after = record {
 
 of_failed : (left after : Option (List ℕ)) → IsInputFault left after fault.ReadingFailed
 of_failed left after = record {
-  no_words = λ e. absurd cc;
+  no_usage = λ e. absurd cc;
   no_output = λ e. absurd cc;
   no_run = λ e. absurd cc;
   too_long = λ e. absurd cc;
@@ -67,7 +67,7 @@ of_failed left after = record {
 
 of_length : (left after : Option (List ℕ)) → IfSome left (λ bytes. input_limit < length bytes) → IsInputFault left after fault.InputTooLong
 of_length left after long = record {
-  no_words = λ e. absurd cc;
+  no_usage = λ e. absurd cc;
   no_output = λ e. absurd cc;
   no_run = λ e. absurd cc;
   too_long = λ e. long;
@@ -80,29 +80,29 @@ of_length left after long = record {
 of_plan : (cause : PlanFault) (left after : Option (List ℕ)) → IfSome left (λ bytes. fault_of_bytes bytes ≡ Some cause) → IsAtEnd after → IfSome left (λ bytes. length bytes ≤ input_limit)
     → IsInputFault left after (fault.NoPlan cause)
 of_plan cause left after is end within = record {
-  no_words = λ e. absurd cc;
+  no_usage = λ e. absurd cc;
   no_output = λ e. absurd cc;
   no_run = λ e. absurd cc;
   too_long = λ e. absurd cc;
   cause = λ other e. let same : cause ≡ other = cc in subst (λ (c : PlanFault). IfSome left (λ bytes. fault_of_bytes bytes ≡ Some c)) same is;
-  refused = λ e. IfSome_then left is (λ bytes told. (cause, told));
+  refused = λ e. IfSome_then left is (λ bytes reported. (cause, reported));
   at_end = λ e. end;
   within = λ e. within;
 }
 
--- an input that can't be read
-of_input : (told : InputFault) (left after : Option (List ℕ)) → (told ≡ input.TooLong → IfSome left (λ bytes. input_limit < length bytes)) → IsInputFault left after (fault_of_input told)
+-- an input that cannot be read
+of_input : (reported : InputFault) (left after : Option (List ℕ)) → (reported ≡ input.TooLong → IfSome left (λ bytes. input_limit < length bytes)) → IsInputFault left after (fault_of_input reported)
 of_input input.Failed left after long = of_failed left after
 of_input input.TooLong left after long = of_length left after (long refl)
 of_input input.Memory left after long = of_memory left after
 
--- an input that can't be read, as it is handed on
-pub handed_on : {T : Type 0} (result : Result T Fault) (told : InputFault) (left after : Option (List ℕ)) → IsErrAnd result (λ made. made ≡ fault_of_input told) → (told ≡ input.TooLong → IfSome left (λ bytes. input_limit < length bytes))
+-- an input that cannot be read, as `?` returns it
+pub of_input_returned : {T : Type 0} (result : Result T Fault) (reported : InputFault) (left after : Option (List ℕ)) → IsErrAnd result (λ made. made ≡ fault_of_input reported) → (reported ≡ input.TooLong → IfSome left (λ bytes. input_limit < length bytes))
     → IfErr result (λ made. IsInputFault left after made)
-handed_on (Ok it) told left after same long = tt
-handed_on (Err made) told left after same long = subst (IsInputFault left after) (sym same) (of_input told left after long)
+of_input_returned (Ok it) reported left after same long = tt
+of_input_returned (Err made) reported left after same long = subst (IsInputFault left after) (sym same) (of_input reported left after long)
 
--- an input that is no plan
+-- an input that is not the text of a plan
 pub of_text : (cause : PlanFault) (left after : Option (List ℕ)) → (cause ≢ text.Memory → IfSome left (λ bytes. fault_of_bytes bytes ≡ Some cause)) → IsAtEnd after → IfSome left (λ bytes. length bytes ≤ input_limit)
     → IsInputFault left after (fault_of_text cause)
 of_text cause left after is end within =
@@ -110,3 +110,10 @@ of_text cause left after is end within =
       | inl memory ↦ subst (IsInputFault left after) (sym (ap fault_of_text memory)) (of_memory left after)
       | inr other ↦ subst (IsInputFault left after) (sym other.1) (of_plan cause left after (is other.0) end within)
     ]
+
+-- an input that is not the text of a plan, as `?` returns it
+pub of_text_returned : {T : Type 0} (result : Result T Fault) (cause : PlanFault) (left after : Option (List ℕ)) → IsErrAnd result (λ made. made ≡ fault_of_text cause)
+    → (cause ≢ text.Memory → IfSome left (λ bytes. fault_of_bytes bytes ≡ Some cause)) → IsAtEnd after → IfSome left (λ bytes. length bytes ≤ input_limit)
+    → IfErr result (λ made. IsInputFault left after made)
+of_text_returned (Ok it) cause left after same is end within = tt
+of_text_returned (Err made) cause left after same is end within = subst (IsInputFault left after) (sym same) (of_text cause left after is end within)

@@ -13,7 +13,8 @@ use Rattle.dine_rules.specs.Values.{added_up, has_no_set, value_by}
 use Rattle.dine_link.specs.Links.{SeenLink}
 use Rattle.dine_site.specs.declared.diner.Call.{Call}
 use Rattle.dine_threads.specs.declared.gathered.SiteOut.{SiteOut}
-use Rattle.dine_site.specs.Diners.{HasLastFailed, StopsAtFailed, meals_called, failed_in, tells_quit}
+use Rattle.dine_site.specs.Diners.{HasLastFailed, StopsAtFailed, meals_called, failed_in, shows_quit}
+use Rattle.dine_site.specs.declared.manner.Manner.TheVariants.{Eager}
 use Rattle.dine_threads.specs.Gathered.{AreFinishedOuts, AreOutsOf, IsFinishedOut, IsOutOf}
 use Rattle.dine_threads.specs.Headline.{IsHeadline}
 use Rattle.dine_threads.specs.declared.tables.EdgeRow.{EdgeRow}
@@ -29,7 +30,7 @@ use Rattle.dine.specs.Run.{HasDueRows, diner_of, diners_of, done_to_failed, fail
 count_first : {X : Type 0} (p : X → Bool) (x : X) (xs : List X) → count_by p (x ∷ xs) ≡ count_by p (x ∷ []) + count_by p xs
 count_first p x xs = sum_by-append (λ y. cond (p y) 1 0) (x ∷ []) xs
 
--- an answer that fits its mark is not Ok exactly where the mark is set
+-- a result that fits its mark is an error if and only if the mark is set
 fits_so : (mark m ok : Bool) → m ≡ mark → cond m (not ok) ok ≡ true → not ok ≡ mark
 fits_so true m ok is fits = ap (λ (b : Bool). cond b (not ok) ok) (sym is) ∙ fits
 fits_so false m true is fits = refl
@@ -39,30 +40,30 @@ length-count_from : (n first : ℕ) → length (count_from first n) ≡ n
 length-count_from zero first = refl
 length-count_from (suc n) first = ap suc (length-count_from n (first + 1))
 
--- each call has a mark, and fails exactly where it is set
-abbrev Answers : List Bool → List Call → Type 0
-Answers marks [] = Unit {0}
-Answers [] (call ∷ calls) = ⊥
-Answers (mark ∷ marks) (call ∷ calls) = (not call.ok ≡ mark) × Answers marks calls
+-- each call has a mark, and fails if and only if the mark is set
+abbrev FitMarks : List Bool → List Call → Type 0
+FitMarks marks [] = Unit {0}
+FitMarks [] (call ∷ calls) = ⊥
+FitMarks (mark ∷ marks) (call ∷ calls) = (not call.ok ≡ mark) × FitMarks marks calls
 
--- so it is for the calls of the meals from `first` on, in order, where each fits its mark
-answers_by_marks : (marks rest : List Bool) (first : ℕ) (calls : List Call) → ((i k : ℕ) → k ≡ first + i → i < length rest → mark_of marks k ≡ get_or rest i false)
-    → length calls ≤ length rest → meals_called calls ≡ count_from first (length calls) → All (λ (call : Call). fits_marks marks call.k call.ok ≡ true) calls → Answers rest calls
-answers_by_marks marks rest first [] at within called fit = tt
-answers_by_marks marks [] first (call ∷ calls) at within called fit = absurd (omega (arith, within))
-answers_by_marks marks (mark ∷ rest) first (call ∷ calls) at within called fit =
+-- this holds for the calls of the meals from `first` on, in order, if each fits its mark
+results_by_marks : (marks rest : List Bool) (first : ℕ) (calls : List Call) → ((i k : ℕ) → k ≡ first + i → i < length rest → mark_of marks k ≡ get_or rest i false)
+    → length calls ≤ length rest → meals_called calls ≡ count_from first (length calls) → All (λ (call : Call). fits_marks marks call.k call.ok ≡ true) calls → FitMarks rest calls
+results_by_marks marks rest first [] at within called fit = tt
+results_by_marks marks [] first (call ∷ calls) at within called fit = absurd (omega (arith, within))
+results_by_marks marks (mark ∷ rest) first (call ∷ calls) at within called fit =
     let k_is : call.k ≡ first = cc in
     let others : meals_called calls ≡ count_from (first + 1) (length calls) = cc in
     let marked : mark_of marks call.k ≡ mark = at 0 call.k (omega (arith, k_is)) (omega arith) in (
       fits_so mark (mark_of marks call.k) call.ok marked (fit 0 call (omega arith)),
-      answers_by_marks marks rest (first + 1) calls (λ i k is below. at (suc i) k (omega (arith, is)) (omega (arith, below))) (omega (arith, within)) others (λ k d below. fit (suc k) d (omega (arith, below))),
+      results_by_marks marks rest (first + 1) calls (λ i k is below. at (suc i) k (omega (arith, is)) (omega (arith, below))) (omega (arith, within)) others (λ k d below. fit (suc k) d (omega (arith, below))),
     )
 
 abbrev fails_in : List SeenJob → List Bool
 fails_in jobs = map (λ (job : SeenJob). job.fails) jobs
 
 -- as many calls failed as jobs fail of those that were done
-failed_by_jobs : (jobs : List SeenJob) (calls : List Call) → Answers (fails_in jobs) calls → failed_in calls ≡ count_by (λ (job : SeenJob). job.fails) (take (length calls) jobs)
+failed_by_jobs : (jobs : List SeenJob) (calls : List Call) → FitMarks (fails_in jobs) calls → failed_in calls ≡ count_by (λ (job : SeenJob). job.fails) (take (length calls) jobs)
 failed_by_jobs jobs [] is = refl
 failed_by_jobs [] (call ∷ calls) is = absurd is
 failed_by_jobs (job ∷ jobs) (call ∷ calls) is =
@@ -70,7 +71,7 @@ failed_by_jobs (job ∷ jobs) (call ∷ calls) is =
     count_first (λ (c : Call). not c.ok) call calls ∙ ap (λ (b : Bool). 0 + cond b 1 0 + failed_in calls) is.0 ∙ ap (λ (n : ℕ). 0 + cond job.fails 1 0 + n) (failed_by_jobs jobs calls is.1)
     ∙ sym (count_first fails job (take (length calls) jobs))
 
--- the last call that failed stands behind the first, where that one went well
+-- the last call that failed is after the first call, if the first went well
 no_last : (before : List Call) (last : Call) → [] ≡ before ++ last ∷ [] → ⊥
 no_last [] last is = cc
 no_last (call ∷ before) last is = cc
@@ -83,7 +84,7 @@ end_behind : (jobs : List SeenJob) (call : Call) (calls : List Call) → call.ok
 end_behind jobs call calls went (inl all) = inl (omega (arith, all))
 end_behind jobs call calls went (inr had) = inr (last_behind call calls had.before had.last went had.called had.failed)
 
--- where no call comes behind one that failed, and they are for all jobs or the last one failed, they are for the jobs
+-- if no call is after one that failed, and the calls are for all jobs or the last one failed, they are for the jobs
 -- up to the first that fails
 done_so : (jobs : List SeenJob) (call : Call) (calls : List Call) (ok fails : Bool) → call.ok ≡ ok → not ok ≡ fails → StopsAtFailed [] (call ∷ calls) → (call.ok ≡ true → length calls ≡ done_to_failed jobs)
     → suc (length calls) ≡ 1 + cond fails 0 (done_to_failed jobs)
@@ -92,7 +93,7 @@ done_so jobs call calls false true went same stops rest = ap (λ (later : List C
 done_so jobs call calls true true went same stops rest = absurd cc
 done_so jobs call calls true false went same stops rest = omega (arith, rest went)
 
-done_by_calls : (jobs : List SeenJob) (calls : List Call) → Answers (fails_in jobs) calls → StopsAtFailed [] calls → (length calls ≡ length jobs) ⊎ HasLastFailed [] calls → length calls ≡ done_to_failed jobs
+done_by_calls : (jobs : List SeenJob) (calls : List Call) → FitMarks (fails_in jobs) calls → StopsAtFailed [] calls → (length calls ≡ length jobs) ⊎ HasLastFailed [] calls → length calls ≡ done_to_failed jobs
 done_by_calls [] [] is stops end = refl
 done_by_calls (job ∷ jobs) [] is stops (inl all) = absurd (omega (arith, all))
 done_by_calls (job ∷ jobs) [] is stops (inr had) = absurd (no_last had.before had.last had.called)
@@ -102,34 +103,34 @@ done_by_calls (job ∷ jobs) (call ∷ calls) is stops end =
     (λ went. done_by_calls jobs calls is.1 (λ before later last split failed. stops (call ∷ before) later last (ap (λ (rest : List Call). call ∷ rest) split) failed) (end_behind jobs call calls went end))
 
 -- a site that resigns ate up to the first job that fails, and any other all
-ate_so : (resigns quit : Bool) (jobs : List SeenJob) (ate : ℕ) (calls : List Call) → length calls ≡ ate → Answers (fails_in jobs) calls → (resigns ≡ true → StopsAtFailed [] calls) → (quit ≡ true → HasLastFailed [] calls)
+ate_so : (resigns quit : Bool) (jobs : List SeenJob) (ate : ℕ) (calls : List Call) → length calls ≡ ate → FitMarks (fails_in jobs) calls → (resigns ≡ true → StopsAtFailed [] calls) → (quit ≡ true → HasLastFailed [] calls)
     → (ate ≡ length jobs) ⊎ ((resigns ≡ true) × (quit ≡ true)) → ate ≡ cond resigns (done_to_failed jobs) (length jobs)
 ate_so false quit jobs ate calls many is stops quits (inl all) = all
 ate_so false quit jobs ate calls many is stops quits (inr both) = absurd cc
 ate_so true quit jobs ate calls many is stops quits (inl all) = sym many ∙ done_by_calls jobs calls is (stops refl) (inl (many ∙ all))
 ate_so true quit jobs ate calls many is stops quits (inr both) = sym many ∙ done_by_calls jobs calls is (stops refl) (inr (quits both.1))
 
-module _ (plan : SeenPlan) (s : ℕ) (out : SiteOut SeenPlanDiner) (left : IsOutOf plan_diner plan s (diner_of plan s) out) where
-  -- the calls of the site's diner are as many as its meals, and each answers as its job does
+module _ (plan : SeenPlan) (s : ℕ) (out : SiteOut SeenPlanDiner) (left : IsOutOf plan_diner Eager plan s (diner_of plan s) out) where
+  -- the site's diner has a call for each meal, and each call fails if and only if its job does
   called_as_often : length left.eaten.added ≡ out.ate
   called_as_often = sym (length-map left.eaten.added (λ (call : Call). call.k)) ∙ ap length left.eaten.in_order ∙ length-count_from out.ate 1
 
-  answered : Answers (fails_of plan s) left.eaten.added
-  answered =
+  fit : FitMarks (fails_of plan s) left.eaten.added
+  fit =
       let fails = fails_of plan s in
-      answers_by_marks fails fails 1 left.eaten.added (λ i k is below. ap (λ (n : ℕ). mark_of fails n) (let next : k ≡ suc i = omega (arith, is) in next))
+      results_by_marks fails fails 1 left.eaten.added (λ i k is below. ap (λ (n : ℕ). mark_of fails n) (let next : k ≡ suc i = omega (arith, is) in next))
       (omega (arith, called_as_often, left.ate, length-map (jobs_of plan s) (λ (job : SeenJob). job.fails))) (left.eaten.in_order ∙ ap (count_from 1) (sym called_as_often)) left.eaten.answers
 
-  -- where it ended well, it ate the meals that the plan gives it, and as many jobs failed
+  -- if it ended well, it ate the meals that the plan gives it, and in as many of them its job failed
   ate_at : IsFinishedOut plan s out → out.ate ≡ meals_at plan s
   ate_at finished =
       let same : out.diner.calls ≡ left.eaten.added = left.eaten.called in
-      ate_so (resigns plan s) (tells_quit out.journal.items) (jobs_of plan s) out.ate left.eaten.added called_as_often answered
-      (λ does. subst (StopsAtFailed []) same (left.heeds.stops does)) (λ told. subst (HasLastFailed []) same (left.heeds.quits told)) finished.has_no_job_left
+      ate_so (resigns plan s) (shows_quit out.journal.items) (jobs_of plan s) out.ate left.eaten.added called_as_often fit
+      (λ does. subst (StopsAtFailed []) same (left.obeys.stops does)) (λ reported. subst (HasLastFailed []) same (left.obeys.quits reported)) finished.has_no_job_left
 
   failed_at : IsFinishedOut plan s out → out.failed ≡ failing_jobs plan s
   failed_at finished =
-      sym left.eaten.failures ∙ failed_by_jobs (jobs_of plan s) left.eaten.added answered
+      sym left.eaten.failures ∙ failed_by_jobs (jobs_of plan s) left.eaten.added fit
       ∙ ap (λ (n : ℕ). count_by (λ (job : SeenJob). job.fails) (take n (jobs_of plan s))) (called_as_often ∙ ate_at finished)
 
 -- the numbers in the rows of the plan are its own
@@ -169,10 +170,10 @@ diner_has_room plan diners are s diner at =
 
 module _ (plan : SeenPlan) (forks : List SeenFork) (outs : List (SiteOut SeenPlanDiner)) where
   abbrev AreOuts : Type 0
-  AreOuts = AreOutsOf plan_diner plan (diners_of plan) outs
+  AreOuts = AreOutsOf plan_diner Eager plan (diners_of plan) outs
 
   -- each site was left by its own diner
-  left_at : AreOuts → (s : ℕ) (out : SiteOut SeenPlanDiner) → slice_get outs s ≡ Some out → IsOutOf plan_diner plan s (diner_of plan s) out
+  left_at : AreOuts → (s : ℕ) (out : SiteOut SeenPlanDiner) → slice_get outs s ≡ Some out → IsOutOf plan_diner Eager plan s (diner_of plan s) out
   left_at are s out at = are.each s (diner_of plan s) out (diner_at plan s (omega (arith, slice_get_within outs s out at, are.count))) at
 
   -- so it is at each site
@@ -184,14 +185,14 @@ module _ (plan : SeenPlan) (forks : List SeenFork) (outs : List (SiteOut SeenPla
       get_or_from_slice_get (map failed_of outs) s out.0.failed 0 (slice_get-map failed_of outs s ∙ ap (option_map failed_of) out.1)
       ∙ failed_at plan s out.0 (left_at are s out.0 out.1) (finished s out.0 out.1))
 
-  -- what `run` answers has the rows of the plan
+  -- what `run` returns has the rows of the plan
   pub due_rows : (links : List SeenLink) (diners : List SeenPlanDiner) → diners ≡ diners_of plan → IsPlan plan → IsHeadline plan (map (λ (out : SiteOut SeenPlanDiner). out.ate) outs) links forks
-      → AreOutsOf plan_diner plan diners outs → AreFinishedOuts plan outs
+      → AreOutsOf plan_diner Eager plan diners outs → AreFinishedOuts plan outs
       → ((plan : SeenPlan) (edge low_ate high_ate : ℕ) (log : List Entry) → IsPlan plan → edge < edge_count plan → has_no_set plan ≡ true → IsWholeLog plan edge low_ate high_ate log → value_by plan edge log ≡ added_up plan edge low_ate high_ate)
       → HasDueRows plan forks outs
   due_rows links diners same is_plan headline left finished adds =
-      let are = subst (λ (ds : List SeenPlanDiner). AreOutsOf plan_diner plan ds outs) same left in
-      let gathered = headline_gathered plan forks outs links plan_diner (diners_of plan) (diner_count plan) headline are in
+      let are = subst (λ (ds : List SeenPlanDiner). AreOutsOf plan_diner Eager plan ds outs) same left in
+      let gathered = headline_gathered plan forks outs links Eager plan_diner (diners_of plan) (diner_count plan) headline are in
       let eaten : (s : ℕ) (out : SiteOut SeenPlanDiner) → slice_get outs s ≡ Some out → out.ate ≡ meals_at plan s = λ s out at. ate_at plan s out (left_at are s out at) (finished s out at) in
       record {
         is_plan = is_plan;

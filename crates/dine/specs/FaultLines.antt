@@ -1,4 +1,4 @@
--- What ends a command before its end.
+-- The faults that end a command, and the line that reports each.
 use Rattle.std.specs.Prelude.{ℕ, List, [], ◌∷◌, ◌++◌, Option, codes}
 use Rattle.std.specs.declared.io.ErrorKind.{ErrorKind}
 use Rattle.std.specs.declared.io.ErrorKind.TheVariants as kind
@@ -20,7 +20,7 @@ use Rattle.dine_words.specs.declared.words.WordsFault.TheVariants as words
 use Rattle.dine_words.specs.declared.input.InputFault.{InputFault}
 use Rattle.dine_words.specs.declared.input.InputFault.TheVariants as input
 
--- the status that a fault ends the program with
+-- the status with which a fault ends the program
 abbrev pub status_of : Fault → Status
 status_of fault.Usage = status.Usage
 status_of (fault.NoPlan cause) = status.PlanRefused
@@ -30,55 +30,54 @@ status_of fault.ReadingFailed = status.InputOutput
 status_of fault.InputTooLong = status.InputOutput
 status_of fault.WritingFailed = status.InputOutput
 
--- the fault of the program that a fault of the words is
+-- the fault of the program for a fault of the arguments
 abbrev pub fault_of_words : WordsFault → Fault
 fault_of_words words.Usage = fault.Usage
 fault_of_words words.Memory = fault.OutOfMemory
 
--- the fault of the program that a fault of the input is
+-- the fault of the program for a fault of the input
 abbrev pub fault_of_input : InputFault → Fault
 fault_of_input input.Failed = fault.ReadingFailed
 fault_of_input input.TooLong = fault.InputTooLong
 fault_of_input input.Memory = fault.OutOfMemory
 
--- the fault that an error is with which `env::args` answers no words; want of memory is told apart from every other
--- kind
+-- the fault of the program for an error of `env::args`: a failed allocation is one fault, any other error another
 abbrev pub fault_of_arguments : ErrorKind → Fault
 fault_of_arguments kind.OutOfMemory = fault.OutOfMemory
 fault_of_arguments _ = fault.Usage
 
--- the fault of the program that a cause to refuse a text is: want of memory is told apart from all others
+-- the fault of the program for a cause to refuse a text: a failed allocation is one fault, any other cause another
 abbrev pub fault_of_text : PlanFault → Fault
 fault_of_text text.Memory = fault.OutOfMemory
 fault_of_text cause = fault.NoPlan cause
 
--- the fault of the program that the cause of a run is: want of memory is told apart from all others
+-- the fault of the program for a cause of a run: a failed allocation is one fault, any other cause another
 abbrev pub fault_of_cause : RunCause → Fault
 fault_of_cause run_cause.Memory = fault.OutOfMemory
 fault_of_cause cause = fault.RunFailed cause
 
--- the fault that an answer of `run` is, by its cause
+-- the fault of the program for a fault of `run`, by its cause
 abbrev pub fault_of_run : RunFault SeenPlanDiner → Fault
-fault_of_run answer = fault_of_cause (cause_of answer)
+fault_of_run returned = fault_of_cause (cause_of returned)
 
--- the words that tell of a fault
-abbrev pub fault_words : Fault → List ℕ
-fault_words fault.Usage = codes "usage: dine [run [--table edges|sites] [--links channel|ring] | replay [--choices LIST] | check]"
-fault_words (fault.NoPlan cause) = codes "plan refused: " ++ plan_fault_words cause
-fault_words (fault.RunFailed cause) = cause_words cause
-fault_words fault.OutOfMemory = codes "out of memory"
-fault_words fault.ReadingFailed = codes "reading failed"
-fault_words fault.InputTooLong = codes "input too long"
-fault_words fault.WritingFailed = codes "writing failed"
+-- the text of the line of a fault, without the name of the program before it
+abbrev pub fault_text : Fault → List ℕ
+fault_text fault.Usage = codes "usage: dine [run [--table edges|sites] [--links channel|ring] | replay [--choices LIST] | check]"
+fault_text (fault.NoPlan cause) = codes "plan refused: " ++ plan_fault_words cause
+fault_text (fault.RunFailed cause) = cause_words cause
+fault_text fault.OutOfMemory = codes "out of memory"
+fault_text fault.ReadingFailed = codes "reading failed"
+fault_text fault.InputTooLong = codes "input too long"
+fault_text fault.WritingFailed = codes "writing failed"
 
--- the line that tells of a fault, without its line feed
+-- the line that reports a fault, without its line feed
 abbrev pub line_of : Fault → List ℕ
-line_of cause = codes "dine: " ++ fault_words cause
+line_of cause = codes "dine: " ++ fault_text cause
 
 -- a line with its line feed
 abbrev pub whole_line : List ℕ → List ℕ
 whole_line line = line ++ 10 ∷ []
 
--- what was written is a beginning of the line, and it may be none of it: how much a writer takes is not known
-abbrev pub TellsLine : List ℕ → Option (List ℕ) → Option (List ℕ) → Type 0
-TellsLine line before after = WritesPrefix before after (whole_line line)
+-- a beginning of the line was written, maybe none or all of it: it is not known how much a writer takes
+abbrev pub IsLineBegun : List ℕ → Option (List ℕ) → Option (List ℕ) → Type 0
+IsLineBegun line before after = WritesPrefix before after (whole_line line)

@@ -1,18 +1,18 @@
--- The diner of a plan, as contracts see it. The turns of a job it leaves out.
+-- The diner of a plan, as contracts see it, without the turns of its jobs.
 use Rattle.std.specs.Prelude.{ℕ, Bool, false, not, List, ◌∷◌, map, slice_index_or, if◌then◌else◌}
 use Rattle.dine_graph.specs.Plan.{SeenPlan, SeenJob, jobs_of}
 use Rattle.dine_site.specs.declared.diner.Call.{Call}
 use Rattle.dine_site.specs.declared.diner.Diner as diners
 
--- a diner of a plan: the calls so far, in order, for each job of its site whether it fails, for how many more calls
--- there is room, and the word to which the turns so far led
+-- a diner of a plan: the calls so far, in order; for each job of its site, whether it fails; the number of further
+-- calls that it has capacity for; and the word after the turns so far
 pub record SeenPlanDiner : Type 0 where
   pub calls : List Call
   pub marks : List Bool
   pub room : ℕ
   pub word : ℕ
 
--- the word that the turns begin with
+-- the word before the first turn
 abbrev pub first_word : ℕ
 first_word = 2463534242
 
@@ -24,10 +24,10 @@ fails_of plan s = map (λ (job : SeenJob). job.fails) (jobs_of plan s)
 abbrev pub mark_of : List Bool → ℕ → Bool
 mark_of marks k = slice_index_or (false ∷ marks) k false
 
--- the answer of meal k fits the marks: its job went well exactly where its mark is not set
+-- the result of meal k fits the marks: its job went well if and only if its mark is not set
 abbrev pub fits_marks : List Bool → ℕ → Bool → Bool
 fits_marks marks k ok = if mark_of marks k then not ok else ok
 
--- what a diner of a plan tells of itself
+-- a diner of a plan as any diner is seen; it expects nothing of its site
 abbrev pub plan_diner : diners.Ghosts SeenPlanDiner
 plan_diner = record { calls = λ d. d.calls; marks = λ d. d.marks; fits = fits_marks; room_left = λ d. d.room; expects = λ d plan site. Unit {0} }

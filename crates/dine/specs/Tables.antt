@@ -6,12 +6,12 @@ use Rattle.dine_graph.specs.Plan.{SeenPlan, site_count, edge_count, name_of}
 use Rattle.dine_threads.specs.declared.tables.EdgeRow.{EdgeRow}
 use Rattle.dine_threads.specs.declared.tables.SiteRow.{SiteRow}
 
--- the fields with a comma between each two, and a line feed
+-- the fields with a comma between each two, and a line feed at the end
 abbrev pub record_text : List (List ℕ) → List ℕ
 record_text fields = join_with_byte 44 fields ++ codes "\n"
 
--- The numbers in a row are those of an edge and of two sites of the plan; that they are the ends of that edge it leaves
--- out.
+-- The numbers in a row are the numbers of an edge and of two sites of the plan. It does not say that these sites are
+-- the ends of that edge.
 pub record IsEdgeRowOf (plan : SeenPlan) (row : EdgeRow) : Type 0 where
   pub edge_in : row.edge < edge_count plan
   pub lo_in : row.lo < site_count plan
@@ -21,7 +21,7 @@ pub record IsEdgeRowOf (plan : SeenPlan) (row : EdgeRow) : Type 0 where
 abbrev pub IsSiteRowOf : SeenPlan → SiteRow → Type 0
 IsSiteRowOf plan row = row.site < site_count plan
 
--- the last column of the table of edges, which a plan of version 2 has and one of version 1 has not
+-- the last column of the table of edges, which a plan of version 2 has and a plan of version 1 does not have
 abbrev pub value_column : SeenPlan → List ℕ → List (List ℕ)
 value_column plan field = if plan.version == 2 then field ∷ [] else []
 
@@ -29,7 +29,7 @@ value_column plan field = if plan.version == 2 then field ∷ [] else []
 abbrev pub edges_header : SeenPlan → List ℕ
 edges_header plan = record_text (codes "edge" ∷ codes "lo" ∷ codes "hi" ∷ codes "lo_meals" ∷ codes "hi_meals" ∷ value_column plan (codes "value"))
 
--- the record of an edge: its number, the names of its ends, how many meals each of them ate, and in version 2 its value
+-- the record of an edge: its number, the names of its ends, their numbers of meals, and in version 2 its value
 abbrev pub edge_record : SeenPlan → EdgeRow → List ℕ
 edge_record plan row = record_text (decimal row.edge ∷ name_of plan row.lo ∷ name_of plan row.hi ∷ decimal row.lo_meals ∷ decimal row.hi_meals ∷ value_column plan (decimal row.value))
 
@@ -41,7 +41,7 @@ edges_table plan rows = edges_header plan ++ flat_map (edge_record plan) rows
 abbrev pub sites_header : List ℕ
 sites_header = record_text (codes "site" ∷ codes "meals" ∷ codes "failed" ∷ [])
 
--- the record of a site: its name, how many meals it ate, and in how many of them its job failed
+-- the record of a site: its name, the number of its meals, and in how many of them its job failed
 abbrev pub site_record : SeenPlan → SiteRow → List ℕ
 site_record plan row = record_text (name_of plan row.site ∷ decimal row.meals ∷ decimal row.failed ∷ [])
 

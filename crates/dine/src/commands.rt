@@ -1,7 +1,9 @@
-//! From words and input to bytes and status.
-ghost use Rattle.std.specs.Prelude.{◌≡◌, ◌≢◌, ◌<◌, ◌≤◌, IfErr, IfOk, IfSome, IsErrOf, None, OnErr, OnOk, Some, false, length, map, true, string_bytes};
+//! From arguments and input to output and status.
+ghost use Rattle.std.specs.Prelude.{◌≡◌, ◌≢◌, ◌<◌, ◌≤◌, IfErr, IfOk, IfSome, IsErrOf, None, OnErr, OnOk, Some};
+ghost use Rattle.std.specs.Prelude.{false, length, map, true, string_bytes};
 ghost use Rattle.std.specs.Io.KnownBytes.{IsAtEnd};
-ghost use Rattle.dine.specs.Commands.{EndsByFault, FailsRun, IsDone, IsFailedRun, IsPartDone, IsPlanLeft, IsRefused, TellsCause, IsTextOf};
+ghost use Rattle.dine.specs.Commands.{EndsByFault, FailsRun, IsDone, IsFailedRun, IsPartDone, IsPlanLeft, IsRefused};
+ghost use Rattle.dine.specs.Commands.{HasCauseOf, IsTextOf};
 ghost use Rattle.dine.specs.FaultLines.{status_of};
 ghost use Rattle.dine_words.specs.Input.{input_limit};
 ghost use Rattle.dine_words.specs.PlanBytes.{IsPlanBytes};
@@ -18,81 +20,105 @@ use std::io::{Read, Write};
 use std::sync::Wait;
 use std::thread::Threads;
 
-/// Does what the words say with the input, and writes the text that it makes to `output`. The first word is the
-/// program's own name.
+/// Runs the command that the arguments name: reads a plan from `input`, and writes the text that the command makes of
+/// it to `output`. The first argument is the program's own name. Returns the status that the program ends with. It may
+/// wait, for the threads of a run.
 ///
-/// The first fault ends it, and one line to `faults` tells of it: words that `clap` refuses, a bad LIST, a table or a
-/// kind of links that there is not (nothing is read), an input that can't be read or is too long, a text that is no
-/// plan, a run that is refused a thread or in which a site ends with a fault, want of memory, an output that can't be
-/// written. That the line can't be printed is told to nobody. It may wait.
+/// The first fault ends the command, and one line to `faults` reports it. Whether that line could be written is not
+/// reported. The statuses of faults:
+///
+/// - `Usage`: `clap` refuses the arguments, or a LIST, a table or a kind of links is not valid. Nothing was read.
+/// - `PlanRefused`: the input is not the text of a plan. It was read to its end.
+/// - `RunFailed`: a thread could not be started, or a site ended with a fault.
+/// - `OutOfMemory`: an allocation failed.
+/// - `InputOutput`: the input could not be read or is too long, or the output could not be written. Only if writing
+///   failed may a part of the text be in `output`; at any other fault, `output` is unchanged.
 pub fn run_cmd<H: Threads + Wait + Copy + Send + 'static, R: Read, W: Write, F: Write>(
     rt: &H,
     alloc: Global,
-    words: &[String],
+    arguments: &[String],
     input: &mut R,
     output: &mut W,
     faults: &mut F,
 ) -> Status
-    // The words come first: any other end than by them or by want of memory comes only where they are right.
-    ensures accepted { result ≢ Status.Usage → result ≢ Status.OutOfMemory → AreRight dine_app (map string_bytes words.now) }
+    // The arguments are checked first: unless they or an allocation end the command, they are right.
+    ensures accepted { result ≢ Status.Usage → result ≢ Status.OutOfMemory
+        → AreRight dine_app (map string_bytes arguments.now) }
 
-    // At success the command read a plan to the end of the input and wrote its text whole.
-    ensures done { result ≡ Status.Success → IsDone (command_in dine_app (map string_bytes words.now)) (R.remaining input.old) (W.contents output.old) (W.contents output.new) }
+    // At success the command read a plan to the end of the input, and wrote its whole text.
+    ensures done { result ≡ Status.Success
+        → IsDone (command_in dine_app (map string_bytes arguments.now)) (R.remaining input.old)
+        (W.contents output.old) (W.contents output.new) }
     ensures read_to_end { result ≡ Status.Success → IsAtEnd (R.remaining input.new) }
     ensures within { result ≡ Status.Success → IfSome (R.remaining input.old) (λ bytes. length bytes ≤ input_limit) }
     ensures quiet { result ≡ Status.Success → faults.new ≡ faults.old }
 
-    // When a fault may come.
-    ensures usage { result ≡ Status.Usage → are_taken dine_app (map string_bytes words.now) ≡ false }
-    ensures asks_nothing { result ≡ Status.Usage → HasNoFault dine_app (map string_bytes words.now) → command_in dine_app (map string_bytes words.now) ≡ None }
+    // When each fault may occur.
+    ensures usage { result ≡ Status.Usage → are_taken dine_app (map string_bytes arguments.now) ≡ false }
+    ensures asks_nothing { result ≡ Status.Usage → HasNoFault dine_app (map string_bytes arguments.now)
+        → command_in dine_app (map string_bytes arguments.now) ≡ None }
     ensures plan_refused { result ≡ Status.PlanRefused → IfSome (R.remaining input.old) IsRefused }
     ensures refused_at_end { result ≡ Status.PlanRefused → IsAtEnd (R.remaining input.new) }
-    ensures refused_within { result ≡ Status.PlanRefused → IfSome (R.remaining input.old) (λ bytes. length bytes ≤ input_limit) }
+    ensures refused_within { result ≡ Status.PlanRefused
+        → IfSome (R.remaining input.old) (λ bytes. length bytes ≤ input_limit) }
     ensures plan_taken { IsPlanLeft (R.remaining input.old) → result ≢ Status.PlanRefused }
 
-    // What a fault leaves.
+    // What a fault leaves behind.
     ensures unread { result ≡ Status.Usage → input.new ≡ input.old }
     ensures unwritten { result ≢ Status.Success → result ≢ Status.InputOutput → output.new ≡ output.old }
-    ensures ended { result ≢ Status.Success → EndsByFault (command_in dine_app (map string_bytes words.now)) result
-        (R.remaining input.old) (W.contents output.old) (W.contents output.new) (F.contents faults.old) (F.contents faults.new) }
+    ensures ended { result ≢ Status.Success
+        → EndsByFault (command_in dine_app (map string_bytes arguments.now)) result
+        (R.remaining input.old) (W.contents output.old) (W.contents output.new)
+        (F.contents faults.old) (F.contents faults.new) }
 {
-    match command(rt, alloc, words, input, output) {
+    match command(rt, alloc, arguments, input, output) {
         Ok(()) => Status::Success,
         Err(fault) => fault.end(faults),
     }
 }
 
-// Reads a plan, and writes the text that the command makes of it which the words name.
+// Reads a plan, and writes the text that the named command makes of it.
 fn command<H: Threads + Wait + Copy + Send + 'static, R: Read, W: Write>(
     rt: &H,
     alloc: Global,
-    words: &[String],
+    arguments: &[String],
     input: &mut R,
     output: &mut W,
 ) -> Result<(), Fault>
-    ensures accepted { result ≢ Err Fault.Usage → result ≢ Err Fault.OutOfMemory → AreRight dine_app (map string_bytes words.now) }
-    ensures done { OnOk result (IsDone (command_in dine_app (map string_bytes words.now)) (R.remaining input.old) (W.contents output.old) (W.contents output.new)) }
+    ensures accepted { result ≢ Err Fault.Usage → result ≢ Err Fault.OutOfMemory
+        → AreRight dine_app (map string_bytes arguments.now) }
+    ensures done { OnOk result
+        (IsDone (command_in dine_app (map string_bytes arguments.now)) (R.remaining input.old)
+        (W.contents output.old) (W.contents output.new)) }
     ensures end { OnOk result (IsAtEnd (R.remaining input.new)) }
     ensures within { OnOk result (IfSome (R.remaining input.old) (λ bytes. length bytes ≤ input_limit)) }
-    ensures too_long { IsErrOf result Fault.InputTooLong → IfSome (R.remaining input.old) (λ bytes. input_limit < length bytes) }
-    ensures usage { IsErrOf result Fault.Usage → are_taken dine_app (map string_bytes words.now) ≡ false }
-    ensures asks_nothing { IsErrOf result Fault.Usage → HasNoFault dine_app (map string_bytes words.now) → command_in dine_app (map string_bytes words.now) ≡ None }
+    ensures too_long { IsErrOf result Fault.InputTooLong
+        → IfSome (R.remaining input.old) (λ bytes. input_limit < length bytes) }
+    ensures usage { IsErrOf result Fault.Usage → are_taken dine_app (map string_bytes arguments.now) ≡ false }
+    ensures asks_nothing { IsErrOf result Fault.Usage → HasNoFault dine_app (map string_bytes arguments.now)
+        → command_in dine_app (map string_bytes arguments.now) ≡ None }
     ensures unread { IsErrOf result Fault.Usage → input.new ≡ input.old }
-    ensures refused { IfErr result (λ fault. status_of fault ≡ Status.PlanRefused → IfSome (R.remaining input.old) IsRefused) }
-    ensures cause { IfErr result (λ fault. TellsCause fault (R.remaining input.old)) }
-    ensures refused_end { IfErr result (λ fault. status_of fault ≡ Status.PlanRefused → IsAtEnd (R.remaining input.new)) }
-    ensures failed_run { IfErr result (λ fault. status_of fault ≡ Status.RunFailed → IsFailedRun (command_in dine_app (map string_bytes words.now)) fault (R.remaining input.old)) }
-    ensures refused_within { IfErr result (λ fault. status_of fault ≡ Status.PlanRefused → IfSome (R.remaining input.old) (λ bytes. length bytes ≤ input_limit)) }
+    ensures refused { IfErr result (λ fault. status_of fault ≡ Status.PlanRefused
+        → IfSome (R.remaining input.old) IsRefused) }
+    ensures cause { IfErr result (λ fault. HasCauseOf fault (R.remaining input.old)) }
+    ensures refused_end { IfErr result (λ fault. status_of fault ≡ Status.PlanRefused
+        → IsAtEnd (R.remaining input.new)) }
+    ensures failed_run { IfErr result (λ fault. status_of fault ≡ Status.RunFailed
+        → IsFailedRun (command_in dine_app (map string_bytes arguments.now)) fault (R.remaining input.old)) }
+    ensures refused_within { IfErr result (λ fault. status_of fault ≡ Status.PlanRefused
+        → IfSome (R.remaining input.old) (λ bytes. length bytes ≤ input_limit)) }
     ensures unwritten { result ≢ Err Fault.WritingFailed → OnErr result (output.new ≡ output.old) }
-    ensures part { IsErrOf result Fault.WritingFailed → IsPartDone (command_in dine_app (map string_bytes words.now)) (R.remaining input.old) (W.contents output.old) (W.contents output.new) }
+    ensures part { IsErrOf result Fault.WritingFailed
+        → IsPartDone (command_in dine_app (map string_bytes arguments.now)) (R.remaining input.old)
+        (W.contents output.old) (W.contents output.new) }
 {
-    let command = command_of(alloc, words)?;
+    let command = command_of(alloc, arguments)?;
     let plan = plan_in(alloc, input)?;
     let text = text_of(rt, alloc, command, &plan)?;
     Ok(write_out(output, text.as_slice())?)
 }
 
-// The plan that the input holds.
+// Reads the plan in the input.
 fn plan_in<R: Read>(alloc: Global, input: &mut R) -> Result<Plan, Fault>
     ensures plan { IfOk result (λ plan. IfSome (R.remaining input.old) (λ bytes. IsPlanBytes bytes plan)) }
     ensures end { OnOk result (IsAtEnd (R.remaining input.new)) }
@@ -100,13 +126,10 @@ fn plan_in<R: Read>(alloc: Global, input: &mut R) -> Result<Plan, Fault>
     ensures fault { IfErr result (λ fault. IsInputFault (R.remaining input.old) (R.remaining input.new) fault) }
 {
     let bytes = read_input(alloc, input)?;
-    match plan_of_bytes(alloc, bytes.as_slice()) {
-        Ok(plan) => Ok(plan),
-        Err(fault) => Err(Fault::from(fault)),
-    }
+    Ok(plan_of_bytes(alloc, bytes.as_slice())?)
 }
 
-// The text that the command makes of the plan.
+// Returns the text that the command makes of the plan.
 fn text_of<H: Threads + Wait + Copy + Send + 'static>(
     rt: &H,
     alloc: Global,

@@ -1,4 +1,4 @@
-//! What ends a command before its end, and the line that tells of it.
+//! The faults that end a command, and the line that reports each.
 ghost use Rattle.std.specs.Prelude.{◌≡◌};
 
 use crate::plan_diner::PlanDiner;
@@ -10,35 +10,35 @@ use std::fmt;
 use std::fmt::InlineText;
 use std::io::Write;
 
-// How many bytes a line may have. The longest, that of refused words, has 102.
+// The number of bytes that a line may have. The longest line, that of `Usage`, has 102.
 const LINE: usize = 128;
 
-/// What ended a command before its end.
+/// A fault that ended a command.
 #[derive(Clone, Copy, Debug, PartialEq, Eq)]
 pub enum Fault {
-    /// The words are refused.
+    /// The arguments are refused.
     Usage,
-    /// The input is no plan, for this cause.
+    /// The input is not the text of a plan, for this cause.
     NoPlan(PlanFault),
-    /// The run did not begin, or it ended early, for this cause.
+    /// The run did not begin, or a site ended with a fault, for this cause.
     RunFailed(RunCause),
-    /// Memory was refused.
+    /// An allocation failed.
     OutOfMemory,
     /// A read failed.
     ReadingFailed,
-    /// More bytes came than an input may have.
+    /// The input has more bytes than it may have.
     InputTooLong,
     /// A write or a flush failed, or a write took no byte.
     WritingFailed,
 }
 
-/// The words of its line, behind the name of the program. Those of a refused plan end in its cause, as the plan's fault
-/// prints it, and those of a run are its cause.
+/// Prints the text of the line, without the name of the program before it. The text of a refused plan ends in its
+/// cause, as `PlanFault` prints it. The text of a run is its cause, as `RunCause` prints it.
 impl fmt::Display for Fault {
     ghost use Rattle.std.specs.Prelude.{Some};
-    ghost use Rattle.dine.specs.FaultLines.{fault_words};
+    ghost use Rattle.dine.specs.FaultLines.{fault_text};
 
-    ghost output = { λ fault. Some (fault_words fault) };
+    ghost output = { λ fault. Some (fault_text fault) };
 
     fn fmt<W: fmt::Write>(&self, f: &mut fmt::Formatter<W>) -> fmt::Result {
         match self {
@@ -58,20 +58,20 @@ impl fmt::Display for Fault {
 impl Fault {
     ghost use Rattle.std.specs.Prelude.{OnOk};
     ghost use Rattle.std.specs.Io.KnownBytes.{Appends};
-    ghost use Rattle.dine.specs.FaultLines.{TellsLine, line_of, status_of, whole_line};
+    ghost use Rattle.dine.specs.FaultLines.{IsLineBegun, line_of, status_of, whole_line};
 
-    /// Prints the line that tells of it to `faults`, and answers the status that it ends the program with.
+    /// Writes the line that reports the fault to `faults`, and returns the status that the program ends with.
     ///
-    /// That the line can't be printed, whole or at all, is told to nobody.
+    /// If the line cannot be written, or not all of it, that is not reported.
     pub fn end<F: Write>(self, faults: &mut F) -> Status
         ensures status { result ≡ status_of self }
-        ensures told { TellsLine (line_of self) (F.contents faults.old) (F.contents faults.new) }
+        ensures reported { IsLineBegun (line_of self) (F.contents faults.old) (F.contents faults.new) }
     {
-        let _ = self.tell(faults);
+        let _ = self.report(faults);
         self.status()
     }
 
-    // The status that it ends the program with.
+    // Returns the status that the program ends with.
     fn status(self) -> Status
         ensures { result ≡ status_of self }
     {
@@ -86,10 +86,11 @@ impl Fault {
         }
     }
 
-    // Writes the line that tells of it, and flushes. The line is made in place, since memory may have been refused.
-    fn tell<F: Write>(self, faults: &mut F) -> Result<(), WriteFault>
-        ensures whole { OnOk result (Appends (F.contents faults.old) (F.contents faults.new) (whole_line (line_of self))) }
-        ensures begun { TellsLine (line_of self) (F.contents faults.old) (F.contents faults.new) }
+    // Writes the line, and flushes. The line is made in place, since an allocation may be what failed.
+    fn report<F: Write>(self, faults: &mut F) -> Result<(), WriteFault>
+        ensures whole { OnOk result
+            (Appends (F.contents faults.old) (F.contents faults.new) (whole_line (line_of self))) }
+        ensures begun { IsLineBegun (line_of self) (F.contents faults.old) (F.contents faults.new) }
     {
         let mut line = InlineText::<LINE>::new();
         fmt::Write::write_fmt(&mut line, format_args!("dine: {self}")).map_err(|_| WriteFault)?;

@@ -1,4 +1,4 @@
-//! What the program `dine` does with a plan of sites and edges: from words and input to bytes and status.
+//! What the program `dine` does with a plan of sites and edges: from arguments and input to output and status.
 #![tactic(auto)]
 
 mod arguments;
@@ -9,7 +9,7 @@ mod plan_diner;
 mod run_text;
 mod tables;
 
-pub use arguments::words_of;
+pub use arguments::arguments_of;
 pub use commands::run_cmd;
 pub use dine_log_text::world_text;
 pub use dine_words::{Status, exit_of};

@@ -1,4 +1,4 @@
-//! The diner that does the jobs of a site as its plan tells them.
+//! The diner that does the jobs of a site of a plan.
 ghost use Rattle.std.specs.Prelude.{◌≡◌, ◌<◌, [], IfOk};
 ghost use Rattle.dine_graph.specs.Plan.{site_count, job_count};
 ghost use Rattle.dine.specs.PlanDiners.{fails_of, first_word, fits_marks, mark_of};
@@ -9,28 +9,28 @@ use dine_token::Meal;
 use std::alloc::{AllocError, Global};
 use std::marker::Model;
 
-// The word that the turns begin with. Turns never lead from a word other than 0 to 0.
+// The word before the first turn. A turn never makes 0 of any other word.
 const FIRST_WORD: u32 = 2_463_534_242;
 
-// What is kept of a job: how many turns it takes, and whether it fails.
+// What a diner has to know of a job: the number of its turns, and whether it fails.
 #[derive(Clone, Copy)]
 struct Chore {
     turns: u32,
     fails: bool,
 }
 
-// What a meal without a job asks for.
+// The chore of a meal without a job.
 const NO_CHORE: Chore = Chore {
     turns: 0,
     fails: false,
 };
 
 /// The diner of one site of a plan. In meal `k`, from 1, it does job `k` of the site: it takes the job's turns, and
-/// answers `JobFault` exactly where the job fails. A meal without a job takes no turn and goes well.
+/// returns `JobFault` if and only if the job fails. A meal without a job takes no turn and does not fail.
 ///
-/// A turn is one step of xorshift on a word of 32 bits that the diner keeps from meal to meal. Each step needs the one
-/// before it, so a compiler has no shorter way to the word, as it has for a loop that only counts. A job takes at most
-/// 1,000,000 turns. All memory is taken by `open`; a meal takes none.
+/// A turn is one step of xorshift on a word of 32 bits, which the diner keeps from meal to meal. Each step needs the
+/// result of the step before, so a compiler cannot shorten the loop, as it can if a loop only counts. A job takes at
+/// most 1,000,000 turns. Only `open` allocates; a meal does not.
 #[derive(Drop)]
 pub struct PlanDiner {
     log: CallLog,
@@ -44,14 +44,22 @@ impl Model for PlanDiner {
 
     ghost Value = { SeenPlanDiner };
 
-    ghost view = { λ diner. record { calls = diner.log.calls; marks = map (λ chore. chore.fails) diner.chores.items; room = diner.log.room; word = diner.word } };
+    ghost view = { λ diner.
+        record {
+          calls = diner.log.calls;
+          marks = map (λ chore. chore.fails) diner.chores.items;
+          room = diner.log.room;
+          word = diner.word;
+        } };
 }
 
 impl PlanDiner {
-    /// A diner for the jobs of the site, whose number is below `sites` of the plan. It has made no call, and has room
-    /// for one call for each job, 0 to 1,000.
+    /// Returns a diner for the jobs of a site, whose number is below `sites` of the plan. It has no call yet, and
+    /// capacity for one call for each job, 0 to 1,000.
     ///
-    /// It takes memory for the calls and the jobs, and answers `AllocError` where that is refused.
+    /// # Errors
+    ///
+    /// `AllocError` if there is no memory for the calls or the jobs.
     pub fn open(alloc: Global, plan: &Plan, site: u32) -> Result<PlanDiner, AllocError>
         requires { site < site_count plan.now }
         ensures calls { IfOk result (λ diner. diner.calls ≡ []) }
@@ -76,22 +84,22 @@ impl PlanDiner {
         })
     }
 
-    /// All calls so far, in order.
+    /// Returns all calls so far, in order.
     pub fn calls(&self) -> &[Call]
         ensures { result.now ≡ self.now.calls }
     {
         self.log.calls()
     }
 
-    /// The word to which all turns so far led: 2,463,534,242 before the first, and after each turn the next word of
-    /// xorshift with the shifts 13, 17 and 5.
+    /// Returns the word after all turns so far: 2,463,534,242 before the first turn, and each turn makes of it the next
+    /// word of xorshift with the shifts 13, 17 and 5.
     pub fn word(&self) -> u32
         ensures { result ≡ self.now.word }
     {
         self.word
     }
 
-    // What meal `k` asks for.
+    // Returns the chore of meal `k`.
     fn chore(&self, k: u32) -> Chore
         ensures { result.fails ≡ mark_of self.now.marks k }
     {
@@ -126,7 +134,7 @@ impl Diner for PlanDiner {
     }
 }
 
-// The word after so many turns.
+// Returns the word after this number of turns.
 fn turned(word: u32, turns: u32) -> u32 {
     let mut word = word;
     for _ in 0..turns {
@@ -135,7 +143,7 @@ fn turned(word: u32, turns: u32) -> u32 {
     word
 }
 
-// The word after one turn: one step of xorshift with the shifts 13, 17 and 5.
+// Returns the word after one turn: one step of xorshift with the shifts 13, 17 and 5.
 fn turned_once(word: u32) -> u32 {
     let word = word ^ (word << 13);
     let word = word ^ (word >> 17);

@@ -1,7 +1,7 @@
 //! The command `run`.
 ghost use Rattle.std.specs.Prelude.{◌≡◌, ◌≢◌, ◌≤◌, IfErr, IfOk, Some, slice_get};
 ghost use Rattle.dine_graph.specs.Plan.{IsPlan, job_count};
-ghost use Rattle.dine.specs.Run.{HasDueRows, IsRunText, NamesSite, TellsRun, diners_of};
+ghost use Rattle.dine.specs.Run.{HasDueRows, IsFaultOfRun, IsRunText, NamesSite, diners_of};
 
 use crate::fault_lines::Fault;
 use crate::plan_diner::PlanDiner;
@@ -15,10 +15,13 @@ use std::alloc::{AllocError, Global};
 use std::sync::Wait;
 use std::thread::Threads;
 
-/// The table of a run of the plan: every site does its jobs on a thread of its own, over links of this kind. It may
-/// wait.
+/// Runs the plan, with a thread for each site and links of this kind, and returns the table of the run. It may wait.
 ///
-/// Fails where memory or a thread is refused, and where a site ended with a fault, which names the lowest such site.
+/// # Errors
+///
+/// - `OutOfMemory` if an allocation failed.
+/// - `RunFailed` if a thread could not be started, or a site ended with a fault. It names the lowest such site.
+///
 /// All threads that were started have ended then.
 pub fn run_text<H: Threads + Wait + Copy + Send + 'static>(
     rt: &H,
@@ -29,16 +32,16 @@ pub fn run_text<H: Threads + Wait + Copy + Send + 'static>(
 ) -> Result<Vec<u8>, Fault>
     ensures text { IfOk result (λ text. IsRunText table plan.now text.items) }
     ensures fault { result ≢ Err Fault.OutOfMemory → IfErr result (NamesSite plan.now) }
-    ensures told { result ≢ Err Fault.OutOfMemory → IfErr result (TellsRun plan.now) }
+    ensures cause { result ≢ Err Fault.OutOfMemory → IfErr result (IsFaultOfRun plan.now) }
 {
-    // Neither a table nor a fault holds the lane, so no clause tells the two arms apart, and no test does.
+    // The table and the fault do not depend on the lane, so no clause and no test distinguishes the two arms.
     match links {
         Links::Channel => run_over::<ChannelLane, H>(rt, alloc, plan, table),
         Links::Ring => run_over::<RingLane, H>(rt, alloc, plan, table),
     }
 }
 
-// The table of a run over links of a lane.
+// Returns the table of a run over links of a lane.
 fn run_over<L: Lane + 'static, H: Threads + Wait + Copy + Send + 'static>(
     rt: &H,
     alloc: Global,
@@ -51,7 +54,7 @@ where
     L::Rx: 'static,
     ensures text { IfOk result (λ text. IsRunText table plan.now text.items) }
     ensures fault { result ≢ Err Fault.OutOfMemory → IfErr result (NamesSite plan.now) }
-    ensures told { result ≢ Err Fault.OutOfMemory → IfErr result (TellsRun plan.now) }
+    ensures cause { result ≢ Err Fault.OutOfMemory → IfErr result (IsFaultOfRun plan.now) }
 {
     laws::values_are_those_of_the_logs();
     let diners = open_diners(alloc, plan)?;
@@ -59,11 +62,16 @@ where
     Ok(table_text(alloc, plan, &gathered, table)?)
 }
 
-/// A diner for each site of the plan, in order, with room for its jobs.
+/// Returns a diner for each site of the plan, in order, with capacity for its jobs.
+///
+/// # Errors
+///
+/// `AllocError` if an allocation failed.
 pub fn open_diners(alloc: Global, plan: &Plan) -> Result<Vec<PlanDiner>, AllocError>
     ensures plan { IsPlan plan.now }
     ensures diners { IfOk result (λ diners. diners.items ≡ diners_of plan.now) }
-    ensures room { IfOk result (λ diners. (s : _) (diner : _) → slice_get diners.items s ≡ Some diner → job_count plan.now s ≤ diner.room) }
+    ensures room { IfOk result (λ diners. (s : _) (diner : _)
+        → slice_get diners.items s ≡ Some diner → job_count plan.now s ≤ diner.room) }
 {
     let mut diners = Vec::with_capacity(alloc, plan.sites() as usize)?;
     for site in 0..plan.sites() {
@@ -72,7 +80,7 @@ pub fn open_diners(alloc: Global, plan: &Plan) -> Result<Vec<PlanDiner>, AllocEr
     Ok(diners)
 }
 
-// The table of what a run gathered.
+// Returns the table of what a run gathered.
 fn table_text(
     alloc: Global,
     plan: &Plan,

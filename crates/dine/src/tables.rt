@@ -2,18 +2,23 @@
 ghost use Rattle.std.specs.Prelude.{◌≡◌, ◌≤◌, ◌++◌, [], All, IfOk, IsTrue, OnOk, length, map};
 ghost use Rattle.std.specs.List.{list_all};
 ghost use Rattle.dine.specs.private.Records.{IsBetweenRecords, is_plain, text_so_far};
-ghost use Rattle.dine.specs.Tables.{IsEdgeRowOf, IsSiteRowOf, edge_record, edges_header, edges_table, record_text, site_record, sites_header, sites_table};
+ghost use Rattle.dine.specs.Tables.{IsEdgeRowOf, IsSiteRowOf, edge_record, edges_header, edges_table, record_text};
+ghost use Rattle.dine.specs.Tables.{site_record, sites_header, sites_table};
 
 use csv::Writer;
 use dine_graph::Plan;
 use dine_threads::{EdgeRow, SiteRow};
 use std::alloc::{AllocError, Global};
 
-/// The table of edges: the header `edge,lo,hi,lo_meals,hi_meals`, and for each row a record of the edge's number, the
-/// names of its two ends and their meals. A plan of version 2 has one column more, `value`. Each record ends with one
-/// line feed.
+/// Returns the table of edges: the header `edge,lo,hi,lo_meals,hi_meals`, and for each row a record of the edge's
+/// number, the names of its two ends and their numbers of meals. A plan of version 2 has one column more, `value`. Each
+/// record ends with one line feed.
 ///
-/// The numbers in the rows are those of edges and sites of the plan. It answers `AllocError` where memory is refused.
+/// The numbers in the rows are numbers of edges and sites of the plan.
+///
+/// # Errors
+///
+/// `AllocError` if an allocation failed.
 pub fn write_edges(alloc: Global, plan: &Plan, rows: &[EdgeRow]) -> Result<Vec<u8>, AllocError>
     requires { All (IsEdgeRowOf plan.now) rows.now }
     ensures { IfOk result (λ table. table.items ≡ edges_table plan.now rows.now) }
@@ -26,10 +31,14 @@ pub fn write_edges(alloc: Global, plan: &Plan, rows: &[EdgeRow]) -> Result<Vec<u
     bytes_of(table)
 }
 
-/// The table of sites: the header `site,meals,failed`, and for each row a record of the site's name, its meals and
-/// those of them whose job failed. Each record ends with one line feed.
+/// Returns the table of sites: the header `site,meals,failed`, and for each row a record of the site's name, the number
+/// of its meals, and in how many of them its job failed. Each record ends with one line feed.
 ///
-/// The numbers in the rows are those of sites of the plan. It answers `AllocError` where memory is refused.
+/// The numbers in the rows are numbers of sites of the plan.
+///
+/// # Errors
+///
+/// `AllocError` if an allocation failed.
 pub fn write_sites(alloc: Global, plan: &Plan, rows: &[SiteRow]) -> Result<Vec<u8>, AllocError>
     requires { All (IsSiteRowOf plan.now) rows.now }
     ensures { IfOk result (λ table. table.items ≡ sites_table plan.now rows.now) }
@@ -42,13 +51,14 @@ pub fn write_sites(alloc: Global, plan: &Plan, rows: &[SiteRow]) -> Result<Vec<u
     bytes_of(table)
 }
 
-// Adds a record of these fields, two or more, to the table.
+// Adds a record of these fields, two or more. The table is written into memory, so it fails only without memory.
 fn push_record(table: &mut Writer<Vec<u8>>, fields: &[&[u8]]) -> Result<(), AllocError>
     requires between { IsBetweenRecords table.old }
     requires some { 2 ≤ length fields.now }
     requires plain { IsTrue (list_all is_plain (map (λ field. field.now) fields.now)) }
     ensures between { OnOk result (IsBetweenRecords table.new) }
-    ensures text { OnOk result (text_so_far table.new ≡ text_so_far table.old ++ record_text (map (λ field. field.now) fields.now)) }
+    ensures text { OnOk result
+        (text_so_far table.new ≡ text_so_far table.old ++ record_text (map (λ field. field.now) fields.now)) }
 {
     let Ok(()) = table.write_fields(fields) else {
         return Err(AllocError);
@@ -145,12 +155,9 @@ fn push_site(
     push_record(table, &fields)
 }
 
-// The text of the table.
+// Returns the text of the table.
 fn bytes_of(table: Writer<Vec<u8>>) -> Result<Vec<u8>, AllocError>
     ensures { IfOk result (λ bytes. bytes.items ≡ text_so_far table) }
 {
-    match table.into_inner() {
-        Ok(bytes) => Ok(bytes),
-        Err(_) => Err(AllocError),
-    }
+    table.into_inner().map_err(|_| AllocError)
 }

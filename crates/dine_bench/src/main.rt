@@ -1,17 +1,22 @@
-//! Measures `run` alone: reads a plan, runs it so many times over links of one kind, and writes the median, the least
-//! and the most of the wall time of `run`, in microseconds, to standard error. Standard output has the kind of links
-//! and the number of runs. With `world` it measures a world of one thread, from its opening to the forks after its last
-//! event.
+//! Measures `run` alone: reads a plan, runs it RUNS times over links of one kind, and writes the median, the least
+//! and the greatest wall time of `run`, in microseconds, to standard error. Standard output has the kind of links
+//! and the number of runs, and the manner of the sites if it was given. With `world` it measures a world of one thread,
+//! from its opening to the forks after its last event. With `--overtakes` it finds an order of each run, and writes
+//! how many meals a neighbour began while a site waited for its own, since it grew hungry and since it asked, and how
+//! many meals a site ate while a fork stayed at it.
 //!
-//! usage: dine_bench channel|ring|world RUNS < PLAN
+//! usage: dine_bench channel|ring|world RUNS [--manner eager|polite] [--overtakes] < PLAN
 #![tactic(auto)]
+
+mod overtakes;
 
 use anyhow::{Context, Result, bail};
 use dine::{PlanDiner, open_diners};
+use dine_core::World;
 use dine_link::{ChannelLane, Lane, RingLane};
 use dine_plan::{Plan, read_plan};
-use dine_run::run;
-use dine_world::World;
+use dine_run::{Manner, RunOptions, order_of, run_with};
+use overtakes::Overtakes;
 use std::alloc::Global;
 use std::env;
 use std::io::Read;
@@ -20,16 +25,18 @@ use std::sync::Wait;
 use std::thread::Threads;
 use std::time::Instant;
 
-// How many bytes are taken and given back before the clock runs, so that what an earlier run freed is brought together
-// then.
+// The number of bytes that are allocated and freed before the clock runs, so that memory that an earlier run freed is
+// brought together then.
 const SETTLING: usize = 1 << 22;
 
-// The microseconds of one run over links of a lane.
+// Returns the microseconds of one run over links of a lane, and its overtakes if they are asked for.
 fn time<L: Lane + 'static, R: Threads + Wait + Clock + Copy + Send + 'static>(
     rt: &R,
     alloc: Global,
     plan: &Plan,
-) -> Result<u128>
+    options: RunOptions,
+    counts: bool,
+) -> Result<(u128, Option<Overtakes>)>
 where
     L::Tx: 'static,
     L::ClosedTx: 'static,
@@ -39,15 +46,22 @@ where
     let large: Vec<u8> = Vec::with_capacity(alloc, SETTLING)?;
     drop(large);
     let start = Instant::now(rt)?;
-    let Ok(gathered) = run::<L, PlanDiner>(rt, alloc, plan, diners) else {
+    let Ok(gathered) = run_with::<L, PlanDiner>(rt, alloc, plan, diners, options) else {
         bail!("the run did not end in order");
     };
     let taken = start.elapsed(rt)?;
-    drop(gathered);
-    Ok(taken.as_micros())
+    let overtakes = if counts {
+        let order = order_of(alloc, plan, &gathered)?;
+        let mut overtakes = Overtakes::of(alloc, plan, order.as_slice())?;
+        overtakes.add_stays(gathered.forks.as_slice());
+        Some(overtakes)
+    } else {
+        None
+    };
+    Ok((taken.as_micros(), overtakes))
 }
 
-// The microseconds of all events of a world, each the first that is enabled by then.
+// Returns the microseconds of all events of a world, each the first that is enabled.
 fn time_world<R: Clock>(rt: &R, alloc: Global, plan: &Plan) -> Result<u128> {
     let start = Instant::now(rt)?;
     let mut world = World::open(alloc, plan)?;
@@ -58,29 +72,141 @@ fn time_world<R: Clock>(rt: &R, alloc: Global, plan: &Plan) -> Result<u128> {
     Ok(taken.as_micros())
 }
 
-fn main(rt: HostRuntime) -> Result<()> {
-    let mut words = env::args(&rt)?;
-    let _program = words.next();
-    let lane = words.next().context("no kind of links")?;
-    let runs: u32 = words.next().context("no number of runs")?.parse()?;
-    let mut text = String::new(rt.alloc());
-    rt.stdin().read_to_string(&mut text)?;
-    let plan = read_plan(rt.alloc(), text.as_str())?;
-    let mut times = Vec::new(rt.alloc());
-    for _ in 0..runs {
-        let micros = match lane.as_str() {
-            "channel" => time::<ChannelLane, HostRuntime>(&rt, rt.alloc(), &plan)?,
-            "ring" => time::<RingLane, HostRuntime>(&rt, rt.alloc(), &plan)?,
-            "world" => time_world(&rt, rt.alloc(), &plan)?,
+// Returns the manner of this name.
+fn manner_of(name: &str) -> Result<Manner> {
+    match name {
+        "eager" => Ok(Manner::Eager),
+        "polite" => Ok(Manner::Polite),
+        _ => bail!("manners are eager or polite"),
+    }
+}
+
+// Returns the manner, if it was given, and whether overtakes are asked for, by the arguments behind the number of runs.
+fn options_of(
+    first: Option<String>,
+    second: Option<String>,
+    third: Option<String>,
+) -> Result<(Option<Manner>, bool)> {
+    match (first, second, third) {
+        (None, None, None) => Ok((None, false)),
+        (Some(word), None, None) => {
+            if word.as_str() != "--overtakes" {
+                bail!("unknown argument");
+            }
+            Ok((None, true))
+        }
+        (Some(word), Some(name), third) => {
+            if word.as_str() != "--manner" {
+                bail!("unknown argument");
+            }
+            Ok((Some(manner_of(name.as_str())?), third.is_some()))
+        }
+        _ => bail!("unknown argument"),
+    }
+}
+
+// What is measured: over links of which kind, how many runs, and how they are done.
+#[derive(Drop)]
+struct Measure {
+    lane: String,
+    runs: u32,
+    options: RunOptions,
+    counts: bool,
+}
+
+// Returns the microseconds of each run of the plan, in rising order, and the overtakes of all.
+fn measured<R: Threads + Wait + Clock + Copy + Send + 'static>(
+    rt: &R,
+    alloc: Global,
+    plan: &Plan,
+    measure: &Measure,
+) -> Result<(Vec<u128>, Overtakes)> {
+    let (options, counts) = (measure.options, measure.counts);
+    let mut times = Vec::new(alloc);
+    let mut all = Overtakes::none();
+    for _ in 0..measure.runs {
+        let (micros, overtakes) = match measure.lane.as_str() {
+            "channel" => time::<ChannelLane, _>(rt, alloc, plan, options, counts)?,
+            "ring" => time::<RingLane, _>(rt, alloc, plan, options, counts)?,
+            "world" => (time_world(rt, alloc, plan)?, None),
             _ => bail!("links are channel or ring"),
         };
         times.push(micros)?;
+        if let Some(overtakes) = overtakes {
+            all.join(&overtakes);
+        }
     }
     times.sort()?;
-    println!(rt; "{lane} runs={runs}")?;
-    if let Some(median) = times.get(times.len() / 2) {
-        let (least, most) = (times[0], times[times.len() - 1]);
+    Ok((times, all))
+}
+
+// Writes what was run, and the times.
+fn write_times(
+    rt: HostRuntime,
+    measure: &Measure,
+    manner: Option<Manner>,
+    times: &[u128],
+) -> Result<()> {
+    let (lane, runs) = (measure.lane.as_str(), measure.runs);
+    match manner {
+        Some(Manner::Eager) => println!(rt; "{lane} runs={runs} manner=eager")?,
+        Some(Manner::Polite) => println!(rt; "{lane} runs={runs} manner=polite")?,
+        None => println!(rt; "{lane} runs={runs}")?,
+    }
+    if let (Some(least), Some(median), Some(most)) = (
+        times.first(),
+        times.get(times.len() / 2),
+        times.last(),
+    ) {
         eprintln!(rt; "median={median} least={least} most={most}")?;
+    }
+    Ok(())
+}
+
+// Writes how often sites were overtaken: the means are in thousandths.
+fn write_overtakes(rt: HostRuntime, all: &Overtakes) -> Result<()> {
+    let (hungry, asked) = (all.hungry, all.asked);
+    let (whole, part) = (hungry.mean() / 1000, hungry.mean() % 1000);
+    let most = hungry.most;
+    eprintln!(rt; "hunger_most={most} hunger_mean={whole}.{part:03}")?;
+    let (whole, part) = (asked.mean() / 1000, asked.mean() % 1000);
+    let (most, asks) = (asked.most, asked.count);
+    eprintln!(rt; "ask_most={most} ask_mean={whole}.{part:03} asks={asks}")?;
+    let (stays, mean) = (all.stays, all.stays.mean());
+    let (most, whole, part, count) = (stays.most, mean / 1000, mean % 1000, stays.count);
+    eprintln!(rt; "stay_most={most} stay_mean={whole}.{part:03} stays={count}")?;
+    Ok(())
+}
+
+// Returns the plan on the standard input.
+fn plan_given(rt: HostRuntime) -> Result<Plan> {
+    let mut text = String::new(rt.alloc());
+    rt.stdin().read_to_string(&mut text)?;
+    Ok(read_plan(rt.alloc(), text.as_str())?)
+}
+
+fn main(rt: HostRuntime) -> Result<()> {
+    let mut arguments = env::args(&rt)?;
+    let _program = arguments.next();
+    let lane = arguments.next().context("no kind of links")?;
+    let runs: u32 = arguments.next().context("no number of runs")?.parse()?;
+    let (first, second) = (arguments.next(), arguments.next());
+    let (manner, counts) = options_of(first, second, arguments.next())?;
+    let options = match manner {
+        Some(Manner::Polite) => RunOptions::polite(),
+        _ => RunOptions::eager(),
+    };
+    let measure = Measure {
+        lane,
+        runs,
+        options,
+        counts,
+    };
+    let plan = plan_given(rt)?;
+    let (times, overtakes) = measured(&rt, rt.alloc(), &plan, &measure)?;
+    write_times(rt, &measure, manner, times.as_slice())?;
+    if counts {
+        write_overtakes(rt, &overtakes)?;
     }
     Ok(())
 }

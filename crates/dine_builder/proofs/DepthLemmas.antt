@@ -7,7 +7,7 @@ use Rattle.dine_token.specs.declared.act.Act.TheVariants.{Add, Set}
 use Rattle.dine_builder.specs.declared.drafts.DraftJob.{DraftJob}
 use Rattle.dine_builder.specs.declared.drafts.DraftEdge.{DraftEdge}
 use Rattle.dine_builder.specs.Draft.{SeenDraftSite, Draft}
-use Rattle.dine_builder.specs.DraftDocument.{job_members_with, job_table, site_table, edge_table, names_told, document_of}
+use Rattle.dine_builder.specs.DraftDocument.{job_members_with, job_table, site_table, edge_table, names_of_sites, document_of}
 
 items_depth_most : {X : Type 0} (f : X → Data) (n : ℕ) → ((x : X) → depth (f x) ≤ n) → (xs : List X) → items_depth (items_of (map f xs)) ≤ n
 items_depth_most f n most [] = omega arith
@@ -31,4 +31,4 @@ edge_depth names edge = grind arith
 
 pub document_depth : (d : Draft) → members_depth (document_of d) ≤ 4
 unfolding document_of
-document_depth d = grind (arith, items_depth_most site_table 3 site_depth d.sites, items_depth_most (edge_table (names_told d.sites)) 2 (edge_depth (names_told d.sites)) d.edges)
+document_depth d = grind (arith, items_depth_most site_table 3 site_depth d.sites, items_depth_most (edge_table (names_of_sites d.sites)) 2 (edge_depth (names_of_sites d.sites)) d.edges)

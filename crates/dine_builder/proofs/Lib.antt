@@ -1,5 +1,5 @@
 mod TableLemmas
 mod DraftLemmas
 mod DepthLemmas
-mod ToldLemmas
+mod DraftPlanLemmas
 mod MetLemmas

@@ -1,4 +1,4 @@
--- The causes that what a builder was told never meets.
+-- The causes that a draft never meets.
 use Rattle.std.proofs.Common.{◌≡◌, ◌≢◌, ℕ, Bool, true, false, not, ◌||◌, List, [], ◌∷◌, map, length, get_or, Some, codes, refl, sym, ◌∙◌, arith}
 use Rattle.std.specs.List.{list_any, list_all}
 use Rattle.std.specs.Str.{bytes_eq}
@@ -16,10 +16,10 @@ use Rattle.dine_reader.specs.Document.{is_second, sites_in, jobs_in, text_at, it
 use Rattle.dine_reader.specs.RefusalTests.{is_table, is_text, is_tables, is_two_texts, document_keys, site_keys, job_keys, edge_keys, has_other_key, lacks_key, is_wrong, refuses_version, site_has_other_key, refuses_unknown_key, site_lacks_key, refuses_missing_key, job_is_wrong, site_is_wrong, edge_is_wrong, refuses_wrong_kind, has_both, has_two_acts, has_other_policy}
 use Rattle.dine_reader.specs.RefusalFacts.{Refuses, PassesAt, no_table}
 use Rattle.dine_builder.specs.Draft.{SeenDraftSite, Draft, no_draft_site}
-use Rattle.dine_builder.specs.DraftDocument.{IsOfDraft, first_fault_of, job_members_with, job_table, site_table, edge_table, names_told, policy_word, document_of}
+use Rattle.dine_builder.specs.DraftDocument.{IsOfDraft, first_fault_of, job_members_with, job_table, site_table, edge_table, names_of_sites, policy_word, document_of}
 use Rattle.dine_reader.proofs.DocumentLemmas.{list_of-items_of}
 use Rattle.dine_reader.proofs.FirstLemmas.{is_first}
-use Rattle.dine_builder.proofs.ToldLemmas.{sites_of_document, edges_of_document}
+use Rattle.dine_builder.proofs.DraftPlanLemmas.{sites_of_document, edges_of_document}
 
 -- what no table of a list passes, and what each of them passes
 none_of : {X : Type 0} (p : Data → Bool) (f : X → Data) → ((x : X) → p (f x) ≡ false) → (xs : List X) → list_any p (map f xs) ≡ false
@@ -164,7 +164,7 @@ document_keys_known d = refl
 keys_known : (d : Draft) → refuses_unknown_key (doc_of d) ≡ false
 unfolding refuses_unknown_key
 keys_known d =
-    let names = names_told d.sites in
+    let names = names_of_sites d.sites in
     rw (
       document_keys_known d,
       second d,
@@ -177,7 +177,7 @@ keys_known d =
 keys_there : (d : Draft) → refuses_missing_key (doc_of d) ≡ false
 unfolding refuses_missing_key
 keys_there d =
-    let names = names_told d.sites in
+    let names = names_of_sites d.sites in
     rw (
       sites_of_document d,
       edges_of_document d,
@@ -191,12 +191,12 @@ site_list d = rw (are_tables site_table site_is_table d.sites)
 
 edge_list : (d : Draft) → is_wrong is_tables (codes "edge") (doc_of d) ≡ false
 unfolding is_wrong document_of
-edge_list d = rw (are_tables (edge_table (names_told d.sites)) (edge_is_table (names_told d.sites)) d.edges)
+edge_list d = rw (are_tables (edge_table (names_of_sites d.sites)) (edge_is_table (names_of_sites d.sites)) d.edges)
 
 kinds_right : (d : Draft) → refuses_wrong_kind (doc_of d) ≡ false
 unfolding refuses_wrong_kind
 kinds_right d =
-    let names = names_told d.sites in
+    let names = names_of_sites d.sites in
     rw (
       site_list d,
       edge_list d,

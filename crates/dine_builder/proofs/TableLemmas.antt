@@ -1,4 +1,4 @@
--- A table as it is built: keys one by one, and the members that stand for them.
+-- A table as it is built: keys one by one, and the members that it is seen as.
 use Rattle.std.proofs.Common.{◌≡◌, List, [], ◌∷◌, String, Global, Ordering, Less, Equal, Greater, string_bytes, codes, refl, ◌∙◌}
 use Rattle.std.specs.Fmt.{decimal}
 use Rattle.std.specs.String.{string_cmp}

@@ -1,4 +1,4 @@
--- A plan on its way: what a builder was told of sites, jobs and edges so far.
+-- The draft of a plan: the sites, jobs and edges that were added so far.
 use Rattle.std.specs.Prelude.{ℕ, ◌-◌, min, Bool, true, false, nat_lt, nat_le, ◌&&◌, List, [], ◌∷◌, ◌++◌, map, length, slice_index_or, slice_set, if◌then◌else◌}
 use Rattle.std.specs.List.{range_with_len}
 use Rattle.dine_token.specs.declared.act.Act.{Act}
@@ -6,43 +6,43 @@ use Rattle.dine_token.specs.declared.act.Act.TheVariants.{Add}
 use Rattle.dine_builder.specs.declared.drafts.DraftJob.{DraftJob}
 use Rattle.dine_builder.specs.declared.drafts.DraftEdge.{DraftEdge}
 
--- a site: its name as it was told, which may be no name, its jobs, and whether it drops those that it has left once one
--- failed
+-- a site: its name, which may be one that the format refuses, its jobs, and whether it drops those that it has left
+-- after one failed
 pub record SeenDraftSite : Type 0 where
   pub name : List ℕ
   pub jobs : List DraftJob
   pub resigns : Bool
 
--- what a builder was told: the sites and the edges, numbered from 0
+-- a draft: the sites and the edges, numbered from 0
 pub record Draft : Type 0 where
   pub sites : List SeenDraftSite
   pub edges : List DraftEdge
 
--- nothing was told yet
+-- the draft with no site and no edge
 abbrev pub empty_draft : Draft
 empty_draft = record { sites = []; edges = [] }
 
--- job k of a site of which nothing was told: no turns, no failure, and an act that adds 0
+-- job k of a new site: no turns, no failure, and an act that adds 0
 abbrev pub plain_job : ℕ → DraftJob
 plain_job k = record { number = k; turns = 0; fails = false; act = Add 0 }
 
--- the site past the end of the list
+-- the site that is read past the end of the list
 abbrev pub no_draft_site : SeenDraftSite
 no_draft_site = record { name = []; jobs = []; resigns = false }
 
--- the edge past the end of the list; no clause asks for it
+-- the edge that is read past the end of the list; no clause depends on it
 abbrev pub no_draft_edge : DraftEdge
 no_draft_edge = record { a = 0; b = 0; value = 0 }
 
--- jobs 1 to n, or 1 to 1,001 where there are more: a site with so many is refused in either case
+-- jobs 1 to n, or 1 to 1,001 if n is greater: more than 1,000 jobs are refused in either case
 abbrev pub plain_jobs : ℕ → List DraftJob
 plain_jobs n = map plain_job (range_with_len 1 (min n 1001))
 
--- the draft with a site more, which has n jobs
+-- the draft with one more site, which has n jobs
 abbrev pub with_site : List ℕ → ℕ → Draft → Draft
 with_site name n d = record d { sites = d.sites ++ record { name = name; jobs = plain_jobs n; resigns = false } ∷ [] }
 
--- the draft with an edge more, between sites a and b
+-- the draft with one more edge, between sites a and b
 abbrev pub with_edge : ℕ → ℕ → Draft → Draft
 with_edge a b d = record d { edges = d.edges ++ record { a = a; b = b; value = 0 } ∷ [] }
 
@@ -58,7 +58,7 @@ has_site s d = nat_lt s (length d.sites)
 abbrev pub site_at : ℕ → Draft → SeenDraftSite
 site_at s d = slice_index_or d.sites s no_draft_site
 
--- the draft has the site, and the site this job, from 1
+-- the draft has the site, and the site has job k, from 1
 abbrev pub has_job : ℕ → ℕ → Draft → Bool
 has_job s k d = nat_le 1 k && nat_le k (length (site_at s d).jobs)
 
@@ -66,11 +66,11 @@ has_job s k d = nat_le 1 k && nat_le k (length (site_at s d).jobs)
 abbrev pub job_at : ℕ → ℕ → Draft → DraftJob
 job_at s k d = slice_index_or (site_at s d).jobs (k - 1) (plain_job k)
 
--- the draft with another value at an edge; the same where it has no such edge
+-- the draft with another value at an edge; the same if it has no such edge
 abbrev pub with_value : ℕ → ℕ → Draft → Draft
 with_value e value d = record d { edges = slice_set d.edges e (record (slice_index_or d.edges e no_draft_edge) { value = value }) }
 
--- the draft where a site drops the jobs that it has left once one failed; the same where it has no such site
+-- the draft in which a site drops the jobs that it has left after one failed; the same if it has no such site
 abbrev pub with_resigning : ℕ → Draft → Draft
 with_resigning s d = record d { sites = slice_set d.sites s (record (site_at s d) { resigns = true }) }
 
@@ -78,14 +78,14 @@ with_resigning s d = record d { sites = slice_set d.sites s (record (site_at s d
 abbrev pub with_job : ℕ → ℕ → DraftJob → Draft → Draft
 with_job s k job d = record d { sites = slice_set d.sites s (record (site_at s d) { jobs = slice_set (site_at s d).jobs (k - 1) job }) }
 
--- the draft where job k of a site takes so many turns; the same where it has no such job
+-- the draft in which job k of a site takes this number of turns; the same if it has no such job
 abbrev pub with_turns : ℕ → ℕ → ℕ → Draft → Draft
 with_turns s k turns d = if has_job s k d then with_job s k (record (job_at s k d) { turns = turns }) d else d
 
--- the draft where job k of a site fails; the same where it has no such job
+-- the draft in which job k of a site fails; the same if it has no such job
 abbrev pub with_failure : ℕ → ℕ → Draft → Draft
 with_failure s k d = if has_job s k d then with_job s k (record (job_at s k d) { fails = true }) d else d
 
--- the draft where the meal of job k of a site does this to values; the same where it has no such job
+-- the draft in which the meal of job k of a site does this to values; the same if it has no such job
 abbrev pub with_act : ℕ → ℕ → Act → Draft → Draft
 with_act s k act d = if has_job s k d then with_job s k (record (job_at s k d) { act = act }) d else d

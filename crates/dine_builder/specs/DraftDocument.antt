@@ -1,4 +1,4 @@
--- The document that says what a builder was told, and so the refusal of the text that says it.
+-- The document of a draft, and so the refusal of a text that says the same.
 use Rattle.std.specs.Prelude.{◌≡◌, ℕ, min, pos, Bool, List, [], map, slice_index_or, Option, Some, codes, ⊤, if◌then◌else◌}
 use Rattle.std.specs.Fmt.{decimal}
 use Rattle.toml.specs.Data.{Data, string, integer, boolean, array, table, no_items, item, Members, no_members, member}
@@ -31,7 +31,7 @@ job_members_with job (Set amount) = job_members job (member (codes "set") (whole
 unfoldable pub job_table : DraftJob → Data
 job_table job = table (job_members_with job job.act)
 
--- what a site says of a failed job
+-- the `on_fault` of a site
 abbrev pub policy_word : Bool → List ℕ
 policy_word resigns = if resigns then codes "resign" else codes "go"
 
@@ -43,11 +43,11 @@ site_table site =
     (member (codes "on_fault") (string (policy_word site.resigns)) no_members)))
 
 -- the names of sites
-abbrev pub names_told : List SeenDraftSite → List (List ℕ)
-names_told sites = map (λ (site : SeenDraftSite). site.name) sites
+abbrev pub names_of_sites : List SeenDraftSite → List (List ℕ)
+names_of_sites sites = map (λ (site : SeenDraftSite). site.name) sites
 
--- what stands for an end: the name of the site, or the empty text, which is no site's name, where there is no site of
--- this number
+-- the text of an end: the name of the site, or, if there is no site of this number, the empty text, which is no site's
+-- name
 abbrev pub end_name : List (List ℕ) → ℕ → List ℕ
 end_name names s = slice_index_or names s []
 
@@ -57,22 +57,22 @@ edge_table names edge =
     table (member (codes "ends") (array (item (string (end_name names edge.a)) (item (string (end_name names edge.b)) no_items)))
     (member (codes "value") (whole edge.value) no_members))
 
--- the document that says what was told, of version 2 of the format
+-- the document of a draft, of version 2 of the format
 unfoldable pub document_of : Draft → Members
 document_of d =
-    member (codes "edge") (array (items_of (map (edge_table (names_told d.sites)) d.edges)))
+    member (codes "edge") (array (items_of (map (edge_table (names_of_sites d.sites)) d.edges)))
     (member (codes "site") (array (items_of (map site_table d.sites)))
     (member (codes "version") (integer (pos 2)) no_members))
 
--- the text says what was told: it reads as that document
+-- the text says the same as the draft: it reads as the document of the draft
 abbrev pub Says : List ℕ → Draft → Type 0
 Says text d = parse_document text ≡ Some (document_of d)
 
--- the first cause to refuse that document, at the least position; none where no cause holds
+-- the first cause to refuse that document, at the least position; none if no cause holds
 abbrev pub first_fault_of : Draft → Option PlanFault
 first_fault_of d = first_refusal (table (document_of d))
 
--- the causes for which what was told may be refused: those in its names, numbers and edges, and want of memory
+-- the causes for which a draft may be refused: those in its names, numbers and edges, and `Memory`
 abbrev pub IsOfDraft : PlanFault → Type 0
 IsOfDraft NotToml = ⊥
 IsOfDraft Version = ⊥

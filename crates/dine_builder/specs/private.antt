@@ -1,3 +1,3 @@
--- What no public contract names: how a builder is kept, and what private functions promise one another.
+-- What no public contract names: what the fields of a builder say, and what private functions promise one another.
 pub mod DraftFields
 pub mod Tables

@@ -1,9 +1,12 @@
-//! Plans made by a program: what it tells of sites, jobs and edges, and the plan of that.
-ghost use Rattle.std.specs.Prelude.{◌≡◌, ◌≢◌, ◌≤◌, Some, None, length, map, IfOk, OnOk, OnErr, IfErr, IfSome, IsTrue, is_some, string_bytes};
+//! Plans that a program builds: the sites, jobs and edges that it adds, and the plan of them.
+ghost use Rattle.std.specs.Prelude.{◌≡◌, ◌≢◌, ◌≤◌, Some, None, length, map};
+ghost use Rattle.std.specs.Prelude.{IfOk, OnOk, OnErr, IfErr, IfSome, IsTrue, is_some, string_bytes};
 ghost use Rattle.std.specs.List.{range_with_len};
-ghost use Rattle.dine_builder.specs.Draft.{empty_draft, plain_job, with_site, with_edge, has_edge, has_site, has_job, job_at, with_value, with_resigning, with_job, with_turns, with_failure, with_act};
+ghost use Rattle.dine_builder.specs.Draft.{empty_draft, plain_job, with_site, with_edge, has_edge, has_site};
+ghost use Rattle.dine_builder.specs.Draft.{has_job, job_at, with_value, with_resigning, with_job};
+ghost use Rattle.dine_builder.specs.Draft.{with_turns, with_failure, with_act};
 ghost use Rattle.dine_builder.specs.DraftDocument.{IsOfDraft, Says, first_fault_of};
-ghost use Rattle.dine_builder.specs.DraftPlan.{plan_told};
+ghost use Rattle.dine_builder.specs.DraftPlan.{plan_of_draft};
 
 use crate::tables::document;
 use dine_graph::Plan;
@@ -13,11 +16,11 @@ use std::alloc::{AllocError, Global};
 use std::marker::Model;
 use toml::Value;
 
-// How many jobs of a site are kept at most, one more than a site may have. A site that was to have more is refused for
-// these.
+// The greatest number of jobs that a draft stores for a site: one more than a site may have, so that `finish` refuses
+// it.
 const MAX_KEPT_JOBS: u32 = 1_001;
 
-// A job as it was told. Its number, from 1, is its name.
+// A job of a draft. Its number, from 1, is its name.
 #[derive(Clone, Copy, Debug)]
 pub(crate) struct DraftJob {
     pub(crate) number: u32,
@@ -26,7 +29,7 @@ pub(crate) struct DraftJob {
     pub(crate) act: Act,
 }
 
-// A site as it was told.
+// A site of a draft.
 #[derive(Debug, Drop)]
 pub(crate) struct DraftSite {
     pub(crate) name: String,
@@ -34,7 +37,7 @@ pub(crate) struct DraftSite {
     pub(crate) resigns: bool,
 }
 
-// An edge as it was told, by the numbers of its ends.
+// An edge of a draft, by the numbers of its ends.
 #[derive(Clone, Copy, Debug)]
 pub(crate) struct DraftEdge {
     pub(crate) a: u32,
@@ -42,10 +45,10 @@ pub(crate) struct DraftEdge {
     pub(crate) value: u64,
 }
 
-/// A plan on its way, of version 2 of the format: sites, their jobs and edges are told one by one, and `finish` answers
-/// the plan. Nothing is checked before: a plan that can't be is refused by `finish` for the cause for which `read_plan`
-/// refuses the text that says the same. Sites and edges are numbered from 0 in the order in which they are told, and
-/// the jobs of a site from 1. A job's name is its number, as `1`.
+/// A draft of a plan, of version 2 of the format. Sites, their jobs and edges are added one by one, and `finish`
+/// returns the plan. Nothing is checked before `finish`, which refuses a draft for the cause for which `read_plan`
+/// refuses the text that says the same. Sites and edges are numbered from 0 in the order in which they are added, and
+/// the jobs of a site from 1. A job's name is its number, such as `1`.
 #[derive(Debug, Drop)]
 pub struct PlanBuilder {
     alloc: Global,
@@ -66,7 +69,7 @@ impl Model for PlanBuilder {
 impl PlanBuilder {
     ghost use Rattle.dine_builder.specs.private.DraftFields.{seen_draft_site};
 
-    /// A builder that was told nothing. It takes no memory yet.
+    /// Makes a builder of an empty draft. It allocates nothing.
     pub fn open(alloc: Global) -> PlanBuilder
         ensures { result ≡ empty_draft }
     {
@@ -77,13 +80,16 @@ impl PlanBuilder {
         }
     }
 
-    /// Tells of a site of this name with so many jobs, and answers its number. Its jobs take no turns, go well and add
-    /// 0, and it goes on after a job that failed, until more is told of it. Of a site with more than 1,000 jobs, which
-    /// `finish` refuses, the first 1,001 are kept. Where memory is refused, and at the 4,294,967,295th site, the
-    /// builder stays as it is.
+    /// Adds a site of this name with `jobs` jobs, and returns its number. At first its jobs take no turns, do not fail
+    /// and add 0, and the site goes on after a job that failed. Of a site with more than 1,000 jobs, which `finish`
+    /// refuses, the first 1,001 are stored.
+    ///
+    /// # Errors
+    ///
+    /// Returns `AllocError` if an allocation fails, or if there are 4,294,967,295 sites. The builder stays as it is.
     pub fn site(&mut self, name: &str, jobs: u32) -> Result<u32, AllocError>
         ensures number { IfOk result (λ s. s ≡ length self.old.sites) }
-        ensures told { OnOk result (self.new ≡ with_site name.now jobs self.old) }
+        ensures changed { OnOk result (self.new ≡ with_site name.now jobs self.old) }
         ensures refused { OnErr result (self.new ≡ self.old) }
     {
         let number = self.sites.len();
@@ -100,12 +106,15 @@ impl PlanBuilder {
         Ok(number as u32)
     }
 
-    /// Tells of an edge between two sites, in either order, and answers its number. Its value is 0 until another is
-    /// told. The sites may be told later: an end that is no site's number by then is refused by `finish`. Where memory
-    /// is refused, and at the 4,294,967,295th edge, the builder stays as it is.
+    /// Adds an edge between two sites, in either order, and returns its number. At first its value is 0. The sites may
+    /// be added later: `finish` refuses an end that is no site's number then.
+    ///
+    /// # Errors
+    ///
+    /// Returns `AllocError` if an allocation fails, or if there are 4,294,967,295 edges. The builder stays as it is.
     pub fn edge(&mut self, a: u32, b: u32) -> Result<u32, AllocError>
         ensures number { IfOk result (λ e. e ≡ length self.old.edges) }
-        ensures told { OnOk result (self.new ≡ with_edge a b self.old) }
+        ensures changed { OnOk result (self.new ≡ with_edge a b self.old) }
         ensures refused { OnErr result (self.new ≡ self.old) }
     {
         let number = self.edges.len();
@@ -116,11 +125,11 @@ impl PlanBuilder {
         Ok(number as u32)
     }
 
-    /// Tells the value of an edge before the first meal, at most 1,000,000 in a plan, and answers whether there is such
-    /// an edge. Where there is none, nothing changes.
+    /// Sets the value of an edge before the first meal, at most 1,000,000 in a plan, and returns whether there is such
+    /// an edge. If there is none, nothing changes.
     pub fn value(&mut self, edge: u32, value: u64) -> bool
         ensures found { result ≡ has_edge edge self.old }
-        ensures told { self.new ≡ with_value edge value self.old }
+        ensures changed { self.new ≡ with_value edge value self.old }
     {
         if edge as usize >= self.edges.len() {
             return false;
@@ -129,11 +138,11 @@ impl PlanBuilder {
         true
     }
 
-    /// Tells that a site drops the jobs that it has left once one failed, and answers whether there is such a site.
-    /// Where there is none, nothing changes.
+    /// Makes a site drop the jobs that it has left after one failed, and returns whether there is such a site. If there
+    /// is none, nothing changes.
     pub fn resign(&mut self, site: u32) -> bool
         ensures found { result ≡ has_site site self.old }
-        ensures told { self.new ≡ with_resigning site self.old }
+        ensures changed { self.new ≡ with_resigning site self.old }
     {
         if site as usize >= self.sites.len() {
             return false;
@@ -142,11 +151,11 @@ impl PlanBuilder {
         true
     }
 
-    /// Tells how many turns job `k` of a site takes, at most 1,000,000 in a plan, and answers whether there is such a
-    /// job. Where there is none, nothing changes.
+    /// Sets the number of turns of job `k` of a site, at most 1,000,000 in a plan, and returns whether there is such a
+    /// job. If there is none, nothing changes.
     pub fn turns(&mut self, site: u32, k: u32, turns: u32) -> bool
         ensures found { result ≡ has_job site k self.old }
-        ensures told { self.new ≡ with_turns site k turns self.old }
+        ensures changed { self.new ≡ with_turns site k turns self.old }
     {
         match self.job(site, k) {
             Some(job) => {
@@ -157,11 +166,10 @@ impl PlanBuilder {
         }
     }
 
-    /// Tells that job `k` of a site fails, and answers whether there is such a job. Where there is none, nothing
-    /// changes.
+    /// Makes job `k` of a site fail, and returns whether there is such a job. If there is none, nothing changes.
     pub fn fails(&mut self, site: u32, k: u32) -> bool
         ensures found { result ≡ has_job site k self.old }
-        ensures told { self.new ≡ with_failure site k self.old }
+        ensures changed { self.new ≡ with_failure site k self.old }
     {
         match self.job(site, k) {
             Some(job) => {
@@ -172,11 +180,11 @@ impl PlanBuilder {
         }
     }
 
-    /// Tells what the meal of job `k` of a site does to the value of each edge of the site, by an amount of at most
-    /// 1,000,000 in a plan, and answers whether there is such a job. Where there is none, nothing changes.
+    /// Sets what the meal of job `k` of a site does to the value of each edge of the site, by an amount of at most
+    /// 1,000,000 in a plan, and returns whether there is such a job. If there is none, nothing changes.
     pub fn act(&mut self, site: u32, k: u32, act: Act) -> bool
         ensures found { result ≡ has_job site k self.old }
-        ensures told { self.new ≡ with_act site k act self.old }
+        ensures changed { self.new ≡ with_act site k act self.old }
     {
         match self.job(site, k) {
             Some(job) => {
@@ -187,7 +195,7 @@ impl PlanBuilder {
         }
     }
 
-    // Job k of a site, if there is one.
+    // Job `k` of a site, if there is one.
     fn job(&self, site: u32, k: u32) -> Option<DraftJob>
         ensures found { is_some result ≡ has_job site k self.now }
         ensures job { IfSome result (λ job. job ≡ job_at site k self.now) }
@@ -199,7 +207,7 @@ impl PlanBuilder {
         Some(self.sites[site].jobs[(k - 1) as usize])
     }
 
-    // Puts a job in the place of job k of a site.
+    // Puts a job in the place of job `k` of a site.
     fn put_job(&mut self, site: u32, k: u32, job: DraftJob)
         requires { IsTrue (has_job site k self.old) }
         ensures { self.new ≡ with_job site k job self.old }
@@ -207,13 +215,16 @@ impl PlanBuilder {
         self.sites[site as usize].jobs[(k - 1) as usize] = job;
     }
 
-    /// The plan that was told. It comes exactly where no cause of `PlanFault` before `Memory` holds of the text that
-    /// says the same, and it is the plan of that text; otherwise the first cause that holds, at the least position.
-    /// `Memory` comes at any point where memory runs out, and stands for no other cause. The causes in the form of a
-    /// text, `TwoActs` and `UnknownPolicy` never come. The builder stays as it is.
+    /// Returns the plan of the draft. It is the plan of the text that says the same.
+    ///
+    /// # Errors
+    ///
+    /// Returns the first cause of `PlanFault` that holds of the text that says the same, at the least position. It is
+    /// never one in the form of a text, `TwoActs` or `UnknownPolicy`. Returns `Memory`, for no other cause, if an
+    /// allocation fails. The builder stays as it is.
     pub fn finish(&self) -> Result<Plan, PlanFault>
         ensures unrefused { OnOk result (first_fault_of self.now ≡ None) }
-        ensures plan { IfOk result (λ p. p ≡ plan_told self.now) }
+        ensures plan { IfOk result (λ p. p ≡ plan_of_draft self.now) }
         ensures refused { IfErr result (λ f. f ≢ PlanFault.Memory → first_fault_of self.now ≡ Some f) }
         ensures cause { IfErr result IsOfDraft }
     {
@@ -221,8 +232,11 @@ impl PlanBuilder {
         read_tables(self.alloc, &Value::Table(document))
     }
 
-    /// The text that says what was told, in version 2 of the format: `read_plan` answers of it what `finish` answers.
-    /// Fails where memory is refused.
+    /// Returns a text of the draft, in version 2 of the format. `read_plan` returns of it what `finish` returns.
+    ///
+    /// # Errors
+    ///
+    /// Returns `AllocError` if an allocation fails.
     pub fn text(&self) -> Result<String, AllocError>
         ensures { IfOk result (λ s. Says (string_bytes s) self.now) }
     {
@@ -234,7 +248,7 @@ impl PlanBuilder {
     }
 }
 
-// Jobs 1 to the number, of which nothing was told.
+// Jobs 1 to `jobs`, as a new site has them.
 fn plain_jobs(alloc: Global, jobs: u32) -> Result<Vec<DraftJob>, AllocError>
     requires { jobs ≤ 1001 }
     ensures { IfOk result (λ v. v.items ≡ map plain_job (range_with_len 1 jobs)) }

@@ -6,11 +6,12 @@ ghost use Rattle.dine_reader.specs.PlanOf.{IsPlanOf};
 ghost use Rattle.dine_reader.specs.RefusalTests.{first_fault};
 ghost use Rattle.dine_builder.specs.Draft.{Draft};
 ghost use Rattle.dine_builder.specs.DraftDocument.{Says, first_fault_of};
-ghost use Rattle.dine_builder.specs.DraftPlan.{plan_told};
+ghost use Rattle.dine_builder.specs.DraftPlan.{plan_of_draft};
 
-/// What a builder answers is what `read_plan` answers of any text that says what the builder was told: the same plan,
-/// or the same refusal.
+/// What a builder returns is what `read_plan` returns for any text that says the same: the same plan, or the same
+/// refusal.
 pub fn built_is_read()
-    ensures faults { (text : List ℕ) (told : Draft) → Says text told → first_fault text ≡ first_fault_of told }
-    ensures plans { (text : List ℕ) (told : Draft) (p : SeenPlan) → Says text told → first_fault_of told ≡ None → IsPlanOf text p ↔ (p ≡ plan_told told) }
+    ensures faults { (text : List ℕ) (draft : Draft) → Says text draft → first_fault text ≡ first_fault_of draft }
+    ensures plans { (text : List ℕ) (draft : Draft) (p : SeenPlan) → Says text draft → first_fault_of draft ≡ None
+        → IsPlanOf text p ↔ (p ≡ plan_of_draft draft) }
 {}

@@ -1,4 +1,4 @@
-//! Plans that a program tells, site by site and edge by edge, instead of a text.
+//! Plans that a program builds, site by site and edge by edge, in place of a text.
 #![tactic(auto)]
 
 mod drafts;

@@ -1,7 +1,8 @@
-//! The document that says what a builder was told.
+//! The TOML document of a draft.
 ghost use Rattle.std.specs.Prelude.{◌≡◌, IfOk, OnOk, map};
 ghost use Rattle.toml.specs.View.{view, table_view};
-ghost use Rattle.dine_builder.specs.DraftDocument.{document_of, edge_table, end_name, job_table, site_table, names_told, policy_word, whole};
+ghost use Rattle.dine_builder.specs.DraftDocument.{document_of, edge_table, end_name, job_table, site_table};
+ghost use Rattle.dine_builder.specs.DraftDocument.{names_of_sites, policy_word, whole};
 ghost use Rattle.dine_builder.specs.private.DraftFields.{seen_draft_site};
 ghost use Rattle.dine_builder.specs.private.Tables.{with_member, with_act_member};
 
@@ -10,13 +11,14 @@ use dine_token::Act;
 use std::alloc::{AllocError, Global};
 use toml::{Table, Value};
 
-/// The document of these sites and edges.
+/// Makes the document of these sites and edges.
 pub(crate) fn document(
     alloc: Global,
     sites: &[DraftSite],
     edges: &[DraftEdge],
 ) -> Result<Table, AllocError>
-    ensures { IfOk result (λ t. table_view t ≡ document_of (record { sites = map seen_draft_site sites.now; edges = edges.now })) }
+    ensures { IfOk result
+        (λ t. table_view t ≡ document_of (record { sites = map seen_draft_site sites.now; edges = edges.now })) }
 {
     let edges = edge_tables(alloc, sites, edges)?;
     let sites = site_tables(alloc, sites)?;
@@ -80,7 +82,7 @@ fn job_table(alloc: Global, job: &DraftJob) -> Result<Value, AllocError>
     Ok(Value::Table(table))
 }
 
-// What a site says of a failed job.
+// The `on_fault` of a site.
 fn policy_word(resigns: bool) -> &'static str
     ensures { result.now ≡ policy_word resigns }
 {
@@ -102,7 +104,8 @@ fn edge_tables(
     sites: &[DraftSite],
     edges: &[DraftEdge],
 ) -> Result<Vec<Value>, AllocError>
-    ensures { IfOk result (λ v. map view v.items ≡ map (edge_table (names_told (map seen_draft_site sites.now))) edges.now) }
+    ensures { IfOk result
+        (λ v. map view v.items ≡ map (edge_table (names_of_sites (map seen_draft_site sites.now))) edges.now) }
 {
     let mut tables = Vec::new(alloc);
     for edge in edges {
@@ -112,7 +115,7 @@ fn edge_tables(
 }
 
 fn edge_table(alloc: Global, sites: &[DraftSite], edge: &DraftEdge) -> Result<Value, AllocError>
-    ensures { IfOk result (λ v. view v ≡ edge_table (names_told (map seen_draft_site sites.now)) edge.now) }
+    ensures { IfOk result (λ v. view v ≡ edge_table (names_of_sites (map seen_draft_site sites.now)) edge.now) }
 {
     let mut ends = Vec::new(alloc);
     ends.push(Value::string(alloc, end_name(sites, edge.a))?)?;
@@ -123,9 +126,9 @@ fn edge_table(alloc: Global, sites: &[DraftSite], edge: &DraftEdge) -> Result<Va
     Ok(Value::Table(table))
 }
 
-// The name of a site, and the empty text where there is no site of this number.
+// The name of a site, or the empty text if there is no site of this number.
 fn end_name(sites: &[DraftSite], site: u32) -> &str
-    ensures { result.now ≡ end_name (names_told (map seen_draft_site sites.now)) site }
+    ensures { result.now ≡ end_name (names_of_sites (map seen_draft_site sites.now)) site }
 {
     if site as usize >= sites.len() {
         return "";

@@ -1,7 +1,7 @@
 //! The program `dine`: the dining philosophers on a plan of sites and edges.
 #![tactic(auto)]
 
-use dine::{exit_of, run_cmd, words_of};
+use dine::{arguments_of, exit_of, run_cmd};
 use std::env;
 use std::process::ExitCode;
 
@@ -9,11 +9,11 @@ fn main(rt: HostRuntime) -> ExitCode {
     let mut input = rt.stdin();
     let mut output = rt.stdout();
     let mut faults = rt.stderr();
-    let status = match words_of(rt.alloc(), env::args(&rt)) {
-        Ok(words) => run_cmd(
+    let status = match arguments_of(rt.alloc(), env::args(&rt)) {
+        Ok(arguments) => run_cmd(
             &rt,
             rt.alloc(),
-            words.as_slice(),
+            arguments.as_slice(),
             &mut input,
             &mut output,
             &mut faults,

@@ -1,10 +1,12 @@
-//! The code of the hygienic solution: one site, one local step at a time. The rules and their laws are those of
-//! `dine_rules`, and are handed on.
+//! All sites of a plan in one thread. The code of one site is `dine_site_core`, and the laws are in `dine_rules`. Both
+//! are re-exported here.
 #![tactic(auto)]
 
-pub mod site;
-pub mod waking;
+pub mod world;
 
-pub use dine_rules::{Breach, Event, EventKind, Kind4, Letter, Phase, laws};
 pub use dine_set::BitSet64;
-pub use site::{Packed, Parts, Said, SiteCore};
+pub use dine_site_core::{
+    Breach, Event, EventKind, Kind4, Letter, Packed, Parts, Phase, Said, SiteCore, laws, site,
+    waking,
+};
+pub use world::{NotEnabled, Whereabouts, World};

@@ -10,7 +10,9 @@ const THREE: &str = r#"
 version = 2
 edge = [{ ends = ["b", "a"], value = 5 }, { ends = ["b", "c"] }]
 site = [
-    { name = "a", jobs = [{ name = "1" }, { name = "2", add = 10, fails = true }, { name = "3", turns = 100 }], on_fault = "resign" },
+    { name = "a", on_fault = "resign", jobs = [
+        { name = "1" }, { name = "2", add = 10, fails = true }, { name = "3", turns = 100 }
+    ] },
     { name = "b", jobs = [{ name = "1", set = 7 }] },
     { name = "c" },
 ]
@@ -24,7 +26,7 @@ fn add_edge(rt: &impl Abort, plan: &mut PlanBuilder, one: u32, other: u32) -> u3
     plan.edge(one, other).expect(rt, "memory")
 }
 
-// What is told of a job by its site and number, from 1; of a site; or of an edge.
+// What is set for a job, by its site and its number from 1; for a site; or for an edge.
 #[derive(Clone, Copy)]
 enum Part {
     Fails(u32, u32),
@@ -34,8 +36,8 @@ enum Part {
     Value(u32, u64),
 }
 
-// Whether there is such a job, site or edge, of which this is then told.
-fn tell(plan: &mut PlanBuilder, part: Part) -> bool {
+// Sets it, and returns whether there is such a job, site or edge.
+fn set_part(plan: &mut PlanBuilder, part: Part) -> bool {
     match part {
         Part::Fails(site, k) => plan.fails(site, k),
         Part::Turns(site, k, turns) => plan.turns(site, k, turns),
@@ -45,14 +47,14 @@ fn tell(plan: &mut PlanBuilder, part: Part) -> bool {
     }
 }
 
-// All this is told, and whether there is each such job, site or edge.
-fn tell_all(rt: &impl Abort, plan: &mut PlanBuilder, parts: &[(Part, bool)]) {
+// Sets all of these, and checks whether there is each such job, site or edge.
+fn set_all(rt: &impl Abort, plan: &mut PlanBuilder, parts: &[(Part, bool)]) {
     for (part, is_there) in parts {
-        same(rt, &tell(plan, *part), is_there);
+        same(rt, &set_part(plan, *part), is_there);
     }
 }
 
-// What the text `THREE` says, told by a program.
+// Builds the plan of the text `THREE`.
 fn three(rt: &impl Abort, alloc: Global) -> PlanBuilder {
     let mut plan = PlanBuilder::open(alloc);
     let a = add_site(rt, &mut plan, "a", 3);
@@ -68,12 +70,12 @@ fn three(rt: &impl Abort, alloc: Global) -> PlanBuilder {
         (Part::Does(b, 1, Act::Set(7)), true),
         (Part::Value(first, 5), true),
     ];
-    tell_all(rt, &mut plan, &parts);
+    set_all(rt, &mut plan, &parts);
     plan
 }
 
-// All that is told of a plan, in short, or its fault as it is printed.
-fn answer(rt: &impl Abort, alloc: Global, plan: Result<Plan, PlanFault>) -> String {
+// Returns all that a plan has, in short, or its fault as it is printed.
+fn plan_in_short(rt: &impl Abort, alloc: Global, plan: Result<Plan, PlanFault>) -> String {
     match plan {
         Ok(plan) => whole_in_short(rt, alloc, &plan),
         Err(fault) => printed(rt, alloc, fault),
@@ -86,34 +88,34 @@ fn whole_in_short(rt: &impl Abort, alloc: Global, plan: &Plan) -> String {
     format!(in alloc; "{form} {values}").expect(rt, "memory")
 }
 
-// This is told of a plan, or is its fault as it is printed.
-fn is_told(rt: &impl Abort, alloc: Global, plan: Result<Plan, PlanFault>, want: &str) {
-    let told = answer(rt, alloc, plan);
-    same(rt, &told.as_str(), &want);
+// Checks what a plan has, or its fault as it is printed.
+fn plan_is(rt: &impl Abort, alloc: Global, plan: Result<Plan, PlanFault>, want: &str) {
+    let short = plan_in_short(rt, alloc, plan);
+    same(rt, &short.as_str(), &want);
 }
 
 fn is_read(rt: &impl Abort, alloc: Global, text: &str, want: &str) {
-    is_told(rt, alloc, read_plan(alloc, text), want);
+    plan_is(rt, alloc, read_plan(alloc, text), want);
 }
 
-// The answer to what was told is this one, and so is that to the text that says the same.
-fn tells(rt: &impl Abort, alloc: Global, plan: &PlanBuilder, want: &str) {
+// Checks the result of the builder, and that the text that says the same has this result too.
+fn builds(rt: &impl Abort, alloc: Global, plan: &PlanBuilder, want: &str) {
     let text = plan.text().expect(rt, "memory");
     is_read(rt, alloc, text.as_str(), want);
-    is_told(rt, alloc, plan.finish(), want);
+    plan_is(rt, alloc, plan.finish(), want);
 }
 
-const TOLD_OF_THREE: &str =
+const THREE_IN_SHORT: &str =
     "a 1/0/false 2/0/true 3/100/false;b 1/0/false;c; 0-1 1-2 2: a! +0 +10 +0 b =7 c 5 0";
 
 #[test]
 fn builds_what_is_read(rt: HostRuntime) {
-    tells(&rt, rt.alloc(), &three(&rt, rt.alloc()), TOLD_OF_THREE);
-    is_read(&rt, rt.alloc(), THREE, TOLD_OF_THREE);
+    builds(&rt, rt.alloc(), &three(&rt, rt.alloc()), THREE_IN_SHORT);
+    is_read(&rt, rt.alloc(), THREE, THREE_IN_SHORT);
 }
 
 #[test]
-fn numbers_what_is_told(rt: HostRuntime) {
+fn numbers_sites_and_edges_in_order(rt: HostRuntime) {
     let mut plan = PlanBuilder::open(rt.alloc());
     for (name, jobs, number) in [("a", 2, 0), ("b", 0, 1), ("c", 1, 2)] {
         same(&rt, &add_site(&rt, &mut plan, name, jobs), &number);
@@ -134,10 +136,10 @@ fn numbers_what_is_told(rt: HostRuntime) {
         (Part::Value(1, 9), true),
         (Part::Value(2, 9), false),
     ];
-    tell_all(&rt, &mut plan, &parts);
+    set_all(&rt, &mut plan, &parts);
 }
 
-// A plan with so many sites of a job each, and with all their edges or with none.
+// Builds a plan of a number of sites with a job each, and with all their edges or none.
 fn wide(rt: &impl Abort, alloc: Global, sites: u32, has_edges: bool) -> PlanBuilder {
     let mut plan = PlanBuilder::open(alloc);
     for site in 0..sites {
@@ -155,25 +157,25 @@ fn refuses_names(rt: &impl Abort, alloc: Global) {
     for name in ["", "a b", "\" }]\nversion = 1 #", "\u{e9}"] {
         let mut plan = three(rt, alloc);
         add_site(rt, &mut plan, name, 0);
-        tells(rt, alloc, &plan, "6 BadName at site 3");
+        builds(rt, alloc, &plan, "6 BadName at site 3");
     }
 }
 
 #[test]
 fn refuses_names_and_sites(rt: HostRuntime) {
     let mut plan = PlanBuilder::open(rt.alloc());
-    tells(&rt, rt.alloc(), &plan, "8 NoSite");
+    builds(&rt, rt.alloc(), &plan, "8 NoSite");
     add_site(&rt, &mut plan, "a", 1_000);
     for (name, jobs, want) in [
         ("b", 1_001, "10 TooManyJobs at site 1"),
         ("a", u32::MAX, "7 SiteTwice at site 2"),
     ] {
         add_site(&rt, &mut plan, name, jobs);
-        tells(&rt, rt.alloc(), &plan, want);
+        builds(&rt, rt.alloc(), &plan, want);
     }
     refuses_names(&rt, rt.alloc());
     let many = wide(&rt, rt.alloc(), 65, false);
-    tells(&rt, rt.alloc(), &many, "9 TooManySites");
+    builds(&rt, rt.alloc(), &many, "9 TooManySites");
 }
 
 #[test]
@@ -185,12 +187,12 @@ fn refuses_edges(rt: HostRuntime) {
         (3, 0, "12 UnknownEnd at edge 4"),
     ] {
         add_edge(&rt, &mut plan, one, other);
-        tells(&rt, rt.alloc(), &plan, want);
+        builds(&rt, rt.alloc(), &plan, want);
     }
     add_site(&rt, &mut plan, "d", 0);
-    tells(&rt, rt.alloc(), &plan, "13 Loop at edge 3");
+    builds(&rt, rt.alloc(), &plan, "13 Loop at edge 3");
     let many = wide(&rt, rt.alloc(), 33, true);
-    tells(&rt, rt.alloc(), &many, "15 TooManyEdges");
+    builds(&rt, rt.alloc(), &many, "15 TooManyEdges");
 }
 
 // The largest numbers of all.
@@ -216,11 +218,11 @@ fn refuses_numbers(rt: HostRuntime) {
         ),
         (Part::Turns(1, 1, u32::MAX), "11 TurnsTooLarge at site 1"),
     ] {
-        tell_all(&rt, &mut plan, &[(part, true)]);
-        tells(&rt, rt.alloc(), &plan, want);
+        set_all(&rt, &mut plan, &[(part, true)]);
+        builds(&rt, rt.alloc(), &plan, want);
     }
-    tell_all(&rt, &mut plan, &LARGEST);
+    set_all(&rt, &mut plan, &LARGEST);
     let want =
         "a 1/0/false 2/0/true 3/100/false;b 1/1000000/false;c; 0-1 1-2 2: a! +1000000 +10 +0 b =1000000 c 5 1000000";
-    tells(&rt, rt.alloc(), &plan, want);
+    builds(&rt, rt.alloc(), &plan, want);
 }

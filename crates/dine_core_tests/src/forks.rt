@@ -1,5 +1,5 @@
-// Forks with the logs of some ways that they may go, meals and tokens. Ways are scripts: what is done with the forks in
-// hand one after another, which one function goes through.
+// Forks with the logs of some ways that they may go, meals and tokens. A way is a script: a list of steps that one
+// function does with the forks at hand.
 ghost use Rattle.std.specs.Prelude.{◌≡◌, true, All};
 ghost use Rattle.dine_token.specs.Fork.{IsEnd, MayEat};
 ghost use Rattle.dine_token.specs.Values.{IsAct};
@@ -9,10 +9,10 @@ use dine_token::{Act, Entry, Fork, Held, Meal, Period, Token};
 use std::alloc::Global;
 use std::process::Abort;
 
-// What a fork tells: where it is, whether it is dirty, how many meals of the lower end it has and how many of the
-// higher, its value, its log, and the periods of its log, each as its site, its first meal and how many.
+// What a fork has: where it is, whether it is dirty, the numbers of meals of its lower and its higher end, its value,
+// its log, and the periods of its log, each with its site, its first meal and the number of its meals.
 #[derive(Clone, Copy)]
-pub(crate) struct Told<'a> {
+pub(crate) struct Report<'a> {
     at: u32,
     is_dirty: bool,
     meals: (u32, u32),
@@ -23,16 +23,16 @@ pub(crate) struct Told<'a> {
 
 #[derive(Clone, Copy)]
 pub(crate) enum Step<'a> {
-    // A fork of this edge is opened and comes to hand as the last: its ends, the meals due to them, and its value.
+    // A fork of this edge is opened and added as the last: its ends, the meals due to them, and its value.
     Open(u32, (u32, u32), (u32, u32), u64),
-    // The site eats its meal of this number with all forks in hand, which have these values then.
+    // The site eats its meal of this number with all forks, which have these values then.
     Eat((u32, u32), Act, &'a [u64]),
-    // The last is sent to this end and taken in hand there.
+    // The last fork is sent to this end and taken there.
     Give(u32),
     // The last is laid down.
     Keep,
-    // The last tells this.
-    Tells(Told<'a>),
+    // The last fork has this.
+    Reports(Report<'a>),
 }
 
 // A fork as it is opened, with what it was opened with.
@@ -99,7 +99,7 @@ fn meals_of(rt: &impl Abort, fork: &Fork, site: u32) -> u32 {
     fork.meals_of(site)
 }
 
-// The meal is this one, with so many forks, each with its meals so far and its value.
+// Checks the meal, the number of its forks, and the meals so far and the value of each.
 fn is_meal(rt: &impl Abort, meal: &Meal, site: u32, k: u32, values: &[u64]) {
     same(rt, &(meal.site(), meal.k()), &(site, k));
     assert!(rt; meal.len() as usize == values.len());
@@ -144,7 +144,7 @@ fn last(rt: &impl Abort, hands: &mut Vec<Held>) -> Held {
     hands.pop().expect(rt, "a fork")
 }
 
-// The fork comes to hand.
+// Adds the fork.
 fn comes(rt: &impl Abort, hands: &mut Vec<Held>, fork: Fork) {
     assert!(rt; hands.len() < hands.capacity());
     hands.push_reserved(Held::take(fork));
@@ -170,17 +170,17 @@ pub(crate) fn has_periods(rt: &impl Abort, fork: &Fork, periods: &[(u32, u32, u3
     }
 }
 
-fn tells(rt: &impl Abort, fork: &Fork, told: Told) {
+fn reports(rt: &impl Abort, fork: &Fork, report: Report) {
     same(
         rt,
         &(fork.at(), fork.is_dirty(), fork.value()),
-        &(told.at, told.is_dirty, told.value),
+        &(report.at, report.is_dirty, report.value),
     );
     let (lower, higher) = fork.ends();
     let meals = (meals_of(rt, fork, lower), meals_of(rt, fork, higher));
-    same(rt, &meals, &told.meals);
-    has_log(rt, fork, told.log);
-    has_periods(rt, fork, told.periods);
+    same(rt, &meals, &report.meals);
+    has_log(rt, fork, report.log);
+    has_periods(rt, fork, report.periods);
 }
 
 // A step of the last fork.
@@ -196,16 +196,16 @@ fn goes_on(rt: &impl Abort, alloc: Global, hands: &mut Vec<Held>, step: Step) {
         Step::Keep => {
             let _ = last(rt, hands).keep();
         }
-        Step::Tells(told) => {
+        Step::Reports(report) => {
             let held = last(rt, hands);
-            tells(rt, held.fork(), told);
+            reports(rt, held.fork(), report);
             comes(rt, hands, held.keep());
         }
         Step::Eat(_, _, _) => {}
     }
 }
 
-// The forks in hand after these steps, one after another.
+// Does these steps, and returns the forks.
 fn after(rt: &impl Abort, alloc: Global, steps: &[Step]) -> Vec<Held> {
     let mut hands = Vec::with_capacity(alloc, 2).expect(rt, "memory");
     for step in steps {
@@ -218,7 +218,7 @@ fn after(rt: &impl Abort, alloc: Global, steps: &[Step]) -> Vec<Held> {
     hands
 }
 
-// All forks in hand are laid down.
+// Puts all forks down.
 fn lay_down(rt: &impl Abort, mut hands: Vec<Held>) {
     for _ in 0..hands.len() {
         let _ = last(rt, &mut hands).keep();
@@ -231,7 +231,7 @@ fn play(rt: &impl Abort, alloc: Global, steps: &[Step]) {
     lay_down(rt, after(rt, alloc, steps));
 }
 
-// The fork that was in hand last after these steps.
+// Does these steps, and returns the last fork.
 pub(crate) fn fork_after(rt: &impl Abort, alloc: Global, steps: &[Step]) -> Fork {
     let mut hands = after(rt, alloc, steps);
     let fork = last(rt, &mut hands).keep();
@@ -242,7 +242,7 @@ pub(crate) fn fork_after(rt: &impl Abort, alloc: Global, steps: &[Step]) -> Fork
 // Two sites with one job each share a fork: the lower eats, sends it, and the higher eats.
 #[test]
 fn fork_goes_from_one_end_to_the_other(rt: HostRuntime) {
-    let opened = Told {
+    let opened = Report {
         at: 2,
         is_dirty: true,
         meals: (0, 0),
@@ -250,20 +250,20 @@ fn fork_goes_from_one_end_to_the_other(rt: HostRuntime) {
         log: &[],
         periods: &[(2, 1, 0)],
     };
-    let eaten = Told {
+    let eaten = Report {
         meals: (1, 0),
         log: &[Entry::Meal { site: 2, k: 1 }],
         periods: &[(2, 1, 1)],
         ..opened
     };
-    let given = Told {
+    let given = Report {
         at: 5,
         is_dirty: false,
         log: &[Entry::Meal { site: 2, k: 1 }, Entry::Move { to: 5 }],
         periods: &[(2, 1, 1), (5, 1, 0)],
         ..eaten
     };
-    let whole = Told {
+    let whole = Report {
         is_dirty: true,
         meals: (1, 1),
         log: &[
@@ -276,13 +276,13 @@ fn fork_goes_from_one_end_to_the_other(rt: HostRuntime) {
     };
     let steps = [
         Step::Open(7, (2, 5), (1, 1), 0),
-        Step::Tells(opened),
+        Step::Reports(opened),
         Step::Eat((2, 1), Act::Add(0), &[0]),
-        Step::Tells(eaten),
+        Step::Reports(eaten),
         Step::Give(5),
-        Step::Tells(given),
+        Step::Reports(given),
         Step::Eat((5, 1), Act::Add(0), &[0]),
-        Step::Tells(whole),
+        Step::Reports(whole),
     ];
     play(&rt, rt.alloc(), &steps);
 }
@@ -290,7 +290,7 @@ fn fork_goes_from_one_end_to_the_other(rt: HostRuntime) {
 // The lower end sends the fork before it eats, so its first period is without a meal.
 #[test]
 fn fork_that_goes_first_has_an_empty_period(rt: HostRuntime) {
-    let opened = Told {
+    let opened = Report {
         at: 0,
         is_dirty: true,
         meals: (0, 0),
@@ -298,7 +298,7 @@ fn fork_that_goes_first_has_an_empty_period(rt: HostRuntime) {
         log: &[],
         periods: &[(0, 1, 0)],
     };
-    let whole = Told {
+    let whole = Report {
         at: 1,
         meals: (0, 1),
         log: &[Entry::Move { to: 1 }, Entry::Meal { site: 1, k: 1 }],
@@ -307,10 +307,10 @@ fn fork_that_goes_first_has_an_empty_period(rt: HostRuntime) {
     };
     let steps = [
         Step::Open(0, (0, 1), (1, 1), 0),
-        Step::Tells(opened),
+        Step::Reports(opened),
         Step::Give(1),
         Step::Eat((1, 1), Act::Add(0), &[0]),
-        Step::Tells(whole),
+        Step::Reports(whole),
     ];
     play(&rt, rt.alloc(), &steps);
 }
@@ -326,10 +326,10 @@ fn token_names_its_edge(rt: HostRuntime) {
     same(&rt, &Token::open(511).edge(), &511);
 }
 
-// A value goes with the fork: each meal does its act to it, of every fork in hand, and a Move leaves it.
+// A fork carries a value: each meal does its act to the value of each fork at hand, and a Move does not change it.
 #[test]
 fn value_is_changed_by_each_meal(rt: HostRuntime) {
-    let given = Told {
+    let given = Report {
         at: 1,
         is_dirty: false,
         meals: (2, 0),
@@ -348,7 +348,7 @@ fn value_is_changed_by_each_meal(rt: HostRuntime) {
         Step::Eat((0, 2), Act::Set(7), &[7, 7]),
         Step::Keep,
         Step::Give(1),
-        Step::Tells(given),
+        Step::Reports(given),
         Step::Eat((1, 1), Act::Add(3), &[10]),
     ];
     play(&rt, rt.alloc(), &steps);

@@ -1,5 +1,5 @@
-//! The tests of `dine_token`, `dine_set`, `dine_plan`, `dine_core` and `dine_world`, by what anyone can see of them.
-//! There is nothing else here, so that no other crate is proved a second time for them.
+//! The tests of `dine_token`, `dine_set`, `dine_plan`, `dine_site_core` and `dine_core`, by public items. They are in a
+//! crate of their own, so that no other crate is proved a second time for them.
 #![tactic(auto)]
 
 #[cfg(test)]

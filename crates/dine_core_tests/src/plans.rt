@@ -1,4 +1,4 @@
-// The reader of plan texts, and what a plan tells. The texts that it refuses are in tests/texts/, which tools/texts
+// The reader of plan texts, and the calls of a plan. The texts that it refuses are in tests/texts/, which tools/texts
 // tries.
 ghost use Rattle.std.specs.Prelude.{◌<◌};
 ghost use Rattle.dine_graph.specs.Plan.{site_count};
@@ -11,7 +11,7 @@ use std::fmt::Write;
 use std::process::Abort;
 
 // What is read of a text: its plan in short, or its fault as it is printed.
-fn answer_to(rt: &impl Abort, alloc: Global, text: &str) -> String {
+fn read_in_short(rt: &impl Abort, alloc: Global, text: &str) -> String {
     match read_plan(alloc, text) {
         Ok(plan) => in_short(rt, alloc, &plan),
         Err(fault) => printed(rt, alloc, fault),
@@ -50,28 +50,38 @@ fn push_jobs(rt: &impl Abort, out: &mut String, plan: &Plan, site: u32)
 }
 
 const BOTH_FORMS: [&str; 2] = [
-    "version = 1\n[[site]]\nname = \"a\"\njobs = [{ name = \"x\" }, { name = \"y\", turns = 5, fails = true }]\n[[site]]\nname = \"b\"\n[[site]]\nname = \"c\"\n[[site.jobs]]\nname = \"z\"\n[[edge]]\nends = [\"a\", \"b\"]\n[[edge]]\nends = [\"b\", \"c\"]\n",
-    "edge = [{ ends = [\"b\", \"a\"] }, { ends = [\"c\", \"b\"] }]\nsite = [{ jobs = [{ name = \"x\", fails = false }, { fails = true, turns = 5, name = \"y\" }], name = \"a\" }, { name = \"b\", jobs = [] }, { name = \"c\", jobs = [{ name = \"z\", turns = 0 }] }]\nversion = 1\n",
+    "version = 1\n\
+    [[site]]\nname = \"a\"\njobs = [{ name = \"x\" }, { name = \"y\", turns = 5, fails = true }]\n\
+    [[site]]\nname = \"b\"\n\
+    [[site]]\nname = \"c\"\n[[site.jobs]]\nname = \"z\"\n\
+    [[edge]]\nends = [\"a\", \"b\"]\n[[edge]]\nends = [\"b\", \"c\"]\n",
+    "edge = [{ ends = [\"b\", \"a\"] }, { ends = [\"c\", \"b\"] }]\n\
+    site = [{ jobs = [{ name = \"x\", fails = false }, { fails = true, turns = 5, name = \"y\" }], name = \"a\" }, \
+    { name = \"b\", jobs = [] }, { name = \"c\", jobs = [{ name = \"z\", turns = 0 }] }]\n\
+    version = 1\n",
 ];
 
 #[test]
 fn reads_both_forms_of_a_plan(rt: HostRuntime) {
     let want = "a x/0/false y/5/true;b;c z/0/false; 0-1 1-2";
     for text in BOTH_FORMS {
-        let answer = answer_to(&rt, rt.alloc(), text);
-        same(&rt, &answer.as_str(), &want);
+        let short = read_in_short(&rt, rt.alloc(), text);
+        same(&rt, &short.as_str(), &want);
     }
 }
 
-const WHOLE: &str =
-    "version = 1\n[[site]]\nname = \"a\"\njobs = [{ name = \"x\" }, { name = \"y\", turns = 5, fails = true }]\n[[site]]\nname = \"b\"\n[[site]]\nname = \"c\"\njobs = [{ name = \"z\", turns = 1000000 }]\n[[edge]]\nends = [\"c\", \"b\"]\n[[edge]]\nends = [\"a\", \"c\"]\n";
+const WHOLE: &str = "version = 1\n\
+    [[site]]\nname = \"a\"\njobs = [{ name = \"x\" }, { name = \"y\", turns = 5, fails = true }]\n\
+    [[site]]\nname = \"b\"\n\
+    [[site]]\nname = \"c\"\njobs = [{ name = \"z\", turns = 1000000 }]\n\
+    [[edge]]\nends = [\"c\", \"b\"]\n[[edge]]\nends = [\"a\", \"c\"]\n";
 
 // The plan of a text. What `read_plan` promises of the text is not said here: of a whole text it is long.
 pub(crate) fn read(rt: &impl Abort, alloc: Global, text: &str) -> Plan {
     read_plan(alloc, text).expect(rt, "a plan")
 }
 
-fn tells_its_sites(rt: &impl Abort, plan: &Plan) {
+fn has_its_sites(rt: &impl Abort, plan: &Plan) {
     assert!(rt; plan.sites() == 3);
     let names = (plan.name(0), plan.name(1), plan.name(2));
     same(rt, &names, &("a", "b", "c"));
@@ -83,7 +93,7 @@ fn tells_its_sites(rt: &impl Abort, plan: &Plan) {
     }
 }
 
-fn tells_its_edges(rt: &impl Abort, plan: &Plan) {
+fn has_its_edges(rt: &impl Abort, plan: &Plan) {
     same(rt, &plan.edges(), &2);
     for edge in 0..plan.edges() {
         let (lo, hi) = plan.ends(edge);
@@ -102,8 +112,8 @@ fn reads_the_whole_plan(rt: HostRuntime) {
     let short = in_short(&rt, rt.alloc(), &plan);
     let want = "a x/0/false y/5/true;b;c z/1000000/false; 1-2 0-2";
     same(&rt, &short.as_str(), &want);
-    tells_its_sites(&rt, &plan);
-    tells_its_edges(&rt, &plan);
+    has_its_sites(&rt, &plan);
+    has_its_edges(&rt, &plan);
 }
 
 const FAULTS: [(PlanFault, u32, &str); 20] = [
@@ -164,8 +174,8 @@ ends = ["a", "b"]
 value = 1000000
 "#;
 
-// What version 2 of the format has beside version 1: each site that resigns is marked, and + or = stands before the
-// amount of an act.
+// What version 2 of the format adds to version 1: each site that resigns is marked, and + or = is before the amount of
+// an act.
 pub(crate) fn second_in_short(rt: &impl Abort, alloc: Global, plan: &Plan) -> String {
     let mut out = format!(in alloc; "{}:", plan.version()).expect(rt, "memory");
     for site in 0..plan.sites() {

@@ -1,4 +1,4 @@
-// Sets of numbers below 64: each public function on sets worked out by hand.
+// Sets of numbers below 64: each public function, with results that were computed by hand.
 use crate::asserts::same;
 use dine_set::BitSet64;
 

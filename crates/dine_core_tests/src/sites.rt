@@ -1,4 +1,4 @@
-// The core of one site: what it may do, what it takes and what it tells.
+// The core of one site: what it may do, what it takes and what it reports.
 
 mod breaches;
 mod script;
@@ -15,10 +15,11 @@ use script::{A, B, C, Step, leave, play, plays, seat, seated};
 use std::alloc::{AllocError, Global};
 use std::process::Abort;
 
-// Two sites with an edge, and so many jobs.
+// Two sites with an edge, and a number of jobs each.
 fn pair_text(lower: &str, higher: &str, alloc: Global) -> Result<String, AllocError> {
     format!(in alloc;
-        "version = 1\n[[site]]\nname = \"a\"\njobs = [{lower}]\n[[site]]\nname = \"b\"\njobs = [{higher}]\n[[edge]]\nends = [\"a\", \"b\"]\n"
+        "version = 1\n[[site]]\nname = \"a\"\njobs = [{lower}]\n[[site]]\nname = \"b\"\njobs = [{higher}]\n\
+        [[edge]]\nends = [\"a\", \"b\"]\n"
     )
 }
 
@@ -45,7 +46,8 @@ const ROW: &str = "version = 1\n\
 
 // The same with a job at the middle too.
 const BUSY_ROW: &str = "version = 1\n\
-    [[site]]\nname = \"a\"\n[[site]]\nname = \"b\"\njobs = [{ name = \"x\" }]\n[[site]]\nname = \"c\"\njobs = [{ name = \"y\" }]\n\
+    [[site]]\nname = \"a\"\n[[site]]\nname = \"b\"\njobs = [{ name = \"x\" }]\n\
+    [[site]]\nname = \"c\"\njobs = [{ name = \"y\" }]\n\
     [[edge]]\nends = [\"a\", \"b\"]\n[[edge]]\nends = [\"b\", \"c\"]\n";
 
 // The core of a site, with the forks and tokens that it has at the start.
@@ -121,9 +123,9 @@ fn break_off(rt: &impl Abort, core: &mut SiteCore) -> Option<Letter> {
 
 // The site broke off there before: it puts nothing more, and stays as it is.
 fn is_broken_off(rt: &impl Abort, core: &mut SiteCore) {
-    let before = told_of(rt, core, 0);
+    let before = report_of(rt, core, 0);
     assert!(rt; break_off(rt, core).is_none());
-    same(rt, &told_of(rt, core, 0), &before);
+    same(rt, &report_of(rt, core, 0), &before);
 }
 
 fn say_done_at(rt: &impl Abort, core: &mut SiteCore, i: u32) -> Letter {
@@ -143,9 +145,9 @@ fn take_at(rt: &impl Abort, core: &mut SiteCore, i: u32, letter: Letter) {
     assert!(rt; core.take(i, letter).is_ok());
 }
 
-// What the readers tell of a core and of one of its places.
+// What a core reports of itself and of one of its places.
 #[derive(Clone, Copy, Debug, PartialEq, Eq)]
-struct Told {
+struct Report {
     site: u32,
     phase: Phase,
     ate: u32,
@@ -156,9 +158,9 @@ struct Told {
     is_finished: bool,
 }
 
-fn told_of(rt: &impl Abort, core: &SiteCore, i: u32) -> Told {
+fn report_of(rt: &impl Abort, core: &SiteCore, i: u32) -> Report {
     assert!(rt; i < core.degree());
-    Told {
+    Report {
         site: core.site(),
         phase: core.phase(),
         ate: core.ate(),
@@ -170,8 +172,8 @@ fn told_of(rt: &impl Abort, core: &SiteCore, i: u32) -> Told {
     }
 }
 
-// The kind of a letter and its edge, where it has one, and how long the log of its fork is.
-fn told_of_letter(letter: &Letter) -> (Kind4, Option<u32>, u32) {
+// Returns the kind of a letter, its edge if it has one, and the length of the log of its fork.
+fn letter_in_short(letter: &Letter) -> (Kind4, Option<u32>, u32) {
     match letter {
         Letter::Fork(fork) => (Kind4::Fork, Some(fork.edge()), fork.len()),
         Letter::Request(token) => (Kind4::Request, Some(token.edge()), 0),
@@ -179,18 +181,18 @@ fn told_of_letter(letter: &Letter) -> (Kind4, Option<u32>, u32) {
     }
 }
 
-// The letter is refused and handed back, and the core tells the same as before.
+// Checks that the letter is refused and returned, and that the core reports the same as before.
 fn refuse(rt: &impl Abort, core: &mut SiteCore, letter: Letter, cause: Breach) -> Letter {
-    let before = told_of(rt, core, 0);
-    let put = told_of_letter(&letter);
+    let before = report_of(rt, core, 0);
+    let put = letter_in_short(&letter);
     assert!(rt; 0 < core.degree());
     let Err((back, breach)) = core.take(0, letter) else {
         assert!(rt; false);
         return Letter::Close;
     };
     same(rt, &breach, &cause);
-    same(rt, &told_of_letter(&back), &put);
-    same(rt, &told_of(rt, core, 0), &before);
+    same(rt, &letter_in_short(&back), &put);
+    same(rt, &report_of(rt, core, 0), &before);
     back
 }
 
@@ -199,7 +201,7 @@ fn spend(rt: &impl Abort, core: SiteCore) -> Parts {
     core.into_parts()
 }
 
-// What a site of a script left: so many forks and tokens.
+// Checks what a site of a script left: the numbers of its forks and tokens.
 fn are_left(rt: &impl Abort, left: &Vec<Parts>, n: usize, forks: usize, tokens: usize) {
     let parts = left.get(n).expect(rt, "a site");
     same(
@@ -305,8 +307,10 @@ fn events_follow_the_phase(rt: HostRuntime) {
 // The lower of two sites has three jobs, and its policy is this.
 fn policy_plan(rt: &impl Abort, alloc: Global, policy: &str) -> Plan {
     let text = format!(in alloc;
-        "version = 2\n[[site]]\nname = \"a\"\non_fault = \"{policy}\"\njobs = [{THREE_JOBS}]\n[[site]]\nname = \"b\"\njobs = [{JOB}]\n[[edge]]\nends = [\"a\", \"b\"]\n"
-    ).expect(rt, "memory");
+        "version = 2\n[[site]]\nname = \"a\"\non_fault = \"{policy}\"\njobs = [{THREE_JOBS}]\n\
+        [[site]]\nname = \"b\"\njobs = [{JOB}]\n[[edge]]\nends = [\"a\", \"b\"]\n"
+    )
+    .expect(rt, "memory");
     read(rt, alloc, text.as_str())
 }
 
@@ -349,7 +353,7 @@ fn no_site_quits_without_cause(rt: HostRuntime) {
     }
 }
 
-// Where the sender resigns, it may say Done with a fork that lacks some of its meals.
+// If the sender resigns, it may put Done although the fork lacks some of its meals.
 #[test]
 fn done_comes_before_all_meals_of_a_site_that_resigns(rt: HostRuntime) {
     let refused = Step::Refuse(B, Breach::DoneOutOfTurn);
@@ -371,11 +375,11 @@ fn done_comes_before_all_meals_of_a_site_that_resigns(rt: HostRuntime) {
     }
 }
 
-// The first place where the fork is in hand and dirty, how many such places there are, and how many forks are missing.
+// Checks the first place with a dirty fork, the number of such places, and the number of missing forks.
 fn waits(rt: &impl Abort, core: &SiteCore, wanted: (Option<u32>, u32, u32)) {
     let dirty = core.dirty_places();
-    let told = (dirty.first(), dirty.len(), core.missing_forks());
-    same(rt, &told, &wanted);
+    let found = (dirty.first(), dirty.len(), core.missing_forks());
+    same(rt, &found, &wanted);
 }
 
 #[test]
@@ -455,7 +459,7 @@ fn packed_site(rt: &impl Abort, alloc: Global, plan: &Plan, site: u32) -> Packed
         .pack()
 }
 
-// A core that was packed and comes back.
+// A core that was packed and is unpacked again.
 fn repacked(rt: &impl Abort, alloc: Global, plan: &Plan, site: u32) -> SiteCore {
     packed_site(rt, alloc, plan, site).unpack()
 }
@@ -467,9 +471,9 @@ fn packed_core_comes_back_as_it_was(rt: HostRuntime) {
     seat(&rt, &mut cores, repacked(&rt, rt.alloc(), &plan, 0));
     let steps = [
         Step::Degree(A, 1),
-        Step::Tells(
+        Step::Reports(
             A,
-            Told {
+            Report {
                 site: 0,
                 phase: Phase::Thinking,
                 ate: 0,
@@ -491,7 +495,8 @@ fn packed_core_comes_back_as_it_was(rt: HostRuntime) {
 // Two sites with an edge of value 5 and a job each: that of `a` adds 10, and that of `b` does this.
 fn valued(rt: &impl Abort, alloc: Global, act: &str) -> Plan {
     let text = format!(in alloc;
-        "version = 2\n[[site]]\nname = \"a\"\njobs = [{{ name = \"x\", add = 10 }}]\n[[site]]\nname = \"b\"\njobs = [{{ name = \"y\", {act} }}]\n\
+        "version = 2\n[[site]]\nname = \"a\"\njobs = [{{ name = \"x\", add = 10 }}]\n\
+        [[site]]\nname = \"b\"\njobs = [{{ name = \"y\", {act} }}]\n\
         [[edge]]\nends = [\"a\", \"b\"]\nvalue = 5\n"
     )
     .expect(rt, "memory");
@@ -519,7 +524,7 @@ fn eat_with(rt: &impl Abort, core: &mut SiteCore, value: u64) {
 }
 
 // The fork in the letter has exactly this log.
-fn lies_fork_of(rt: &impl Abort, letter: &Letter, log: &[Entry]) {
+fn is_fork_with(rt: &impl Abort, letter: &Letter, log: &[Entry]) {
     match letter {
         Letter::Fork(fork) => has_log(rt, fork, log),
         _ => panic!(rt; "no fork"),

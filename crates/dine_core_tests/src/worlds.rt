@@ -9,11 +9,11 @@ mod side_by_side;
 use crate::asserts::same;
 use crate::forks::{has_log, has_periods};
 use crate::plans::read;
+use dine_core::{NotEnabled, World};
 use dine_plan::Plan;
 use dine_rules::{Event, EventKind, Phase};
 use dine_test_plans::{ONE_SIDED_PAIR, PAIR};
 use dine_token::{Act, Entry, Fork, Period};
-use dine_world::{NotEnabled, World};
 use graph::{Graph, graph_of};
 use std::alloc::Global;
 use std::fmt::Write;
@@ -98,7 +98,7 @@ fn plan_with(rt: &impl Abort, alloc: Global, jobs: &[u32], edges: &[(u32, u32)])
     plan_by(rt, alloc, graph_of(jobs, edges))
 }
 
-// The plan of so many sites, each with so many jobs, and of these edges.
+// Returns the plan of a number of sites, each with a number of jobs, and of these edges.
 fn plan_of(rt: &impl Abort, alloc: Global, sites: usize, jobs: u32, edges: &[(u32, u32)]) -> Plan {
     let jobs = vec![in alloc; jobs; sites].expect(rt, "memory");
     plan_with(rt, alloc, jobs.as_slice(), edges)
@@ -123,7 +123,7 @@ fn period_at(rt: &impl Abort, fork: &Fork, i: u32) -> Period {
     fork.period(i)
 }
 
-// The event is refused, and as many are enabled as before.
+// Checks that the event is refused, and that as many events are enabled as before.
 fn refuse(rt: &impl Abort, world: &mut World, site: u32, kind: EventKind) {
     let before = world.count();
     same(rt, &world.step(Event { site, kind }), &Err(NotEnabled));
@@ -140,7 +140,7 @@ fn is_complete(rt: &impl Abort, plan: &Plan, world: &World) {
     }
 }
 
-// The forks that come out are those of all edges, in edge order.
+// Checks that the forks are those of all edges, in order.
 fn spend(rt: &impl Abort, plan: &Plan, world: World) -> Vec<Fork> {
     let forks = world.into_forks();
     same(rt, &forks.len(), &(plan.edges() as usize));
@@ -174,7 +174,7 @@ fn is_safe(rt: &impl Abort, plan: &Plan, world: &World) {
     assert!(rt; world.fork(plan.edges()).is_none());
 }
 
-// So many events are enabled as `count` says.
+// Checks that `count` is the number of enabled events.
 fn count_is_exact(rt: &impl Abort, world: &World) -> u32 {
     let count = world.count();
     for n in 0..count {
@@ -184,7 +184,7 @@ fn count_is_exact(rt: &impl Abort, world: &World) -> u32 {
     count
 }
 
-// Does at most so many events, as a fixed generator of choices has them, and answers how many there were.
+// Does events by a fixed generator of choices, at most a given number, and returns the number of events done.
 fn wander(rt: &impl Abort, plan: &Plan, world: &mut World, seed: u32, limit: u64) -> u64 {
     let mut draw = seed;
     for events in 0..limit {
@@ -214,10 +214,10 @@ fn wander_to_the_end(rt: &impl Abort, alloc: Global, plan: &Plan) {
     }
 }
 
-// What happens in a world, or what it tells then. A test is a list of these, which one function goes through.
+// What happens in a world, or what it reports then. A test is a list of these, which one function goes through.
 #[derive(Clone, Copy)]
 enum Step<'a> {
-    // So many events are enabled.
+    // This number of events is enabled.
     Count(u32),
     // This is the n-th of them, from 0.
     Enabled(u32, Option<Event>),
@@ -225,13 +225,13 @@ enum Step<'a> {
     Refused(u32, EventKind),
     // The n-th enabled event is this one of this site, which is done.
     Does(u32, u32, EventKind),
-    // So many of these choices have an event.
+    // This number of these choices has an event.
     Replays(&'a [u32], u64),
-    // The rest of the world has so many events.
+    // The rest of the run has this number of events.
     Finishes(u64),
     // No world of the plan has more events.
     Bound(u64),
-    // The site is in this phase, and ate so many meals.
+    // The site is in this phase, and ate this number of meals.
     Site(u32, Option<Phase>, Option<u32>),
     // Whether there is a fork of the edge.
     HasFork(u32, bool),
@@ -257,8 +257,8 @@ fn happens(rt: &impl Abort, plan: &Plan, world: &mut World, step: Step) {
     }
 }
 
-// A step that looks at the world.
-fn tells(rt: &impl Abort, plan: &Plan, world: &World, step: Step) {
+// Does a step that checks the world.
+fn checks(rt: &impl Abort, plan: &Plan, world: &World, step: Step) {
     match step {
         Step::Count(count) => same(rt, &world.count(), &count),
         Step::Enabled(n, event) => same(rt, &world.enabled(n), &event),
@@ -273,17 +273,17 @@ fn tells(rt: &impl Abort, plan: &Plan, world: &World, step: Step) {
     }
 }
 
-// The forks that come out of the plan's world after these steps.
+// Does these steps in a world of the plan, and returns its forks.
 fn goes(rt: &impl Abort, alloc: Global, plan: &Plan, steps: &[Step]) -> Vec<Fork> {
     let mut world = opened(rt, alloc, plan);
     for step in steps {
         happens(rt, plan, &mut world, *step);
-        tells(rt, plan, &world, *step);
+        checks(rt, plan, &world, *step);
     }
     spend(rt, plan, world)
 }
 
-// The same, where they have all meals of both their ends.
+// The same, and checks that they have all meals of both their ends.
 fn goes_whole(rt: &impl Abort, alloc: Global, plan: &Plan, steps: &[Step]) {
     let forks = goes(rt, alloc, plan, steps);
     has_all_meals(rt, plan, forks.as_slice());
@@ -306,7 +306,7 @@ const HIGHER_MAY_HUNGER: Step = Step::Enabled(
 );
 
 // Either site may grow hungry, and there is no other event. There is a second site, which thinks and ate nothing, and a
-// first edge, but no third site and no second edge.
+// first edge. There is no third site and no second edge.
 #[test]
 fn pair_opens_with_two_events(rt: HostRuntime) {
     let steps = [
@@ -514,7 +514,7 @@ fn sites_without_jobs_only_say_so(rt: HostRuntime) {
     goes_whole(&rt, rt.alloc(), &plan, &steps);
 }
 
-// Whatever event is the last, the forks come out of the hands of sites, of meals and of links.
+// Whatever event is the last, the forks of sites, of meals and of links are returned.
 #[test]
 fn forks_come_out_at_any_moment(rt: HostRuntime) {
     let plan = plan_of(&rt, rt.alloc(), 3, 1, [(0, 1), (1, 2), (0, 2)].as_slice());

@@ -1,13 +1,13 @@
-//! A bank on `dine_run`, to start a program of your own from. Twenty tellers stand round a ring, and each two
-//! neighbours share an account. A teller moves money from the one account to the other, at the same time as the others.
+//! A bank on `dine_run`, to start a program of your own from. Twenty tellers are in a ring, and each two neighbours
+//! share an account. A teller moves money from one of its accounts to the other, at the same time as the other tellers.
 //!
-//! 1. **Make a plan.** Whoever shares something needs an edge, and the value of the edge is what they share: here the
-//!    balance of an account. A site's jobs are counted beforehand.
+//! 1. **Make a plan.** Two sites that share something need an edge, and the value of the edge is what they share: here
+//!    the balance of an account. The number of jobs of each site is fixed before the run.
 //! 2. **Write a job.** `run` is called once for each job of the site, while the site holds the forks of all its edges.
-//!    So `open_with` lends it the account that it shares with a neighbour. Nobody else has it open meanwhile, there is
-//!    no order of locks to think of, and no value can be reached outside a job.
+//!    So `open_with` lends it the account that it shares with a neighbour. No other job has it open meanwhile, there is
+//!    no order of locks to keep, and no value can be reached outside a job.
 //! 3. **Say why a job failed** by an error of your own. A site that resigns drops its other jobs then.
-//! 4. **Call `on_rings`** with the values by edge and the jobs by site. Both come back, with each failure.
+//! 4. **Call `on_rings`** with the values by edge and the jobs by site. It returns both, with each failure.
 #![tactic(auto)]
 
 use anyhow::{Result, bail};
@@ -61,13 +61,13 @@ impl Job<u64> for Teller {
     }
 }
 
-// The next of a row of numbers that look random.
+// Returns the next of a sequence of numbers that look random.
 fn next(seed: u64) -> u64 {
     seed.wrapping_mul(6364136223846793005)
         .wrapping_add(1442695040888963407)
 }
 
-// Tellers round a ring. Each third one resigns, so it drops its other transfers once one is refused.
+// Returns a plan of tellers in a ring. Each third one resigns, so it drops its other transfers once one is refused.
 fn ring(alloc: Global) -> Result<Plan, PlanFault> {
     let mut plan = PlanBuilder::open(alloc);
     for n in 0..TELLERS {
@@ -83,7 +83,7 @@ fn ring(alloc: Global) -> Result<Plan, PlanFault> {
     plan.finish()
 }
 
-// A teller for each site.
+// Returns a teller for each site.
 fn hire(alloc: Global) -> Result<Vec<Teller>, AllocError> {
     let mut tellers = Vec::new(alloc);
     for n in 0..TELLERS {

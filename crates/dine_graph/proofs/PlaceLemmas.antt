@@ -52,7 +52,7 @@ positions_within ends s =
     let here : get_or (range_with_len 0 (length ends)) k d ≡ 0 + k = get_or-range_with_len 0 (length ends) k d (omega arith) in
     omega arith)
 
--- a number stands at one place of an ascending list
+-- a number is at one place of an ascending list
 pub place_unique : (xs : List ℕ) (i j e : ℕ) → IsStrictlyIncreasing xs → slice_get xs i ≡ Some e → slice_get xs j ≡ Some e → i ≡ j
 place_unique xs i j e ascending at_i at_j =
     let in_i = slice_get_within xs i e at_i in

@@ -6,41 +6,41 @@ use Rattle.dine_token.specs.declared.act.Act.{Act}
 use Rattle.dine_token.specs.declared.act.Act.TheVariants.{Add}
 use Rattle.dine_token.specs.Values.{IsAct}
 
--- a job: its name, 1 to 32 bytes, its turns, at most 1,000,000, whether it fails, and what its meal does to the value
--- of each edge
+-- a job: its name, its turns, whether it fails, and what its meal does to the value of each edge; `IsPlan` has the
+-- limits
 pub record SeenJob : Type 0 where
   pub name : List ℕ
   pub turns : ℕ
   pub fails : Bool
   pub act : Act
 
--- a site: its name, at most 1,000 jobs, and whether it drops those that it has left once one failed
+-- a site: its name, its jobs, and whether it drops those that it has left after one failed; `IsPlan` has the limits
 pub record SeenSite : Type 0 where
   pub name : List ℕ
   pub jobs : List SeenJob
   pub resigns : Bool
 
--- a plan: the version of its format, 1 to 64 sites, and at most 512 edges, each with its lower and its higher end and a
--- value, numbered from 0
+-- a plan: the version of its format, its sites, and its edges, each with its lower and its higher end and a value,
+-- numbered from 0; `IsPlan` has the limits
 pub record SeenPlan : Type 0 where
   pub version : ℕ
   pub sites : List SeenSite
   pub edges : List (ℕ × ℕ)
   pub values : List ℕ
 
--- the job that stands past the end of a list; no clause asks for it
+-- the job that is read past the end of a list; no clause depends on it
 abbrev pub no_job : SeenJob
 no_job = record { name = []; turns = 0; fails = false; act = Add 0 }
 
--- the site past the end of the list; no clause asks for it
+-- the site that is read past the end of a list; no clause depends on it
 abbrev pub no_site : SeenSite
 no_site = record { name = []; jobs = []; resigns = false }
 
--- how many sites the plan has
+-- the number of sites
 abbrev pub site_count : SeenPlan → ℕ
 site_count p = length p.sites
 
--- how many edges the plan has
+-- the number of edges
 abbrev pub edge_count : SeenPlan → ℕ
 edge_count p = length p.edges
 
@@ -52,7 +52,7 @@ name_of p s = (slice_index_or p.sites s no_site).name
 abbrev pub jobs_of : SeenPlan → ℕ → List SeenJob
 jobs_of p s = (slice_index_or p.sites s no_site).jobs
 
--- how many jobs a site has
+-- the number of jobs of a site
 abbrev pub job_count : SeenPlan → ℕ → ℕ
 job_count p s = length (jobs_of p s)
 
@@ -68,7 +68,7 @@ act_of p s k = (job_of p s k).act
 abbrev pub acts_of : SeenPlan → ℕ → List Act
 acts_of p s = map (λ (job : SeenJob). job.act) (jobs_of p s)
 
--- whether a site drops the jobs that it has left once one failed
+-- whether a site drops the jobs that it has left after one failed
 abbrev pub resigns : SeenPlan → ℕ → Bool
 resigns p s = (slice_index_or p.sites s no_site).resigns
 
@@ -104,7 +104,7 @@ is_end p s e = is_one_of (ends_of p e) s
 abbrev pub edges_of : SeenPlan → ℕ → List ℕ
 edges_of p s = positions_at p.edges s
 
--- the end of an edge other than this one
+-- the end of an edge that is not this site
 abbrev pub other_of : SeenPlan → ℕ → ℕ → ℕ
 other_of p e s = if lo_of p e == s then hi_of p e else lo_of p e
 
@@ -116,8 +116,8 @@ is_name_byte b = is_ascii_alphanumeric b || (b == 95) || (b == 45)
 abbrev pub is_name : List ℕ → Bool
 is_name bytes = nat_le 1 (length bytes) && nat_le (length bytes) 32 && list_all is_name_byte bytes
 
--- What holds of every plan: its limits, names that differ among sites, and edges between two sites, no two of them the
--- same.
+-- What is true of every plan: its limits, a name of its own for each site, and edges between two sites, no two of them
+-- the same.
 pub record IsPlan (p : SeenPlan) : Type 0 where
   pub first_version : 1 ≤ p.version
   pub last_version : p.version ≤ 2

@@ -1,2 +1,2 @@
--- What no public contract names: how a plan is kept.
+-- What no public contract names: what the fields of a plan say.
 pub mod Fields

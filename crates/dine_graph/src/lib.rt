@@ -1,4 +1,4 @@
-//! A plan that stands: sites with their jobs, and edges between two sites, with what is asked of them most.
+//! Plans: sites with their jobs, and edges between two sites, with the lists that a run reads most.
 #![tactic(auto)]
 
 mod places;

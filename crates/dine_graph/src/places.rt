@@ -1,12 +1,13 @@
 //! The edges of each site, and the places of each edge among them.
-ghost use Rattle.std.specs.Prelude.{◌≡◌, ◌==◌, ℕ, ◌<◌, ◌≤◌, true, Vec, vec_len, length, slice_index_or, slice_get, Some, IfOk};
+ghost use Rattle.std.specs.Prelude.{◌≡◌, ◌==◌, ℕ, ◌<◌, ◌≤◌, true, Vec, vec_len, length};
+ghost use Rattle.std.specs.Prelude.{slice_index_or, slice_get, Some, IfOk};
 ghost use Rattle.std.specs.List.{list_any};
 ghost use Rattle.std.specs.declared.alloc.Global.{Global as GlobalAlloc};
 ghost use Rattle.dine_graph.specs.Plan.{is_one_of, positions_at};
 
 use std::alloc::{AllocError, Global};
 
-/// For each of so many sites the edges that have it as an end, ascending.
+/// Lists for each of the `sites` sites the edges that have it as an end, ascending.
 pub(crate) fn lists_at(
     alloc: Global,
     sites: usize,
@@ -15,7 +16,8 @@ pub(crate) fn lists_at(
     requires few_sites { sites ≤ 64 }
     requires few_edges { length ends.now ≤ 512 }
     ensures len { IfOk result (λ v. vec_len v ≡ sites) }
-    ensures lists { IfOk result (λ v. (s : ℕ) (d : Vec ℕ GlobalAlloc) → s < sites → (slice_index_or v.items s d).items ≡ positions_at ends.now s) }
+    ensures lists { IfOk result (λ v. (s : ℕ) (d : Vec ℕ GlobalAlloc) → s < sites
+        → (slice_index_or v.items s d).items ≡ positions_at ends.now s) }
 {
     let mut lists = Vec::new(alloc);
     for site in 0..sites {
@@ -45,7 +47,7 @@ fn is_one_of(ends: (u32, u32), site: u32) -> bool
     ends.0 == site || ends.1 == site
 }
 
-/// The places of each edge in the lists of its two ends.
+/// Finds the places of each edge in the lists of its two ends.
 pub(crate) fn places_in(
     alloc: Global,
     ends: &[(u32, u32)],
@@ -54,10 +56,15 @@ pub(crate) fn places_in(
     requires few_edges { length ends.now ≤ 512 }
     requires low { (e : ℕ) → e < length ends.now → (slice_index_or ends.now e (0, 0)).0 < length lists.now }
     requires high { (e : ℕ) → e < length ends.now → (slice_index_or ends.now e (0, 0)).1 < length lists.now }
-    requires lists { (s : ℕ) (d : Vec ℕ GlobalAlloc) → s < length lists.now → (slice_index_or lists.now s d).items ≡ positions_at ends.now s }
+    requires lists { (s : ℕ) (d : Vec ℕ GlobalAlloc) → s < length lists.now
+        → (slice_index_or lists.now s d).items ≡ positions_at ends.now s }
     ensures len { IfOk result (λ v. vec_len v ≡ length ends.now) }
-    ensures at_low { IfOk result (λ v. (e : ℕ) → e < length ends.now → slice_get (positions_at ends.now (slice_index_or ends.now e (0, 0)).0) (slice_index_or v.items e (0, 0)).0 ≡ Some e) }
-    ensures at_high { IfOk result (λ v. (e : ℕ) → e < length ends.now → slice_get (positions_at ends.now (slice_index_or ends.now e (0, 0)).1) (slice_index_or v.items e (0, 0)).1 ≡ Some e) }
+    ensures at_low { IfOk result (λ v. (e : ℕ) → e < length ends.now
+        → slice_get (positions_at ends.now (slice_index_or ends.now e (0, 0)).0)
+        (slice_index_or v.items e (0, 0)).0 ≡ Some e) }
+    ensures at_high { IfOk result (λ v. (e : ℕ) → e < length ends.now
+        → slice_get (positions_at ends.now (slice_index_or ends.now e (0, 0)).1)
+        (slice_index_or v.items e (0, 0)).1 ≡ Some e) }
 {
     let mut places = Vec::new(alloc);
     for (edge, pair) in ends.iter().enumerate() {

@@ -1,6 +1,7 @@
 //! A plan: sites with their jobs, and edges between two sites.
 ghost use Rattle.std.specs.Prelude.{◌≡◌, ℕ, ◌<◌, ◌≤◌, map, length, Some, All, IfOk, IsTrue, slice_get};
-ghost use Rattle.dine_graph.specs.Plan.{IsPlan, site_count, edge_count, job_count, job_of, name_of, ends_of, other_of, edges_of, is_end, resigns, value_of};
+ghost use Rattle.dine_graph.specs.Plan.{IsPlan, site_count, edge_count, job_count, job_of, name_of};
+ghost use Rattle.dine_graph.specs.Plan.{ends_of, other_of, edges_of, is_end, resigns, value_of};
 ghost use Rattle.std.specs.List.Sorted.{IsStrictlyIncreasing};
 
 use crate::places::{lists_at, places_in};
@@ -13,22 +14,22 @@ use std::marker::Model;
 pub struct Job {
     /// The name of the job. Two jobs of a site may have the same.
     pub name: String,
-    /// How many turns the job takes, at most 1,000,000.
+    /// The number of turns that the job takes, at most 1,000,000.
     pub turns: u32,
     /// Whether the job fails.
     pub fails: bool,
-    /// What its meal does to the value of each edge of the site. A job that names nothing adds 0.
+    /// What its meal does to the value of each edge of the site. A job whose plan text names no act adds 0.
     pub act: Act,
 }
 
-/// A site of a plan that is made.
+/// A site of a plan, as [`Plan::new`] takes it.
 #[derive(Debug, Drop)]
 pub struct Site {
     /// The name of the site.
     pub name: String,
     /// Its jobs, in order.
     pub jobs: Vec<Job>,
-    /// Whether it drops the jobs that it has left once one failed.
+    /// Whether it drops the jobs that it has left after one failed.
     pub resigns: bool,
 }
 
@@ -51,20 +52,23 @@ impl Model for Plan {
 
     ghost Value = { SeenPlan };
 
-    ghost use Rattle.dine_graph.specs.private.Fields.{seen_plan, IsKept};
+    ghost use Rattle.dine_graph.specs.private.Fields.{seen_plan, IsSound};
 
     ghost view = { seen_plan };
 
-    ghost invariant = { IsKept };
+    ghost invariant = { IsSound };
 }
 
 impl Plan {
     ghost use Rattle.dine_graph.specs.Job.{seen_job};
-    ghost use Rattle.dine_graph.specs.Site.{seen_site};
+    ghost use Rattle.dine_graph.specs.Site.{plan_of_lists};
 
-    /// The plan of this version, these sites, these ends of edges and their values, which a caller shows to be a plan.
-    /// It answers `AllocError` where memory is refused. `dine_reader` reads plans from texts, and refuses
-    /// what is none.
+    /// Makes the plan of this version, these sites, these ends of edges and the values of the edges. The caller must
+    /// prove that they are a plan. `dine_reader` reads plans from texts, and refuses any text that is none.
+    ///
+    /// # Errors
+    ///
+    /// Returns `AllocError` if an allocation fails.
     pub fn new(
         alloc: Global,
         version: u32,
@@ -72,8 +76,8 @@ impl Plan {
         ends: Vec<(u32, u32)>,
         values: Vec<u64>,
     ) -> Result<Plan, AllocError>
-        requires { IsPlan (record { version = version; sites = map seen_site sites.items; edges = ends.items; values = values.items }) }
-        ensures { IfOk result (λ p. p ≡ record { version = version; sites = map seen_site sites.items; edges = ends.items; values = values.items }) }
+        requires { IsPlan (plan_of_lists version sites.items ends.items values.items) }
+        ensures { IfOk result (λ p. p ≡ plan_of_lists version sites.items ends.items values.items) }
     {
         let edges_of = lists_at(alloc, sites.len(), ends.as_slice())?;
         let places = places_in(alloc, ends.as_slice(), edges_of.as_slice())?;
@@ -87,7 +91,8 @@ impl Plan {
         })
     }
 
-    /// The version of the plan's format, 1 or 2. In version 1 each value is 0, each job adds 0, and no site resigns.
+    /// Returns the version of the plan's format, 1 or 2. In version 1 each value is 0, each job adds 0, and no site
+    /// resigns.
     pub fn version(&self) -> u32
         ensures version { result ≡ self.now.version }
         ensures plan { IsPlan self.now }
@@ -95,7 +100,7 @@ impl Plan {
         self.version
     }
 
-    /// How many sites there are, 1 to 64.
+    /// Returns the number of sites, 1 to 64.
     pub fn sites(&self) -> u32
         ensures count { result ≡ site_count self.now }
         ensures plan { IsPlan self.now }
@@ -103,7 +108,7 @@ impl Plan {
         self.sites.len() as u32
     }
 
-    /// How many edges there are, 0 to 512.
+    /// Returns the number of edges, 0 to 512.
     pub fn edges(&self) -> u32
         ensures count { result ≡ edge_count self.now }
         ensures plan { IsPlan self.now }
@@ -111,7 +116,7 @@ impl Plan {
         self.ends.len() as u32
     }
 
-    /// The name of a site, whose number is below `sites`.
+    /// Returns the name of a site, whose number is below `sites`.
     pub fn name(&self, site: u32) -> &str
         requires { site < site_count self.now }
         ensures name { result.now ≡ name_of self.now site }
@@ -120,7 +125,7 @@ impl Plan {
         self.sites[site as usize].name.as_str()
     }
 
-    /// How many jobs a site has, 0 to 1,000.
+    /// Returns the number of jobs of a site, 0 to 1,000.
     pub fn jobs(&self, site: u32) -> u32
         requires { site < site_count self.now }
         ensures count { result ≡ job_count self.now site }
@@ -129,7 +134,7 @@ impl Plan {
         self.sites[site as usize].jobs.len() as u32
     }
 
-    /// Job `k` of a site, from 1 to `jobs`.
+    /// Returns job `k` of a site, from 1 to `jobs`.
     pub fn job(&self, site: u32, k: u32) -> &Job
         requires site_in { site < site_count self.now }
         requires from_one { 1 ≤ k }
@@ -140,7 +145,7 @@ impl Plan {
         &self.sites[site as usize].jobs[(k - 1) as usize]
     }
 
-    /// Whether a site, whose number is below `sites`, drops the jobs that it has left once one failed.
+    /// Returns whether a site, whose number is below `sites`, drops the jobs that it has left after one failed.
     pub fn resigns(&self, site: u32) -> bool
         requires { site < site_count self.now }
         ensures policy { result ≡ resigns self.now site }
@@ -149,7 +154,7 @@ impl Plan {
         self.sites[site as usize].resigns
     }
 
-    /// The value of an edge before the first meal, at most 1,000,000. The edge's number is below `edges`.
+    /// Returns the value of an edge before the first meal, at most 1,000,000. The edge's number is below `edges`.
     pub fn value(&self, edge: u32) -> u64
         requires { edge < edge_count self.now }
         ensures value { result ≡ value_of self.now edge }
@@ -158,7 +163,7 @@ impl Plan {
         self.values[edge as usize]
     }
 
-    /// The edges that have the site as an end, ascending. The place of an edge is its position here, from 0.
+    /// Returns the edges that have the site as an end, ascending. The place of an edge is its position here, from 0.
     pub fn edges_of(&self, site: u32) -> &[u32]
         requires { site < site_count self.now }
         ensures edges { result.now ≡ edges_of self.now site }
@@ -170,7 +175,7 @@ impl Plan {
         self.edges_of[site as usize].as_slice()
     }
 
-    /// The place of an edge in `edges_of` the site, which is an end of the edge.
+    /// Returns the place of an edge in `edges_of` the site, which is an end of the edge.
     pub fn place(&self, edge: u32, site: u32) -> u32
         requires edge_in { edge < edge_count self.now }
         requires end { IsTrue (is_end self.now site edge) }
@@ -184,7 +189,7 @@ impl Plan {
         if lo == site { at_lo } else { at_hi }
     }
 
-    /// The two ends of an edge, whose number is below `edges`: the lower site number first.
+    /// Returns the two ends of an edge, whose number is below `edges`, the lower site number first.
     pub fn ends(&self, edge: u32) -> (u32, u32)
         requires { edge < edge_count self.now }
         ensures ends { result ≡ ends_of self.now edge }
@@ -193,7 +198,7 @@ impl Plan {
         self.ends[edge as usize]
     }
 
-    /// The end of an edge other than the site, which is an end of it.
+    /// Returns the end of an edge that is not the site, which is the other end.
     pub fn other(&self, edge: u32, site: u32) -> u32
         requires edge_in { edge < edge_count self.now }
         requires end { IsTrue (is_end self.now site edge) }

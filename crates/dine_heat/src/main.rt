@@ -22,7 +22,7 @@ struct Tile {
     cells: Vec<u32>,
 }
 
-// Heat flows from the hotter of two cells to the other until they differ by one at most.
+// Lets heat flow from the hotter of two cells to the other until they differ by at most one.
 fn level(a: u32, b: u32) -> (u32, u32) {
     if a > b {
         let flow = (a - b) / 2;
@@ -57,7 +57,7 @@ fn spread(cells: &mut Vec<u32>) {
     }
 }
 
-// The cell of a tile that is number i on its side to a neighbour.
+// Returns cell i of a tile on its side to a neighbour.
 fn cell_at(tile: SiteId, neighbour: SiteId, i: usize) -> usize
     requires { i < 16 }
 {
@@ -97,7 +97,7 @@ impl Job<Vec<u32>> for Tile {
     }
 }
 
-// The tiles of the square, row by row.
+// Returns the plan of the tiles of the square, row by row.
 fn square(alloc: Global) -> Result<Plan, PlanFault> {
     let mut plan = PlanBuilder::open(alloc);
     for n in 0..WIDE * WIDE {
@@ -115,7 +115,7 @@ fn square(alloc: Global) -> Result<Plan, PlanFault> {
     plan.finish()
 }
 
-// A strip for each edge, all of them cold.
+// Returns a strip for each edge, all of them cold.
 fn strips_of(alloc: Global, plan: &Plan) -> Result<Vec<Vec<u32>>, AllocError> {
     let mut strips = Vec::new(alloc);
     for _ in 0..plan.edges() {
@@ -124,7 +124,7 @@ fn strips_of(alloc: Global, plan: &Plan) -> Result<Vec<Vec<u32>>, AllocError> {
     Ok(strips)
 }
 
-// A tile for each site, of which the first alone is hot.
+// Returns a tile for each site. Only the first is hot.
 fn tiles_of(alloc: Global, plan: &Plan) -> Result<Vec<Tile>, AllocError> {
     let mut tiles = Vec::new(alloc);
     for n in 0..plan.sites() {

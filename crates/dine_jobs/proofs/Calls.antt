@@ -12,8 +12,8 @@ run_more after first [] old call new was did = (new, subst (λ j. after j call.k
 run_more after first (one ∷ calls) old call new was did = (was.0, was.1, run_more after was.0 calls old call new was.2 did)
 
 -- so it is where the call is known by its parts
-pub ran_more : {J : Type 0} (after : J → ℕ → Bool → J → Type 0) (before calls : List Call) (k told : ℕ) (ok went : Bool) (first old new : J) → calls ≡ before ++ record { k = k; ok = ok } ∷ [] → told ≡ k → ok ≡ went → ∥ HasRun after first before old ∥₁ → after old told went new → ∥ HasRun after first calls new ∥₁
-ran_more after before calls k told ok went first old new grown number answer was did =
+pub ran_more : {J : Type 0} (after : J → ℕ → Bool → J → Type 0) (before calls : List Call) (k number_called : ℕ) (ok went : Bool) (first old new : J) → calls ≡ before ++ record { k = k; ok = ok } ∷ [] → number_called ≡ k → ok ≡ went → ∥ HasRun after first before old ∥₁ → after old number_called went new → ∥ HasRun after first calls new ∥₁
+ran_more after before calls k number_called ok went first old new grown number answer was did =
     let did_so = subst (λ b. after old k b new) (sym answer) (subst (λ n. after old n went new) number did) in
     subst (λ all. ∥ HasRun after first all new ∥₁) (sym grown) (∥∥₁_map was (λ ran. run_more after first before old (record { k = k; ok = ok }) new ran did_so))
 

@@ -11,6 +11,7 @@ use Rattle.dine_site.specs.CallLogs.{SeenCallLog, no_calls}
 use Rattle.dine_site.specs.Diners.{HasLastFailed, StopsAtFailed, meals_called}
 use Rattle.dine_site.specs.declared.diner.Call.{Call}
 use Rattle.dine_site.specs.declared.diner.Diner as diners
+use Rattle.dine_site.specs.declared.manner.Manner.{Manner}
 use Rattle.dine_threads.specs.Gathered.{AreFinishedOuts, AreOutsOf, IsFinishedOut, IsOutOf}
 use Rattle.dine_threads.specs.declared.gathered.SiteOut.{SiteOut}
 use Rattle.dine_jobs.specs.JobRuns.{AreDoneBy, HasRun, IsDoneBy, failed_numbers, numbers_of}
@@ -32,21 +33,21 @@ length-count_from : (n first : ℕ) → length (count_from first n) ≡ n
 length-count_from zero first = refl
 length-count_from (suc n) first = ap suc (length-count_from n (first + 1))
 
-module _ {D J F : Type 0} (after : J → ℕ → Bool → J → Type 0) (plan : SeenPlan) (given : List J) (job_of : D → J) (log_of : D → SeenCallLog) (failures_of : D → Vec (Failure F)) (site_of : D → ℕ)
+module _ {D J F : Type 0} (after : J → ℕ → Bool → J → Type 0) (manner : Manner) (plan : SeenPlan) (given : List J) (job_of : D → J) (log_of : D → SeenCallLog) (failures_of : D → Vec (Failure F)) (site_of : D → ℕ)
     (ran : (d : D) (first : J) → slice_get given (site_of d) ≡ Some first → ∥ HasRun after first (log_of d).calls (job_of d) ∥₁)
     (failed : (d : D) → numbers_of (failures_of d).items ≡ failed_numbers (log_of d).calls)
     (eater : diners.Ghosts D) (calls_are : (d : D) → eater.calls d ≡ (log_of d).calls) (marks_are : (d : D) → eater.marks d ≡ replicate (site_of d) false) where
   abbrev pub left_by : SiteOut D → SiteDone J F
-  left_by out = record { job = job_of out.diner; log = log_of out.diner; failures = failures_of out.diner; journal = out.journal }
+  left_by out = record { job = job_of out.diner; log = log_of out.diner; failures = failures_of out.diner; journal = out.journal; checks = out.checks }
 
   -- the diner had as many calls as its site ate meals, and they are those since the run began
-  called : (s : ℕ) (diner : D) (out : SiteOut D) → log_of diner ≡ no_calls (job_count plan s) → (is : IsOutOf eater plan s diner out) → ((log_of out.diner).calls ≡ is.eaten.added) × (length (log_of out.diner).calls ≡ out.ate)
+  called : (s : ℕ) (diner : D) (out : SiteOut D) → log_of diner ≡ no_calls (job_count plan s) → (is : IsOutOf eater manner plan s diner out) → ((log_of out.diner).calls ≡ is.eaten.added) × (length (log_of out.diner).calls ≡ out.ate)
   called s diner out fresh is =
       let added = is.eaten.added in
       let all : (log_of out.diner).calls ≡ added = sym (calls_are out.diner) ∙ is.eaten.called ∙ ap (λ calls. calls ++ added) (calls_are diner ∙ ap (λ (log : SeenCallLog). log.calls) fresh) in
       (all, ap length all ∙ sym (length-map added (λ (call : Call). call.k)) ∙ ap length is.eaten.in_order ∙ length-count_from out.ate 1)
 
-  done_at : (s : ℕ) (diner : D) (first : J) (out : SiteOut D) → log_of diner ≡ no_calls (job_count plan s) → site_of diner ≡ s → slice_get given s ≡ Some first → IsOutOf eater plan s diner out → IsFinishedOut plan s out → IsDoneBy after plan s first (left_by out)
+  done_at : (s : ℕ) (diner : D) (first : J) (out : SiteOut D) → log_of diner ≡ no_calls (job_count plan s) → site_of diner ≡ s → slice_get given s ≡ Some first → IsOutOf eater manner plan s diner out → IsFinishedOut plan s out → IsDoneBy after manner plan s first (left_by out)
   done_at s diner first out fresh here at is finished =
       let none : eater.calls diner ≡ [] = calls_are diner ∙ ap (λ (log : SeenCallLog). log.calls) fresh in
       let is_called = called s diner out fresh is in
@@ -55,25 +56,26 @@ module _ {D J F : Type 0} (after : J → ℕ → Bool → J → Type 0) (plan : 
         in_order = ap meals_called is_called.0 ∙ is.eaten.in_order ∙ sym (ap (count_from 1) is_called.1);
         all = elim finished.has_no_job_left [
           | inl whole ↦ inl (is_called.1 ∙ whole)
-          | inr quit ↦ inr (quit.0, subst (HasLastFailed []) (calls_are out.diner) (subst (λ before. HasLastFailed before (eater.calls out.diner)) none (is.heeds.quits quit.1)))
+          | inr quit ↦ inr (quit.0, subst (HasLastFailed []) (calls_are out.diner) (subst (λ before. HasLastFailed before (eater.calls out.diner)) none (is.obeys.quits quit.1)))
         ];
-        stops = λ resigns. subst (StopsAtFailed []) (calls_are out.diner) (subst (λ before. StopsAtFailed before (eater.calls out.diner)) none (is.heeds.stops resigns));
+        stops = λ resigns. subst (StopsAtFailed []) (calls_are out.diner) (subst (λ before. StopsAtFailed before (eater.calls out.diner)) none (is.obeys.stops resigns));
         ran = ran out.diner first (ap (slice_get given) still ∙ at);
         failures = failed out.diner;
+        checks = is.checks;
       }
 
   module _ (diners : List D) (outs : List (SiteOut D))
       (fresh : (s : ℕ) (d : D) → slice_get diners s ≡ Some d → log_of d ≡ no_calls (job_count plan s))
       (here : (s : ℕ) (d : D) → slice_get diners s ≡ Some d → site_of d ≡ s)
       (many : length diners ≡ site_count plan)
-      (are : AreOutsOf eater plan diners outs) where
-    pub done_by : AreFinishedOuts plan outs → AreDoneBy after plan given (map left_by outs)
+      (are : AreOutsOf eater manner plan diners outs) where
+    pub done_by : AreFinishedOuts plan outs → AreDoneBy after manner plan given (map left_by outs)
     done_by finished = record {
       count = length-map outs left_by ∙ are.count;
       each = λ s first left at left_at.
           let out = mapped_at left_by outs s left left_at in
           let diner = there_is diners s (omega (arith, slice_get_within outs s out.0 out.1, are.count, many)) in
-          subst (IsDoneBy after plan s first) out.2 (done_at s diner.0 first out.0 (fresh s diner.0 diner.1) (here s diner.0 diner.1) at (are.each s diner.0 out.0 diner.1 out.1) (finished s out.0 out.1));
+          subst (IsDoneBy after manner plan s first) out.2 (done_at s diner.0 first out.0 (fresh s diner.0 diner.1) (here s diner.0 diner.1) at (are.each s diner.0 out.0 diner.1 out.1) (finished s out.0 out.1));
     }
 
     -- the meals of each site are the calls of its job

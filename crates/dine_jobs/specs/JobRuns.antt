@@ -1,9 +1,11 @@
--- What the jobs of a run did, each in a row of meals, and what is left of the run.
+-- What the jobs of a run did, each in its meals, one after the other, and what is left of the run.
 use Rattle.std.specs.Prelude.{◌≡◌, ◌⊎◌, ℕ, Bool, true, List, [], ◌∷◌, filter, length, map, not, slice_get, vec_len, Some}
 use Rattle.std.specs.Global.{Vec}
 use Rattle.dine_token.specs.Lawful.{count_from}
 use Rattle.dine_graph.specs.Plan.{SeenPlan, edge_count, job_count, resigns, site_count}
 use Rattle.dine_link.specs.Links.{SeenLink}
+use Rattle.dine_site.specs.declared.manner.Manner.{Manner}
+use Rattle.dine_site.specs.Doings.{empty_checks_of}
 use Rattle.dine_site.specs.Diners.{HasLastFailed, StopsAtFailed, meals_called}
 use Rattle.dine_site.specs.declared.diner.Call.{Call}
 use Rattle.dine_threads.specs.Headline.{IsHeadline}
@@ -27,27 +29,31 @@ failed_numbers calls = meals_called (filter (λ (call : Call). not call.ok) call
 abbrev pub numbers_of : {F : Type 0} → List (Failure F) → List ℕ
 numbers_of failures = map (λ (failure : Failure _). failure.k) failures
 
-module _ {J F : Type 0} (after : J → ℕ → Bool → J → Type 0) (plan : SeenPlan) where
+module _ {J F : Type 0} (after : J → ℕ → Bool → J → Type 0) (manner : Manner) (plan : SeenPlan) where
   -- The job that was given for site s was called for the meals 1, 2, 3, .. once each and in this order, for all of the
   -- site's meals, or up to one that failed if the site resigns. `∥ .. ∥₁` says that there are such states of the job.
+  -- The bell of the site has noted just the empty checks that go with the manner and the journal: none, or one for each
+  -- meal.
   pub record IsDoneBy (s : ℕ) (given : J) (left : SiteDone J F) : Type 0 where
     pub in_order : meals_called left.log.calls ≡ count_from 1 (length left.log.calls)
     pub all : (length left.log.calls ≡ job_count plan s) ⊎ ((resigns plan s ≡ true) × HasLastFailed [] left.log.calls)
     pub stops : resigns plan s ≡ true → StopsAtFailed [] left.log.calls
     pub ran : ∥ HasRun after given left.log.calls left.job ∥₁
     pub failures : numbers_of left.failures.items ≡ failed_numbers left.log.calls
+    pub checks : left.checks.at ≡ empty_checks_of manner left.journal.items
 
-  -- so it is for each site, in order
+  -- `IsDoneBy` holds of each site, in order
   pub record AreDoneBy (given : List J) (left : List (SiteDone J F)) : Type 0 where
     pub count : length left ≡ site_count plan
     pub each : (s : ℕ) (job : J) (site : SiteDone J F) → slice_get given s ≡ Some job → slice_get left s ≡ Some site → IsDoneBy s job site
 
--- What is left of a run of jobs that went well: there was a value for each edge and a job for each site, and so it is
--- of what came back. Each job was done as `IsDoneBy` says, the forks have lawful logs of just these meals, and there is
--- an order of the journals. What a job did to a value is not said, nor that a value was free when it was asked for.
-pub record IsDoneRun {T J F : Type 0} (after : J → ℕ → Bool → J → Type 0) (plan : SeenPlan) (values : Vec T) (jobs : Vec J) (done : Done T J F) : Type 0 where
+-- What is left of a run of jobs that went well. There was a value for each edge and a job for each site, and as many
+-- are returned. Each job was done as `IsDoneBy` says, the forks have lawful logs of just these meals, and the journals
+-- can be merged into one list. The definition does not say what a job did to a value, nor that a value was free when it
+-- was asked for.
+pub record IsDoneRun {T J F : Type 0} (after : J → ℕ → Bool → J → Type 0) (manner : Manner) (plan : SeenPlan) (values : Vec T) (jobs : Vec J) (done : Done T J F) : Type 0 where
   pub many : AreAsMany plan values jobs
   pub values_back : vec_len done.values ≡ edge_count plan
-  pub sites : AreDoneBy after plan jobs.items done.sites.items
+  pub sites : AreDoneBy after manner plan jobs.items done.sites.items
   pub forks : (links : List SeenLink) × IsHeadline plan (map (λ (left : SiteDone J F). length left.log.calls) done.sites.items) links done.forks.items
   pub ordered : HaveOrder plan (map (λ (left : SiteDone J F). left.journal.items) done.sites.items)

@@ -3,6 +3,7 @@ ghost use Rattle.std.specs.Prelude.{◌≡◌, Some};
 ghost use Rattle.dine_jobs.specs.JobFaults.{jobs_cause_words};
 
 use crate::job::{Failure, Job};
+use dine_link::EmptyChecks;
 use dine_rules::EventKind;
 use dine_site::{Call, CallLog};
 use dine_threads::RunCause;
@@ -11,18 +12,20 @@ use std::convert::AsSlice;
 use std::error::Error;
 use std::fmt;
 
-/// What is left of a site: its job, the record of its calls, of each job that failed why, and its journal, which has
-/// each event that it did, in order. `order` puts the journals of all sites into one list.
+/// What is left of a site: its job, the record of its calls, why each job failed that did, its journal, which has each
+/// event that it did, in order, and the checks of its bell that found no ring left, which only proofs read. `order`
+/// puts the journals of all sites into one list.
 #[derive(Drop)]
 pub struct SiteDone<J: Drop, F: Drop> {
     pub job: J,
     pub log: CallLog,
     pub failures: Vec<Failure<F>>,
     pub journal: Vec<EventKind>,
+    pub checks: EmptyChecks,
 }
 
 impl<J: Drop, F: Drop> SiteDone<J, F> {
-    /// All calls of the job, in order: the number of the meal, and whether it went well.
+    /// Returns all calls of the job, in order: the number of the meal, and whether it went well.
     pub fn calls(&self) -> &[Call]
         ensures { result.now ≡ self.now.log.calls }
     {
@@ -59,7 +62,7 @@ pub enum JobsCause {
     ValuesDiffer,
     /// There are not as many jobs as sites. Nothing was started.
     JobsDiffer,
-    /// Memory was refused before any thread started.
+    /// An allocation failed before any thread started.
     Memory,
     /// The run failed.
     Run(RunCause),
@@ -67,7 +70,7 @@ pub enum JobsCause {
     Kept,
 }
 
-/// Why there is nothing left of a run of jobs, and what is handed back.
+/// Why there is nothing left of a run of jobs, and what is returned with it.
 #[derive(Drop)]
 pub struct JobsFault<T: Drop, J: Drop> {
     pub cause: JobsCause,
@@ -77,7 +80,7 @@ pub struct JobsFault<T: Drop, J: Drop> {
     pub jobs: Vec<J>,
 }
 
-/// `run refused: values differ`, `run refused: jobs differ`, `out of memory`, the words of the run's cause, or
+/// `run refused: values differ`, `run refused: jobs differ`, `out of memory`, the words for the run's cause, or
 /// `a thread kept the values`.
 impl fmt::Display for JobsCause {
     ghost output = { λ cause. Some (jobs_cause_words cause) };
@@ -95,7 +98,7 @@ impl fmt::Display for JobsCause {
 
 impl Error for JobsCause {}
 
-/// The words of the cause.
+/// The words for the cause.
 impl<T: Drop, J: Drop> fmt::Display for JobsFault<T, J> {
     ghost output = { λ fault. Some (jobs_cause_words fault.cause) };
 

@@ -1,9 +1,9 @@
-//! The jobs that a run was given, as its contracts know them.
+//! The jobs that a run was given, for its contracts.
 ghost use Rattle.std.specs.Prelude.{List, []};
 
 use std::marker::Brand;
 
-/// Tells contracts, and only them, which jobs a run was given. The call that begins the run picks the list.
+/// The jobs that a run was given. Only contracts see the list; the call that begins the run picks it.
 pub trait Given<J> {
     // The jobs as they were before the run, by site.
     ghost given: { List J };

@@ -6,8 +6,8 @@ mod done;
 mod given;
 mod ids;
 mod job;
+mod job_diner;
 mod runs;
-mod seated;
 mod table;
 mod values;
 

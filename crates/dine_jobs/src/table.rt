@@ -1,27 +1,41 @@
-//! What a job has before it in a meal.
+//! The table of a meal: what a job sees and opens while it runs.
 ghost use Rattle.std.specs.Prelude.{◌≡◌, ◌<◌, ◌≤◌, ◌↔◌, IfSome, IsErrOf, IsNone, OnOk, Some, length, slice_get};
 ghost use Rattle.dine_token.specs.Fork.{SeenFork, other_end};
+ghost use Rattle.dine_jobs.specs.JobFaults.{open_fault_words};
 
 use crate::ids::{EdgeId, Place, SiteId};
 use crate::values::Values;
 use dine_site::JobFault;
 use dine_token::Meal;
+use std::error::Error;
+use std::fmt;
 use std::marker::Model;
 use std::sync::MutexGuard;
-use thiserror::Error;
 
 /// Why a value was not opened.
-#[derive(Clone, Copy, Debug, PartialEq, Eq, Error)]
+#[derive(Clone, Copy, Debug, PartialEq, Eq)]
 pub enum OpenFault {
     /// The site has no such place, edge or neighbour.
-    #[error("the site has no such edge")]
     NoEdge,
-    /// The value is open: the job opened it, and has it still.
-    #[error("the value is open already")]
+    /// The value is open: the job opened it before, and has it still.
     Open,
 }
 
-/// So `?` ends a job that could not open a value. The job failed.
+/// `the site has no such edge` or `the value is open already`.
+impl fmt::Display for OpenFault {
+    ghost output = { λ fault. Some (open_fault_words fault) };
+
+    fn fmt<W: fmt::Write>(&self, f: &mut fmt::Formatter<W>) -> fmt::Result {
+        match self {
+            OpenFault::NoEdge => f.write_str("the site has no such edge"),
+            OpenFault::Open => f.write_str("the value is open already"),
+        }
+    }
+}
+
+impl Error for OpenFault {}
+
+/// With this, `?` ends a job that could not open a value. The job failed.
 impl From<OpenFault> for JobFault {
     fn from(_fault: OpenFault) -> JobFault {
         JobFault
@@ -47,37 +61,38 @@ impl<'a, T: Drop> Model for Table<'a, T> {
 }
 
 impl<'a, T: Drop> Table<'a, T> {
-    // The table of a meal.
-    pub(crate) fn lay(meal: &'a Meal, values: &'a Values<T>) -> Table<'a, T>
+    // Returns the table of a meal.
+    pub(crate) fn new(meal: &'a Meal, values: &'a Values<T>) -> Table<'a, T>
         ensures { result ≡ meal.now }
     {
         Table { meal, values }
     }
 
-    /// The site that eats.
+    /// Returns the site that eats.
     pub fn site(&self) -> SiteId
         ensures { result.0 ≡ self.now.site }
     {
         SiteId(self.meal.site())
     }
 
-    /// The number of the meal, from 1, and so of the job.
+    /// Returns the number of the meal, from 1, which is the number of the job.
     pub fn k(&self) -> u32
         ensures { result ≡ self.now.k }
     {
         self.meal.k()
     }
 
-    /// How many edges the site has.
+    /// Returns how many edges the site has.
     pub fn places(&self) -> u32
         ensures { result ≡ length self.now.forks }
     {
         self.meal.len()
     }
 
-    /// The edge at a place. None exactly if the site has no such place.
+    /// Returns the edge at a place. It is None exactly if the site has no such place.
     pub fn edge(&self, place: Place) -> Option<EdgeId>
-        ensures edge { IfSome result (λ edge. (fork : SeenFork) × (slice_get self.now.forks place.0 ≡ Some fork) × (fork.edge ≡ edge.0)) }
+        ensures edge { IfSome result (λ edge. (fork : SeenFork)
+            × (slice_get self.now.forks place.0 ≡ Some fork) × (fork.edge ≡ edge.0)) }
         ensures none { length self.now.forks ≤ place.0 ↔ IsNone result }
     {
         if place.0 >= self.meal.len() {
@@ -86,9 +101,10 @@ impl<'a, T: Drop> Table<'a, T> {
         Some(EdgeId(self.meal.fork(place.0).edge()))
     }
 
-    /// The site at the other end of the edge at a place. None exactly if the site has no such place.
+    /// Returns the site at the other end of the edge at a place. It is None exactly if the site has no such place.
     pub fn neighbour(&self, place: Place) -> Option<SiteId>
-        ensures site { IfSome result (λ site. (fork : SeenFork) × (slice_get self.now.forks place.0 ≡ Some fork) × (site.0 ≡ other_end fork self.now.site)) }
+        ensures site { IfSome result (λ site. (fork : SeenFork)
+            × (slice_get self.now.forks place.0 ≡ Some fork) × (site.0 ≡ other_end fork self.now.site)) }
         ensures none { length self.now.forks ≤ place.0 ↔ IsNone result }
     {
         if place.0 >= self.meal.len() {
@@ -123,7 +139,8 @@ impl<'a, T: Drop> Table<'a, T> {
     ///
     /// `NoEdge` if it is no edge of the site. `Open` if the job has the value open.
     pub fn open_edge(&self, edge: EdgeId) -> Result<MutexGuard<'_, T>, OpenFault>
-        ensures { OnOk result ((place : _) × (fork : SeenFork) × (slice_get self.now.forks place ≡ Some fork) × (fork.edge ≡ edge.0)) }
+        ensures { OnOk result ((place : _) × (fork : SeenFork)
+            × (slice_get self.now.forks place ≡ Some fork) × (fork.edge ≡ edge.0)) }
     {
         for place in 0..self.meal.len() {
             if self.meal.fork(place).edge() == edge.0 {
@@ -139,7 +156,8 @@ impl<'a, T: Drop> Table<'a, T> {
     ///
     /// `NoEdge` if the site has no edge to that one. `Open` if the job has the value open.
     pub fn open_with(&self, neighbour: SiteId) -> Result<MutexGuard<'_, T>, OpenFault>
-        ensures { OnOk result ((place : _) × (fork : SeenFork) × (slice_get self.now.forks place ≡ Some fork) × (neighbour.0 ≡ other_end fork self.now.site)) }
+        ensures { OnOk result ((place : _) × (fork : SeenFork)
+            × (slice_get self.now.forks place ≡ Some fork) × (neighbour.0 ≡ other_end fork self.now.site)) }
     {
         for place in 0..self.meal.len() {
             if self.neighbour(Place(place)) == Some(neighbour) {

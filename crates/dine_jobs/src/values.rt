@@ -1,4 +1,4 @@
-//! A value for each edge.
+//! The values that the sites of a run share, one for each edge.
 ghost use Rattle.std.specs.Prelude.{◌≡◌, ◌≤◌, IfErr, IfOk, vec_capacity, vec_len};
 
 use crate::table::OpenFault;
@@ -6,8 +6,9 @@ use std::alloc::{AllocError, Global};
 use std::sync::atomic::{AtomicU64, Ordering};
 use std::sync::{Mutex, MutexGuard};
 
-/// A value for each edge, by number, which the sites of a run share. A value is opened by whoever eats with the fork of
-/// its edge. So its lock is free whenever it is asked for, unless the same job has it. No clause says that; tests do.
+/// A value for each edge, by number, which the sites of a run share. Only a site that eats with the fork of an edge
+/// opens its value. So the lock of a value is free when it is asked for, unless the same job has it. No clause says
+/// that; tests check it.
 #[derive(Drop)]
 pub struct Values<T: Drop> {
     cells: Vec<Mutex<T>>,
@@ -15,8 +16,8 @@ pub struct Values<T: Drop> {
 }
 
 impl<T: Drop> Values<T> {
-    // The values by edge, each in its lock. They come with the list that held them, which is empty now and has the
-    // capacity for them all.
+    // Returns the values by edge, each in its lock, with an empty list that has capacity for all of them. If an
+    // allocation fails, it returns the values.
     pub(crate) fn lock(alloc: Global, values: Vec<T>) -> Result<(Values<T>, Vec<T>), Vec<T>>
         ensures cells { IfOk result (λ locked. vec_len locked.0.cells ≡ vec_len values) }
         ensures empty { IfOk result (λ locked. vec_len locked.1 ≡ 0) }
@@ -48,7 +49,7 @@ impl<T: Drop> Values<T> {
         Ok(guard)
     }
 
-    // How often a lock was not free.
+    // Returns how often a lock was not free.
     pub(crate) fn missed(&self) -> u64 {
         self.missed.load(Ordering::SeqCst)
     }

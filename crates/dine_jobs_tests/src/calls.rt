@@ -1,4 +1,4 @@
-// Each job is done once, with its own number, and its answer is kept as it is.
+// Each job is done once, with its own number, and its result is kept unchanged.
 use crate::plans::{band_of, resigning};
 use dine_run::{
     Done, EventKind, Job, Plan, SiteDone, SiteId, Table, no_values, on_channels, on_rings, order,
@@ -71,7 +71,7 @@ fn is_right(rt: &impl Abort, alloc: Global, n: u32, site: &SiteDone<Witness, Thi
     }
 }
 
-// All sites did all their jobs, but for site 0, which did so many. There is an order of what they did, with each meal.
+// Checks that all sites did all their jobs, except site 0, which did a given number, and that an order has each meal.
 fn are_right(rt: &impl Abort, alloc: Global, plan: &Plan, done: Done<(), Witness>, first: u32) {
     assert_eq!(rt;
         (done.sites.len(), done.values.len()),
@@ -106,7 +106,7 @@ fn both<R: Threads + Wait + Abort + Copy + Send + 'static>(
 }
 
 #[test]
-fn each_job_is_done_once_with_its_number_and_its_answer(rt: HostRuntime) -> Result<(), Fail> {
+fn each_job_is_done_once_with_its_number_and_its_result(rt: HostRuntime) -> Result<(), Fail> {
     let plan = band_of(&rt, rt.alloc(), SITES, JOBS);
     both(&rt, rt.alloc(), &plan, JOBS)
 }

@@ -1,4 +1,4 @@
-// Runs of jobs that are refused, and what is handed back.
+// Runs of jobs that are refused, and what they return.
 use crate::plans::band_of;
 use dine_run::{Job, JobFault, JobsCause, JobsFault, Table, on_rings};
 use std::alloc::Global;
@@ -25,18 +25,18 @@ fn numbers(rt: &impl Abort, alloc: Global, n: u32) -> Vec<u32> {
     numbers
 }
 
-// The fault has this cause and these words, and hands back so many values and jobs, in order.
+// Checks the cause and the text of the fault, and that it returns the values and jobs, in order.
 fn hands_back(
     rt: &impl Abort,
     alloc: Global,
     fault: JobsFault<u32, Idle>,
     cause: JobsCause,
-    words: &str,
+    text: &str,
     sizes: (u32, u32),
 ) {
     assert_eq!(rt; fault.cause, cause);
-    let told = fault.to_string(alloc).expect(rt, "memory");
-    assert_eq!(rt; told.as_str(), words);
+    let printed = fault.to_string(alloc).expect(rt, "memory");
+    assert_eq!(rt; printed.as_str(), text);
     let values = numbers(rt, alloc, sizes.0);
     assert_eq!(rt; fault.values.as_slice(), values.as_slice());
     assert_eq!(rt; fault.jobs.len(), sizes.1 as usize);
@@ -50,7 +50,7 @@ fn values_and_jobs_that_are_not_as_many_are_handed_back(rt: HostRuntime) -> Resu
     let alloc = rt.alloc();
     // Three sites with three edges.
     let plan = band_of(&rt, alloc, 3, 2);
-    for (values, jobs, cause, words) in [
+    for (values, jobs, cause, text) in [
         (2, 3, JobsCause::ValuesDiffer, "run refused: values differ"),
         (4, 3, JobsCause::ValuesDiffer, "run refused: values differ"),
         (0, 0, JobsCause::ValuesDiffer, "run refused: values differ"),
@@ -63,7 +63,7 @@ fn values_and_jobs_that_are_not_as_many_are_handed_back(rt: HostRuntime) -> Resu
         }
         match on_rings(&rt, alloc, &plan, numbers(&rt, alloc, values), idle) {
             Ok(_done) => panic!(rt; "it ran"),
-            Err(fault) => hands_back(&rt, alloc, fault, cause, words, (values, jobs)),
+            Err(fault) => hands_back(&rt, alloc, fault, cause, text, (values, jobs)),
         }
     }
     Ok(())

@@ -1,10 +1,12 @@
-//! The tests of jobs and the values that they share: runs over each kind of links, and what single jobs are told.
+//! The tests of jobs and the values that they share: runs over each kind of links, and what single jobs are given.
 #![tactic(auto)]
 
 #[cfg(test)]
 mod calls;
 #[cfg(test)]
 mod faults;
+#[cfg(test)]
+mod manners;
 #[cfg(test)]
 mod plans;
 #[cfg(test)]

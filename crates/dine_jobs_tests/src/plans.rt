@@ -3,8 +3,8 @@ use dine_run::{Plan, PlanBuilder, PlanFault};
 use std::alloc::Global;
 use std::process::Abort;
 
-// Sites round a band: each has an edge to the next and to the one after it. Each has so many jobs. Of site 0 it is told
-// whether it resigns.
+// Returns a plan of sites in a ring, with an edge from each to the next and to the one after it, and a number of jobs
+// for each. Site 0 may resign.
 fn band(alloc: Global, sites: u32, jobs: u32, resigns: bool) -> Result<Plan, PlanFault> {
     let mut plan = PlanBuilder::open(alloc);
     for n in 0..sites {
@@ -31,7 +31,7 @@ pub fn band_of(rt: &impl Abort, alloc: Global, sites: u32, jobs: u32) -> Plan {
     band(alloc, sites, jobs, false).expect(rt, "a plan")
 }
 
-// The same, where site 0 resigns.
+// The same, and site 0 resigns.
 pub fn resigning(rt: &impl Abort, alloc: Global, sites: u32, jobs: u32) -> Plan {
     band(alloc, sites, jobs, true).expect(rt, "a plan")
 }

@@ -109,7 +109,7 @@ impl Job<()> for Unguarded {
     }
 }
 
-// The runs above would find a lock that is not free: if one lock stands for many edges, some run does.
+// The runs above would find a lock that is not free: with one lock for many edges, some run finds it so.
 #[test]
 fn a_lock_that_no_fork_guards_is_found_taken(rt: HostRuntime) -> Result<(), Fail> {
     let alloc = rt.alloc();

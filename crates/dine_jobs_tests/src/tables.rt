@@ -3,7 +3,7 @@ use crate::plans::band_of;
 use dine_run::{EdgeId, Job, JobFault, OpenFault, Place, SiteId, Table, on_rings};
 use std::test::Fail;
 
-// Looks at each place of its table, and opens each value in every way, and twice.
+// A job that checks each place of its table, and opens each value in every way, and twice.
 #[derive(Drop)]
 struct Looker;
 

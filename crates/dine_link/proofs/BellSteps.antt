@@ -9,7 +9,7 @@ use Rattle.crossbeam_channel.specs.Fifo.{Pushes, Pops, Forks}
 use Rattle.atomic_table.proofs.Lists.{at_snoc}
 use Rattle.dine_link.specs.declared.bell_rule.Part.{Part}
 use Rattle.dine_link.specs.declared.bell_rule.Part.TheVariants.{Waits, Rings}
-use Rattle.dine_link.specs.private.BellRule.{IsOfRinger, Fits, AreOfRingers, no_ringers, one_more, next_ringer, IsKnown, after_sound, after_hearing, rings_of}
+use Rattle.dine_link.specs.private.BellRule.{IsOfRinger, Fits, AreOfRingers, no_ringers, with_next_ringer, next_ringer, IsKnown, after_sound, after_hearing, rings_of}
 use Rattle.dine_link.specs.Bells.{BellId, SeenRinger, new_ringer}
 use Rattle.dine_link.proofs.Passes.{Each, each_set}
 
@@ -21,21 +21,21 @@ begins_at (suc pass) view e = absurd (some-ne-none view (sym e))
 pub begins : AreOfRingers [] (no_ringers ∷ [])
 begins = record { ringers = 0; bell = 0; below = All-nil (λ (number : ℕ). number < 0); fits = begins_at }
 
--- a pass fits as before, and what it knows is told by the number of the ringers
+-- a pass fits after a step as before it, and the numbers that it knows are below the number of ringers
 fits_sound : (ringers bell pass : ℕ) (v : Part) → Fits ringers bell pass v → Fits ringers bell pass (after_sound v)
-fits_sound ringers bell pass (Waits count told) fits = fits
+fits_sound ringers bell pass (Waits count reported) fits = fits
 fits_sound ringers bell pass (Rings own rings) fits = fits
 
 fits_hearing : (ringers bell pass number : ℕ) (v : Part) → Fits ringers bell pass v → Fits ringers bell pass (after_hearing v number)
-fits_hearing ringers bell pass number (Waits count told) fits = fits
+fits_hearing ringers bell pass number (Waits count reported) fits = fits
 fits_hearing ringers bell pass number (Rings own rings) fits = fits
 
 ringer_below : (ringers bell pass number : ℕ) (v : Part) → Fits ringers bell pass v → IsOfRinger number v → number < ringers
-ringer_below ringers bell pass number (Waits count told) fits is = absurd is
+ringer_below ringers bell pass number (Waits count reported) fits is = absurd is
 ringer_below ringers bell pass number (Rings own rings) fits is = omega (arith, fits, is)
 
 known_below : (ringers bell pass number : ℕ) (v : Part) → Fits ringers bell pass v → number < ringers → IsKnown number v
-known_below ringers bell pass number (Waits count told) fits below = omega (arith, fits.1, below)
+known_below ringers bell pass number (Waits count reported) fits below = omega (arith, fits.1, below)
 known_below ringers bell pass number (Rings own rings) fits below = tt
 
 -- a ring
@@ -66,7 +66,7 @@ hears pass v number queue views h at = let P : ℕ → Type 0 = λ y. y < h.ring
 
 -- a pass other than the bell's fits one ringer more
 fits_more : (ringers bell pass other : ℕ) (u : Part) → pass ≡ bell → other ≢ pass → Fits ringers bell other u → Fits (ringers + 1) bell other u
-fits_more ringers bell pass other (Waits count told) is apart fits = absurd (apart (fits.0 ∙ sym is))
+fits_more ringers bell pass other (Waits count reported) is apart fits = absurd (apart (fits.0 ∙ sym is))
 fits_more ringers bell pass other (Rings own rings) is apart fits = omega (arith, fits)
 
 all_more : (ringers : ℕ) (queue : List ℕ) → All (λ y. y < ringers) queue → All (λ y. y < ringers + 1) queue
@@ -87,8 +87,8 @@ waits_forks pass count queue views h at =
       fits = λ j u e. ⊎_elim (λ x. old j u x) (λ (is : Rings count 0 ≡ u). subst (λ (y : Part). New j y) is (omega (arith, same))) (at_snoc vs (Rings count 0) u j e);
     }
 
-pub forks : (pass : ℕ) (v : Part) (count : ℕ) → v ≡ Waits count [] → Forks AreOfRingers pass v (one_more v) (next_ringer v)
-forks pass v count is = subst (λ (u : Part). Forks AreOfRingers pass u (one_more u) (next_ringer u)) (sym is) (waits_forks pass count)
+pub forks : (pass : ℕ) (v : Part) (count : ℕ) → v ≡ Waits count [] → Forks AreOfRingers pass v (with_next_ringer v) (next_ringer v)
+forks pass v count is = subst (λ (u : Part). Forks AreOfRingers pass u (with_next_ringer u) (next_ringer u)) (sym is) (waits_forks pass count)
 
 -- the ringers so far and a new one
 pub ringer_more : (bell own_bell : BellId) (number : ℕ) (before after : List SeenRinger) (own : Part) → before ≡ map (new_ringer bell) (range_with_len 0 number) → own_bell ≡ bell → own ≡ Rings number 0

@@ -1,5 +1,5 @@
--- What one letter more does to the words on Close, and what stands behind Close.
-use Rattle.std.specs.Prelude.{Result, Ok, Err, MatchResult}
+-- What one further letter changes about Close, and that nothing is after Close.
+use Rattle.std.specs.Prelude.{Result, Ok, Err, IfOk, IfErr}
 use Rattle.dine_link.specs.Links.{SeenEnd, with_letter_at, after_refusal}
 use Rattle.std.proofs.Common.{◌≡◌, ℕ, true, false, true≢false, List, [], ◌∷◌, ◌++◌, sym, refl, ◌∙◌, subst}
 use Rattle.std.proofs.lemmas.List.{append-nil}
@@ -9,7 +9,7 @@ use Rattle.dine_rules.specs.Letters.{has_close}
 use Rattle.dine_rules.specs.Streams.{is_close_last}
 use Rattle.dine_link.specs.Closing.{is_close, ends_in_close}
 
--- a letter added where Close was not before
+-- a letter added to a list without Close
 pub has_close-added : (letters : List Letter) (x : Letter) → has_close letters ≡ false → has_close (letters ++ x ∷ []) ≡ is_close x
 has_close-added [] (Fork fork) h = refl
 has_close-added [] (Request edge) h = refl
@@ -20,7 +20,7 @@ has_close-added (Request edge ∷ letters) x h = has_close-added letters x h
 has_close-added (Done ∷ letters) x h = has_close-added letters x h
 has_close-added (Close ∷ letters) x h = absurd (true≢false h)
 
--- without Close nothing stands behind it, and it is not the last letter
+-- in a list without Close nothing is after it, and it is not the last letter
 pub close_last-open : (letters : List Letter) → has_close letters ≡ false → is_close_last letters ≡ true
 close_last-open [] h = refl
 close_last-open (Fork fork ∷ letters) h = close_last-open letters h
@@ -45,7 +45,7 @@ not_ended-open [] h = refl
 not_ended-open (x ∷ []) h = last_of x h
 not_ended-open (x ∷ y ∷ letters) h = not_ended-open (y ∷ letters) (rest_of x (y ∷ letters) h)
 
--- Close added where it was not before is the last letter, and the only Close
+-- Close added to a list without it is the last letter, and the only Close
 pub ended-added : (letters : List Letter) → ends_in_close (letters ++ Close ∷ []) ≡ true
 ended-added [] = refl
 ended-added (x ∷ []) = refl
@@ -58,7 +58,7 @@ close_last-added (Request edge ∷ letters) h = close_last-added letters h
 close_last-added (Done ∷ letters) h = close_last-added letters h
 close_last-added (Close ∷ letters) h = absurd (true≢false h)
 
--- nothing stands behind the first letters among which Close is
+-- a prefix that has Close is followed by no letter
 nothing_behind : (taken : List Letter) (x : Letter) (queue : List Letter) → has_close taken ≡ true → is_close_last (taken ++ x ∷ queue) ≡ true → ⊥
 nothing_behind [] x queue h last = true≢false (sym h)
 nothing_behind (Fork fork ∷ taken) x queue h last = nothing_behind taken x queue h last
@@ -72,8 +72,8 @@ pub whole : (put taken queue : List Letter) → put ≡ taken ++ queue → has_c
 whole put taken [] e h last = sym (append-nil taken) ∙ sym e
 whole put taken (x ∷ queue) e h last = absurd (nothing_behind taken x queue h (let P : List Letter → Type 0 = λ letters. is_close_last letters ≡ true in subst P e last))
 
--- a send that may be refused leaves an end without Close so
-pub unclosed-sent : {Identity : Type 0} (result : Result Unit Letter) (before after : SeenEnd Identity) (x : Letter) (at : ℕ) → MatchResult result (λ _. after ≡ with_letter_at x at before) (λ back. (back ≡ x) × (after ≡ after_refusal before))
+-- a send, refused or not, of a letter other than Close leaves an end without Close
+pub unclosed-sent : {Identity : Type 0} (result : Result Unit Letter) (before after : SeenEnd Identity) (x : Letter) (at : ℕ) → IfOk result (λ _. after ≡ with_letter_at x at before) → IfErr result (λ _. after ≡ after_refusal before)
     → has_close before.letters ≡ false → is_close x ≡ false → has_close after.letters ≡ false
-unclosed-sent (Ok done) before after x at h unclosed other = rw h (has_close-added before.letters x unclosed ∙ other)
-unclosed-sent (Err back) before after x at h unclosed other = rw h.1 unclosed
+unclosed-sent (Ok done) before after x at put refused unclosed other = rw put (has_close-added before.letters x unclosed ∙ other)
+unclosed-sent (Err back) before after x at put refused unclosed other = rw refused unclosed

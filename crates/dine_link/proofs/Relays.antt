@@ -7,9 +7,9 @@ use Rattle.atomic_table.proofs.Lists.{at_set, at_snoc}
 use Rattle.dine_link.specs.declared.stamped.Stamped.{Stamped}
 use Rattle.dine_link.specs.declared.rule.Known.{Known}
 use Rattle.dine_link.proofs.Passes.{Each, each_set}
-use Rattle.dine_link.specs.private.Rule.{Fits, IsInOrder, fresh, spent, putting, taking, both, after_put, after_take}
+use Rattle.dine_link.specs.private.Rule.{Fits, IsInOrder, fresh, spent, putting, taking, joined, after_put, after_take}
 
--- the view just behind the end of a list is the one that was added
+-- the view just after the end of a list is the one that was added
 at_end : (views : List Known) (a b : Known) (j : ℕ) → get_elem? views j ≢ some b → get_elem? (views ++ a ∷ []) j ≡ some b → j ≡ length views
 at_end [] a b zero n e = refl
 at_end [] a b (suc j) n e = absurd (some-ne-none b (sym e))
@@ -81,9 +81,9 @@ forks pass v a b items views h at =
     }
 
 -- two passes made one
-pub merges : (pass : ℕ) (v : Known) (other : ℕ) (u : Known) → v.puts ≡ true → u.takes ≡ true → Merges IsInOrder pass v other u (both v u) spent
+pub merges : (pass : ℕ) (v : Known) (other : ℕ) (u : Known) → v.puts ≡ true → u.takes ≡ true → Merges IsInOrder pass v other u (joined v u) spent
 merges pass v other u a b items views h at two at' =
-    let one : Known = both v u in
+    let one : Known = joined v u in
     let mine = h.fits pass v at in
     let vs : List Known = set views pass one in
     let was : get_elem? views other ≡ some u = ⊎_elim (λ x. absurd (two x.0)) (λ x. x.1) (at_set views pass other one u at') in

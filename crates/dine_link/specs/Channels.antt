@@ -20,11 +20,11 @@ use Rattle.dine_link.specs.declared.channel.ChannelClosedTx.{ChannelClosedTx}
 use Rattle.dine_link.specs.declared.channel.ChannelRx.{ChannelRx}
 use Rattle.dine_link.specs.Links.{SeenEnd}
 
--- the channel itself, which tells a link from every other
+-- the channel itself, which tells a link from every other one
 abbrev pub Channel : Type 0
 Channel = Rows (Badge (Key Stamped)) (Doing Stamped Known) (Rounds InOrder) (Option Stamped) (Key Stamped) (Lockers Whole) Global
 
--- an end that letters are put in, live or closed: all that was put in it, and whether it met a refusal
+-- an end that letters are put in, live or closed: all that was put in it, and whether a step was refused
 abbrev pub seen_putting : Putting → SeenEnd Channel
 seen_putting tx = record { link = record { identity = sends_on tx.sender; edge = tx.edge; from = tx.from }; letters = letters_in (view tx.pass).put; moments = moments_in (view tx.pass).put; refused = tx.refused }
 
@@ -36,6 +36,6 @@ seen_tx tx = seen_putting tx.putting
 abbrev pub seen_closed : ChannelClosedTx → SeenEnd Channel
 seen_closed tx = seen_putting tx.putting
 
--- the end of a channel that letters are taken from: all that was taken, and whether it met a refusal
+-- the end of a channel that letters are taken from: all that was taken, and whether a step was refused
 abbrev pub seen_rx : ChannelRx → SeenEnd Channel
 seen_rx rx = record { link = record { identity = receives_on rx.receiver; edge = rx.edge; from = rx.from }; letters = letters_in (view rx.pass).taken; moments = moments_in (view rx.pass).taken; refused = rx.refused }

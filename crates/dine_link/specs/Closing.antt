@@ -1,4 +1,4 @@
--- Where Close stands among letters.
+-- The place of Close in a list of letters.
 use Rattle.std.specs.Prelude.{Bool, true, false, List, [], ◌∷◌}
 use Rattle.dine_rules.specs.declared.letters.Letter.{Letter}
 use Rattle.dine_rules.specs.declared.letters.Letter.TheVariants.{Close}

@@ -11,7 +11,7 @@ use Rattle.rtrb.specs.Shared.{Names}
 use Rattle.rtrb.specs.Ring as rtrb_ring
 use denote.RawPtr.{Ptr}
 
--- the memory of the ring, which tells a link from every other
+-- the memory of the ring, which tells a link from every other one
 abbrev pub Ring : Type 0
 Ring = Ptr × Ptr × Names × Global
 

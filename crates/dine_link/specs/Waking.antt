@@ -10,17 +10,17 @@ use Rattle.dine_link.specs.declared.wants.Awaited.{Awaited}
 abbrev pub seen_awaited : Awaited → SeenWants
 seen_awaited awaited = record { requests = awaited.requests; forks = awaited.forks }
 
--- what a bell wants: such letters, or nothing of its own where any ring will do
+-- what a bell wants: such letters, or None if any ring wakes it
 abbrev pub seen_wants : Wants → Option SeenWants
 seen_wants wants = option_map seen_awaited wants.only
 
--- A ring of the ringer of that number for a letter of that kind wakes the bell. What a site waits for is said of places
--- below 64.
+-- A ring by the ringer of that number for a letter of that kind wakes the bell. `SeenWants` is about places below 64,
+-- so a ringer with a higher number always does.
 abbrev pub wakes : Option SeenWants → ℕ → Kind4 → Bool
 wakes None number kind = true
 wakes (Some wants) number kind = nat_le 64 number || is_wanted wants number kind
 
--- what it wants once a letter of that kind lies for which it was not woken
+-- what it wants after a letter of that kind has arrived that did not wake it
 abbrev pub still_wants : Option SeenWants → Kind4 → Option SeenWants
 still_wants None kind = None
 still_wants (Some wants) kind = Some (still_wanted wants kind)

@@ -1,9 +1,8 @@
-// How a step that can't be done yet waits before the next try.
-//
-// Over a ring it gives the processor up a few times, and from then on sleeps for a moment at a time: nobody has to wake
-// it. Over a channel under a rule it tries a few times with the processor given up between them, and only then sleeps
-// until it is woken. A thread that has gone to sleep costs microseconds to wake, and the other end is mostly just about
-// to act.
+//! How a step that cannot be done yet waits before it is tried again.
+//!
+//! The other end is mostly just about to act, and to wake a sleeping thread costs microseconds. So a step first gives
+//! the processor up a few times. Over a ring it then sleeps for a short time at a time, since nobody wakes it. Over a
+//! channel it then sleeps until it is woken.
 ghost use Rattle.std.specs.Prelude.{◌≡◌, MatchOption, MatchResult};
 ghost use Rattle.crossbeam_channel.specs.Claims.{view, IsSeatAt};
 ghost use Rattle.crossbeam_channel.specs.Ends.{sends_on, receives_on, ruled_capacity};
@@ -16,10 +15,10 @@ use std::thread;
 use std::thread::Parker;
 use std::time::Duration;
 
-// How many pauses of one wait at a ring only give the processor up.
+// The number of pauses of one wait at a ring that only give the processor up.
 const YIELDS: u32 = 64;
 
-// How long each later one sleeps, in microseconds.
+// The time that each later pause sleeps, in microseconds.
 const NAP: u64 = 50;
 
 // The pauses of one wait.
@@ -29,14 +28,14 @@ pub struct Backoff {
 }
 
 impl Backoff {
-    // Those of a wait that begins.
+    // Returns the pauses of a wait that begins.
     pub fn new() -> Backoff {
         Backoff {
             yields_left: YIELDS,
         }
     }
 
-    // The next pause.
+    // Makes the next pause.
     pub fn pause<R: Wait>(&mut self, rt: &R) {
         if self.yields_left == 0 {
             Parker::new().park_timeout(rt, Duration::from_micros(NAP));
@@ -47,10 +46,10 @@ impl Backoff {
     }
 }
 
-// How often a wait at a channel tries before it sleeps.
+// The number of times that a wait at a channel tries before it sleeps.
 const TRIES: u32 = 10;
 
-// Sends the message, or hands it back where the other end is gone.
+// Sends the message, or hands it back if the other end is gone.
 pub fn send<T: Drop, V, P: Protocol<T, V>, M: Outcome<T, V> + Lesson<T, V>, R: Wait>(
     rt: &R,
     sender: &RuledSender<T, V, P>,
@@ -58,9 +57,13 @@ pub fn send<T: Drop, V, P: Protocol<T, V>, M: Outcome<T, V> + Lesson<T, V>, R: W
     message: T,
 ) -> Result<(), T>
     requires channel { IsSeatAt (sends_on sender.now) pass.old }
-    requires rule { Pushes P.holds (ruled_capacity (sends_on sender.now)) pass.old.id (view pass.old) message (M.then (view pass.old) message) × Learns P.holds pass.old.id (view pass.old) (M.fact (view pass.old)) }
+    requires rule { Pushes P.holds (ruled_capacity (sends_on sender.now)) pass.old.id (view pass.old) message
+        (M.then (view pass.old) message)
+        × Learns P.holds pass.old.id (view pass.old) (M.fact (view pass.old)) }
     ensures channel { IsSeatAt (sends_on sender.now) pass.new × (pass.new.id ≡ pass.old.id) }
-    ensures rule { MatchResult result (λ _. M.then (view pass.old) message (view pass.new)) (λ back. (back ≡ message) × (view pass.new ≡ view pass.old)) }
+    ensures rule { MatchResult result
+        (λ _. M.then (view pass.old) message (view pass.new))
+        (λ back. (back ≡ message) × (view pass.new ≡ view pass.old)) }
 {
     let mut message = message;
     for _ in 0..TRIES {
@@ -71,22 +74,24 @@ pub fn send<T: Drop, V, P: Protocol<T, V>, M: Outcome<T, V> + Lesson<T, V>, R: W
         }
         thread::yield_now();
     }
-    match sender.send_as::<M, R>(rt, pass, message) {
-        Ok(()) => Ok(()),
-        Err(refused) => Err(refused.into_inner()),
-    }
+    sender
+        .send_as::<M, R>(rt, pass, message)
+        .map_err(|refused| refused.into_inner())
 }
 
-// Receives a message, or answers None where the other end is gone.
+// Receives a message, or returns None if the other end is gone.
 pub fn receive<T: Drop, V, P: Protocol<T, V>, M: Outcome<T, V> + Lesson<T, V>, R: Wait>(
     rt: &R,
     receiver: &RuledReceiver<T, V, P>,
     pass: &mut Pass<T, V>,
 ) -> Option<T>
     requires channel { IsSeatAt (receives_on receiver.now) pass.old }
-    requires rule { Pops P.holds pass.old.id (view pass.old) (M.then (view pass.old)) × Learns P.holds pass.old.id (view pass.old) (M.fact (view pass.old)) }
+    requires rule { Pops P.holds pass.old.id (view pass.old) (M.then (view pass.old))
+        × Learns P.holds pass.old.id (view pass.old) (M.fact (view pass.old)) }
     ensures channel { IsSeatAt (receives_on receiver.now) pass.new × (pass.new.id ≡ pass.old.id) }
-    ensures rule { MatchOption result (view pass.new ≡ view pass.old) (λ message. M.then (view pass.old) message (view pass.new)) }
+    ensures rule { MatchOption result
+        (view pass.new ≡ view pass.old)
+        (λ message. M.then (view pass.old) message (view pass.new)) }
 {
     for _ in 0..TRIES {
         if let Ok(message) = receiver.try_recv_as::<M, R>(rt, pass) {

@@ -1,26 +1,29 @@
-// A bell: one waits, and some ring, each with a number of its own.
-ghost use Rattle.std.specs.Prelude.{◌≡◌, ◌<◌, [], IfOk, IfSome, MatchOption, MatchResult, map};
+// A bell: its owner waits for rings, and each of its ringers rings with a number of its own.
+ghost use Rattle.std.specs.Prelude.{◌≡◌, ◌<◌, [], IfOk, IfSome, MatchOption, MatchResult, length, map};
 ghost use Rattle.std.specs.List.{range_with_len};
 ghost use Rattle.crossbeam_channel.specs.Claims.{view, IsSeatAt};
 ghost use Rattle.crossbeam_channel.specs.Ends.{sends_on};
 ghost use Rattle.dine_link.specs.private.BellRule.{no_ringers};
-ghost use Rattle.dine_link.specs.Bells.{BellId, new_ringer, after_ring, after_refused_ring, new_bell, after_telling, after_refused_wait};
+ghost use Rattle.dine_link.specs.Bells.{BellId, new_ringer, after_ring, after_refused_ring, new_bell, after_report};
+ghost use Rattle.dine_link.specs.Bells.{after_empty_check, after_refused_wait};
 ghost use Rattle.dine_link.specs.declared.bell_rule.Part.TheVariants.{Waits};
 
-use crate::bell_rule::{Hears, OfRingers, OneMore, Part, Sounds};
+use crate::bell_rule::{Hears, NextRinger, OfRingers, Part, Sounds};
+use crate::empty_checks::EmptyChecks;
 use crate::faults::{LinkFault, Lost};
 use crate::sleeper::{Sleeper, Waker};
 use crate::wants::Wants;
 use crossbeam_channel::{Pass, RuledReceiver, RuledSender, TrySendError, bounded_with};
+use dine_clock::Clock;
 use dine_rules::Kind4;
 use std::alloc::{AllocError, Global};
 use std::marker::Model;
 use std::sync::{Arc, Wait};
 
-// How many rings that were not yet told a bell has room for, for each ringer.
+// For each of its ringers a bell has capacity for this number of rings that it has not reported yet.
 const RINGS_EACH: usize = 4;
 
-/// Rings one bell, with a number of its own. Contracts see which bell, the number, how often it rang, and whether a
+/// A ringer of one bell, with a number of its own. Contracts see its bell, its number, how often it rang, and whether a
 /// ring was ever refused.
 #[derive(Drop)]
 pub struct Ringer {
@@ -43,8 +46,9 @@ impl Model for Ringer {
     ghost invariant = { IsRinger };
 }
 
-/// Tells the numbers of the ringers that rang. Contracts see what tells it from every other bell, its degree, which is
-/// how many ringers it was opened with, the numbers that it told, and whether a wait was ever refused.
+/// Reports the numbers of the ringers that rang. Contracts see what distinguishes it from every other bell, its degree,
+/// which is how many ringers it was opened with, the numbers that it reported, the checks that found no ring left, and
+/// whether a wait was ever refused.
 #[derive(Drop)]
 pub struct Bell {
     degree: u32,
@@ -52,6 +56,7 @@ pub struct Bell {
     pass: Pass<u32, Part>,
     sleeper: Arc<Sleeper, Global>,
     refused: bool,
+    empty_checks: EmptyChecks,
 }
 
 impl Model for Bell {
@@ -67,13 +72,18 @@ impl Model for Bell {
 }
 
 impl Bell {
-    /// A bell of `degree` ringers and these, in the order of their numbers from 0. They ring this bell, and nobody has
-    /// rung. The bell has room for four times as many rings as there are ringers, and for at least one. Without ringers
-    /// nobody can ring it.
+    /// Opens a bell with `degree` ringers, and returns it with them, in the order of their numbers from 0. They ring
+    /// this bell, and none of them has rung.
     ///
-    /// Fails where memory is refused.
+    /// The bell has capacity for four rings for each ringer, and for at least one. If there are no ringers, nobody can
+    /// ring it.
+    ///
+    /// # Errors
+    ///
+    /// `Memory` if an allocation fails.
     pub fn open(alloc: Global, degree: u32) -> Result<(Vec<Ringer>, Bell), LinkFault>
-        ensures ringers { IfOk result (λ opened. opened.0.items ≡ map (new_ringer opened.1.identity) (range_with_len 0 degree)) }
+        ensures ringers { IfOk result
+            (λ opened. opened.0.items ≡ map (new_ringer opened.1.identity) (range_with_len 0 degree)) }
         ensures bell { IfOk result (λ opened. opened.1 ≡ new_bell opened.1.identity degree) }
     {
         let Ok((sender, receiver, mut pass)) = bounded_with::<u32, Part, OfRingers, Global>(
@@ -94,34 +104,44 @@ impl Bell {
             pass,
             sleeper,
             refused: false,
+            empty_checks: EmptyChecks::none(),
         };
         Ok((ringers, bell))
     }
 
-    /// Tells the number of a ringer that rang, which is below the degree. Each ring is told once. It may wait, where no
-    /// ring is left to tell, and then any ring wakes it.
+    /// Returns the number of a ringer that rang, which is below the degree. Each ring is reported once. It may wait: if
+    /// no ring is left to report, it sleeps until any ring wakes it.
     ///
-    /// Fails where the channel beneath refuses, and then no ring was taken from the bell, which keeps that a wait was
-    /// refused.
+    /// # Errors
+    ///
+    /// `Lost` if the channel of the bell refuses. Then no ring was taken from the bell, and the bell keeps that a wait
+    /// was refused.
     pub fn wait<R: Wait>(&mut self, rt: &R) -> Result<u32, Lost>
         ensures below { IfOk result (λ number. number < self.new.degree) }
-        ensures told { MatchResult result (λ number. self.new ≡ after_telling number self.old) (λ _. self.new ≡ after_refused_wait self.old) }
+        ensures reported { MatchResult result
+            (λ number. self.new ≡ after_report number self.old)
+            (λ _. self.new ≡ after_refused_wait self.old) }
     {
         self.wait_for(rt, Wants::anything())
     }
 
-    /// The same, but once no ring is left to tell it sleeps until a ring that it wants, one that is not for a letter,
-    /// or so many that it has no room for more. Rings that it does not want lie until then, and are told in their turn.
+    /// Returns the number of a ringer that rang, as [`Bell::wait`] does, except that fewer rings wake it. While it
+    /// sleeps it is woken by a ring that it wants, by a ring that is for no letter ([`Ringer::ring`]), and by the ring
+    /// that fills its capacity. It keeps any other ring until then, and reports it in its turn.
     ///
-    /// Fails as `wait` does.
+    /// # Errors
+    ///
+    /// `Lost`, as [`Bell::wait`].
     pub fn wait_for<R: Wait>(&mut self, rt: &R, wants: Wants) -> Result<u32, Lost>
         ensures below { IfOk result (λ number. number < self.new.degree) }
-        ensures told { MatchResult result (λ number. self.new ≡ after_telling number self.old) (λ _. self.new ≡ after_refused_wait self.old) }
+        ensures reported { MatchResult result
+            (λ number. self.new ≡ after_report number self.old)
+            (λ _. self.new ≡ after_refused_wait self.old) }
     {
         if let Some(number) = self.hear(rt) {
             return Ok(number);
         }
-        if let Some(number) = self.lie_down(rt, wants) {
+        if let Some(number) = self.fall_asleep(rt, wants) {
             return Ok(number);
         }
         self.sleeper.sleep(rt);
@@ -132,42 +152,78 @@ impl Bell {
         Ok(number)
     }
 
-    // The number of a ringer that rang, where one is left to tell.
+    /// Returns the number of a ringer that rang if a ring is left to report, and else `None`, at once. It never sleeps.
+    pub fn try_wait<R: Wait>(&mut self, rt: &R) -> Option<u32>
+        ensures below { IfSome result (λ number. number < self.new.degree) }
+        ensures reported { MatchOption result
+            (self.new ≡ self.old)
+            (λ number. self.new ≡ after_report number self.old) }
+    {
+        self.hear(rt)
+    }
+
+    /// The same, by the site of the bell, which has a clock. Contracts then see of each check that found no ring left
+    /// how many events the site had done. It costs no more than [`Bell::try_wait`].
+    pub fn check<R: Wait>(&mut self, rt: &R, clock: &Clock) -> Option<u32>
+        ensures below { IfSome result (λ number. number < self.new.degree) }
+        ensures reported { MatchOption result
+            (self.new ≡ after_empty_check (length clock.now.events) self.old)
+            (λ number. self.new ≡ after_report number self.old) }
+    {
+        let number = self.hear(rt);
+        if number.is_none() {
+            self.empty_checks = self.empty_checks.after(clock);
+        }
+        number
+    }
+
+    /// Returns the checks that found no ring left, which proofs alone read.
+    pub fn into_empty_checks(self) -> EmptyChecks
+        ensures { result.at ≡ self.found_empty }
+    {
+        self.empty_checks
+    }
+
+    // Returns the number of a ringer that rang, if a ring is left to report.
     fn hear<R: Wait>(&mut self, rt: &R) -> Option<u32>
         ensures below { IfSome result (λ number. number < self.new.degree) }
-        ensures told { MatchOption result (self.new ≡ self.old) (λ number. self.new ≡ after_telling number self.old) }
+        ensures reported { MatchOption result
+            (self.new ≡ self.old)
+            (λ number. self.new ≡ after_report number self.old) }
     {
         self.receiver
             .try_recv_as::<Hears, R>(rt, &mut self.pass)
             .ok()
     }
 
-    // The same, and where none is left the bell is noted as asleep. A ringer sends and looks under this lock too, so
-    // each ring is either told here or finds the bell asleep.
-    fn lie_down<R: Wait>(&mut self, rt: &R, wants: Wants) -> Option<u32>
+    // The same, and if no ring is left, the bell is noted as asleep. A ringer sends its number and notes it under the
+    // same lock, so each ring is either reported here or finds the bell asleep.
+    fn fall_asleep<R: Wait>(&mut self, rt: &R, wants: Wants) -> Option<u32>
         ensures below { IfSome result (λ number. number < self.new.degree) }
-        ensures told { MatchOption result (self.new ≡ self.old) (λ number. self.new ≡ after_telling number self.old) }
+        ensures reported { MatchOption result
+            (self.new ≡ self.old)
+            (λ number. self.new ≡ after_report number self.old) }
     {
-        let mut rest = self.sleeper.rest.lock(rt);
+        let mut state = self.sleeper.state.lock(rt);
         let heard = self
             .receiver
             .try_recv_as::<Hears, R>(rt, &mut self.pass)
             .ok();
         if heard.is_none() {
-            rest.lie_down(wants, room_of(self.degree));
+            state.fall_asleep(wants, room_of(self.degree));
         }
         heard
     }
 }
 
-// For how many rings that were not yet told a bell of that degree has room.
+// Returns for how many rings that it has not reported yet a bell of that degree has capacity.
 fn room_of(degree: u32) -> usize
     ensures { 0 < result }
 {
     (RINGS_EACH * degree as usize).max(1)
 }
 
-// The ringers of a new bell, in the order of their numbers.
+// Makes the ringers of a new bell, in the order of their numbers.
 fn make_ringers(
     alloc: Global,
     degree: u32,
@@ -179,13 +235,14 @@ fn make_ringers(
     requires first { view pass.old ≡ no_ringers }
     ensures seated { IsSeatAt (sends_on sender.now) pass.new }
     ensures knows { IfOk result (λ _. view pass.new ≡ Waits degree []) }
-    ensures ringers { IfOk result (λ ringers. ringers.items ≡ map (new_ringer (sends_on sender.now)) (range_with_len 0 degree)) }
+    ensures ringers { IfOk result
+        (λ ringers. ringers.items ≡ map (new_ringer (sends_on sender.now)) (range_with_len 0 degree)) }
 {
     let mut ringers = Vec::with_capacity(alloc, degree as usize)?;
     for number in 0..degree {
         let sender_too = sender.try_clone()?;
         let waker = Waker::of(sleeper)?;
-        let own = sender.another::<OneMore>(pass);
+        let own = sender.another::<NextRinger>(pass);
         ringers.push_reserved(Ringer {
             number,
             sender: sender_too,
@@ -198,12 +255,17 @@ fn make_ringers(
 }
 
 impl Ringer {
-    /// Rings the bell with its number, and wakes it, whatever it waits for. It may wait, where the bell is full.
+    /// Rings the bell with the ringer's number, and wakes it, whatever it waits for. It may wait, if the bell has no
+    /// capacity left.
     ///
-    /// Fails where the channel beneath refuses, and then the bell was not rung, and the ringer keeps that a ring was
+    /// # Errors
+    ///
+    /// `Lost` if the channel of the bell refuses. Then the bell was not rung, and the ringer keeps that a ring was
     /// refused.
     pub fn ring<R: Wait>(&mut self, rt: &R) -> Result<(), Lost>
-        ensures { MatchResult result (λ _. self.new ≡ after_ring self.old) (λ _. self.new ≡ after_refused_ring self.old) }
+        ensures { MatchResult result
+            (λ _. self.new ≡ after_ring self.old)
+            (λ _. self.new ≡ after_refused_ring self.old) }
     {
         let rung = self
             .sender
@@ -216,12 +278,17 @@ impl Ringer {
         Ok(())
     }
 
-    /// The same for a letter of that kind: a bell that sleeps is woken only if it wants that letter. Where the bell is
-    /// full it is woken and waited for, as by `ring`.
+    /// Rings the bell for a letter of that kind, as [`Ringer::ring`] does, except that a bell that sleeps is woken only
+    /// if it wants that letter, or if the ring fills its capacity. If the bell has no capacity left, it is woken, and
+    /// the ringer waits.
     ///
-    /// Fails as `ring` does.
+    /// # Errors
+    ///
+    /// `Lost`, as [`Ringer::ring`].
     pub fn ring_for<R: Wait>(&mut self, rt: &R, kind: Kind4) -> Result<(), Lost>
-        ensures { MatchResult result (λ _. self.new ≡ after_ring self.old) (λ _. self.new ≡ after_refused_ring self.old) }
+        ensures { MatchResult result
+            (λ _. self.new ≡ after_ring self.old)
+            (λ _. self.new ≡ after_refused_ring self.old) }
     {
         match self.sound(rt, kind) {
             Ok(wakes) => {
@@ -238,20 +305,20 @@ impl Ringer {
         }
     }
 
-    /// Whether the bell sleeps now, which tests and measures may ask. By the time of the answer it may be otherwise.
-    pub fn finds_asleep<R: Wait>(&self, rt: &R) -> bool {
-        self.waker.sleeper.rest.lock(rt).is_asleep()
+    /// Returns whether the bell sleeps, for tests and measurements. That may have changed when the call returns.
+    pub(crate) fn finds_asleep<R: Wait>(&self, rt: &R) -> bool {
+        self.waker.sleeper.state.lock(rt).is_asleep()
     }
 
-    // Sends the number where there is room, and tells whether the bell has to be woken. Both under one lock: a bell
-    // that lies down finds the ring, or is found asleep by it.
+    // Sends the number if there is capacity, and returns whether the bell has to be woken. Both are done under one
+    // lock: a bell that falls asleep finds the ring, or the ring finds the bell asleep.
     fn sound<R: Wait>(&mut self, rt: &R, kind: Kind4) -> Result<bool, TrySendError<u32>>
         ensures { MatchResult result (λ _. self.new ≡ after_ring self.old) (λ _. self.new ≡ self.old) }
     {
         let number = self.number;
-        let mut rest = self.waker.sleeper.rest.lock(rt);
+        let mut state = self.waker.sleeper.state.lock(rt);
         self.sender
             .try_send_as::<Sounds, R>(rt, &mut self.pass, number)?;
-        Ok(rest.note(number, kind))
+        Ok(state.note(number, kind))
     }
 }

@@ -1,17 +1,17 @@
-// The rule of a bell's channel, and the steps that its passes may do. A pass is a token without bytes, and what it
-// knows exists in proofs alone.
+//! The rule of a bell's channel, and the steps that its passes may do. A pass is a value without bytes, and what it
+//! knows exists in proofs alone.
 use crossbeam_channel::protocol::{Lesson, Outcome, Protocol, Split};
 use std::collections::LinkedList;
 
 // What a pass knows. No value of it is made.
 pub enum Part {
-    // That of the bell: how many ringers there are, and the numbers that it told so far.
+    // The pass of the bell: the number of ringers, and the numbers that it reported so far.
     Waits(u32, LinkedList<u32>),
-    // That of a ringer: its number, and how often it rang so far.
+    // The pass of a ringer: its number, and how often it rang so far.
     Rings(u32, u64),
 }
 
-// Each number in the channel is that of a ringer.
+// The rule: each number in the channel is that of a ringer.
 pub struct OfRingers;
 
 impl Protocol<u32, Part> for OfRingers {
@@ -22,13 +22,13 @@ impl Protocol<u32, Part> for OfRingers {
     ghost first = { no_ringers };
 }
 
-// One ringer more is made, with the next number.
-pub struct OneMore;
+// How a ringer is made: it gets the next number, and the bell has one ringer more.
+pub struct NextRinger;
 
-impl Split<Part> for OneMore {
-    ghost use Rattle.dine_link.specs.private.BellRule.{one_more, next_ringer};
+impl Split<Part> for NextRinger {
+    ghost use Rattle.dine_link.specs.private.BellRule.{with_next_ringer, next_ringer};
 
-    ghost left = { one_more };
+    ghost left = { with_next_ringer };
 
     ghost right = { next_ringer };
 }

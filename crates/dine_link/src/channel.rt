@@ -1,5 +1,5 @@
-// Links over channels under a rule.
-ghost use Rattle.std.specs.Prelude.{◌≡◌, ◌<◌, ◌^◌, true, false, length, MatchResult};
+//! Links over channels whose letters obey a rule.
+ghost use Rattle.std.specs.Prelude.{◌≡◌, ◌<◌, ◌^◌, true, false, length, IfErr, IfOk};
 ghost use Rattle.crossbeam_channel.specs.Claims.{view, IsSeatAt};
 ghost use Rattle.crossbeam_channel.specs.Ends.{sends_on, receives_on};
 ghost use Rattle.dine_rules.specs.Letters.{has_close};
@@ -12,7 +12,7 @@ use crate::backoff;
 use crate::closing::is_close;
 use crate::faults::{LinkFault, Lost};
 use crate::lane::{Lane, TxEnd};
-use crate::link_end::{BothEnds, LinkEnd};
+use crate::link_end::{EndPair, LinkEnd};
 use crate::rule::{Ends, InOrder, Known, Puts, Reconciles, Takes};
 use crate::stamped::Stamped;
 use crossbeam_channel::{Pass, RuledReceiver, RuledSender, bounded_with};
@@ -21,7 +21,7 @@ use dine_rules::Letter;
 use std::alloc::Global;
 use std::sync::Wait;
 
-// How many letters a link holds that were put and not yet taken.
+// The capacity of a link: the number of letters that were put and not yet taken.
 const CAPACITY: usize = 4;
 
 type LetterSender = RuledSender<Stamped, Known, InOrder>;
@@ -72,14 +72,14 @@ pub struct ChannelRx {
     pub ghost seated: { IsSeatAt (receives_on receiver) pass },
     pub ghost takes: { (view pass).takes ≡ true },
     pub ghost counted: { taken ≡ length (view pass).taken },
-    pub ghost told: { closed ≡ has_close (letters_in (view pass).taken) },
+    pub ghost noted: { closed ≡ has_close (letters_in (view pass).taken) },
 }
 
 impl ChannelTx {
     ghost use Rattle.dine_link.specs.Channels.{seen_tx};
     ghost use Rattle.dine_link.specs.Links.{after_refusal};
 
-    // Keeps that a step was refused, for a lane that wraps this one.
+    // Notes that a step was refused, for a lane that wraps this one.
     pub(crate) fn refuse(&mut self)
         ensures { seen_tx self.new ≡ after_refusal (seen_tx self.old) }
     {
@@ -91,7 +91,7 @@ impl ChannelRx {
     ghost use Rattle.dine_link.specs.Channels.{seen_rx};
     ghost use Rattle.dine_link.specs.Links.{after_refusal};
 
-    // Keeps that a step was refused, for a lane that wraps this one.
+    // Notes that a step was refused, for a lane that wraps this one.
     pub(crate) fn refuse(&mut self)
         ensures { seen_rx self.new ≡ after_refusal (seen_rx self.old) }
     {
@@ -99,7 +99,7 @@ impl ChannelRx {
     }
 }
 
-// Both ends of a channel, and the one pass of both.
+// Both ends of a channel, and their passes joined into one.
 #[derive(Drop)]
 pub struct ChannelEnds {
     sender: LetterSender,
@@ -109,12 +109,15 @@ pub struct ChannelEnds {
 
 impl Putting {
     ghost use Rattle.dine_link.specs.Channels.{seen_putting, seen_rx};
-    ghost use Rattle.dine_link.specs.Links.{IsLink, with_letter_at, after_refusal, link_of};
+    ghost use Rattle.dine_link.specs.Links.{with_letter_at, after_refusal, link_of};
 
-    // Puts the letter last, or hands it back and keeps that it was refused.
+    // Puts the letter, or hands it back and notes the refusal.
     fn send<R: Wait>(&mut self, rt: &R, letter: Letter, stamp: Stamp) -> Result<(), Letter>
-        requires room { length (seen_putting self.old).letters < 2 ^ 61 }
-        ensures { MatchResult result (λ _. seen_putting self.new ≡ with_letter_at letter stamp.at (seen_putting self.old)) (λ back. (back ≡ letter) × (seen_putting self.new ≡ after_refusal (seen_putting self.old))) }
+        requires few_letters { length (seen_putting self.old).letters < 2 ^ 61 }
+        ensures put { IfOk result (λ _.
+            seen_putting self.new ≡ with_letter_at letter stamp.at (seen_putting self.old)) }
+        ensures handed_back { IfErr result (λ back. back ≡ letter) }
+        ensures refused { IfErr result (λ _. seen_putting self.new ≡ after_refusal (seen_putting self.old)) }
     {
         match backoff::send::<Stamped, Known, InOrder, Puts, R>(
             rt,
@@ -133,13 +136,13 @@ impl Putting {
         }
     }
 
-    // Brings both ends together.
+    // Joins the two ends of the link.
     fn join(self, rx: ChannelRx, shut: bool) -> LinkEnd
         requires pair { (seen_rx rx).link ≡ (seen_putting self).link }
         requires shut { shut ≡ ends_in_close (seen_putting self).letters }
         requires close_last { is_close_last (seen_putting self).letters ≡ true }
         ensures lists { result ≡ link_of (seen_putting self) (seen_rx rx) }
-        ensures prefix { IsLink result }
+        ensures prefix { IsPrefix result.taken result.put }
         ensures moments { IsPrefix result.taken_at result.put_at }
         ensures whole { has_close (seen_rx rx).letters ≡ true → result.taken ≡ result.put }
         ensures close_last { is_close_last result.put ≡ true }
@@ -168,12 +171,13 @@ impl Putting {
             receiver,
             pass,
         };
-        let end = LinkEnd::keep(edge, from, put, taken, shut, BothEnds::Channel(ends));
+        let end = LinkEnd::from_ends(edge, from, put, taken, shut, EndPair::Channel(ends));
         end.and_refused(put_refused, take_refused)
     }
 }
 
-/// Links over channels. A step is refused where the other end is gone, and the end keeps that it was.
+/// Links over channels. If the other end is gone, a put is refused, and so is a take once no letter is left. The end
+/// notes the refusal.
 pub struct ChannelLane;
 
 impl Lane for ChannelLane {
@@ -185,7 +189,7 @@ impl Lane for ChannelLane {
 
     ghost use Rattle.dine_link.specs.Channels as channels;
     ghost use Rattle.dine_link.specs.Lanes.{seen_end};
-    ghost use Rattle.dine_link.specs.Links.{IsLink, link_of};
+    ghost use Rattle.dine_link.specs.Links.{link_of};
 
     ghost Identity = { channels.Channel };
 
@@ -196,11 +200,9 @@ impl Lane for ChannelLane {
     ghost seen_rx = { channels.seen_rx };
 
     fn pair(alloc: Global, edge: u32, from: u32) -> Result<(ChannelTx, ChannelRx), LinkFault> {
-        let Ok((sender, receiver, mut putting)) = bounded_with::<Stamped, Known, InOrder, Global>(
+        let (sender, receiver, mut putting) = bounded_with::<Stamped, Known, InOrder, Global>(
             alloc, CAPACITY,
-        ) else {
-            return Err(LinkFault::Memory);
-        };
+        )?;
         let taking = sender.another::<Ends>(&mut putting);
         let tx = Putting {
             edge,
@@ -228,10 +230,9 @@ impl Lane for ChannelLane {
         letter: Letter,
         stamp: Stamp,
     ) -> Result<(), (Letter, Lost)> {
-        match tx.putting.send(rt, letter, stamp) {
-            Ok(()) => Ok(()),
-            Err(letter) => Err((letter, Lost)),
-        }
+        tx.putting
+            .send(rt, letter, stamp)
+            .map_err(|letter| (letter, Lost))
     }
 
     fn close_at<R: Wait>(
@@ -268,7 +269,7 @@ impl Lane for ChannelLane {
     fn reconcile(tx: TxEnd<ChannelLane>, rx: ChannelRx) -> LinkEnd
         requires pair { (channels.seen_rx rx).link ≡ (seen_end channels.seen_tx channels.seen_closed tx).link }
         ensures lists { result ≡ link_of (seen_end channels.seen_tx channels.seen_closed tx) (channels.seen_rx rx) }
-        ensures prefix { IsLink result }
+        ensures prefix { IsPrefix result.taken result.put }
         ensures moments { IsPrefix result.taken_at result.put_at }
         ensures whole { has_close (channels.seen_rx rx).letters ≡ true → result.taken ≡ result.put }
         ensures close_last { is_close_last result.put ≡ true }

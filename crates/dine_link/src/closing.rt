@@ -1,9 +1,10 @@
+//! Whether a letter is Close.
 ghost use Rattle.std.specs.Prelude.{◌≡◌};
 ghost use Rattle.dine_link.specs.Closing as closing;
 
 use dine_rules::Letter;
 
-// Whether the letter is Close, the last one of its link.
+// Returns whether the letter is Close, the last one of its link.
 pub fn is_close(letter: &Letter) -> bool
     ensures { result ≡ closing.is_close letter.now }
 {

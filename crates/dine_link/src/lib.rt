@@ -1,5 +1,5 @@
-//! Links: letters in order from one site to one other, whichever threads these run in. Bells: who put one. Gates: where
-//! threads wait for the start.
+//! Links, which carry letters in order from one site to one other; bells, at which a site waits until a neighbour
+//! rings; and the start barrier of threads. The sites may run in any threads.
 #![tactic(auto)]
 
 mod backoff;
@@ -7,7 +7,7 @@ mod bell;
 mod bell_rule;
 mod channel;
 mod closing;
-mod fault_lane;
+mod empty_checks;
 mod faults;
 mod gate;
 mod lane;
@@ -16,14 +16,16 @@ mod ring;
 mod rule;
 mod sleeper;
 mod stamped;
+pub mod testing;
 mod wants;
 
 pub use bell::{Bell, Ringer};
 pub use channel::{ChannelClosedTx, ChannelLane, ChannelRx, ChannelTx};
-pub use fault_lane::{FaultLane, FaultRx, FaultTx, fault_rx, fault_tx};
+pub use empty_checks::EmptyChecks;
 pub use faults::{LinkFault, Lost};
 pub use gate::{Gate, Signal};
 pub use lane::{Lane, TxEnd};
 pub use link_end::LinkEnd;
 pub use ring::{RingClosedTx, RingLane, RingRx, RingTx};
+pub use testing::{FaultLane, FaultRx, FaultTx, fault_rx, fault_tx};
 pub use wants::Wants;

@@ -1,26 +1,26 @@
-// What went over a link, once its two ends were brought together.
+//! What went over a link, after its two ends were joined.
 ghost use Rattle.std.specs.Prelude.{◌≡◌, true, false, length};
 ghost use Rattle.dine_rules.specs.Streams.{is_close_last};
 ghost use Rattle.dine_link.specs.Closing.{ends_in_close};
-ghost use Rattle.dine_link.specs.Links.{SeenLink, IsLink, also_refused};
+ghost use Rattle.dine_link.specs.Links.{also_refused};
 ghost use mathlib.Core.List.{IsPrefix};
 
 use crate::channel::ChannelEnds;
 use crate::ring::RingEnds;
 use std::marker::Model;
 
-// The two ends of a link, of whichever lane. Their passes and all letters that were not taken are in them.
+// The two ends of a link, of any lane, with their passes and all letters that were not taken.
 #[derive(Drop)]
-pub enum BothEnds {
+pub enum EndPair {
     Channel(ChannelEnds),
     Ring(RingEnds),
 }
 
-/// Both ends of a link after its use, of any lane. Only [`crate::Lane::reconcile`] makes one. It keeps the ends, so
+/// A link after its use, of any lane. Only [`crate::Lane::reconcile`] makes one. It owns both ends of the link, so
 /// letters that were put and not taken are dropped with it.
 ///
-/// Contracts see its edge, the site that put, the lists of all letters put and of all taken, and whether a step of
-/// either end was refused.
+/// Contracts see its edge, the site that put, the list of all letters put and that of all letters taken, and for each
+/// end whether a step of it was refused.
 #[derive(Drop)]
 pub struct LinkEnd {
     edge: u32,
@@ -30,7 +30,7 @@ pub struct LinkEnd {
     shut: bool,
     put_refused: bool,
     take_refused: bool,
-    ends: BothEnds,
+    ends: EndPair,
 }
 
 impl Model for LinkEnd {
@@ -38,31 +38,41 @@ impl Model for LinkEnd {
 
     ghost Value = { SeenLink };
 
-    ghost use Rattle.dine_link.specs.Ends.{seen_link, IsKeptLink};
+    ghost use Rattle.dine_link.specs.Ends.{seen_link, IsLinkEnd};
 
     ghost view = { seen_link };
 
-    ghost invariant = { IsKeptLink };
+    ghost invariant = { IsLinkEnd };
 }
 
 impl LinkEnd {
     ghost use Rattle.dine_link.specs.Ends.{put_in, taken_from, put_at, taken_at};
 
-    // The ends of a link, with the numbers of the letters put and taken. No refusal is told yet.
-    pub(crate) fn keep(
+    // Returns the link of these ends, given the numbers of letters put and taken, and whether Close was put. It notes
+    // no refusal.
+    pub(crate) fn from_ends(
         edge: u32,
         from: u32,
         put: u64,
         taken: u64,
         shut: bool,
-        ends: BothEnds,
+        ends: EndPair,
     ) -> LinkEnd
         requires put { put ≡ length (put_in ends) }
         requires taken { taken ≡ length (taken_from ends) }
         requires shut { shut ≡ ends_in_close (put_in ends) }
         requires prefix { IsPrefix (taken_from ends) (put_in ends) }
         requires close_last { is_close_last (put_in ends) ≡ true }
-        ensures { result ≡ record { edge = edge; from = from; put = put_in ends; taken = taken_from ends; put_at = put_at ends; taken_at = taken_at ends; put_refused = false; take_refused = false } }
+        ensures { result ≡ record {
+          edge = edge;
+          from = from;
+          put = put_in ends;
+          taken = taken_from ends;
+          put_at = put_at ends;
+          taken_at = taken_at ends;
+          put_refused = false;
+          take_refused = false;
+        } }
     {
         LinkEnd {
             edge,
@@ -76,9 +86,8 @@ impl LinkEnd {
         }
     }
 
-    /// The same link, of which these refusals are told too. It is for a lane that wraps another and refuses steps
-    /// itself.
-    pub fn and_refused(self, put: bool, take: bool) -> LinkEnd
+    // Notes on the link whether a put and a take was refused. Only a lane that joins the ends may do so.
+    pub(crate) fn and_refused(self, put: bool, take: bool) -> LinkEnd
         ensures { result ≡ also_refused put take self }
     {
         LinkEnd {
@@ -88,21 +97,21 @@ impl LinkEnd {
         }
     }
 
-    /// The number of its edge.
+    /// Returns the number of its edge.
     pub fn edge(&self) -> u32
         ensures { result ≡ self.now.edge }
     {
         self.edge
     }
 
-    /// The site that put letters in it.
+    /// Returns the site that put letters in it.
     pub fn from(&self) -> u32
         ensures { result ≡ self.now.from }
     {
         self.from
     }
 
-    /// How many letters were put.
+    /// Returns the number of letters that were put.
     pub fn put(&self) -> u64
         ensures put { result ≡ length self.now.put }
         ensures close_last { is_close_last self.now.put ≡ true }
@@ -110,29 +119,29 @@ impl LinkEnd {
         self.put
     }
 
-    /// How many letters were taken: the first ones that were put.
+    /// Returns the number of letters that were taken. These are the first ones that were put.
     pub fn taken(&self) -> u64
         ensures taken { result ≡ length self.now.taken }
-        ensures prefix { IsLink self.now }
+        ensures prefix { IsPrefix self.now.taken self.now.put }
     {
         self.taken
     }
 
-    /// Whether Close was put, which is then the last letter that was.
+    /// Returns whether Close was put. Then it is the last letter that was put.
     pub fn shut(&self) -> bool
         ensures { result ≡ ends_in_close self.now.put }
     {
         self.shut
     }
 
-    /// Whether a put or a close was ever refused.
+    /// Returns whether a put or a close was ever refused.
     pub fn put_refused(&self) -> bool
         ensures { result ≡ self.now.put_refused }
     {
         self.put_refused
     }
 
-    /// Whether a take was ever refused.
+    /// Returns whether a take was ever refused.
     pub fn take_refused(&self) -> bool
         ensures { result ≡ self.now.take_refused }
     {

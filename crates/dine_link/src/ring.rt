@@ -1,4 +1,4 @@
-// Links over rings.
+//! Links over rings.
 ghost use Rattle.std.specs.Prelude.{◌≡◌, ◌<◌, ◌^◌, true, false, length, IfOk, IsOk};
 ghost use Rattle.rtrb.specs.Ring.{sent, received};
 ghost use Rattle.dine_rules.specs.declared.letters.Letter.TheVariants.{Close};
@@ -12,7 +12,7 @@ use crate::backoff::Backoff;
 use crate::closing::is_close;
 use crate::faults::{LinkFault, Lost};
 use crate::lane::{Lane, TxEnd};
-use crate::link_end::{BothEnds, LinkEnd};
+use crate::link_end::{EndPair, LinkEnd};
 use crate::stamped::Stamped;
 use dine_clock::Stamp;
 use dine_rules::Letter;
@@ -20,7 +20,7 @@ use rtrb::{Consumer, Producer, PushError, RingBuffer};
 use std::alloc::Global;
 use std::sync::Wait;
 
-// How many letters a link holds that were put and not yet taken.
+// The capacity of a link: the number of letters that were put and not yet taken.
 const CAPACITY: usize = 4;
 
 // The end of a ring that letters are put in.
@@ -57,7 +57,7 @@ pub struct RingRx {
     closed: bool,
     consumer: Consumer<Stamped>,
     pub ghost counted: { taken ≡ length (received consumer) },
-    pub ghost told: { closed ≡ has_close (letters_in (received consumer)) },
+    pub ghost noted: { closed ≡ has_close (letters_in (received consumer)) },
 }
 
 // Both ends of a ring.
@@ -69,11 +69,11 @@ pub struct RingEnds {
 
 impl Pushing {
     ghost use Rattle.dine_link.specs.Rings.{seen_pushing, seen_rx};
-    ghost use Rattle.dine_link.specs.Links.{IsLink, with_letter_at, link_of};
+    ghost use Rattle.dine_link.specs.Links.{with_letter_at, link_of};
 
-    // Puts the letter last. It waits while the ring is full.
+    // Puts the letter. It waits while the ring is full.
     fn push<R: Wait>(&mut self, rt: &R, letter: Letter, stamp: Stamp)
-        requires room { length (seen_pushing self.old).letters < 2 ^ 61 }
+        requires few_letters { length (seen_pushing self.old).letters < 2 ^ 61 }
         ensures { seen_pushing self.new ≡ with_letter_at letter stamp.at (seen_pushing self.old) }
     {
         let mut message = Stamped { letter, stamp };
@@ -91,13 +91,13 @@ impl Pushing {
         unreachable!()
     }
 
-    // Brings both ends together.
+    // Joins the two ends of the link.
     fn join(self, rx: RingRx, shut: bool) -> LinkEnd
         requires pair { (seen_rx rx).link ≡ (seen_pushing self).link }
         requires shut { shut ≡ ends_in_close (seen_pushing self).letters }
         requires close_last { is_close_last (seen_pushing self).letters ≡ true }
         ensures lists { result ≡ link_of (seen_pushing self) (seen_rx rx) }
-        ensures prefix { IsLink result }
+        ensures prefix { IsPrefix result.taken result.put }
         ensures moments { IsPrefix result.taken_at result.put_at }
         ensures whole { has_close (seen_rx rx).letters ≡ true → result.taken ≡ result.put }
         ensures close_last { is_close_last result.put ≡ true }
@@ -117,14 +117,14 @@ impl Pushing {
         } = rx;
         consumer.slots_beside(&mut producer);
         let ends = RingEnds { producer, consumer };
-        LinkEnd::keep(edge, from, put, taken, shut, BothEnds::Ring(ends))
+        LinkEnd::from_ends(edge, from, put, taken, shut, EndPair::Ring(ends))
     }
 }
 
 /// Links over rings. No step is ever refused.
 ///
-/// So an end whose other end is gone is not told so: a put in a full ring or a take from an empty one gives the
-/// processor up 64 times, and from then on naps for 50 microseconds and tries again, for ever.
+/// So a step cannot notice that the other end is gone. A put in a full ring, or a take from an empty one, gives the
+/// processor up 64 times, and then sleeps for 50 microseconds before each further attempt, for ever.
 pub struct RingLane;
 
 impl Lane for RingLane {
@@ -136,7 +136,7 @@ impl Lane for RingLane {
 
     ghost use Rattle.dine_link.specs.Rings as rings;
     ghost use Rattle.dine_link.specs.Lanes.{seen_end};
-    ghost use Rattle.dine_link.specs.Links.{HasTaken, IsLink, with_letter, with_letter_at, link_of};
+    ghost use Rattle.dine_link.specs.Links.{HasTaken, with_letter, with_letter_at, link_of};
 
     ghost Identity = { rings.Ring };
 
@@ -147,9 +147,7 @@ impl Lane for RingLane {
     ghost seen_rx = { rings.seen_rx };
 
     fn pair(alloc: Global, edge: u32, from: u32) -> Result<(RingTx, RingRx), LinkFault> {
-        let Ok((producer, consumer)) = RingBuffer::new(alloc, CAPACITY) else {
-            return Err(LinkFault::Memory);
-        };
+        let (producer, consumer) = RingBuffer::new(alloc, CAPACITY)?;
         let tx = Pushing {
             edge,
             from,
@@ -168,7 +166,7 @@ impl Lane for RingLane {
 
     fn put<R: Wait>(rt: &R, tx: &mut RingTx, letter: Letter) -> Result<(), (Letter, Lost)>
         requires letter { is_close letter ≡ false }
-        requires room { length (rings.seen_tx tx.old).letters < 2 ^ 61 }
+        requires few_letters { length (rings.seen_tx tx.old).letters < 2 ^ 61 }
         ensures put { rings.seen_tx tx.new ≡ with_letter letter (rings.seen_tx tx.old) }
         ensures never_lost { IsOk result }
     {
@@ -176,7 +174,7 @@ impl Lane for RingLane {
     }
 
     fn close<R: Wait>(rt: &R, tx: RingTx) -> Result<RingClosedTx, (RingTx, Lost)>
-        requires room { length (rings.seen_tx tx).letters < 2 ^ 61 }
+        requires few_letters { length (rings.seen_tx tx).letters < 2 ^ 61 }
         ensures closed { IfOk result (λ closed. rings.seen_closed closed ≡ with_letter Close (rings.seen_tx tx)) }
         ensures never_lost { IsOk result }
     {
@@ -185,7 +183,7 @@ impl Lane for RingLane {
 
     fn take<R: Wait>(rt: &R, rx: &mut RingRx) -> Result<Letter, Lost>
         requires open { has_close (rings.seen_rx rx.old).letters ≡ false }
-        requires room { length (rings.seen_rx rx.old).letters < 2 ^ 61 }
+        requires few_letters { length (rings.seen_rx rx.old).letters < 2 ^ 61 }
         ensures taken { IfOk result (λ letter. HasTaken letter (rings.seen_rx rx.old) (rings.seen_rx rx.new)) }
         ensures never_lost { IsOk result }
     {
@@ -200,7 +198,7 @@ impl Lane for RingLane {
         stamp: Stamp,
     ) -> Result<(), (Letter, Lost)>
         requires letter { is_close letter ≡ false }
-        requires room { length (rings.seen_tx tx.old).letters < 2 ^ 61 }
+        requires few_letters { length (rings.seen_tx tx.old).letters < 2 ^ 61 }
         ensures put { rings.seen_tx tx.new ≡ with_letter_at letter stamp.at (rings.seen_tx tx.old) }
         ensures never_lost { IsOk result }
     {
@@ -209,8 +207,9 @@ impl Lane for RingLane {
     }
 
     fn close_at<R: Wait>(rt: &R, tx: RingTx, stamp: Stamp) -> Result<RingClosedTx, (RingTx, Lost)>
-        requires room { length (rings.seen_tx tx).letters < 2 ^ 61 }
-        ensures closed { IfOk result (λ closed. rings.seen_closed closed ≡ with_letter_at Close stamp.at (rings.seen_tx tx)) }
+        requires few_letters { length (rings.seen_tx tx).letters < 2 ^ 61 }
+        ensures closed { IfOk result (λ closed.
+            rings.seen_closed closed ≡ with_letter_at Close stamp.at (rings.seen_tx tx)) }
         ensures never_lost { IsOk result }
     {
         let RingTx { mut pushing } = tx;
@@ -220,8 +219,9 @@ impl Lane for RingLane {
 
     fn take_at<R: Wait>(rt: &R, rx: &mut RingRx) -> Result<(Letter, Stamp), Lost>
         requires open { has_close (rings.seen_rx rx.old).letters ≡ false }
-        requires room { length (rings.seen_rx rx.old).letters < 2 ^ 61 }
-        ensures taken { IfOk result (λ got. rings.seen_rx rx.new ≡ with_letter_at got.0 got.1.at (rings.seen_rx rx.old)) }
+        requires few_letters { length (rings.seen_rx rx.old).letters < 2 ^ 61 }
+        ensures taken { IfOk result (λ got.
+            rings.seen_rx rx.new ≡ with_letter_at got.0 got.1.at (rings.seen_rx rx.old)) }
         ensures never_lost { IsOk result }
     {
         let mut backoff = Backoff::new();
@@ -244,7 +244,7 @@ impl Lane for RingLane {
     fn reconcile(tx: TxEnd<RingLane>, rx: RingRx) -> LinkEnd
         requires pair { (rings.seen_rx rx).link ≡ (seen_end rings.seen_tx rings.seen_closed tx).link }
         ensures lists { result ≡ link_of (seen_end rings.seen_tx rings.seen_closed tx) (rings.seen_rx rx) }
-        ensures prefix { IsLink result }
+        ensures prefix { IsPrefix result.taken result.put }
         ensures moments { IsPrefix result.taken_at result.put_at }
         ensures whole { has_close (rings.seen_rx rx).letters ≡ true → result.taken ≡ result.put }
         ensures close_last { is_close_last result.put ≡ true }

@@ -1,11 +1,11 @@
-// The rule of a link's channel, and the steps that its passes may do. A pass is a token without bytes, and what it
-// knows exists in proofs alone.
+//! The rule of a link's channel, and the steps that its passes may do. A pass is a value without bytes, and what it
+//! knows exists in proofs alone.
 use crate::stamped::Stamped;
 use crossbeam_channel::protocol::{Join, Lesson, Outcome, Protocol, Split};
 use std::collections::LinkedList;
 
-// What a pass knows: whether it may put, whether it may take, and the letters that were put and taken by it. No value
-// of it is made.
+// What a pass knows: whether it may put, whether it may take, the letters that were put by it, and those that were
+// taken by it. No value of it is made.
 pub struct Known {
     pub puts: bool,
     pub takes: bool,
@@ -13,7 +13,7 @@ pub struct Known {
     pub taken: LinkedList<Stamped>,
 }
 
-// What was put is what was taken, and then what the channel holds.
+// The rule: what was put is what was taken, followed by what the channel holds.
 pub struct InOrder;
 
 impl Protocol<Stamped, Known> for InOrder {
@@ -24,7 +24,7 @@ impl Protocol<Stamped, Known> for InOrder {
     ghost first = { fresh };
 }
 
-// One end puts and the other takes.
+// How one pass is split in two, one that puts and one that takes, and how these are joined again.
 pub struct Ends;
 
 impl Split<Known> for Ends {
@@ -36,9 +36,9 @@ impl Split<Known> for Ends {
 }
 
 impl Join<Known> for Ends {
-    ghost use Rattle.dine_link.specs.private.Rule.{both, spent};
+    ghost use Rattle.dine_link.specs.private.Rule.{joined, spent};
 
-    ghost both = { both };
+    ghost both = { joined };
 
     ghost spent = { spent };
 }
@@ -59,7 +59,7 @@ impl Lesson<Stamped, Known> for Puts {
     ghost fact = { λ view queue. ⊤ };
 }
 
-// A receive adds the letter that it gives to what was taken.
+// A receive adds the letter that it returns to what was taken.
 pub struct Takes;
 
 impl Outcome<Stamped, Known> for Takes {
@@ -75,7 +75,7 @@ impl Lesson<Stamped, Known> for Takes {
     ghost fact = { λ view queue. ⊤ };
 }
 
-// Who may put and take learns that the rest of what was put lies in the channel.
+// A pass that may both put and take learns that the channel holds the rest of what was put.
 pub struct Reconciles;
 
 impl Lesson<Stamped, Known> for Reconciles {

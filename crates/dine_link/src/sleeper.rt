@@ -9,38 +9,38 @@ use std::sync::atomic::{AtomicU64, Ordering};
 use std::sync::{Arc, Mutex, Wait};
 use std::thread::Parker;
 
-// Whether the bell sleeps, what it wants while it does, and for how many rings more it has room.
+// Whether the bell sleeps, what it wants while it sleeps, and for how many more rings it has capacity.
 #[derive(Drop)]
-pub struct Rest {
+pub struct SleepState {
     asleep: bool,
     wants: Wants,
     room: usize,
 }
 
-// The bell parks, and a ringer that found it asleep unparks it.
+// The bell parks, and a ringer that finds it asleep unparks it.
 #[derive(Drop)]
 pub struct Sleeper {
-    pub rest: Mutex<Rest>,
+    pub state: Mutex<SleepState>,
     parker: Parker,
     ringers: AtomicU64,
 }
 
-// What a ringer has of it. When the last one goes, the bell is woken.
+// What a ringer has of it. When the last one is dropped, the bell is woken.
 pub struct Waker {
     pub sleeper: Arc<Sleeper, Global>,
 }
 
-impl Rest {
-    pub fn new() -> Rest {
-        Rest {
+impl SleepState {
+    pub fn new() -> SleepState {
+        SleepState {
             asleep: false,
             wants: Wants::anything(),
             room: 0,
         }
     }
 
-    // The bell lies down, with room for so many rings.
-    pub fn lie_down(&mut self, wants: Wants, room: usize)
+    // Notes that the bell falls asleep, with capacity for `room` rings.
+    pub fn fall_asleep(&mut self, wants: Wants, room: usize)
         ensures asleep { self.new.asleep ≡ true }
         ensures wants { self.new.wants ≡ wants }
         ensures room { self.new.room ≡ room }
@@ -50,14 +50,14 @@ impl Rest {
         self.room = room;
     }
 
-    // Whether the bell sleeps.
+    // Returns whether the bell sleeps.
     pub fn is_asleep(&self) -> bool
         ensures { result ≡ self.now.asleep }
     {
         self.asleep
     }
 
-    // Wakes the bell, and tells whether it slept.
+    // Wakes the bell, and returns whether it slept.
     pub fn wake(&mut self) -> bool
         ensures slept { result ≡ self.old.asleep }
         ensures awake { self.new.asleep ≡ false }
@@ -67,12 +67,14 @@ impl Rest {
         slept
     }
 
-    // Notes a ring for a letter of that kind, and tells whether it wakes the bell: one that the bell wants does, and
-    // the last one that it has room for, so that nobody waits for room beside a bell that sleeps.
+    // Notes a ring for a letter of that kind, and returns whether it wakes the bell. A ring that the bell wants does,
+    // and so does the last one for which it has capacity: else a ringer could wait for capacity while the bell sleeps.
     pub fn note(&mut self, number: u32, kind: Kind4) -> bool
-        ensures woken { result ≡ (self.old.asleep && (wakes (seen_wants self.old.wants) number kind || nat_le self.old.room 1)) }
+        ensures woken { result
+            ≡ (self.old.asleep && (wakes (seen_wants self.old.wants) number kind || nat_le self.old.room 1)) }
         ensures asleep { self.new.asleep ≡ (self.old.asleep && not result) }
-        ensures wants { self.new.asleep ≡ true → seen_wants self.new.wants ≡ still_wants (seen_wants self.old.wants) kind }
+        ensures wants { self.new.asleep ≡ true
+            → seen_wants self.new.wants ≡ still_wants (seen_wants self.old.wants) kind }
         ensures room { self.new.asleep ≡ true → self.new.room ≡ self.old.room - 1 }
     {
         if !self.asleep {
@@ -89,16 +91,16 @@ impl Rest {
 }
 
 impl Sleeper {
-    // That of a bell of so many ringers.
+    // Returns that of a bell that is awake and has no ringer yet.
     pub fn new() -> Sleeper {
         Sleeper {
-            rest: Mutex::new(Rest::new()),
+            state: Mutex::new(SleepState::new()),
             parker: Parker::new(),
             ringers: AtomicU64::new(0),
         }
     }
 
-    // Waits until a ringer has woken the bell, or none is left.
+    // Waits until a ringer has woken the bell, or no ringer is left.
     pub fn sleep<R: Wait>(&self, rt: &R) {
         if self.ringers.load(Ordering::SeqCst) > 0 {
             self.parker.park(rt);
@@ -107,22 +109,22 @@ impl Sleeper {
 }
 
 impl Waker {
-    // That of one ringer more.
+    // Returns the waker of one further ringer.
     pub fn of(sleeper: &Arc<Sleeper, Global>) -> Result<Waker, AllocError> {
         let sleeper = Arc::try_clone(sleeper)?;
         sleeper.ringers.fetch_add(1, Ordering::SeqCst);
         Ok(Waker { sleeper })
     }
 
-    // Wakes the bell where it sleeps.
+    // Wakes the bell if it sleeps.
     pub fn wake<R: Wait>(&self, rt: &R) {
-        let slept = self.sleeper.rest.lock(rt).wake();
+        let slept = self.sleeper.state.lock(rt).wake();
         if slept {
             self.unpark();
         }
     }
 
-    // Has the bell go on, which was asleep.
+    // Lets a bell go on that was asleep.
     pub fn unpark(&self) {
         self.sleeper.parker.unpark();
     }

@@ -1,8 +1,8 @@
-// A letter on its way.
+//! A letter on its way.
 use dine_clock::Stamp;
 use dine_rules::Letter;
 
-// A letter with the moment when it was put. At run time it is the letter alone.
+// A letter with the moment at which it was put. When the program runs, it is the letter alone.
 #[derive(Drop)]
 pub struct Stamped {
     pub letter: Letter,

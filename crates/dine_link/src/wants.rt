@@ -12,7 +12,7 @@ pub struct Wants {
     only: Option<Awaited>,
 }
 
-// A Request at one of these places, the last of so many Forks, each Done and each Close.
+// A Request at one of these places, the last of this number of Forks, each Done and each Close.
 #[derive(Clone, Copy)]
 pub struct Awaited {
     requests: BitSet64,
@@ -20,15 +20,16 @@ pub struct Awaited {
 }
 
 impl Wants {
-    /// Any ring wakes the bell.
+    /// Returns the wants of a bell that any ring wakes.
     pub fn anything() -> Wants
         ensures { seen_wants result ≡ None }
     {
         Wants { only: None }
     }
 
-    /// A ring for a Request by one of these ringers wakes the bell, for the last of so many Forks, for each Done and
-    /// for each Close. Where no fork is lacking, each Fork does. A ringer whose number is 64 or more always wakes it.
+    /// Returns the wants of a bell that is woken by a ring for a Request, if one of these ringers rings; for the last
+    /// of this number of Forks; for each Done; and for each Close. If the number of Forks is 0, each Fork wakes it. A
+    /// ringer whose number is 64 or more always wakes it.
     pub fn of(requests: BitSet64, forks: u32) -> Wants
         ensures { seen_wants result ≡ Some (record { requests = requests; forks = forks }) }
     {
@@ -37,7 +38,7 @@ impl Wants {
         }
     }
 
-    // Whether a ring for a letter of that kind wakes the bell.
+    // Returns whether a ring by that ringer for a letter of that kind wakes the bell.
     pub fn has(&self, number: u32, kind: Kind4) -> bool
         ensures { result ≡ wakes (seen_wants self.now) number kind }
     {
@@ -47,7 +48,7 @@ impl Wants {
         }
     }
 
-    // Once a letter of that kind lies which does not wake the bell.
+    // Notes a letter of that kind that has arrived and does not wake the bell.
     pub fn note(&mut self, kind: Kind4)
         ensures { seen_wants self.new ≡ still_wants (seen_wants self.old) kind }
     {
@@ -58,7 +59,7 @@ impl Wants {
 }
 
 impl Awaited {
-    // Whether a letter of that kind at the place is waited for.
+    // Returns whether a letter of that kind at the place is waited for.
     fn has(&self, place: u32, kind: Kind4) -> bool
         requires { place < 64 }
         ensures { result ≡ is_wanted (seen_awaited self.now) place kind }
@@ -70,7 +71,7 @@ impl Awaited {
         }
     }
 
-    // Once a letter of that kind lies that is not waited for.
+    // Notes a letter of that kind that has arrived and is not waited for.
     fn note(&mut self, kind: Kind4)
         ensures { seen_awaited self.new ≡ still_wanted (seen_awaited self.old) kind }
     {

@@ -1,5 +1,6 @@
 // Rings of one thread and of several.
 use crate::asserts::same;
+use dine_link::testing::finds_asleep;
 use dine_link::{Bell, Lost, Ringer, Wants};
 use dine_rules::Kind4;
 use dine_set::BitSet64;
@@ -11,21 +12,21 @@ use std::thread;
 use std::thread::{JoinHandle, Parker, Threads};
 use std::time::Duration;
 
-// How often a test looks again, each time after a pause of a millisecond. After that it fails, and does not hang.
+// How often a test checks again, each time after a pause of a millisecond. Then it fails, so that it never hangs.
 const LOOKS: u32 = 20000;
 
-// What a bell told.
+// The numbers that a bell returned.
 #[derive(Drop)]
 struct Heard {
     // How many numbers, or refusals.
     count: AtomicU64,
-    // Each number as a digit that is one greater, in order, and 9 where the wait was refused.
+    // Each number as a digit that is one greater, in order, and 9 if the wait was refused.
     order: AtomicU64,
-    // How often it told each number.
+    // How often it returned each number.
     each: [AtomicU64; 4],
 }
 
-// A bell that tells in a thread of its own.
+// A bell that is waited on by a thread of its own.
 #[derive(Drop)]
 struct Apart {
     child: JoinHandle<()>,
@@ -55,21 +56,21 @@ fn ring_each<R: Abort + Wait>(rt: &R, ringers: &mut Vec<Ringer>, places: &[usize
     }
 }
 
-// The bell tells this, one wait after another.
-fn tells<R: Abort + Wait>(rt: &R, bell: &mut Bell, told: &[Result<u32, Lost>]) {
-    for one in told {
+// Checks what the bell returns, one wait after another.
+fn returns<R: Abort + Wait>(rt: &R, bell: &mut Bell, wanted: &[Result<u32, Lost>]) {
+    for one in wanted {
         same(rt, &bell.wait(rt), one);
     }
 }
 
-// The ringers of a bell of that degree ring at those places, and are gone where `leave` says so. Then it tells this.
+// Rings the ringers of a bell of this degree at these places, and drops them if `leave`. Checks what the bell returns.
 fn rung<R: Abort + Wait>(
     rt: &R,
     alloc: Global,
     degree: u32,
     places: &[usize],
     leave: bool,
-    told: &[Result<u32, Lost>],
+    wanted: &[Result<u32, Lost>],
 ) {
     let (mut ringers, mut bell) = opened(rt, alloc, degree);
     same(rt, &ringers.len(), &(degree as usize));
@@ -77,21 +78,21 @@ fn rung<R: Abort + Wait>(
     if leave {
         ringers.clear();
     }
-    tells(rt, &mut bell, told);
+    returns(rt, &mut bell, wanted);
 }
 
 #[test]
 fn each_ringer_rings_its_own_number(rt: HostRuntime) {
-    let told = [Ok(2), Ok(0), Ok(1), Ok(2)];
-    rung(&rt, rt.alloc(), 3, &[2, 0, 1, 2], false, &told);
+    let wanted = [Ok(2), Ok(0), Ok(1), Ok(2)];
+    rung(&rt, rt.alloc(), 3, &[2, 0, 1, 2], false, &wanted);
 }
 
 // One ring more would wait for ever.
 #[test]
 fn four_rings_of_each_ringer_wait_for_nobody(rt: HostRuntime) {
     let places = [1, 0, 1, 0, 1, 0, 1, 0];
-    let told = [Ok(1), Ok(0), Ok(1), Ok(0), Ok(1), Ok(0), Ok(1), Ok(0)];
-    rung(&rt, rt.alloc(), 2, &places, false, &told);
+    let wanted = [Ok(1), Ok(0), Ok(1), Ok(0), Ok(1), Ok(0), Ok(1), Ok(0)];
+    rung(&rt, rt.alloc(), 2, &places, false, &wanted);
 }
 
 #[test]
@@ -101,8 +102,8 @@ fn without_ringers_nobody_rings(rt: HostRuntime) {
 
 #[test]
 fn rings_outlive_their_ringers(rt: HostRuntime) {
-    let told = [Ok(1), Err(Lost), Err(Lost)];
-    rung(&rt, rt.alloc(), 2, &[1], true, &told);
+    let wanted = [Ok(1), Err(Lost), Err(Lost)];
+    rung(&rt, rt.alloc(), 2, &[1], true, &wanted);
 }
 
 #[test]
@@ -113,7 +114,7 @@ fn without_the_bell_no_ring_is_taken(rt: HostRuntime) {
     ring_is(&rt, &mut ringers, 0, Err(Lost));
 }
 
-// Rings so often. Where not all rings are plain, every third ring is wanted, and the last is for Done.
+// Rings a number of times. Unless all rings are plain, every third is wanted, and the last is for Done.
 fn ring_often<R: Wait>(rt: &R, ringer: &mut Ringer, times: u32, is_plain: bool) {
     for i in 1..=times {
         let _ = if is_plain {
@@ -155,7 +156,7 @@ fn join_all<R: Threads + Wait>(rt: &R, threads: Vec<JoinHandle<()>>) {
     }
 }
 
-// How often the bell tells each of three numbers, in so many waits.
+// Returns how often the bell returns each of three numbers, in a number of waits.
 fn counted<R: Abort + Wait>(rt: &R, bell: &mut Bell, waits: u32) -> [u32; 3] {
     let mut counts = [0u32; 3];
     for _ in 0..waits {
@@ -174,7 +175,7 @@ fn threads_ring_one_bell(rt: HostRuntime) {
     join_all(&rt, threads);
 }
 
-// Of two bells each tells the rings of its own ringers.
+// Each of two bells returns the rings of its own ringers.
 #[test]
 fn ringers_ring_their_own_bell(rt: HostRuntime) {
     let (mut ringers, mut bell) = opened(&rt, rt.alloc(), 2);
@@ -182,8 +183,8 @@ fn ringers_ring_their_own_bell(rt: HostRuntime) {
     ring_each(&rt, &mut ringers, &[0]);
     ring_each(&rt, &mut others, &[1]);
     drop(ringers);
-    tells(&rt, &mut other, &[Ok(1)]);
-    tells(&rt, &mut bell, &[Ok(0), Err(Lost)]);
+    returns(&rt, &mut other, &[Ok(1)]);
+    returns(&rt, &mut bell, &[Ok(0), Err(Lost)]);
 }
 
 // A Request of ringer 1, the second of two Forks, Done and Close.
@@ -207,9 +208,9 @@ fn nothing() -> Heard {
     }
 }
 
-// Notes what the bell told.
-fn note(heard: &Heard, told: Result<u32, Lost>) {
-    let digit = match told {
+// Notes what the bell returned.
+fn note(heard: &Heard, number: Result<u32, Lost>) {
+    let digit = match number {
         Ok(number) => {
             if let Some(count) = heard.each.get(number as usize) {
                 count.fetch_add(1, Ordering::SeqCst);
@@ -233,14 +234,20 @@ enum Waits {
     Each,
 }
 
-// Has the bell tell so many numbers.
-fn tell<R: Wait>(rt: &R, mut bell: Bell, heard: Arc<Heard, Global>, waits: Waits, count: u32) {
+// Waits on the bell for a number of rings.
+fn wait_often<R: Wait>(
+    rt: &R,
+    mut bell: Bell,
+    heard: Arc<Heard, Global>,
+    waits: Waits,
+    count: u32,
+) {
     for _ in 0..count {
-        let told = match waits {
+        let number = match waits {
             Waits::Few => bell.wait_for(rt, few()),
             Waits::Each => bell.wait(rt),
         };
-        note(&heard, told);
+        note(&heard, number);
     }
 }
 
@@ -251,7 +258,7 @@ where
 {
     let heard = Arc::new(alloc, nothing()).expect(&rt, "memory");
     let theirs = Arc::try_clone(&heard).expect(&rt, "a second hand");
-    let Ok(child) = thread::spawn(&rt, move || tell(&rt, bell, theirs, waits, count)) else {
+    let Ok(child) = thread::spawn(&rt, move || wait_often(&rt, bell, theirs, waits, count)) else {
         panic!(rt; "no thread");
     };
     Apart { child, heard }
@@ -262,8 +269,8 @@ fn pause<R: Wait>(rt: &R) {
 }
 
 impl Apart {
-    // Whether the bell told so many numbers, by the end of the looks.
-    fn tells<R: Wait>(&self, rt: &R, count: u64) -> bool {
+    // Returns whether the bell has returned this number of rings in time.
+    fn has_returned<R: Wait>(&self, rt: &R, count: u64) -> bool {
         for _ in 0..LOOKS {
             if self.heard.count.load(Ordering::SeqCst) == count {
                 return true;
@@ -273,9 +280,9 @@ impl Apart {
         false
     }
 
-    // All that the bell told, which were so many numbers, in order.
+    // Returns all that the bell returned, a number of rings in order.
     fn end<R: Threads + Wait>(self, rt: &R, count: u64) -> Option<u64> {
-        if !self.tells(rt, count) {
+        if !self.has_returned(rt, count) {
             return None;
         }
         self.child.join(rt);
@@ -286,12 +293,12 @@ impl Apart {
 // Whether the ringers' bell sleeps now.
 fn sleeps<R: Wait>(rt: &R, ringers: &[Ringer]) -> bool {
     match ringers.first() {
-        Some(ringer) => ringer.finds_asleep(rt),
+        Some(ringer) => finds_asleep(rt, ringer),
         None => false,
     }
 }
 
-// Whether it sleeps by the end of the looks.
+// Returns whether it sleeps in time.
 fn falls_asleep<R: Wait>(rt: &R, ringers: &[Ringer]) -> bool {
     for _ in 0..LOOKS {
         if sleeps(rt, ringers) {
@@ -308,17 +315,17 @@ fn ring_for<R: Abort + Wait>(rt: &R, ringers: &mut Vec<Ringer>, place: usize, ki
     same(rt, &ringer.ring_for(rt, kind), &Ok(()));
 }
 
-// What ringers do, and what is looked at, while their bell tells in a thread of its own.
+// What ringers do, and what is checked, while a thread of its own waits on their bell.
 #[derive(Clone, Copy)]
 enum Step {
     // The ringer at that place rings, or rings for a letter of that kind.
     Ring(usize),
     RingFor(usize, Kind4),
-    // The bell sleeps by the end of the looks, or now.
+    // The bell sleeps in time, or now.
     FallsAsleep,
     Sleeps,
-    // It told so many numbers by the end of the looks.
-    Told(u64),
+    // It has returned this number of rings in time.
+    Returned(u64),
     // All ringers are gone.
     Leave,
 }
@@ -329,12 +336,12 @@ fn goes_on<R: Abort + Wait>(rt: &R, apart: &Apart, ringers: &mut Vec<Ringer>, st
         Step::RingFor(place, kind) => ring_for(rt, ringers, place, kind),
         Step::FallsAsleep => assert!(rt; falls_asleep(rt, ringers.as_slice())),
         Step::Sleeps => assert!(rt; sleeps(rt, ringers.as_slice())),
-        Step::Told(count) => assert!(rt; apart.tells(rt, count)),
+        Step::Returned(count) => assert!(rt; apart.has_returned(rt, count)),
         Step::Leave => ringers.clear(),
     }
 }
 
-// A bell of that degree tells so many numbers while its ringers go through the steps, in this order. It waits for few.
+// Waits on a bell of this degree for a number of rings, while its ringers do the steps in order. It wants few letters.
 fn hears<R>(rt: R, alloc: Global, degree: u32, steps: &[Step], count: u32, order: u64)
 where
     R: Abort + Threads + Wait + Copy + Send + 'static,
@@ -362,16 +369,16 @@ fn a_plain_wait_is_woken_by_each_ring(rt: HostRuntime) {
     let steps = [
         Step::FallsAsleep,
         Step::RingFor(0, Kind4::Request),
-        Step::Told(1),
+        Step::Returned(1),
         Step::FallsAsleep,
         Step::RingFor(1, Kind4::Fork),
-        Step::Told(2),
+        Step::Returned(2),
         Step::FallsAsleep,
         Step::RingFor(0, Kind4::Done),
-        Step::Told(3),
+        Step::Returned(3),
         Step::FallsAsleep,
         Step::RingFor(1, Kind4::Close),
-        Step::Told(4),
+        Step::Returned(4),
         Step::FallsAsleep,
         Step::Ring(0),
     ];
@@ -379,7 +386,7 @@ fn a_plain_wait_is_woken_by_each_ring(rt: HostRuntime) {
 }
 
 #[test]
-fn an_unwanted_ring_lies_until_a_wanted_one(rt: HostRuntime) {
+fn an_unwanted_ring_stays_until_a_wanted_one(rt: HostRuntime) {
     let steps = [
         Step::FallsAsleep,
         Step::RingFor(0, Kind4::Request),
@@ -405,10 +412,10 @@ fn done_close_and_plain_rings_wake(rt: HostRuntime) {
     let steps = [
         Step::FallsAsleep,
         Step::RingFor(0, Kind4::Done),
-        Step::Told(1),
+        Step::Returned(1),
         Step::FallsAsleep,
         Step::RingFor(1, Kind4::Close),
-        Step::Told(2),
+        Step::Returned(2),
         Step::FallsAsleep,
         Step::Ring(0),
     ];
@@ -416,7 +423,7 @@ fn done_close_and_plain_rings_wake(rt: HostRuntime) {
 }
 
 #[test]
-fn what_lies_is_told_once_the_ringers_are_gone(rt: HostRuntime) {
+fn rings_are_returned_once_the_ringers_are_gone(rt: HostRuntime) {
     let steps = [
         Step::FallsAsleep,
         Step::RingFor(0, Kind4::Request),
@@ -426,7 +433,7 @@ fn what_lies_is_told_once_the_ringers_are_gone(rt: HostRuntime) {
     hears(rt, rt.alloc(), 2, &steps, 3, 199);
 }
 
-// Three unwanted rings lie, and the fourth takes the last room.
+// Three unwanted rings are in the bell, and the fourth takes the last place.
 #[test]
 fn a_bell_wakes_before_it_is_full(rt: HostRuntime) {
     let unwanted = Step::RingFor(0, Kind4::Request);
@@ -441,13 +448,13 @@ fn a_bell_wakes_before_it_is_full(rt: HostRuntime) {
     hears(rt, rt.alloc(), 1, &steps, 4, 1111);
 }
 
-// They ring faster than the bell tells, so that it is full now and then.
+// They ring faster than the bell is read, so that it is full now and then.
 #[test]
 fn four_threads_ring_often(rt: HostRuntime) {
     let (ringers, bell) = opened(&rt, rt.alloc(), 4);
     let apart = set_apart(rt, rt.alloc(), bell, Waits::Few, 40000);
     let threads = ring_apart(rt, rt.alloc(), ringers, 10000, false);
-    assert!(rt; apart.tells(&rt, 40000));
+    assert!(rt; apart.has_returned(&rt, 40000));
     for count in &apart.heard.each {
         same(&rt, &count.load(Ordering::SeqCst), &10000);
     }

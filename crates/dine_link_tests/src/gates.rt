@@ -9,13 +9,13 @@ use std::thread;
 use std::thread::{JoinHandle, Parker, Threads};
 use std::time::Duration;
 
-// How often a test looks again, each time after a pause of a millisecond. After that it fails, and does not hang.
+// How often a test checks again, each time after a pause of a millisecond. Then it fails, so that it never hangs.
 const LOOKS: u32 = 20000;
 
-// A gate that was told the signal lets pass or not, again and again.
+// A gate that has its signal lets threads pass or not, again and again.
 fn lets_pass<R: Wait + Abort>(rt: &R, signal: Signal, is_open: bool) {
     let gate = Gate::new();
-    gate.tell(rt, signal);
+    gate.send(rt, signal);
     for _ in 0..2 {
         same(rt, &gate.pass(rt), &is_open);
     }
@@ -31,7 +31,7 @@ fn gate_that_is_called_off_lets_nobody_pass(rt: HostRuntime) {
     lets_pass(&rt, Signal::CalledOff, false)
 }
 
-// A gate, and how many threads came to it and left it.
+// A gate, and the numbers of threads that arrived at it and left it.
 #[derive(Drop)]
 struct Threshold {
     gate: Gate,
@@ -39,7 +39,7 @@ struct Threshold {
     left: AtomicU64,
 }
 
-// Counts itself in front of the gate, and behind it. Answers what the gate told it.
+// Counts itself before the gate, and after it. Returns what the gate returned.
 fn go_through<R: Wait>(rt: &R, at: &Threshold) -> bool {
     at.came.fetch_add(1, Ordering::SeqCst);
     let is_open = at.gate.pass(rt);
@@ -51,7 +51,7 @@ fn pause<R: Wait>(rt: &R, millis: u64) {
     Parker::new().park_timeout(rt, Duration::from_millis(millis));
 }
 
-// So many threads are counted by the end of the looks.
+// Checks that a number of threads is counted in time.
 fn are_counted<R: Wait + Abort>(rt: &R, count: &AtomicU64, threads: u64) {
     for _ in 0..LOOKS {
         if count.load(Ordering::SeqCst) == threads {
@@ -78,8 +78,8 @@ where
     threads
 }
 
-// Three threads wait at a shut gate until it is told the signal, and all are told the same.
-fn three_are_told<R>(rt: R, alloc: Global, signal: Signal, is_open: bool)
+// Three threads wait at a shut gate until it gets its signal, and each gets the same result.
+fn three_get<R>(rt: R, alloc: Global, signal: Signal, is_open: bool)
 where
     R: Threads + Wait + Abort + Copy + Send + 'static,
 {
@@ -91,7 +91,7 @@ where
     // In this time they could have left the gate.
     pause(&rt, 20);
     same(&rt, &at.left.load(Ordering::SeqCst), &0);
-    at.gate.tell(&rt, signal);
+    at.gate.send(&rt, signal);
     are_counted(&rt, &at.left, 3);
     for child in threads {
         same(&rt, &child.join(&rt), &is_open);
@@ -100,10 +100,10 @@ where
 
 #[test]
 fn threads_wait_until_the_gate_is_opened(rt: HostRuntime) {
-    three_are_told(rt, rt.alloc(), Signal::Open, true)
+    three_get(rt, rt.alloc(), Signal::Open, true)
 }
 
 #[test]
 fn threads_wait_until_the_run_is_called_off(rt: HostRuntime) {
-    three_are_told(rt, rt.alloc(), Signal::CalledOff, false)
+    three_get(rt, rt.alloc(), Signal::CalledOff, false)
 }

@@ -7,6 +7,8 @@ mod asserts;
 #[cfg(test)]
 mod bells;
 #[cfg(test)]
+mod checks;
+#[cfg(test)]
 mod gates;
 #[cfg(test)]
 mod links;

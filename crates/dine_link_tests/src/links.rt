@@ -16,7 +16,7 @@ use std::alloc::Global;
 use std::process::Abort;
 use std::sync::Wait;
 use std::thread::Threads;
-use steps::{Told, closes, opened, puts, takes, tells};
+use steps::{Report, closes, opened, puts, reports, takes};
 
 // Done and Close go over a link in this order, and then its ends are brought together.
 fn done_and_close<L: Lane, R: Wait + Abort>(rt: &R, alloc: Global) {
@@ -26,12 +26,12 @@ fn done_and_close<L: Lane, R: Wait + Abort>(rt: &R, alloc: Global) {
     takes::<L, R>(rt, &mut rx, (Kind4::Done, None));
     takes::<L, R>(rt, &mut rx, (Kind4::Close, None));
     assert!(rt; L::is_closed(&rx));
-    let wanted = Told {
+    let wanted = Report {
         name: (5, 2),
         count: (2, 2, true),
         refused: (false, false),
     };
-    tells(rt, &L::reconcile(tx, rx), wanted);
+    reports(rt, &L::reconcile(tx, rx), wanted);
 }
 
 #[test]
@@ -46,12 +46,12 @@ fn keeps_its_name<L: Lane, R: Wait + Abort>(rt: &R, alloc: Global, edge: u32, fr
     let (mut tx, mut rx) = opened::<L>(rt, alloc, edge, from);
     puts::<L, R>(rt, &mut tx, Letter::Request(Token::open(edge)));
     takes::<L, R>(rt, &mut rx, (Kind4::Request, Some(edge)));
-    let wanted = Told {
+    let wanted = Report {
         name: (edge, from),
         count: (1, 1, false),
         refused: (false, false),
     };
-    tells(rt, &L::reconcile(TxEnd::Live(tx), rx), wanted);
+    reports(rt, &L::reconcile(TxEnd::Live(tx), rx), wanted);
 }
 
 #[test]
@@ -62,8 +62,8 @@ fn links_keep_high_names(rt: HostRuntime) {
     }
 }
 
-// Letters that one thread puts and another takes: the Requests or the forks of the edges from 0 on, and then Close
-// where `closes` says so.
+// Letters that one thread puts and another takes: the Requests or the forks of the edges from 0 on, and then Close if
+// `closes`.
 #[derive(Clone, Copy)]
 struct Sending {
     kind: Kind4,
@@ -109,7 +109,7 @@ fn all_sent(rt: &impl Abort, alloc: Global, kind: Kind4, count: u32) -> Vec<Lett
     letters
 }
 
-// The letter is that of the edge, a fork with its log, or Close behind them all.
+// Checks that the letter is that of the edge, a fork with its log, or Close after all of them.
 fn came(rt: &impl Abort, letter: &Letter, sending: Sending, edge: u32) {
     let is_last = edge == sending.letters;
     let kind = if is_last { Kind4::Close } else { sending.kind };
@@ -117,14 +117,14 @@ fn came(rt: &impl Abort, letter: &Letter, sending: Sending, edge: u32) {
     match letter {
         Letter::Request(token) => same(rt, &token.edge(), &edge),
         Letter::Fork(fork) => {
-            let told = (fork.edge(), fork.at(), fork.is_dirty(), fork.len());
-            same(rt, &told, &(edge, 1, false, 2 - edge % 2));
+            let report = (fork.edge(), fork.at(), fork.is_dirty(), fork.len());
+            same(rt, &report, &(edge, 1, false, 2 - edge % 2));
         }
         _ => {}
     }
 }
 
-// They come as they were put, over links of a lane. So many are counted as put and taken, and whether Close was.
+// Checks that they arrive as they were put, over links of a lane, and the numbers put and taken, and whether Close was.
 fn goes_over<L, R>(rt: R, alloc: Global, sending: Sending, count: (u64, u64, bool))
 where
     R: Threads + Wait + Abort + Copy + Send + 'static,
@@ -195,7 +195,7 @@ fn two_threads_close_a_link_or_leave_letters(rt: HostRuntime) {
 }
 
 #[test]
-fn faults_of_links_have_their_words(rt: HostRuntime) {
+fn faults_of_links_have_their_texts(rt: HostRuntime) {
     let (memory, lost) = (LinkFault::Memory, Lost);
     let words = format!(in rt.alloc(); "{memory}; {lost}").expect(&rt, "memory");
     let wanted = "1 Memory; the other end of the link is gone";

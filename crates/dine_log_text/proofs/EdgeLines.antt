@@ -8,7 +8,7 @@ use Rattle.dine_token.specs.Fork.{SeenFork}
 use Rattle.dine_graph.specs.Plan.{SeenPlan, edge_count, name_of}
 use Rattle.dine_core.specs.Outcomes.{with_outcomes}
 use Rattle.dine_core.specs.World.{WorldState}
-use Rattle.dine_world.specs.Worlds.{fork_seen, forks_seen}
+use Rattle.dine_core.specs.Worlds.{fork_seen, forks_seen}
 use Rattle.dine_log_text.specs.Logs.{edge_line, line_of_edge, value_text}
 
 -- an edge has its fork

@@ -1,4 +1,4 @@
--- Texts of entries, as the periods of a log tell them.
+-- Texts of entries, period by period.
 use Rattle.std.proofs.Common.{◌≡◌, ℕ, zero, suc, ◌+◌, ◌-◌, ◌<◌, Bool, eqb, List, [], ◌∷◌, ◌++◌, drop, codes, Some, slice_get, refl, sym, ◌∙◌, ap, arith, append_assoc, add-one}
 use Rattle.std.proofs.lemmas.Bool.{eq-eqb, ne_eqb}
 use Rattle.dine_token.specs.declared.log_entry.Entry.{Entry}
@@ -15,7 +15,7 @@ drop-at {X} (y ∷ xs) (suc i) x got =
     let on : drop (i + 1) xs ≡ drop (suc i + 1) (y ∷ xs) = ap (λ (n : ℕ). drop n xs) (add-one i) ∙ sym (ap (λ (n : ℕ). drop n (y ∷ xs)) (add-one (suc i))) in
     drop-at xs i x got ∙ ap (λ (l : List X). x ∷ l) on
 
--- behind an entry each other has a comma before it
+-- after an entry each other one has a comma before it
 entries_behind : (name_of : ℕ → List ℕ) (xs ys : List Entry) → entries_text name_of (codes ", ") (xs ++ ys) ≡ entries_text name_of (codes ", ") xs ++ entries_text name_of (codes ", ") ys
 entries_behind name_of [] ys = refl
 entries_behind name_of (x ∷ xs) ys =
@@ -52,7 +52,7 @@ periods_step name_of periods i period before separator after whole got so_far pu
     ∙ ap (λ (l : List ℕ). before ++ l) (sym (entries_more name_of separator (Move period.site) (meals_in period) (moved_entries (drop (i + 1) periods))))
     ∙ sym (ap (λ (l : List Period). before ++ entries_text name_of separator (moved_entries l)) (drop-at periods i period got)) ∙ so_far
 
--- the first period, and the others behind it, whose Move is the first entry where that period has no meal
+-- the first period, and the others after it: the first Move is the first entry if the first period has no meal
 pub first_period : (name_of : ℕ → List ℕ) (periods : List Period) (first : Period) → slice_get periods 0 ≡ Some first
     → entries_text name_of (codes " ") (meals_in first) ++ entries_text name_of (separator (eqb first.count 0)) (moved_entries (drop 1 periods)) ≡ entries_text name_of (codes " ") (entries_of periods)
 first_period name_of [] first got = absurd cc

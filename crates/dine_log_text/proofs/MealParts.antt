@@ -39,7 +39,7 @@ cut_at name k n within =
     let next : 1 + k ≡ k + 1 = omega arith in
     ap (meals_text name 1) all ∙ meals_append name 1 k (n - k) ∙ ap (λ (i : ℕ). meals_text name 1 k ++ meals_text name i (n - k)) next
 
--- a text may be cut before its meals, since a comma or nothing stands there
+-- a text may be cut before its meals, since the text ends there, or a comma follows
 cut_before : (front name : List ℕ) (first count : ℕ) → IsCharBoundary (front ++ meals_text name first count) (length front)
 cut_before front name first zero = rw append-nil (IsCharBoundary-end front)
 cut_before front name first (suc count) =
@@ -82,20 +82,20 @@ part_between name text starts kept before first count from to from_is to_is next
       part_is = ap (λ (l : List ℕ). take (to - from) (drop from l)) whole ∙ ap (take (to - from)) (drop_at front (part ++ rest) from (sym begins)) ∙ take_at part rest (to - from) (sym long);
     }
 
--- a part with a meal may be cut behind its comma
+-- a part with a meal may be cut after its comma
 pub cut_behind_comma : (name part : List ℕ) (first count : ℕ) → 1 ≤ count → part ≡ meals_text name first count → IsCharBoundary part 1
 cut_behind_comma name part first zero some is = absurd (omega (arith, some))
 cut_behind_comma name part first (suc count) some is =
     rw is (IsCharBoundary-before_ascii (meals_text name first (suc count)) 1 (omega arith) (omega arith))
 
--- the meals behind their first comma begin a line
+-- the meals after their first comma begin a line
 pub meals_at_first : (name part : List ℕ) (site first count : ℕ) → 1 ≤ count → part ≡ meals_text name first count
     → drop 1 part ≡ entries_text (λ (s : ℕ). name) (codes " ") (meals_from site first count)
 meals_at_first name part site first zero some is = absurd (omega (arith, some))
 meals_at_first name part site first (suc count) some is =
     ap (drop 1) is ∙ same_meals (λ (s : ℕ). name) (λ (s : ℕ). name) 0 site refl (codes " ") first (suc count)
 
--- the meals with their comma stand behind other entries
+-- the meals with their comma follow other entries
 pub meals_behind : (name part : List ℕ) (site first count : ℕ) → part ≡ meals_text name first count → part ≡ entries_text (λ (s : ℕ). name) (codes ", ") (meals_from site first count)
 meals_behind name part site first count is = is ∙ same_meals (λ (s : ℕ). name) (λ (s : ℕ). name) 0 site refl (codes ", ") first count
 

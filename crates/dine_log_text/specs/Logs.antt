@@ -10,7 +10,7 @@ use Rattle.dine_core.specs.Precedence.{fork_log}
 use Rattle.dine_core.specs.Values.{value_by}
 use Rattle.dine_core.specs.World.{WorldState}
 
--- what stands before an entry: a space before the first of a line, and a comma and a space before each other
+-- the text before an entry: a space before the first entry of a line, and a comma and a space before each other one
 abbrev pub separator : Bool → List ℕ
 separator true = codes " "
 separator false = codes ", "
@@ -21,25 +21,25 @@ module _ (named : ℕ → List ℕ) where
   entry_text (Meal site k) = named site ++ codes "#" ++ decimal k
   entry_text (Move to) = codes "to " ++ named to
 
-  -- each entry behind a separator
+  -- the entries, each after a separator: this one before the first, and a comma and a space before each other one
   abbrev pub entries_text : List ℕ → List Entry → List ℕ
   entries_text separator [] = []
   entries_text separator (entry ∷ log) = separator ++ entry_text entry ++ entries_text (codes ", ") log
 
-  -- the line of an edge: its number, the names of its ends, the lower first, a colon, its log, and what is told of its
-  -- value; without entries nothing stands behind the colon but that
+  -- the line of an edge: its number, the names of its ends, the lower first, a colon, the entries of its log, and the
+  -- text of its value
   abbrev pub edge_line : ℕ → ℕ × ℕ → List Entry → List ℕ → List ℕ
-  edge_line edge ends log told = codes "edge " ++ decimal edge ++ codes " " ++ named ends.0 ++ codes " " ++ named ends.1 ++ codes ":" ++ entries_text (codes " ") log ++ told ++ codes "\n"
+  edge_line edge ends log value = codes "edge " ++ decimal edge ++ codes " " ++ named ends.0 ++ codes " " ++ named ends.1 ++ codes ":" ++ entries_text (codes " ") log ++ value ++ codes "\n"
 
--- the last line: how many events took effect, and their bound
+-- the last line: the number of events that took effect, and its bound
 abbrev pub events_line : ℕ → ℕ → List ℕ
 events_line events bound = codes "events " ++ decimal events ++ codes " of " ++ decimal bound ++ codes "\n"
 
--- what a line tells of the value of an edge: in version 2 the value, and in version 1 nothing
+-- the text of the value of an edge: an equals sign and the value in version 2, and nothing in version 1
 abbrev pub value_text : SeenPlan → ℕ → List ℕ
 value_text plan value = if plan.version == 2 then codes " = " ++ decimal value else []
 
--- The texts of a world of `shown`: that is the plan, or the plan with other outcomes of its jobs.
+-- The texts of a world of `shown`, which is the plan, or the plan with other outcomes of its jobs.
 module _ (plan shown : SeenPlan) where
   -- the line of an edge of the plan, by the log of its fork, and with the value that the log gives
   abbrev pub line_of_edge : WorldState → ℕ → List ℕ

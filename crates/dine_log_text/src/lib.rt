@@ -1,4 +1,4 @@
-//! The text of `replay`: the logs of the forks of a world, after the events that were chosen.
+//! The text that `replay` writes: the logs of the forks of a world, after the events that were chosen.
 #![tactic(auto)]
 
 mod logs;

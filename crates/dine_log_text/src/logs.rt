@@ -1,5 +1,4 @@
 //! The text of a world.
-
 ghost use Rattle.std.specs.Prelude.{◌≡◌, ◌+◌, ◌≤◌, ◌∷◌, ◌++◌, Bool, List, codes, string_bytes, IfOk, OnOk};
 ghost use Rattle.dine_token.specs.declared.log_entry.Entry.TheVariants.{Move};
 ghost use Rattle.dine_token.specs.Periods.{meals_in};
@@ -7,27 +6,33 @@ ghost use Rattle.std.specs.Fmt.{decimal};
 ghost use Rattle.dine_graph.specs.Plan.{name_of};
 ghost use Rattle.dine_core.specs.Outcomes.{with_outcomes};
 ghost use Rattle.dine_core.specs.World.{WorldState};
-ghost use Rattle.dine_world.specs.Worlds.{IsWorldOf};
-ghost use Rattle.dine_log_text.specs.Logs.{edge_line, edge_lines, entries_text, events_line, separator, value_text, world_text};
+ghost use Rattle.dine_core.specs.Worlds.{IsWorldOf};
+ghost use Rattle.dine_log_text.specs.Logs.{edge_line, edge_lines, entries_text, events_line};
+ghost use Rattle.dine_log_text.specs.Logs.{separator, value_text, world_text};
 ghost use Rattle.dine_log_text.specs.private.MealTexts.{texts_of};
 
 use crate::logs::meal_texts::{MealTexts, push_meal, separator};
+use dine_core::World;
 use dine_graph::Plan;
 use dine_token::{Fork, Period};
-use dine_world::World;
 use std::alloc::{AllocError, Global};
 
 mod meal_texts;
 
-/// The text of the world, which was opened for the plan with its own outcomes or with others, after so many events: the
-/// log of each edge, in version 2 with its value, and the last line.
+/// Returns the text of the world after `events` events: the log of each edge, in version 2 with its value, and the last
+/// line. The world was opened for the plan, with the plan's outcomes of jobs or with others.
+///
+/// # Errors
+///
+/// Fails if an allocation fails.
 pub fn world_text(
     alloc: Global,
     plan: &Plan,
     world: &World,
     events: u64,
 ) -> Result<Vec<u8>, AllocError>
-    ensures { IfOk result (λ text. (fails : List (List Bool)) (state : WorldState) → IsWorldOf (with_outcomes plan.now fails) state world.now
+    ensures { IfOk result (λ text. (fails : List (List Bool)) (state : WorldState)
+        → IsWorldOf (with_outcomes plan.now fails) state world.now
         → text.items ≡ world_text plan.now (with_outcomes plan.now fails) state events) }
 {
     let mut text = edges_text(alloc, plan, world)?;
@@ -35,9 +40,14 @@ pub fn world_text(
     Ok(text.into_bytes())
 }
 
-/// The lines of the edges of the world alone: the log of each edge, in version 2 with its value.
+/// Returns the lines of the edges of the world: the log of each edge, in version 2 with its value.
+///
+/// # Errors
+///
+/// Fails if an allocation fails.
 pub fn edges_text(alloc: Global, plan: &Plan, world: &World) -> Result<String, AllocError>
-    ensures { IfOk result (λ text. (fails : List (List Bool)) (state : WorldState) → IsWorldOf (with_outcomes plan.now fails) state world.now
+    ensures { IfOk result (λ text. (fails : List (List Bool)) (state : WorldState)
+        → IsWorldOf (with_outcomes plan.now fails) state world.now
         → string_bytes text ≡ edge_lines plan.now (with_outcomes plan.now fails) state) }
 {
     let mut text = String::new(alloc);
@@ -53,8 +63,10 @@ fn push_lines(
     world: &World,
 ) -> Result<(), AllocError>
     requires { texts.now ≡ texts_of plan.now }
-    ensures { OnOk result ((fails : List (List Bool)) (state : WorldState) → IsWorldOf (with_outcomes plan.now fails) state world.now
-        → string_bytes text.new ≡ string_bytes text.old ++ edge_lines plan.now (with_outcomes plan.now fails) state) }
+    ensures { OnOk result ((fails : List (List Bool)) (state : WorldState)
+        → IsWorldOf (with_outcomes plan.now fails) state world.now
+        → string_bytes text.new
+        ≡ string_bytes text.old ++ edge_lines plan.now (with_outcomes plan.now fails) state) }
 {
     for edge in 0..plan.edges() {
         // A world that was opened for the plan has the fork of each edge.
@@ -65,7 +77,7 @@ fn push_lines(
     Ok(())
 }
 
-// The text of the meals that each site of the plan has due, in order.
+// Returns for each site of the plan, in order, the text of the meals that are due.
 fn texts_of(alloc: Global, plan: &Plan) -> Result<Vec<MealTexts<'_>>, AllocError>
     ensures { IfOk result (λ texts. texts.items ≡ texts_of plan.now) }
 {
@@ -76,7 +88,7 @@ fn texts_of(alloc: Global, plan: &Plan) -> Result<Vec<MealTexts<'_>>, AllocError
     Ok(texts)
 }
 
-// The name of the site. A number that is no site has none.
+// Returns the name of the site, or the empty text if there is no such site.
 fn name_of(plan: &Plan, site: u32) -> &str
     ensures { result.now ≡ name_of plan.now site }
 {
@@ -87,9 +99,10 @@ fn name_of(plan: &Plan, site: u32) -> &str
     }
 }
 
-// Adds the Move to the site with this name to the text, as the first entry of its line or not.
+// Adds a Move to the site with this name. `is_first` says whether it is the first entry of its line.
 fn push_move(text: &mut String, is_first: bool, name: &str) -> Result<(), AllocError>
-    ensures { OnOk result (string_bytes text.new ≡ string_bytes text.old ++ (separator is_first ++ (codes "to " ++ name.now))) }
+    ensures { OnOk result (string_bytes text.new
+        ≡ string_bytes text.old ++ (separator is_first ++ (codes "to " ++ name.now))) }
 {
     text.push_str(separator(is_first))?;
     text.push_str("to ")?;
@@ -104,7 +117,8 @@ fn push_each_meal(
     period: Period,
 ) -> Result<(), AllocError>
     requires { period.first + period.count ≤ 1001 }
-    ensures { OnOk result (string_bytes text.new ≡ string_bytes text.old ++ entries_text (name_of plan.now) (separator is_first) (meals_in period)) }
+    ensures { OnOk result (string_bytes text.new
+        ≡ string_bytes text.old ++ entries_text (name_of plan.now) (separator is_first) (meals_in period)) }
 {
     let name = name_of(plan, period.site);
     let mut is_first = is_first;
@@ -115,8 +129,8 @@ fn push_each_meal(
     Ok(())
 }
 
-// Adds the meals of the period to the text, in one part of its site's text. A log holds no meal that is not due, so
-// that text has them; no proof says so here, and without it they are added one after the other.
+// Adds the meals of the period to the text, as one part of its site's text. A log has only meals that are due, so that
+// text has them. Nothing proves this here, so the meals are added one after the other if it does not.
 fn push_meals(
     text: &mut String,
     plan: &Plan,
@@ -126,7 +140,8 @@ fn push_meals(
 ) -> Result<(), AllocError>
     requires bound { period.first + period.count ≤ 1001 }
     requires texts { texts.now ≡ texts_of plan.now }
-    ensures { OnOk result (string_bytes text.new ≡ string_bytes text.old ++ entries_text (name_of plan.now) (separator is_first) (meals_in period)) }
+    ensures { OnOk result (string_bytes text.new
+        ≡ string_bytes text.old ++ entries_text (name_of plan.now) (separator is_first) (meals_in period)) }
 {
     if let Some(site) = texts.get(period.site as usize) {
         if let Some(part) = site.of_period(is_first, period) {
@@ -136,7 +151,7 @@ fn push_meals(
     push_each_meal(text, plan, is_first, period)
 }
 
-// Adds a period that a Move opened to the text: the Move, and the meals.
+// Adds a period that begins with a Move to the text: the Move, and the meals.
 fn push_moved(
     text: &mut String,
     plan: &Plan,
@@ -146,13 +161,15 @@ fn push_moved(
 ) -> Result<(), AllocError>
     requires bound { period.first + period.count ≤ 1001 }
     requires texts { texts.now ≡ texts_of plan.now }
-    ensures { OnOk result (string_bytes text.new ≡ string_bytes text.old ++ entries_text (name_of plan.now) (separator is_first) (Move period.site ∷ meals_in period)) }
+    ensures { OnOk result (string_bytes text.new
+        ≡ string_bytes text.old
+        ++ entries_text (name_of plan.now) (separator is_first) (Move period.site ∷ meals_in period)) }
 {
     push_move(text, is_first, name_of(plan, period.site))?;
     push_meals(text, plan, texts, false, period)
 }
 
-// Adds the entries of the fork's log to the text, as its periods tell them.
+// Adds the entries of the fork's log to the text, period by period.
 fn push_entries(
     text: &mut String,
     plan: &Plan,
@@ -160,7 +177,8 @@ fn push_entries(
     fork: &Fork,
 ) -> Result<(), AllocError>
     requires { texts.now ≡ texts_of plan.now }
-    ensures { OnOk result (string_bytes text.new ≡ string_bytes text.old ++ entries_text (name_of plan.now) (codes " ") fork.now.log) }
+    ensures { OnOk result (string_bytes text.new
+        ≡ string_bytes text.old ++ entries_text (name_of plan.now) (codes " ") fork.now.log) }
 {
     let periods = fork.periods();
     let first = fork.period(0);
@@ -181,7 +199,10 @@ fn push_edge_line(
     fork: &Fork,
 ) -> Result<(), AllocError>
     requires { texts.now ≡ texts_of plan.now }
-    ensures { OnOk result (string_bytes text.new ≡ string_bytes text.old ++ edge_line (name_of plan.now) fork.now.edge fork.now.ends fork.now.log (value_text plan.now fork.now.value)) }
+    ensures { OnOk result (string_bytes text.new
+        ≡ string_bytes text.old
+        ++ edge_line (name_of plan.now) fork.now.edge fork.now.ends fork.now.log
+        (value_text plan.now fork.now.value)) }
 {
     let edge = fork.edge();
     let (lower, higher) = fork.ends();
@@ -193,7 +214,7 @@ fn push_edge_line(
     text.push_str("\n")
 }
 
-// Adds the value of the fork to the text, where the plan is of version 2.
+// Adds the value of the fork to the text, if the plan is of version 2.
 fn push_value(text: &mut String, plan: &Plan, fork: &Fork) -> Result<(), AllocError>
     ensures { OnOk result (string_bytes text.new ≡ string_bytes text.old ++ value_text plan.now fork.now.value) }
 {

@@ -1,4 +1,4 @@
--- What is answered at the end of the search.
+-- What the search returns at its end.
 use Rattle.std.proofs.Common.{◌≡◌, ◌≢◌, ℕ, ◌<◌, ◌≤◌, List, [], ◌∷◌, ◌++◌, length, get_or, Some, None, Result, Ok, Err, IfErr, IsErrAnd, refl, sym, ◌∙◌, ap, subst, inl, inr, arith, append-nil, length-append}
 use mathlib.Core.List.{IsPrefix}
 use Rattle.std.proofs.lemmas.Bool.{cases_lt}
@@ -8,7 +8,7 @@ use Rattle.dine_rules.specs.declared.events.Event.{Event}
 use Rattle.dine_rules.specs.declared.events.EventKind.{EventKind}
 use Rattle.dine_rules.specs.Journals.{IsOrderOf, IsPlacedToEnd, IsWholeOrder, journal_of, part_of}
 use Rattle.dine_rules.specs.World.{IsComplete, Reaches, WorldState, enabled_events}
-use Rattle.dine_world.specs.Worlds.{SeenWorld}
+use Rattle.dine_core.specs.Worlds.{SeenWorld}
 use Rattle.dine_order.specs.declared.orders.OrderFault.{OrderFault}
 use Rattle.dine_order.specs.declared.orders.OrderFault.TheVariants.{Memory}
 use Rattle.dine_order.specs.Orders.{FirstLeft, HasNoOrder, IsNotClosed, IsSearched, IsStuckAt}
@@ -39,7 +39,7 @@ empty [] h = refl
 empty (x ∷ xs) h = absurd (omega arith)
 
 module _ (plan : SeenPlan) (journals : List (List EventKind)) (placed : List Event) (counts : List ℕ) (seen : SeenWorld) (done : IsSearched plan journals placed counts seen) (count : length journals ≡ site_count plan) where
-  -- where so many of a site's events are placed as its journal has, all are
+  -- if as many of a site's events are placed as its journal has, all are placed
   all_of : (s : ℕ) → s < site_count plan → length (journal_of journals s) ≤ get_or counts s 0 → part_of s placed ≡ journal_of journals s
   all_of s is_site long = whole_front (part_of s placed) (journal_of journals s) (done.to_end.front s) (omega (arith, done.counted s is_site, long))
 
@@ -59,7 +59,7 @@ module _ (plan : SeenPlan) (journals : List (List EventKind)) (placed : List Eve
         λ events whole. omega (arith, left, ap length (finds plan journals events placed done.state whole done.to_end site)),
       )
 
-  -- where no site has events left, the events are an order of the journals
+  -- if no site has events left, the events are an order of the journals
   all_placed : FirstLeft (site_count plan) journals counts None → IsOrderOf journals placed
   all_placed none s = elim (cases_lt s (site_count plan)) [
     | inl is_site ↦ all_of s is_site (none s is_site)
@@ -88,7 +88,7 @@ module _ (plan : SeenPlan) (journals : List (List EventKind)) (placed : List Eve
     complete = complete plan placed done.state done.stands.reached.is_plan done.to_end.accepted (empty (enabled_events plan done.state) closed);
   }
 
--- where memory was refused, it is told
+-- if an allocation failed, this is the fault
 pub memory_told : {A : Type 0} (result : Result A OrderFault) → IsErrAnd result (λ fault. fault ≡ Memory) → (P : OrderFault → Type 0) → P Memory → IfErr result P
 memory_told (Ok answer) told P holds = absurd told
 memory_told (Err fault) told P holds = subst P (sym told) holds

@@ -13,7 +13,7 @@ use Rattle.dine_rules.specs.Journals.{IsFrontOf, IsLowestFirst, OrdersGrow, can_
 use Rattle.dine_rules.specs.Local.{neighbour_at}
 use Rattle.dine_rules.specs.Steps.{IsPlaceWithin, Puts, shape_of}
 use Rattle.dine_rules.specs.World.{Reaches, WorldState, after_events, is_enabled, start, world_after}
-use Rattle.dine_world.specs.Worlds.{IsWorldOf, SeenWorld, WorldStep}
+use Rattle.dine_core.specs.Worlds.{IsWorldOf, SeenWorld, WorldStep}
 use Rattle.dine_order.specs.Orders.{AreCounts, IsFound, IsSearched, IsSearching, kind_at, receiver_by, receiver_of}
 use Rattle.dine_order.proofs.Sets.{first_is_in, last_cases, longer_front, none_below, nothing_in, past_full}
 
@@ -31,7 +31,7 @@ EventsWait = (plan : SeenPlan) (events : List Event) (world new : WorldState) (e
 -- ---- the next event of a site
 
 module _ (plan : SeenPlan) (journals : List (List EventKind)) (placed : List Event) (counts : List ℕ) (untried : List Bool) (seen : SeenWorld) (search : IsSearching plan journals placed counts untried seen) where
-  -- it is told by the counts
+  -- the counts give it
   pub next_is : (s : ℕ) → kind_at journals counts s ≡ next_of journals placed s
   next_is s = elim (cases_lt s (site_count plan)) [
     | inl is_site ↦
@@ -71,7 +71,7 @@ module _ (plan : SeenPlan) (journals : List (List EventKind)) (placed : List Eve
     ];
   }
 
-  -- where the set is empty, no site is ready
+  -- if the set is empty, no site is ready
   pub searched : position (λ b. b) untried ≡ None → IsSearched plan journals placed counts seen
   searched none = record {
     state = search.state;
@@ -82,7 +82,7 @@ module _ (plan : SeenPlan) (journals : List (List EventKind)) (placed : List Eve
     counted = search.counted;
   }
 
-  -- the first site of the set is the lowest that is ready, where the world did its next event
+  -- if the world did the next event of the first site of the set, this is the lowest ready site
   pub found : (s : ℕ) (kind : EventKind) (new : SeenWorld) → position (λ b. b) untried ≡ Some s → kind_at journals counts s ≡ Some kind → WorldStep plan search.state (record { site = s; kind = kind }) new
       → IsFound plan journals placed counts untried (record { site = s; kind = kind }) new
   found s kind new first next step = record {
@@ -157,7 +157,7 @@ module _ (grows : OrdersGrow) (plan : SeenPlan) (journals : List (List EventKind
         ∙ sym (ap length (grows.others placed e s differs))
   ]
 
-  -- a site that did not act and got no letter is ready where it was
+  -- a site that did not act and got no letter is ready only if it was before
   still_not_ready : EventsWait → (s : ℕ) → get_or untried s false ≡ false → ((i : ℕ) → shape_of e.kind ≡ Puts i → neighbour_at plan e.site i ≢ s) → is_ready plan journals (placed ++ e ∷ []) found.next s ≡ false
   still_not_ready waits s out no_letter =
       let differs : e.site ≢ s = λ same. found.own_is_in (ap (λ (x : ℕ). get_or untried x false) same ∙ out) in
@@ -223,7 +223,7 @@ starts plan journals seen stands count = record {
   no_end [] e rest same = cc
   no_end (b ∷ before) e rest same = cc
 
--- the same where the first lists are told in other words
+-- the same for lists that are equal to the first ones
 pub starts_as : (plan : SeenPlan) (journals : List (List EventKind)) (placed : List Event) (counts : List ℕ) (untried : List Bool) (seen : SeenWorld) → IsWorldOf plan (start plan) seen → length journals ≡ site_count plan
     → placed ≡ [] → counts ≡ replicate (site_count plan) 0 → untried ≡ replicate 64 true → IsSearching plan journals placed counts untried seen
 starts_as plan journals placed counts untried seen stands count none zeros full =
@@ -236,7 +236,7 @@ pub fewer_left : AreBounded → (plan : SeenPlan) (journals : List (List EventKi
     → length placed ≤ bound_of plan
 fewer_left bounded plan journals placed counts untried seen search = bounded plan placed search.state search.stands.reached.is_plan search.accepted
 
--- the same where the set and the world are told in other words
+-- the same for a set and a world that are equal to these
 pub search_as : (plan : SeenPlan) (journals : List (List EventKind)) (placed : List Event) (counts : List ℕ) (set untried : List Bool) (new seen : SeenWorld) → set ≡ untried → new ≡ seen
     → IsSearching plan journals placed counts untried seen → IsSearching plan journals placed counts set new
 search_as plan journals placed counts set untried new seen same_set same_world search =

@@ -18,7 +18,7 @@ use Rattle.dine_rules.specs.Values.{value_along, value_by}
 use Rattle.dine_rules.proofs.journals.OtherOutcomes.{acts-same, jobs-same}
 use Rattle.dine_rules.proofs.journals.Shown.{all_long, own_is, own_long}
 pub use Rattle.dine_rules.proofs.journals.Shown.{sites_shown}
-use Rattle.dine_world.specs.Worlds.{AreOutcomesFor}
+use Rattle.dine_core.specs.Worlds.{AreOutcomesFor}
 use Rattle.dine_rules.specs.Shown.{plan_shown, shown_by, shown_in}
 use Rattle.dine_order.specs.Orders.{noted, receiver_by, receiver_of}
 
@@ -49,7 +49,7 @@ outcomes-other [] kind not_end not_quit = refl
 outcomes-other (End ∷ kinds) kind not_end not_quit = ap₂ (λ (b : Bool) (rest : List Bool). b ∷ rest) (fails_before-other kinds kind not_end not_quit) (outcomes-other kinds kind not_end not_quit)
 outcomes-other (first ∷ kinds) kind not_end not_quit = outcomes-other kinds kind not_end not_quit
 
--- whether a meal failed where Quit comes behind these: where none ended in between it did
+-- whether a meal failed if Quit comes after these events: it did if no meal ended in between
 abbrev quit_behind : List Bool → Bool → Bool
 quit_behind [] failed = true
 quit_behind (next ∷ outcomes) failed = failed
@@ -74,7 +74,7 @@ outcomes-quit (End ∷ kinds) =
     ap₂ (λ (b : Bool) (rest : List Bool). b ∷ rest) (fails_before-quit kinds) (outcomes-quit kinds) ∙ noted-first (outcomes_in false kinds) (fails_before false kinds)
 outcomes-quit (kind ∷ kinds) = outcomes-quit kinds
 
--- so many meals ended
+-- the number of meals that ended
 pub ended-end : (kinds : List EventKind) → length (outcomes_in false (kinds ++ End ∷ [])) ≡ length (outcomes_in false kinds) + 1
 ended-end kinds = ap length (outcomes-end kinds) ∙ length-append (outcomes_in false kinds) (false ∷ [])
 
@@ -88,9 +88,9 @@ ended-quit kinds = ap length (outcomes-quit kinds) ∙ noted-length (length (out
 pub ended-other : (kinds : List EventKind) (kind : EventKind) → kind ≢ End → kind ≢ Quit → length (outcomes_in false (kinds ++ kind ∷ [])) ≡ length (outcomes_in false kinds)
 ended-other kinds kind not_end not_quit = ap length (outcomes-other kinds kind not_end not_quit)
 
--- ---- the outcomes of so many jobs
+-- ---- the outcomes of a number of jobs
 
--- those that stand at the places of the jobs
+-- the outcomes at the places of the jobs
 abbrev listed : ℕ → List Bool → List Bool
 listed jobs outcomes = map (λ k. get_or outcomes k false) (range_with_len 0 jobs)
 

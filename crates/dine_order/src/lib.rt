@@ -1,4 +1,4 @@
-//! One order of what all sites did, out of the journal of each.
+//! One order of what all sites did, from the journal of each.
 #![tactic(auto)]
 
 mod orders;

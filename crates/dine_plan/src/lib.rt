@@ -1,5 +1,5 @@
-//! Plans, under one name: the plan that stands, the reader of plan texts with the causes to refuse one, and the builder
-//! of plans that a program tells. The code stands in the crates below.
+//! Plans, under one name: `Plan` itself, the reader of plan texts with the causes to refuse one, and the builder of
+//! plans in a program. The code is in the crates below.
 #![tactic(auto)]
 
 pub mod laws;

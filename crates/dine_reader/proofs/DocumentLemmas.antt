@@ -1,4 +1,4 @@
--- What a value holds, beside the data that it stands for.
+-- The parts of a value, and the data that it is seen as.
 use Rattle.std.proofs.Common.{◌≡◌, ℕ, ◌<◌, Bool, List, [], ◌∷◌, map, length, get_or, take, arith, Option, Some, String, Global, string_bytes, refl, sym, ap, ◌∙◌}
 use Rattle.std.specs.List.{list_any, list_all, position}
 use Rattle.std.specs.Str.{bytes_eq}
@@ -48,7 +48,7 @@ names_seen-at vs i v within is =
 pub names_seen-take : (vs : List Value) (i : ℕ) → take i (names_seen vs) ≡ names_seen (take i vs)
 names_seen-take vs i = take-map name_in i (map view vs) ∙ ap (map name_in) (take-map view i vs)
 
--- whether the name of the value at i stands before it
+-- whether the name of the value at i is one of those before it
 pub name_stands_before : (vs : List Value) (i : ℕ) (v : Value) (text : List ℕ) (b : Bool) → i < length vs → v ≡ get_or vs i v → text ≡ name_in (view v) → b ≡ list_any (bytes_eq text) (names_seen (take i vs)) → stands_before bytes_eq [] (names_seen vs) i ≡ b
 unfolding stands_before
 name_stands_before vs i v text b within is named answer =

@@ -20,7 +20,7 @@ none_before : {A : Type 0} (os : List (Option A)) (k : ℕ) → ((j : ℕ) → j
 none_before os k h zero before = refl
 none_before os k h (suc j) before = h j (omega arith)
 
--- where the first one of a list stands
+-- the place of the first one of a list
 found_at : {A : Type 0} (os : List (Option A)) (x : A) → first_some os ≡ Some x → (k : ℕ) × (slice_get os k ≡ Some (Some x)) × ((j : ℕ) → j < k → slice_get os j ≡ Some None)
 found_at [] x h = absurd (cc)
 found_at (None ∷ os) x h =
@@ -34,7 +34,7 @@ nowhere (None ∷ os) zero x h at = cc (same_Some _ _ at)
 nowhere (None ∷ os) (suc k) x h at = nowhere os k x h at
 nowhere (Some y ∷ os) k x h at = cc
 
--- the number of the cause at a place of the list: that of want of memory, 16, stands for none there
+-- the number of the cause at a place of the list: 16, that of `Memory`, is not one of them
 number_of_entry : ℕ → ℕ
 number_of_entry k = cond (ltb 13 k) (k + 3) (k + 2)
 

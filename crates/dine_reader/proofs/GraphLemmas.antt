@@ -93,7 +93,7 @@ are_acts sites edges h =
     let c = option_or_none _ _ b.1 in
     record { small_acts = option_map_none _ _ b.0; small_values = option_map_none _ _ c.0 }
 
--- what stands past the end of a list of data
+-- what is read past the end of a list of data
 no_data : Data
 no_data = boolean false
 

@@ -5,6 +5,7 @@ use Rattle.std.specs.Option.{option_or}
 use Rattle.std.proofs.lemmas.Bool.{cases_Bool, cases_lt, false≢true, lt-ltb, le-ltb}
 use Rattle.std.proofs.lemmas.List.{length-take-le, get_or-take, take_more, map_push, map_more, length-map}
 use Rattle.std.proofs.lemmas.List.Folds.{list_any_at, list_any_none}
+use Rattle.std.proofs.lemmas.List.Quantifiers.{position-Some}
 use Rattle.std.proofs.lemmas.List.Sums.{position_or_len_is, fails_before_first}
 use Rattle.std.proofs.lemmas.List.FromFn.{length-range_with_len, get_or-range_with_len}
 use Rattle.dine_graph.proofs.ListLemmas.{position_none_at}
@@ -32,7 +33,7 @@ position_none p xs d none =
     let is = position_or_len_is p xs (length xs) d (omega arith) none (λ h. absurd (omega arith)) in
     rw (is, le-ltb (length xs) (length xs) (omega arith))
 
--- the place of an element that stands at an earlier place too, after ones that don't, and of none
+-- the place of an element that is at an earlier place too, after ones that are not, and of none
 pub first_twice_here : {X : Type 0} (same : X → X → Bool) (none : X) (xs : List X) (i : ℕ) → i < length xs → ((k : ℕ) → k < i → stands_before same none xs k ≡ false) → stands_before same none xs i ≡ true → first_twice same none xs ≡ Some i
 first_twice_here same none xs i within before here =
     let places = range_with_len 0 (length xs) in
@@ -48,7 +49,15 @@ first_twice_none same none xs h =
     let long : length places ≡ length xs = length-range_with_len 0 (length xs) in
     position_none (stands_before same none xs) places 0 (λ k b. rw (at k (omega arith)) (h k (omega arith)))
 
--- no element passes where none passes in all
+-- the place of an element that is at an earlier place too is one of the list
+pub first_twice_within : {X : Type 0} (same : X → X → Bool) (none : X) (xs : List X) (i : ℕ) → first_twice same none xs ≡ Some i → i < length xs
+first_twice_within same none xs i h =
+    let places = range_with_len 0 (length xs) in
+    let long : length places ≡ length xs = length-range_with_len 0 (length xs) in
+    let within : i < length places = (position-Some (stands_before same none xs) places i 0 h).0 in
+    omega arith
+
+-- no element passes if none of the list does
 pub list_any_false_at : {X : Type 0} (p : X → Bool) (xs : List X) (i : ℕ) (d : X) → list_any p xs ≡ false → i < length xs → p (get_or xs i d) ≡ false
 list_any_false_at p xs i d none within =
     elim (cases_Bool (p (get_or xs i d))) [
@@ -64,7 +73,7 @@ position_within p xs some =
       | inr past ↦ absurd (false≢true (sym (list_any_none p xs (λ k d h. fails_before_first p xs k d (omega arith))) ∙ some))
     ]
 
--- no element stands at an earlier place where no place is the first
+-- no element is at an earlier place too if no place is the first such
 pub first_twice_none_at : {X : Type 0} (same : X → X → Bool) (none : X) (xs : List X) (i : ℕ) → first_twice same none xs ≡ None → i < length xs → stands_before same none xs i ≡ false
 first_twice_none_at same none xs i h within =
     let long : length (range_with_len 0 (length xs)) ≡ length xs = length-range_with_len 0 (length xs) in
@@ -92,13 +101,13 @@ pub each_more : {W X Z : Type 0} (seen : W → Z) (f : X → Z) (done : List W) 
 each_more seen f done w xs i d within before here =
     map_push seen done w ∙ ap (λ zs. zs ++ seen w ∷ []) before ∙ ap (λ z. map f (take i xs) ++ z ∷ []) here ∙ sym (map_more f xs i d within)
 
--- the same of values that stand for the elements by way of what is seen of them
+-- the same for values that are seen as the elements
 pub each_seen_more : {W X Y Z : Type 0} (seen : W → Z) (f : Y → Z) (g : X → Y) (done : List W) (w : W) (xs : List X) (i : ℕ) (x : X) → i < length xs → x ≡ get_or xs i x → map seen done ≡ map f (map g (take i xs)) → seen w ≡ f (g x) → map seen (done ++ w ∷ []) ≡ map f (map g (take (i + 1) xs))
 each_seen_more seen f g done w xs i x within is before here =
     map_push seen done w ∙ ap (λ zs. zs ++ seen w ∷ []) before ∙ ap (λ z. map f (map g (take i xs)) ++ z ∷ []) here
     ∙ sym (ap (map f) (map-take_more g xs i x within is) ∙ map_push f (map g (take i xs)) (g x))
 
--- and of values that are kept as they are
+-- and for values that are pushed as they are
 pub each_kept_more : {X Y Z : Type 0} (f : Y → Z) (g : X → Y) (done : List Z) (z : Z) (xs : List X) (i : ℕ) (x : X) → i < length xs → x ≡ get_or xs i x → done ≡ map f (map g (take i xs)) → z ≡ f (g x) → done ++ z ∷ [] ≡ map f (map g (take (i + 1) xs))
 each_kept_more f g done z xs i x within is before here =
     ap (λ zs. zs ++ z ∷ []) before ∙ ap (λ y. map f (map g (take i xs)) ++ y ∷ []) here

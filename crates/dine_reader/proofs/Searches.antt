@@ -19,16 +19,16 @@ module _ {F : Type 0} {g : Mut F (Bor Value × Unit {0}) Bool} {s u : _} {f : F}
   pub any_seen : (r : Bool)
       → (xs : List (Bor Value)) × (o : Option (Bor Value)) × (j : F) × YieldsThen fronts s xs o u × FoldsTo (λ p x q. Called g p (x, tt) false q) f xs j × MatchOption o (r ≡ false) (λ x. (r ≡ true) × ((h : F) × Called g j (x, tt) true h))
       → iter_rest s ≡ vs → ((x : Bor Value) (b : Bool) (q : F) → Called g f (x, tt) b q → (q ≡ f) × (b ≡ test (view x.now))) → map view vs ≡ ds → r ≡ list_any test ds
-  any_seen r ran rest told same = seen_any test r vs ds (any_from_yields_List (λ v. test (view v)) u f r ran (YieldsList-from_slice vs rest) told) same
+  any_seen r ran rest tests same = seen_any test r vs ds (any_from_yields_List (λ v. test (view v)) u f r ran (YieldsList-from_slice vs rest) tests) same
 
   -- what `all` does with the test
   pub all_seen : (r : Bool)
       → (xs : List (Bor Value)) × (o : Option (Bor Value)) × (j : F) × YieldsThen fronts s xs o u × FoldsTo (λ p x q. Called g p (x, tt) true q) f xs j × MatchOption o (r ≡ true) (λ x. (r ≡ false) × ((h : F) × Called g j (x, tt) false h))
       → iter_rest s ≡ vs → ((x : Bor Value) (b : Bool) (q : F) → Called g f (x, tt) b q → (q ≡ f) × (b ≡ test (view x.now))) → map view vs ≡ ds → r ≡ list_all test ds
-  all_seen r ran rest told same = seen_all test r vs ds (all_from_yields_List (λ v. test (view v)) u f r ran (YieldsList-from_slice vs rest) told) same
+  all_seen r ran rest tests same = seen_all test r vs ds (all_from_yields_List (λ v. test (view v)) u f r ran (YieldsList-from_slice vs rest) tests) same
 
   -- what `position` does with the test
   pub position_seen : (r : Option ℕ)
       → (xs : List (Bor Value)) × (o : Option (Bor Value)) × (j : F) × YieldsThen fronts s xs o u × FoldsTo (λ p x q. Called g p (x, tt) false q) f xs j × MatchOption o (r ≡ None) (λ x. (r ≡ Some (length xs)) × ((h : F) × Called g j (x, tt) true h))
       → iter_rest s ≡ vs → ((x : Bor Value) (b : Bool) (q : F) → Called g f (x, tt) b q → (q ≡ f) × (b ≡ test (view x.now))) → map view vs ≡ ds → r ≡ position test ds
-  position_seen r ran rest told same = seen_position test r vs ds (position_from_yields_List (λ v. test (view v)) u f r ran (YieldsList-from_slice vs rest) told) same
+  position_seen r ran rest tests same = seen_position test r vs ds (position_from_yields_List (λ v. test (view v)) u f r ran (YieldsList-from_slice vs rest) tests) same

@@ -7,8 +7,7 @@ use Rattle.std.specs.Ordering.{match_ordering}
 use Rattle.std.proofs.lemmas.Bool.{false≢true, or_parts, not-false}
 use Rattle.std.proofs.lemmas.Map.Lookups.{exact_bytes}
 use Rattle.toml.specs.Data.{Data, string, integer, float, boolean, datetime, array, table, Members, no_members, member, get, get_member}
-use Rattle.dine_token.specs.declared.act.Act.{Act}
-use Rattle.dine_token.specs.declared.act.Act.TheVariants.{Add, Set}
+use Rattle.dine_token.specs.declared.act.Act.TheVariants.{Add}
 use Rattle.dine_graph.specs.Plan.{SeenJob, SeenSite, no_job, no_site}
 use Rattle.dine_reader.specs.Document.{keys_of, sites_in, edges_in, jobs_in, is_second, version_in, has_key, number_at, text_at, value_in, act_in, resigns_in}
 use Rattle.dine_reader.specs.PlanOf.{job_in, site_in, plan_of_document, IsPlain}
@@ -19,7 +18,7 @@ missing_at Less key l d rest order apart none = none
 missing_at Equal key l d rest order apart none = absurd (apart (exact_bytes key l order))
 missing_at Greater key l d rest order apart none = none
 
--- nothing stands at a key that is none of those that a table may have
+-- there is no value at a key that is none of those that a table may have
 missing_member : (keys : List (List ℕ)) (key : List ℕ) (ms : Members) → list_any (bytes_eq key) keys ≡ false → list_any (λ k. not (list_any (bytes_eq k) keys)) (keys_of ms) ≡ false → get_member key ms ≡ None
 missing_member keys key no_members other none = refl
 missing_member keys key (member l d ms) other none =
@@ -67,7 +66,7 @@ site_goes_on : (site : Data) → has_other_key (site_keys false) site ≡ false 
 unfolding resigns_in
 site_goes_on site none = rw (no_text (codes "on_fault") site (missing (site_keys false) (codes "on_fault") site refl none)) refl
 
--- what holds past the end of a mapped list and of each element that passes, where all of them do
+-- what holds past the end of a mapped list and of each element that passes, if all of them do
 holds_at : {X Y : Type 0} (P : Y → Type 0) (f : X → Y) (fails : X → Bool) (d : Y) → P d → ((x : X) → fails x ≡ false → P (f x)) → (xs : List X) (i : ℕ) → list_any fails xs ≡ false → P (get_or (map f xs) i d)
 holds_at P f fails d past each [] i none = past
 holds_at P f fails d past each (x ∷ xs) zero none = each x (or_parts _ _ none).0
@@ -91,7 +90,7 @@ first_only : (b : Bool) → ◌≡◌ {A = ℕ} (cond b 2 1) 1 → b ≡ false
 first_only true one = absurd (omega (arith, one))
 first_only false one = refl
 
--- a plan of version 1, where no key is unknown
+-- a plan of version 1, if no key is unknown
 pub plain_plan : (doc : Data) → refuses_unknown_key doc ≡ false → version_in doc ≡ 1 → IsPlain (plan_of_document doc)
 unfolding refuses_unknown_key
 plain_plan doc known one =

@@ -24,11 +24,11 @@ items_in d = option_map_or list_of (as_array d) []
 abbrev pub keys_in : Data → List (List ℕ)
 keys_in d = option_map_or keys_of (as_table d) []
 
--- the items of the array at a key; none where no array stands there
+-- the items of the array at a key; none if there is no array
 unfoldable pub items_at : List ℕ → Data → List Data
 items_at key d = option_map_or items_in (get key d) []
 
--- the text at a key; empty where no text stands there
+-- the text at a key; empty if there is no text
 unfoldable pub text_at : List ℕ → Data → List ℕ
 text_at key d = unwrap_or (option_and_then as_str (get key d)) []
 
@@ -48,16 +48,16 @@ jobs_in = items_at (codes "jobs")
 abbrev pub name_in : Data → List ℕ
 name_in = text_at (codes "name")
 
--- the number, or 0 for one below it
+-- the number, or 0 for one below 0
 abbrev pub natural : ℤ → ℕ
 natural (pos n) = n
 natural (negsuc n) = 0
 
--- the whole number at a key; 0 where none stands there, or one below it
+-- the whole number at a key; 0 if there is none, or one below 0
 unfoldable pub number_at : List ℕ → Data → ℕ
 number_at key d = option_map_or natural (option_and_then as_integer (get key d)) 0
 
--- something stands at the key
+-- there is a value at the key
 unfoldable pub has_key : List ℕ → Data → Bool
 has_key key d = is_some (get key d)
 
@@ -69,27 +69,27 @@ is_second doc = number_at (codes "version") doc == 2
 abbrev pub version_in : Data → ℕ
 version_in doc = if is_second doc then 2 else 1
 
--- the turns of a job, 0 where it names none
+-- the turns of a job, 0 if it names none
 abbrev pub turns_in : Data → ℕ
 turns_in = number_at (codes "turns")
 
--- what a meal of a job does to a value: what it sets, or else what it adds, 0 where it names neither
+-- what a meal of a job does to a value: it sets, or else adds, and it adds 0 if the job names neither
 unfoldable pub act_in : Data → Act
 act_in job = if has_key (codes "set") job then Set (number_at (codes "set") job) else Add (number_at (codes "add") job)
 
--- the value of an edge, 0 where it names none
+-- the value of an edge, 0 if it names none
 abbrev pub value_in : Data → ℕ
 value_in = number_at (codes "value")
 
--- what a site says of a failed job, empty where it says nothing
+-- the `on_fault` of a site, empty if it has none
 abbrev pub policy_in : Data → List ℕ
 policy_in = text_at (codes "on_fault")
 
--- whether a site drops the jobs that it has left once one failed, which it doesn't where it says nothing
+-- whether a site drops the jobs that it has left after one failed; not if it has no `on_fault`
 unfoldable pub resigns_in : Data → Bool
 resigns_in site = bytes_eq (policy_in site) (codes "resign")
 
--- whether a job fails, which it doesn't where it says nothing
+-- whether a job fails; not if it has no `fails`
 unfoldable pub fails_in : Data → Bool
 fails_in job = unwrap_or (option_and_then as_bool (get (codes "fails") job)) false
 

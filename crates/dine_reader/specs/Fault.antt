@@ -1,11 +1,11 @@
--- The number of each cause, the position that it carries, and how it is told in words.
+-- The number of each cause, the position that it carries, and its words.
 use Rattle.std.specs.Prelude.{ℕ, List, ◌++◌, codes}
 use Rattle.std.specs.Fmt.{decimal}
 use Rattle.dine_reader.specs.declared.plan_fault.PlanFault.{PlanFault}
 use Rattle.dine_reader.specs.declared.plan_fault.PlanFault.TheVariants.{NotToml, Version, UnknownKey, MissingKey, WrongKind, BadName, SiteTwice, NoSite, TooManySites, TooManyJobs, TurnsTooLarge, UnknownEnd, Loop, EdgeTwice, TooManyEdges, TwoActs, ActTooLarge, ValueTooLarge, UnknownPolicy, Memory}
 
--- the number of each cause to refuse a plan, 1 to 20, in the order in which they are looked for; want of memory, 16,
--- comes at any point
+-- the number of each cause to refuse a plan, 1 to 20, in the order in which they are checked; `Memory`, 16, may be
+-- reported at any point
 abbrev pub number_of_fault : PlanFault → ℕ
 number_of_fault NotToml = 1
 number_of_fault Version = 2
@@ -28,7 +28,7 @@ number_of_fault (ActTooLarge site) = 18
 number_of_fault (ValueTooLarge edge) = 19
 number_of_fault (UnknownPolicy site) = 20
 
--- the position, from 0, of the site or edge that a fault names; 0 where it names none
+-- the position, from 0, of the site or edge that a fault names; 0 if it names none
 abbrev pub position_of_fault : PlanFault → ℕ
 position_of_fault (BadName site) = site
 position_of_fault (SiteTwice site) = site
@@ -43,7 +43,7 @@ position_of_fault (ValueTooLarge edge) = edge
 position_of_fault (UnknownPolicy site) = site
 position_of_fault _ = 0
 
--- how a cause is told: by its number, its name and, where it carries a position, by that
+-- the words of a cause: its number, its name and, if it carries a position, the position
 abbrev pub plan_fault_words : PlanFault → List ℕ
 plan_fault_words NotToml = codes "1 NotToml"
 plan_fault_words Version = codes "2 Version"

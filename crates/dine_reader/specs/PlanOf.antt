@@ -16,7 +16,7 @@ job_in job = record { name = name_in job; turns = turns_in job; fails = fails_in
 unfoldable pub site_in : Data → SeenSite
 site_in site = record { name = name_in site; jobs = map job_in (jobs_in site); resigns = resigns_in site }
 
--- the number of the first site of this name; the number of sites where none has it
+-- the number of the first site of this name; the number of sites if none has it
 abbrev pub number_of : List (List ℕ) → List ℕ → ℕ
 number_of names name = position_or_len (bytes_eq name) names
 
@@ -27,19 +27,23 @@ ends_in names edge =
     let b = number_of names (end_in 1 edge) in
     (min a b, max a b)
 
+-- the plan of its version, site tables and edge tables, and of the two sites that each edge joins
+abbrev pub plan_in_pairs : ℕ → List Data → List Data → List (ℕ × ℕ) → SeenPlan
+plan_in_pairs version sites edges pairs = record { version = version; sites = map site_in sites; edges = pairs; values = map value_in edges }
+
 -- the plan of its version, site tables and edge tables
 abbrev pub plan_in : ℕ → List Data → List Data → SeenPlan
-plan_in version sites edges = record { version = version; sites = map site_in sites; edges = map (ends_in (map name_in sites)) edges; values = map value_in edges }
+plan_in version sites edges = plan_in_pairs version sites edges (map (ends_in (map name_in sites)) edges)
 
--- the plan of a document; of one that is refused it means nothing
+-- the plan of a document; if the document is refused, this means nothing
 abbrev pub plan_of_document : Data → SeenPlan
 plan_of_document doc = plan_in (version_in doc) (sites_in doc) (edges_in doc)
 
--- The text is a document, and p is the plan of its sites and edges. Of a document that is refused this means nothing.
+-- The text is a document, and p is the plan of its sites and edges. If the document is refused, this means nothing.
 abbrev pub IsPlanOf : List ℕ → SeenPlan → Type 0
 IsPlanOf text p = (doc : Members) × (parse_document text ≡ Some doc) × (p ≡ plan_of_document (table doc))
 
--- what version 1 has no words for: each edge has the value 0, each meal adds 0 to it, and no site drops its jobs
+-- what version 1 has no keys for: each edge has the value 0, each meal adds 0 to it, and no site drops its jobs
 pub record IsPlain (p : SeenPlan) : Type 0 where
   pub valueless : (e : ℕ) → value_of p e ≡ 0
   pub adds_nothing : (s k : ℕ) → act_of p s k ≡ Add 0

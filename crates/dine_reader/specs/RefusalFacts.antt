@@ -9,7 +9,7 @@ use Rattle.dine_reader.specs.RefusalTests.{refuses_version, refuses_unknown_key,
 use Rattle.dine_reader.specs.declared.plan_fault.PlanFault.{PlanFault}
 use Rattle.dine_reader.specs.declared.plan_fault.PlanFault.TheVariants.{NotToml, Version, UnknownKey, MissingKey, WrongKind, BadName, SiteTwice, NoSite, TooManySites, TooManyJobs, TurnsTooLarge, UnknownEnd, Loop, EdgeTwice, TooManyEdges, TwoActs, ActTooLarge, ValueTooLarge, UnknownPolicy, Memory}
 
--- the table that stands past the end of a list
+-- the table that is read past the end of a list
 abbrev pub no_table : Data
 no_table = table no_members
 
@@ -21,11 +21,11 @@ PassesAt test items i = (i < length items) × IsTrue (test (slice_index_or items
 abbrev pub site_names : Data → List (List ℕ)
 site_names doc = map name_in (sites_in doc)
 
--- for each edge the two sites that it joins, none where an end is the name of no site
+-- for each edge the two sites that it joins, none if an end is the name of no site
 abbrev pub joined_pairs : Data → List (Option (ℕ × ℕ))
 joined_pairs doc = map (joined_by (site_names doc)) (edges_in doc)
 
--- the fault holds of the document, at its position where it has one
+-- the fault holds of the document, at its position if it has one
 abbrev pub Refuses : Data → PlanFault → Type 0
 Refuses doc NotToml = ⊥
 Refuses doc Version = IsTrue (refuses_version doc)

@@ -80,11 +80,11 @@ lacks_key key d = is_table d && is_none (get key d)
 unfoldable pub is_wrong : (Data → Bool) → List ℕ → Data → Bool
 is_wrong kind key d = option_map_or (λ v. not (kind v)) (get key d) false
 
--- The element at place i stands at an earlier place too. `none` is what stands past the end.
+-- The element at place i is at an earlier place too. `none` is read past the end.
 unfoldable pub stands_before : {A : Type 0} → (A → A → Bool) → A → List A → ℕ → Bool
 stands_before same none xs i = list_any (same (slice_index_or xs i none)) (take i xs)
 
--- the least place whose element stands at an earlier place too
+-- the least place whose element is at an earlier place too
 abbrev pub first_twice : {A : Type 0} → (A → A → Bool) → A → List A → Option ℕ
 first_twice same none xs = position (stands_before same none xs) (range_with_len 0 (length xs))
 
@@ -187,15 +187,15 @@ has_large_act site = list_any is_large (jobs_in site)
 unfoldable pub has_large_value : Data → Bool
 has_large_value edge = nat_lt 1000000 (value_in edge)
 
--- cause 20: what the site says of a failed job is neither "go" nor "resign"
+-- cause 20: the site's `on_fault` is neither "go" nor "resign"
 unfoldable pub has_other_policy : Data → Bool
 has_other_policy site = has_key (codes "on_fault") site && not (bytes_eq (policy_in site) (codes "go") || bytes_eq (policy_in site) (codes "resign"))
 
--- the fault where the test holds
+-- the fault if the test holds
 abbrev pub on : Bool → PlanFault → Option PlanFault
 on holds fault = if holds then Some fault else None
 
--- causes 2 to 5, in the form of the document, each where it holds, in order
+-- causes 2 to 5, in the form of the document, each if it holds, in order
 unfoldable pub form_refusals : Data → List (Option PlanFault)
 form_refusals doc =
     on (refuses_version doc) fault.Version
@@ -204,7 +204,7 @@ form_refusals doc =
     ∷ on (refuses_wrong_kind doc) fault.WrongKind
     ∷ []
 
--- causes 6 to 11, in the sites, each where it holds, at the least position where it has one, in order
+-- causes 6 to 11, in the sites, each if it holds, at the least position if it has one, in order
 unfoldable pub site_refusals : List Data → List (Option PlanFault)
 site_refusals sites =
     option_map fault.BadName (position has_bad_name sites)
@@ -238,7 +238,7 @@ act_refusals sites edges =
     ∷ option_map fault.UnknownPolicy (position has_other_policy sites)
     ∷ []
 
--- the first of the list that is there
+-- the first of the list that is not none
 abbrev pub first_some : {A : Type 0} → List (Option A) → Option A
 first_some [] = None
 first_some (o ∷ os) = option_or o (first_some os)
@@ -253,11 +253,11 @@ graph_refusals sites edges =
 unfoldable pub first_refusal : Data → Option PlanFault
 first_refusal doc = first_some (form_refusals doc ++ graph_refusals (sites_in doc) (edges_in doc))
 
--- the first refusal of a document that holds; where the text is no document, it is no TOML, cause 1
+-- the first refusal of a document that holds; if the text is no document, that it is no TOML, cause 1
 abbrev pub fault_of : Option Members → Option PlanFault
 fault_of None = Some fault.NotToml
 fault_of (Some doc) = first_refusal (table doc)
 
--- the first cause to refuse a text that holds, at the least position; none where no cause does
+-- the first cause to refuse a text that holds, at the least position; none if no cause does
 abbrev pub first_fault : List ℕ → Option PlanFault
 first_fault text = fault_of (parse_document text)

@@ -1,31 +1,34 @@
 //! The checks on what meals do to values, and on what failed jobs do to sites.
-ghost use Rattle.std.specs.Prelude.{◌≡◌, map, position};
+ghost use Rattle.std.specs.Prelude.{◌≡◌, ◌≤◌, length, map, position};
 ghost use Rattle.toml.specs.View.{view};
-ghost use Rattle.dine_reader.specs.RefusalTests.{act_refusals, first_some, has_both, has_large_act, has_large_value, has_other_policy, has_two_acts, is_large};
+ghost use Rattle.dine_reader.specs.RefusalTests.{act_refusals, first_some, has_both, has_large_act};
+ghost use Rattle.dine_reader.specs.RefusalTests.{has_large_value, has_other_policy, has_two_acts, is_large};
 
 use crate::documents::{has_key, items_at, number_at, text_at};
 use crate::plan_fault::PlanFault;
 use toml::Value;
 
-// The most that a job adds or sets, and the largest value of an edge before the first meal.
+// The greatest amount of an act, and the greatest value of an edge before the first meal.
 const MAX_AMOUNT: u64 = 1_000_000;
 
-/// The first fault in the acts of jobs, the values of edges and the policies of sites.
+/// Returns the first fault in the acts of jobs, the values of edges and the policies of sites.
 #[tactic(auto, unfolding(crate::specs::RefusalTests::act_refusals))]
 pub(crate) fn first_act_fault(sites: &[Value], edges: &[Value]) -> Option<PlanFault>
+    requires sites { length sites.now ≤ u32.MAX }
+    requires edges { length edges.now ≤ u32.MAX }
     ensures { result ≡ first_some (act_refusals (map view sites.now) (map view edges.now)) }
 {
     if let Some(site) = first_with_two_acts(sites) {
-        return Some(PlanFault::TwoActs(site));
+        return Some(PlanFault::TwoActs(site as u32));
     }
     if let Some(site) = first_with_large_act(sites) {
-        return Some(PlanFault::ActTooLarge(site));
+        return Some(PlanFault::ActTooLarge(site as u32));
     }
     if let Some(edge) = first_large_value(edges) {
-        return Some(PlanFault::ValueTooLarge(edge));
+        return Some(PlanFault::ValueTooLarge(edge as u32));
     }
     if let Some(site) = first_other_policy(sites) {
-        return Some(PlanFault::UnknownPolicy(site));
+        return Some(PlanFault::UnknownPolicy(site as u32));
     }
     None
 }
@@ -90,7 +93,7 @@ fn first_other_policy(sites: &[Value]) -> Option<usize>
     sites.iter().position(|site| has_other_policy(site))
 }
 
-// Whether what the site says of a failed job is neither `go` nor `resign`.
+// Whether `on_fault` of the site is neither `go` nor `resign`.
 #[tactic(auto, unfolding(crate::specs::RefusalTests::has_other_policy))]
 fn has_other_policy(site: &Value) -> bool
     ensures { result ≡ has_other_policy (view site.now) }

@@ -6,7 +6,7 @@ ghost use Rattle.dine_graph.specs.Plan.{IsPlan};
 ghost use Rattle.dine_graph.specs.Job.{seen_job};
 ghost use Rattle.dine_graph.specs.Site.{seen_site};
 ghost use Rattle.dine_reader.specs.Document.{turns_in, value_in};
-ghost use Rattle.dine_reader.specs.PlanOf.{job_in, site_in};
+ghost use Rattle.dine_reader.specs.PlanOf.{job_in, plan_in_pairs, site_in};
 ghost use Rattle.dine_reader.specs.RefusalTests.{has_many_turns};
 
 use crate::documents::{act_in, fails_in, items_at, number_at, resigns_in, text_at};
@@ -14,7 +14,8 @@ use dine_graph::{Job, Plan, Site};
 use std::alloc::{AllocError, Global};
 use toml::Value;
 
-/// The plan of this version, these site tables and these edge tables, which join these pairs of sites.
+/// Makes the plan of this version, these site tables and these edge tables. `pairs` has the two sites that each edge
+/// joins.
 pub(crate) fn build(
     alloc: Global,
     version: u32,
@@ -23,8 +24,8 @@ pub(crate) fn build(
     pairs: Vec<(u32, u32)>,
 ) -> Result<Plan, AllocError>
     requires turns { position has_many_turns (map view sites.now) ≡ None }
-    requires plan { IsPlan (record { version = version; sites = map site_in (map view sites.now); edges = pairs.items; values = map value_in (map view edges.now) }) }
-    ensures { IfOk result (λ p. p ≡ record { version = version; sites = map site_in (map view sites.now); edges = pairs.items; values = map value_in (map view edges.now) }) }
+    requires plan { IsPlan (plan_in_pairs version (map view sites.now) (map view edges.now) pairs.items) }
+    ensures { IfOk result (λ p. p ≡ plan_in_pairs version (map view sites.now) (map view edges.now) pairs.items) }
 {
     let sites = sites_in(alloc, sites)?;
     let values = values_in(alloc, edges)?;

@@ -1,14 +1,15 @@
-//! What stands at the keys of a table.
+//! The values at the keys of a table.
 ghost use Rattle.std.specs.Prelude.{◌≡◌, ◌≤◌, codes, false, [], map, unwrap_or};
 ghost use Rattle.std.specs.Option.{option_map_or};
 ghost use Rattle.toml.specs.View.{view};
 ghost use Rattle.toml.specs.Data.{as_str, as_integer, as_bool};
-ghost use Rattle.dine_reader.specs.Document.{act_in, end_in, fails_in, has_key, is_second, items_at, items_in, natural, number_at, resigns_in, text_at, version_in};
+ghost use Rattle.dine_reader.specs.Document.{act_in, end_in, fails_in, has_key, is_second, items_at, items_in};
+ghost use Rattle.dine_reader.specs.Document.{natural, number_at, resigns_in, text_at, version_in};
 
 use dine_token::Act;
 use toml::Value;
 
-/// The items of the array at a key; none where no array stands there.
+/// Returns the items of the array at a key, none if there is no array.
 #[tactic(auto, unfolding(crate::specs::Document::items_at))]
 pub(crate) fn items_at<'a>(table: &'a Value, key: &str) -> &'a [Value]
     ensures { map view result.now ≡ items_at key.now (view table.now) }
@@ -19,7 +20,7 @@ pub(crate) fn items_at<'a>(table: &'a Value, key: &str) -> &'a [Value]
     }
 }
 
-/// The items of an array; another value has none.
+/// Returns the items of an array. Another value has none.
 pub(crate) fn items_in(value: &Value) -> &[Value]
     ensures { map view result.now ≡ items_in (view value.now) }
 {
@@ -29,28 +30,22 @@ pub(crate) fn items_in(value: &Value) -> &[Value]
     }
 }
 
-/// The text at a key; empty where no text stands there.
+/// Returns the text at a key, empty if there is no text.
 #[tactic(auto, unfolding(crate::specs::Document::text_at))]
 pub(crate) fn text_at<'a>(table: &'a Value, key: &str) -> &'a str
     ensures { result.now ≡ text_at key.now (view table.now) }
 {
-    match table.get(key) {
-        Some(value) => text_in(value),
-        None => "",
-    }
+    table.get(key).map_or("", |value| text_in(value))
 }
 
 // The text that a value is, if it is one.
 fn text_in(value: &Value) -> &str
     ensures { result.now ≡ unwrap_or (as_str (view value.now)) [] }
 {
-    match value.as_str() {
-        Some(text) => text,
-        None => "",
-    }
+    value.as_str().unwrap_or("")
 }
 
-/// Whether something stands at a key.
+/// Returns whether there is a value at a key.
 #[tactic(auto, unfolding(crate::specs::Document::has_key))]
 pub(crate) fn has_key(table: &Value, key: &str) -> bool
     ensures { result ≡ has_key key.now (view table.now) }
@@ -58,18 +53,15 @@ pub(crate) fn has_key(table: &Value, key: &str) -> bool
     table.get(key).is_some()
 }
 
-/// The whole number at a key; 0 where none stands there, or one below it.
+/// Returns the whole number at a key, 0 if there is none or one below 0.
 #[tactic(auto, unfolding(crate::specs::Document::number_at))]
 pub(crate) fn number_at(table: &Value, key: &str) -> u64
     ensures { result ≡ number_at key.now (view table.now) }
 {
-    match table.get(key) {
-        Some(value) => natural_in(value),
-        None => 0,
-    }
+    table.get(key).map_or(0, |value| natural_in(value))
 }
 
-// The whole number that a value is, 0 where it is none or below 0.
+// The whole number that a value is, 0 if it is none or below 0.
 fn natural_in(value: &Value) -> u64
     ensures { result ≡ option_map_or natural (as_integer (view value.now)) 0 }
 {
@@ -79,14 +71,14 @@ fn natural_in(value: &Value) -> u64
     }
 }
 
-/// Whether a document is of version 2 of the format.
+/// Returns whether a document is of version 2 of the format.
 pub(crate) fn is_second(document: &Value) -> bool
     ensures { result ≡ is_second (view document.now) }
 {
     number_at(document, "version") == 2
 }
 
-/// The version of a document that is not refused, 1 or 2.
+/// Returns the version of a document that is not refused, 1 or 2.
 pub(crate) fn version_in(document: &Value) -> u32
     ensures is { result ≡ version_in (view document.now) }
     ensures first { 1 ≤ result }
@@ -95,7 +87,7 @@ pub(crate) fn version_in(document: &Value) -> u32
     if is_second(document) { 2 } else { 1 }
 }
 
-/// What a meal of a job does to a value: what it sets, or else what it adds, 0 where it names neither.
+/// Returns what a meal of a job does to a value: it sets, or else adds, and it adds 0 if the job names neither.
 #[tactic(auto, unfolding(crate::specs::Document::act_in))]
 pub(crate) fn act_in(job: &Value) -> Act
     ensures { result ≡ act_in (view job.now) }
@@ -107,7 +99,7 @@ pub(crate) fn act_in(job: &Value) -> Act
     }
 }
 
-/// Whether a site drops the jobs that it has left once one failed, which it does not where it says nothing.
+/// Returns whether a site drops the jobs that it has left after one failed, false if it has no `on_fault`.
 #[tactic(auto, unfolding(crate::specs::Document::resigns_in))]
 pub(crate) fn resigns_in(site: &Value) -> bool
     ensures { result ≡ resigns_in (view site.now) }
@@ -115,25 +107,22 @@ pub(crate) fn resigns_in(site: &Value) -> bool
     text_at(site, "on_fault") == "resign"
 }
 
-/// Whether a job fails, which it does not where it says nothing.
+/// Returns whether a job fails, false if it has no `fails`.
 #[tactic(auto, unfolding(crate::specs::Document::fails_in))]
 pub(crate) fn fails_in(job: &Value) -> bool
     ensures { result ≡ fails_in (view job.now) }
 {
-    match job.get("fails") {
-        Some(value) => truth_in(value),
-        None => false,
-    }
+    job.get("fails").is_some_and(|value| truth_in(value))
 }
 
-// The truth value that a value is, false where it is none.
+// The truth value that a value is, false if it is none.
 fn truth_in(value: &Value) -> bool
     ensures { result ≡ unwrap_or (as_bool (view value.now)) false }
 {
     value.as_bool().unwrap_or(false)
 }
 
-/// The name at a place of an edge's ends.
+/// Returns the name at a place of an edge's ends, empty if there is none.
 pub(crate) fn end_in(edge: &Value, place: usize) -> &str
     ensures { result.now ≡ end_in place (view edge.now) }
 {

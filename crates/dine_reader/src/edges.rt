@@ -4,7 +4,8 @@ ghost use Rattle.std.specs.List.{list_any};
 ghost use Rattle.toml.specs.View.{view};
 ghost use Rattle.dine_reader.specs.Document.{name_in};
 ghost use Rattle.dine_reader.specs.PlanOf.{number_of, ends_in};
-ghost use Rattle.dine_reader.specs.RefusalTests.{end_refusals, pair_refusals, first_some, first_twice, has_unknown_end, is_loop, same_ends};
+ghost use Rattle.dine_reader.specs.RefusalTests.{end_refusals, pair_refusals, first_some, first_twice};
+ghost use Rattle.dine_reader.specs.RefusalTests.{has_unknown_end, is_loop, same_ends};
 
 use crate::documents::{end_in, text_at};
 use crate::plan_fault::PlanFault;
@@ -12,19 +13,20 @@ use crate::sites::has_site;
 use std::alloc::{AllocError, Global};
 use toml::Value;
 
-// The most edges of a plan.
+// The greatest number of edges of a plan.
 const MAX_EDGES: usize = 512;
 
-/// The first fault in the ends of a document's edges.
+/// Returns the first fault in the ends of a document's edges.
 #[tactic(auto, unfolding(crate::specs::RefusalTests::end_refusals))]
 pub(crate) fn first_end_fault(sites: &[Value], edges: &[Value]) -> Option<PlanFault>
+    requires { length edges.now ≤ u32.MAX }
     ensures { result ≡ first_some (end_refusals (map name_in (map view sites.now)) (map view edges.now)) }
 {
     if let Some(edge) = first_unknown_end(sites, edges) {
-        return Some(PlanFault::UnknownEnd(edge));
+        return Some(PlanFault::UnknownEnd(edge as u32));
     }
     if let Some(edge) = first_loop(sites, edges) {
-        return Some(PlanFault::Loop(edge));
+        return Some(PlanFault::Loop(edge as u32));
     }
     None
 }
@@ -70,7 +72,7 @@ fn ends_in(sites: &[Value], edge: &Value) -> (usize, usize)
     (one.min(other), one.max(other))
 }
 
-// The number of the first site of this name, or the number of sites where none has it.
+// The number of the first site of this name, or the number of sites if none has it.
 fn number_of(sites: &[Value], name: &str) -> usize
     ensures is { result ≡ number_of (map name_in (map view sites.now)) name.now }
     ensures within { result ≤ length sites.now }
@@ -83,7 +85,7 @@ fn number_of(sites: &[Value], name: &str) -> usize
     sites.len()
 }
 
-/// The pairs of sites that the edges join, in the order of the edges.
+/// Returns the pairs of sites that the edges join, in the order of the edges.
 pub(crate) fn pairs_in(
     alloc: Global,
     sites: &[Value],
@@ -100,13 +102,14 @@ pub(crate) fn pairs_in(
     Ok(pairs)
 }
 
-/// The first fault in the pairs of sites that the edges join.
+/// Returns the first fault in the pairs of sites that the edges join.
 #[tactic(auto, unfolding(crate::specs::RefusalTests::pair_refusals))]
 pub(crate) fn first_pair_fault(pairs: &[(u32, u32)]) -> Option<PlanFault>
+    requires { length pairs.now ≤ u32.MAX }
     ensures { result ≡ first_some (pair_refusals (map Some pairs.now)) }
 {
     if let Some(edge) = first_edge_twice(pairs) {
-        return Some(PlanFault::EdgeTwice(edge));
+        return Some(PlanFault::EdgeTwice(edge as u32));
     }
     if pairs.len() > MAX_EDGES {
         return Some(PlanFault::TooManyEdges);

@@ -3,13 +3,18 @@ ghost use Rattle.std.specs.Prelude.{◌≡◌, codes, map};
 ghost use Rattle.std.specs.List.{list_any};
 ghost use Rattle.std.specs.Str.{bytes_eq};
 ghost use Rattle.toml.specs.View.{view};
-ghost use Rattle.dine_reader.specs.RefusalTests.{document_keys, site_keys, job_keys, edge_keys, has_other_key, lacks_key, is_wrong, is_version, is_text, is_truth, is_whole, is_tables, is_two_texts, refuses_version, site_has_other_key, refuses_unknown_key, site_lacks_key, refuses_missing_key, job_is_wrong, site_is_wrong, edge_is_wrong, refuses_wrong_kind, first_some, form_refusals};
+ghost use Rattle.dine_reader.specs.RefusalTests.{document_keys, site_keys, job_keys, edge_keys, has_other_key};
+ghost use Rattle.dine_reader.specs.RefusalTests.{lacks_key, is_wrong, is_version, is_text, is_truth, is_whole};
+ghost use Rattle.dine_reader.specs.RefusalTests.{is_tables, is_two_texts, refuses_version, site_has_other_key};
+ghost use Rattle.dine_reader.specs.RefusalTests.{refuses_unknown_key, site_lacks_key, refuses_missing_key};
+ghost use Rattle.dine_reader.specs.RefusalTests.{job_is_wrong, site_is_wrong, edge_is_wrong, refuses_wrong_kind};
+ghost use Rattle.dine_reader.specs.RefusalTests.{first_some, form_refusals};
 
 use crate::documents::{is_second, items_at, items_in};
 use crate::plan_fault::PlanFault;
 use toml::Value;
 
-/// The first fault in the form of a document.
+/// Returns the first fault in the form of a document.
 #[tactic(auto, unfolding(crate::specs::RefusalTests::form_refusals))]
 pub(crate) fn first_form_fault(document: &Value) -> Option<PlanFault>
     ensures { result ≡ first_some (form_refusals (view document.now)) }
@@ -49,7 +54,7 @@ fn is_version(value: &Value) -> bool
     }
 }
 
-// Whether a key stands in the document that the format does not name for its table.
+// Whether a table of the document has a key that the format does not name for it.
 fn has_unknown_key(document: &Value) -> bool
     ensures { result ≡ refuses_unknown_key (view document.now) }
 {
@@ -217,57 +222,42 @@ fn has_no_two_texts(edge: &Value) -> bool
     }
 }
 
-// Whether something else than a text stands at the key.
+// Whether the value at the key is no text.
 #[tactic(auto, unfolding(crate::specs::RefusalTests::is_wrong))]
 fn has_no_text(table: &Value, key: &str) -> bool
     ensures { result ≡ is_wrong is_text key.now (view table.now) }
 {
-    match table.get(key) {
-        Some(value) => !value.is_str(),
-        None => false,
-    }
+    table.get(key).is_some_and(|value| !value.is_str())
 }
 
-// Whether something else than an array of tables stands at the key.
+// Whether the value at the key is no array of tables.
 #[tactic(auto, unfolding(crate::specs::RefusalTests::is_wrong))]
 fn has_no_tables(table: &Value, key: &str) -> bool
     ensures { result ≡ is_wrong is_tables key.now (view table.now) }
 {
-    match table.get(key) {
-        Some(value) => !is_tables(value),
-        None => false,
-    }
+    table.get(key).is_some_and(|value| !is_tables(value))
 }
 
-// Whether something else than a whole number stands at the key, or one below 0.
+// Whether the value at the key is no whole number, or one below 0.
 #[tactic(auto, unfolding(crate::specs::RefusalTests::is_wrong))]
 fn has_no_whole_number(table: &Value, key: &str) -> bool
     ensures { result ≡ is_wrong is_whole key.now (view table.now) }
 {
-    match table.get(key) {
-        Some(value) => !is_whole(value),
-        None => false,
-    }
+    table.get(key).is_some_and(|value| !is_whole(value))
 }
 
-// Whether what says that the job fails is no truth value.
+// Whether `fails` of the job is no truth value.
 #[tactic(auto, unfolding(crate::specs::RefusalTests::is_wrong))]
 fn has_no_truth(job: &Value) -> bool
     ensures { result ≡ is_wrong is_truth (codes "fails") (view job.now) }
 {
-    match job.get("fails") {
-        Some(value) => !value.is_bool(),
-        None => false,
-    }
+    job.get("fails").is_some_and(|value| !value.is_bool())
 }
 
 fn is_whole(value: &Value) -> bool
     ensures { result ≡ is_whole (view value.now) }
 {
-    match value.as_integer() {
-        Some(number) => number >= 0,
-        None => false,
-    }
+    value.as_integer().is_some_and(|number| number >= 0)
 }
 
 // Whether a value is an array of tables.

@@ -7,8 +7,9 @@ use std::alloc::{AllocError, AllocFailed};
 use std::error::Error;
 use std::fmt;
 
-/// Why a plan text was refused. The checks run over the whole document, one after the other in this order, and the
-/// number in a fault is the least position, from 0, in the text's list of sites or of edges at which it holds.
+/// Why a plan text was refused. Each check is of the whole document, and they are made in the order of this list,
+/// except `Memory`. The number in a fault is the least position, from 0, in the list of sites or of edges at which it
+/// holds.
 #[derive(Clone, Copy, Debug, PartialEq, Eq)]
 pub enum PlanFault {
     /// The text is no TOML.
@@ -22,40 +23,40 @@ pub enum PlanFault {
     /// A value is of another kind than the format names for its key.
     WrongKind,
     /// The name of this site, or of one of its jobs, is no name.
-    BadName(usize),
-    /// The name of this site stands at an earlier site.
-    SiteTwice(usize),
+    BadName(u32),
+    /// An earlier site has the name of this site.
+    SiteTwice(u32),
     /// There is no site.
     NoSite,
     /// There are more than 64 sites.
     TooManySites,
     /// This site has more than 1,000 jobs.
-    TooManyJobs(usize),
+    TooManyJobs(u32),
     /// A job of this site has `turns` above 1,000,000.
-    TurnsTooLarge(usize),
+    TurnsTooLarge(u32),
     /// An end of this edge is no site's name.
-    UnknownEnd(usize),
+    UnknownEnd(u32),
     /// Both ends of this edge are one site.
-    Loop(usize),
+    Loop(u32),
     /// An earlier edge joins the two sites of this one.
-    EdgeTwice(usize),
+    EdgeTwice(u32),
     /// There are more than 512 edges.
     TooManyEdges,
     /// A job of this site both adds and sets.
-    TwoActs(usize),
+    TwoActs(u32),
     /// A job of this site adds or sets more than 1,000,000.
-    ActTooLarge(usize),
+    ActTooLarge(u32),
     /// The value of this edge is above 1,000,000.
-    ValueTooLarge(usize),
-    /// What this site says of a failed job is neither `go` nor `resign`.
-    UnknownPolicy(usize),
-    /// Memory ran out.
+    ValueTooLarge(u32),
+    /// `on_fault` of this site is neither `go` nor `resign`.
+    UnknownPolicy(u32),
+    /// An allocation failed, or the text lists 2^32 sites or edges or more.
     Memory,
 }
 
 impl PlanFault {
-    /// The number of the cause, 1 to 20, in the order in which the causes are looked for. `Memory`, which comes at any
-    /// point, is 16.
+    /// Returns the number of the cause, 1 to 20, in the order in which the causes are checked. `Memory`, which may be
+    /// returned at any point, is 16.
     pub fn number(&self) -> u32
         ensures { result ≡ number_of_fault self.now }
     {
@@ -84,7 +85,7 @@ impl PlanFault {
     }
 }
 
-/// The number and the name of the cause and, where it has one, the position: `2 Version`, `6 BadName at site 0`.
+/// Writes the number and the name of the cause and, if it has one, the position: `2 Version`, `6 BadName at site 0`.
 impl fmt::Display for PlanFault {
     ghost output = { λ fault. Some (plan_fault_words fault) };
 

@@ -1,5 +1,5 @@
 //! A plan from its text.
-ghost use Rattle.std.specs.Prelude.{◌≡◌, ◌≢◌, ◌⊎◌, ◌≤◌, List, ℕ, None, Some, map, OnOk, IfOk, IfErr};
+ghost use Rattle.std.specs.Prelude.{◌≡◌, ◌≢◌, ◌⊎◌, ◌≤◌, List, ℕ, None, Some, length, map, OnOk, IfOk, IfErr};
 ghost use Rattle.toml.specs.Data.{Members, table};
 ghost use Rattle.toml.specs.Parse.{parse_document};
 ghost use Rattle.toml.specs.View.{view};
@@ -17,9 +17,16 @@ use dine_graph::Plan;
 use std::alloc::Global;
 use toml::Value;
 
-/// Reads a plan text, version 1 or 2 of the format. The plan comes exactly where no cause of `PlanFault` before
-/// `Memory` holds of the text, and otherwise the first one that holds, at the least position. `Memory` comes at any
-/// point where memory runs out, and stands for no other cause.
+// The most sites, and the most edges, of a text that is read. A plan has far fewer.
+const MAX_TABLES: usize = u32::MAX as usize;
+
+/// Reads a plan text, of version 1 or 2 of the format.
+///
+/// # Errors
+///
+/// Returns the first cause of `PlanFault` that holds of the text, at the least position. Returns `Memory`, for no other
+/// cause, if an allocation fails or the text lists 2^32 sites or edges or more. A plan is returned only if no cause
+/// holds.
 pub fn read_plan(alloc: Global, text: &str) -> Result<Plan, PlanFault>
     ensures unrefused { OnOk result (first_fault text.now ≡ None) }
     ensures plan { IfOk result (IsPlanOf text.now) }
@@ -29,7 +36,11 @@ pub fn read_plan(alloc: Global, text: &str) -> Result<Plan, PlanFault>
     read_tables(alloc, &document)
 }
 
-/// The plan of a TOML document, as `read_plan` reads it of a text.
+/// Reads the plan of a TOML document, as `read_plan` does of a text.
+///
+/// # Errors
+///
+/// Returns those of `read_plan`, except `NotToml`.
 pub fn read_tables(alloc: Global, document: &Value) -> Result<Plan, PlanFault>
     ensures unrefused { OnOk result (first_refusal (view document.now) ≡ None) }
     ensures plan { IfOk result (λ p. p ≡ plan_of_document (view document.now)) }
@@ -40,6 +51,10 @@ pub fn read_tables(alloc: Global, document: &Value) -> Result<Plan, PlanFault>
     }
     let sites = items_at(document, "site");
     let edges = items_at(document, "edge");
+    // So each position fits the `u32` that a fault carries.
+    if sites.len() > MAX_TABLES || edges.len() > MAX_TABLES {
+        return Err(PlanFault::Memory);
+    }
     let version = version_in(document);
     read_graph(alloc, version, sites, edges)
 }
@@ -47,7 +62,8 @@ pub fn read_tables(alloc: Global, document: &Value) -> Result<Plan, PlanFault>
 // The text as data.
 fn read_document(alloc: Global, text: &str) -> Result<Value, PlanFault>
     ensures ok { IfOk result (λ v. (doc : Members) × (parse_document text.now ≡ Some doc) × (view v ≡ table doc)) }
-    ensures refused { IfErr result (λ f. f ≢ PlanFault.Memory → (f ≡ PlanFault.NotToml) × (parse_document text.now ≡ None)) }
+    ensures refused { IfErr result (λ f. f ≢ PlanFault.Memory
+        → (f ≡ PlanFault.NotToml) × (parse_document text.now ≡ None)) }
 {
     match toml::table_from_str(alloc, text) {
         Ok(document) => Ok(Value::Table(document)),
@@ -56,7 +72,7 @@ fn read_document(alloc: Global, text: &str) -> Result<Value, PlanFault>
     }
 }
 
-// The plan of the version, the site tables and the edge tables of a document whose form is right.
+// The plan of the version, the site tables and the edge tables of a document whose form is as the format says.
 fn read_graph(
     alloc: Global,
     version: u32,
@@ -65,9 +81,12 @@ fn read_graph(
 ) -> Result<Plan, PlanFault>
     requires first { 1 ≤ version }
     requires last { version ≤ 2 }
+    requires sites { length sites.now ≤ u32.MAX }
+    requires edges { length edges.now ≤ u32.MAX }
     ensures unrefused { OnOk result (first_some (graph_refusals (map view sites.now) (map view edges.now)) ≡ None) }
     ensures plan { IfOk result (λ p. p ≡ plan_in version (map view sites.now) (map view edges.now)) }
-    ensures refused { IfErr result (λ f. f ≢ PlanFault.Memory → first_some (graph_refusals (map view sites.now) (map view edges.now)) ≡ Some f) }
+    ensures refused { IfErr result (λ f. f ≢ PlanFault.Memory
+        → first_some (graph_refusals (map view sites.now) (map view edges.now)) ≡ Some f) }
 {
     let site_fault = first_site_fault(alloc, sites)?;
     if let Some(fault) = site_fault {

@@ -1,11 +1,12 @@
 //! The checks on the sites of a document.
-ghost use Rattle.std.specs.Prelude.{◌≡◌, [], map, position, IfOk};
+ghost use Rattle.std.specs.Prelude.{◌≡◌, ◌≤◌, [], length, map, position, IfOk};
 ghost use Rattle.std.specs.List.{list_any};
 ghost use Rattle.std.specs.Str.{bytes_eq};
 ghost use Rattle.toml.specs.View.{view};
 ghost use Rattle.dine_graph.specs.Plan.{is_name, is_name_byte};
 ghost use Rattle.dine_reader.specs.Document.{name_in};
-ghost use Rattle.dine_reader.specs.RefusalTests.{first_some, first_twice, has_bad_name, has_many_jobs, has_many_turns, is_unnamed, site_refusals};
+ghost use Rattle.dine_reader.specs.RefusalTests.{first_some, first_twice, has_bad_name, has_many_jobs};
+ghost use Rattle.dine_reader.specs.RefusalTests.{has_many_turns, is_unnamed, site_refusals};
 
 use crate::documents::{items_at, number_at, text_at};
 use crate::plan_fault::PlanFault;
@@ -13,29 +14,32 @@ use std::alloc::{AllocError, Global};
 use std::collections::BTreeSet;
 use toml::Value;
 
-/// The most sites of a plan.
+/// The greatest number of sites of a plan.
 pub(crate) const MAX_SITES: usize = 64;
 
-// The most jobs of a site, the most turns of a job, and the most bytes of a name.
+// The greatest number of jobs of a site.
 const MAX_JOBS: usize = 1_000;
 
+// The greatest number of turns of a job.
 const MAX_TURNS: u64 = 1_000_000;
 
+// The greatest number of bytes of a name.
 const MAX_NAME: usize = 32;
 
-/// The first fault in the sites of a document.
+/// Returns the first fault in the sites of a document.
 #[tactic(auto, unfolding(crate::specs::RefusalTests::site_refusals))]
 pub(crate) fn first_site_fault(
     alloc: Global,
     sites: &[Value],
 ) -> Result<Option<PlanFault>, AllocError>
+    requires { length sites.now ≤ u32.MAX }
     ensures { IfOk result (λ o. o ≡ first_some (site_refusals (map view sites.now))) }
 {
     if let Some(site) = first_bad_name(sites) {
-        return Ok(Some(PlanFault::BadName(site)));
+        return Ok(Some(PlanFault::BadName(site as u32)));
     }
     if let Some(site) = first_site_twice(alloc, sites)? {
-        return Ok(Some(PlanFault::SiteTwice(site)));
+        return Ok(Some(PlanFault::SiteTwice(site as u32)));
     }
     if sites.is_empty() {
         return Ok(Some(PlanFault::NoSite));
@@ -44,10 +48,10 @@ pub(crate) fn first_site_fault(
         return Ok(Some(PlanFault::TooManySites));
     }
     if let Some(site) = first_with_many_jobs(sites) {
-        return Ok(Some(PlanFault::TooManyJobs(site)));
+        return Ok(Some(PlanFault::TooManyJobs(site as u32)));
     }
     if let Some(site) = first_with_many_turns(sites) {
-        return Ok(Some(PlanFault::TurnsTooLarge(site)));
+        return Ok(Some(PlanFault::TurnsTooLarge(site as u32)));
     }
     Ok(None)
 }
@@ -89,7 +93,7 @@ fn is_name_byte(byte: u8) -> bool
     byte.is_ascii_alphanumeric() || byte == b'_' || byte == b'-'
 }
 
-// The least position of a site whose name stands at an earlier site.
+// The least position of a site whose name an earlier site has.
 fn first_site_twice(alloc: Global, sites: &[Value]) -> Result<Option<usize>, AllocError>
     ensures { IfOk result (λ o. o ≡ first_twice bytes_eq [] (map name_in (map view sites.now))) }
 {
@@ -104,7 +108,7 @@ fn first_site_twice(alloc: Global, sites: &[Value]) -> Result<Option<usize>, All
     Ok(None)
 }
 
-/// Whether a site has the name.
+/// Returns whether a site has the name.
 pub(crate) fn has_site(sites: &[Value], name: &str) -> bool
     ensures { result ≡ list_any (bytes_eq name.now) (map name_in (map view sites.now)) }
 {

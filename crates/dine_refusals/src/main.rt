@@ -1,13 +1,15 @@
-//! Makes one call, so that `tools/refused-memory` can refuse each allocation of it in turn. What it answers is one
-//! line on standard output. The status is 5 where memory was refused before the call was made, and 2 where no call
-//! has the name.
+//! Makes one call, so that `tools/refused-memory` can let each allocation of it fail in turn. It prints one line: what
+//! the call returned. The status is 5 if an allocation failed before the call was made, and 2 if no call has the name.
 //!
 //! usage: dine_refusals CALL
 //!
-//! CALL is `plan`, `builder`, `fork`, `core`, `world`, `world_with`, `channel`, `ring`, `bell`, `order`, `diner`,
-//! `edge_table`, `site_table`, `write_edges`, `write_sites` or `world_text`, each a call that answers at once;
-//! `run_channels` or `run_rings`: a run of a pair over links of that kind; `run_jobs`: a run of jobs of a pair, over
-//! rings; or `site`: the lower site of a pair, over rings that are filled before it starts.
+//! CALL is one of these:
+//!
+//! - `plan`, `builder`, `fork`, `core`, `world`, `world_with`, `channel`, `ring`, `bell`, `order`, `diner`,
+//!   `edge_table`, `site_table`, `write_edges`, `write_sites` or `world_text`: a call that does not wait.
+//! - `run_channels` or `run_rings`: a run of the pair over links of that kind.
+//! - `run_jobs`: a run of jobs of the pair, over rings.
+//! - `site`: the lower site of the pair, over rings that are filled before it starts.
 #![tactic(auto)]
 
 mod calls;
@@ -16,7 +18,7 @@ mod runs;
 mod site;
 mod tables;
 
-use calls::Told;
+use calls::Outcome;
 use dine_link::{ChannelLane, RingLane};
 use std::alloc::{AllocError, Global};
 use std::process::ExitCode;
@@ -24,24 +26,24 @@ use std::sync::Wait;
 use std::thread::Threads;
 use std::{env, io};
 
-// What the call of this name answers, where one has it.
-fn told<R: Threads + Wait + Copy + Send + 'static>(
+// Makes the call of this name, and returns its outcome. None if there is no such call.
+fn outcome<R: Threads + Wait + Copy + Send + 'static>(
     rt: &R,
     alloc: Global,
     name: &str,
-) -> Result<Option<Told>, AllocError> {
-    let told = match name {
+) -> Result<Option<Outcome>, AllocError> {
+    let outcome = match name {
         "run_channels" => runs::run_pair::<ChannelLane, R>(rt, alloc)?,
         "run_rings" => runs::run_pair::<RingLane, R>(rt, alloc)?,
         "run_jobs" => runs::run_idle(rt, alloc)?,
-        _ => return told_at_once(alloc, name),
+        _ => return outcome_at_once(alloc, name),
     };
-    Ok(Some(told))
+    Ok(Some(outcome))
 }
 
-// The same of the calls without threads.
-fn told_at_once(alloc: Global, name: &str) -> Result<Option<Told>, AllocError> {
-    let told = match name {
+// The same for the calls without threads.
+fn outcome_at_once(alloc: Global, name: &str) -> Result<Option<Outcome>, AllocError> {
+    let outcome = match name {
         "plan" => calls::plan(alloc),
         "builder" => calls::builder(alloc),
         "fork" => calls::fork(alloc),
@@ -53,14 +55,14 @@ fn told_at_once(alloc: Global, name: &str) -> Result<Option<Told>, AllocError> {
         "bell" => calls::bell(alloc),
         "order" => calls::one_order(alloc)?,
         "diner" => runs::diner(alloc)?,
-        _ => return told_of_tables(alloc, name),
+        _ => return outcome_of_tables(alloc, name),
     };
-    Ok(Some(told))
+    Ok(Some(outcome))
 }
 
-// The same of the calls that make tables or texts.
-fn told_of_tables(alloc: Global, name: &str) -> Result<Option<Told>, AllocError> {
-    let told = match name {
+// The same for the calls that make tables or texts.
+fn outcome_of_tables(alloc: Global, name: &str) -> Result<Option<Outcome>, AllocError> {
+    let outcome = match name {
         "edge_table" => tables::edges(alloc)?,
         "site_table" => tables::sites(alloc)?,
         "write_edges" => tables::edges_text(alloc)?,
@@ -68,33 +70,33 @@ fn told_of_tables(alloc: Global, name: &str) -> Result<Option<Told>, AllocError>
         "world_text" => tables::world(alloc)?,
         _ => return Ok(None),
     };
-    Ok(Some(told))
+    Ok(Some(outcome))
 }
 
-// Makes the call and tells what it answers. False where there is none of that name.
-fn tell<R: Threads + Wait + Print + Copy + Send + 'static>(
+// Makes the call and prints its outcome. Returns false if there is no such call.
+fn print_outcome<R: Threads + Wait + Print + Copy + Send + 'static>(
     rt: &R,
     alloc: Global,
     name: &str,
 ) -> io::Result<bool> {
-    let Some(told) = told(rt, alloc, name)? else {
+    let Some(outcome) = outcome(rt, alloc, name)? else {
         return Ok(false);
     };
-    println!(rt; "{told:?}")?;
+    println!(rt; "{outcome:?}")?;
     Ok(true)
 }
 
 fn main(rt: HostRuntime) -> ExitCode {
-    let mut words = match env::args(&rt) {
-        Ok(words) => words,
+    let mut arguments = match env::args(&rt) {
+        Ok(arguments) => arguments,
         Err(_) => return ExitCode::from(5),
     };
-    let _program = words.next();
-    let done = match words.next() {
+    let _program = arguments.next();
+    let done = match arguments.next() {
         Some(name) if name.as_str() == "site" => {
-            site::tell::<RingLane, HostRuntime>(&rt, rt.alloc()).map(|()| true)
+            site::print_left::<RingLane, HostRuntime>(&rt, rt.alloc()).map(|()| true)
         }
-        Some(name) => tell(&rt, rt.alloc(), name.as_str()),
+        Some(name) => print_outcome(&rt, rt.alloc(), name.as_str()),
         None => Ok(false),
     };
     match done {

@@ -1,12 +1,13 @@
-// The plan that each call is tried with.
+// The plan with which each call is tried.
 use dine_plan::{Plan, read_plan};
 use dine_test_plans::PAIR;
 use std::alloc::{AllocError, Global};
 
-/// Two sites with one job each, and an edge between them. It answers `AllocError` where memory is refused.
+/// Returns the pair: two sites with one job each, and an edge between them.
+///
+/// # Errors
+///
+/// `AllocError` if an allocation failed.
 pub fn pair(alloc: Global) -> Result<Plan, AllocError> {
-    match read_plan(alloc, PAIR) {
-        Ok(plan) => Ok(plan),
-        Err(_) => Err(AllocError),
-    }
+    read_plan(alloc, PAIR).map_err(|_| AllocError)
 }

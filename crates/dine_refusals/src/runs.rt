@@ -1,5 +1,5 @@
 // Runs of the pair, each site on a thread of its own.
-use crate::calls::Told;
+use crate::calls::Outcome;
 use crate::pair::pair;
 use dine::{PlanDiner, open_diners};
 use dine_link::Lane;
@@ -10,44 +10,44 @@ use std::alloc::{AllocError, Global};
 use std::sync::Wait;
 use std::thread::Threads;
 
-/// The diner of the pair's lower site.
-pub fn diner(alloc: Global) -> Result<Told, AllocError> {
+/// Opens the diner of the lower site of the pair.
+pub fn diner(alloc: Global) -> Result<Outcome, AllocError> {
     let plan = pair(alloc)?;
     if plan.sites() == 0 {
-        return Ok(Told::Another);
+        return Ok(Outcome::Another);
     }
     match PlanDiner::open(alloc, &plan, 0) {
-        Ok(_) => Ok(Told::Whole),
-        Err(_) => Ok(Told::Memory),
+        Ok(_) => Ok(Outcome::Whole),
+        Err(_) => Ok(Outcome::Memory),
     }
 }
 
-// What a run answered in which this is the lowest site with a fault.
-fn broken_at(site: u32, joined: &Joined<PlanDiner>) -> Told {
+// Returns the outcome of a run in which this is the lowest site with a fault.
+fn broken_at(site: u32, joined: &Joined<PlanDiner>) -> Outcome {
     match joined.sites.get(site as usize) {
         Some(out) => match out.fault {
-            Some(fault) => Told::Broken(site, fault),
-            None => Told::Another,
+            Some(fault) => Outcome::Broken(site, fault),
+            None => Outcome::Another,
         },
-        None => Told::Another,
+        None => Outcome::Another,
     }
 }
 
-// What a run answered that gathered nothing, or not all.
-fn told_of(fault: &RunFault<PlanDiner>) -> Told {
+// Returns the outcome of a run that gathered nothing, or not all.
+fn outcome_of(fault: &RunFault<PlanDiner>) -> Outcome {
     match fault {
-        RunFault::Memory => Told::Memory,
-        RunFault::Thread(site) => Told::Thread(*site),
+        RunFault::Memory => Outcome::Memory,
+        RunFault::Thread(site) => Outcome::Thread(*site),
         RunFault::Broken { site, joined } => broken_at(*site, joined),
-        RunFault::DinersDiffer { .. } => Told::Another,
+        RunFault::DinersDiffer { .. } => Outcome::Another,
     }
 }
 
-/// A run of the pair over links of a lane. It may wait.
+/// Runs the pair over links of a lane. It may wait.
 pub fn run_pair<L: Lane + 'static, R: Threads + Wait + Copy + Send + 'static>(
     rt: &R,
     alloc: Global,
-) -> Result<Told, AllocError>
+) -> Result<Outcome, AllocError>
 where
     L::Tx: 'static,
     L::ClosedTx: 'static,
@@ -56,12 +56,12 @@ where
     let plan = pair(alloc)?;
     let diners = open_diners(alloc, &plan)?;
     match run::<L, PlanDiner>(rt, alloc, &plan, diners) {
-        Ok(_gathered) => Ok(Told::Whole),
-        Err(fault) => Ok(told_of(&fault)),
+        Ok(_gathered) => Ok(Outcome::Whole),
+        Err(fault) => Ok(outcome_of(&fault)),
     }
 }
 
-// Does nothing.
+// A job that does nothing.
 #[derive(Drop)]
 struct Idle;
 
@@ -73,21 +73,21 @@ impl Job<()> for Idle {
     }
 }
 
-// What a run of jobs answered that has nothing left.
-fn told_of_jobs(cause: JobsCause) -> Told {
+// Returns the outcome of a run of jobs that returned this cause.
+fn outcome_of_jobs(cause: JobsCause) -> Outcome {
     match cause {
-        JobsCause::Memory | JobsCause::Run(RunCause::Memory) => Told::Memory,
-        JobsCause::Run(RunCause::Thread(site)) => Told::Thread(site),
-        JobsCause::Run(RunCause::Broken(site, fault)) => Told::Broken(site, fault),
-        _ => Told::Another,
+        JobsCause::Memory | JobsCause::Run(RunCause::Memory) => Outcome::Memory,
+        JobsCause::Run(RunCause::Thread(site)) => Outcome::Thread(site),
+        JobsCause::Run(RunCause::Broken(site, fault)) => Outcome::Broken(site, fault),
+        _ => Outcome::Another,
     }
 }
 
-/// A run of jobs that share nothing, over rings. It may wait.
+/// Runs jobs that share nothing, over rings. It may wait.
 pub fn run_idle<R: Threads + Wait + Copy + Send + 'static>(
     rt: &R,
     alloc: Global,
-) -> Result<Told, AllocError> {
+) -> Result<Outcome, AllocError> {
     let plan = pair(alloc)?;
     let values = no_values(alloc, &plan)?;
     let mut jobs = Vec::new(alloc);
@@ -95,7 +95,7 @@ pub fn run_idle<R: Threads + Wait + Copy + Send + 'static>(
         jobs.push(Idle)?;
     }
     match on_rings(rt, alloc, &plan, values, jobs) {
-        Ok(_done) => Ok(Told::Whole),
-        Err(fault) => Ok(told_of_jobs(fault.cause)),
+        Ok(_done) => Ok(Outcome::Whole),
+        Err(fault) => Ok(outcome_of_jobs(fault.cause)),
     }
 }

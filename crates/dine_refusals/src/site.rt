@@ -1,5 +1,5 @@
 // One site, whose links and bell are filled before it starts.
-ghost use Rattle.std.specs.Prelude.{◌≡◌, ◌<◌, ◌≤◌, ◌+◌, ◌^◌, [], false, All, IfOk, length, vec_len};
+ghost use Rattle.std.specs.Prelude.{◌≡◌, ◌<◌, ◌≤◌, ◌+◌, ◌^◌, false, All, IfOk, length, vec_len};
 ghost use Rattle.dine_link.specs.Links.{IsUnused};
 ghost use Rattle.dine_run.specs.Ports.{IsFreshPort, seen_ports};
 
@@ -9,41 +9,17 @@ use dine_core::site::{fresh_forks, fresh_tokens};
 use dine_link::{Bell, Lane, Ringer, TxEnd};
 use dine_plan::Plan;
 use dine_rules::{Kind4, Letter};
-use dine_run::{CallLog, Diner, JobFault, Port, SiteEnd, SiteFault, run_site};
-use dine_token::{Meal, Token};
+use dine_run::{Port, SiteEnd, SiteFault, run_site};
+use dine_test_diners::Taster;
+use dine_token::Token;
 use std::alloc::{AllocError, Global};
 use std::io;
 use std::sync::Wait;
 
-// Eats, and no more.
-#[derive(Drop)]
-pub struct Eater {
-    log: CallLog,
-}
+// What a site left, and the link with all that the site put.
+type Left<L> = (SiteEnd<L, Taster>, <L as Lane>::Rx);
 
-impl Diner for Eater {
-    ghost calls = { λ eater. eater.log.calls };
-
-    ghost marks = { λ eater. [] };
-
-    ghost fits = { λ marks k ok. ok };
-
-    ghost room_left = { λ eater. eater.log.room };
-
-    fn room(&self) -> u32 {
-        self.log.room()
-    }
-
-    fn eat(&mut self, k: u32, _meal: &Meal) -> Result<(), JobFault> {
-        self.log.note(k, true);
-        Ok(())
-    }
-}
-
-// What a site left, and the link with all that it put.
-type Left<L> = (SiteEnd<L, Eater>, <L as Lane>::Rx);
-
-// The one port of a site with one edge.
+// Returns the port of a site with one edge, in a list.
 fn one_port<L: Lane>(
     alloc: Global,
     tx: L::Tx,
@@ -51,7 +27,7 @@ fn one_port<L: Lane>(
     ringer: Ringer,
 ) -> Result<Vec<Port<L>>, AllocError>
     requires nothing_put { IsUnused (L.seen_tx tx) }
-    requires nothingtaken { IsUnused (L.seen_rx rx) }
+    requires nothing_taken { IsUnused (L.seen_rx rx) }
     requires silent { (ringer.rings ≡ 0) × (ringer.refused ≡ false) }
     ensures count { IfOk result (λ ports. vec_len ports ≡ 1) }
     ensures unused { IfOk result (λ ports. All IsFreshPort (seen_ports L.Lane ports.items)) }
@@ -65,11 +41,11 @@ fn one_port<L: Lane>(
     Ok(ports)
 }
 
-// A ringer that never rang, and its bell.
+// Returns a ringer that never rang, and its bell.
 fn one_ringer(alloc: Global) -> Result<(Ringer, Bell), AllocError>
     ensures silent { IfOk result (λ opened. (opened.0.rings ≡ 0) × (opened.0.refused ≡ false)) }
     ensures degree { IfOk result (λ opened. opened.1.degree ≡ 1) }
-    ensures unheard { IfOk result (λ opened. opened.1.refused ≡ false) }
+    ensures unrefused { IfOk result (λ opened. opened.1.refused ≡ false) }
 {
     let Ok((mut ringers, bell)) = Bell::open(alloc, 1) else {
         return Err(AllocError);
@@ -77,22 +53,22 @@ fn one_ringer(alloc: Global) -> Result<(Ringer, Bell), AllocError>
     ringers.pop().map(|ringer| (ringer, bell)).ok_or(AllocError)
 }
 
-// The lower site of the plan runs, over these ports.
+// Runs the lower site of the plan, with these ports.
 fn run_lower<L: Lane, R: Wait>(
     rt: &R,
     alloc: Global,
     plan: &Plan,
     ports: Vec<Port<L>>,
     bell: Bell,
-) -> Result<SiteEnd<L, Eater>, AllocError>
+) -> Result<SiteEnd<L, Taster>, AllocError>
     requires bell { bell.degree ≡ vec_len ports }
-    requires unheard { bell.refused ≡ false }
+    requires unrefused { bell.refused ≡ false }
     requires unused { All IsFreshPort (seen_ports L.Lane ports.items) }
 {
     if plan.sites() == 0 {
         return Err(AllocError);
     }
-    let log = CallLog::open(alloc, plan.jobs(0))?;
+    let diner = Taster::open(alloc, plan.jobs(0), 0)?;
     let forks = fresh_forks(alloc, plan, 0)?;
     let tokens = fresh_tokens(alloc, plan, 0)?;
     let core = SiteCore::open(alloc, plan, 0, forks, tokens)?;
@@ -100,11 +76,11 @@ fn run_lower<L: Lane, R: Wait>(
         core.into_parts();
         return Err(AllocError);
     }
-    Ok(run_site(rt, alloc, core, ports, bell, Eater { log }))
+    Ok(run_site(rt, alloc, core, ports, bell, diner))
 }
 
-// Asks for the fork, is done and closes, as the higher site does.
-fn say_all<L: Lane, R: Wait>(rt: &R, mut tx: L::Tx)
+// Puts a Request, Done and Close, as the higher site does.
+fn put_all<L: Lane, R: Wait>(rt: &R, mut tx: L::Tx)
     requires { IsUnused (L.seen_tx tx) }
 {
     let _ = L::put(rt, &mut tx, Letter::Request(Token::open(0)));
@@ -112,7 +88,7 @@ fn say_all<L: Lane, R: Wait>(rt: &R, mut tx: L::Tx)
     let _ = L::close(rt, tx);
 }
 
-// The ringer, once it rang three times.
+// Rings three times, and returns the ringer.
 fn rung<R: Wait>(rt: &R, mut ringer: Ringer) -> Ringer {
     for _ in 0..3 {
         let _ = ringer.ring(rt);
@@ -120,7 +96,7 @@ fn rung<R: Wait>(rt: &R, mut ringer: Ringer) -> Ringer {
     ringer
 }
 
-// What is left of the lower site of the pair, where the higher one asked, is done and closed.
+// Runs the lower site of the pair if the higher one has put all its letters, and returns what is left.
 fn lower_of_pair<L: Lane, R: Wait>(rt: &R, alloc: Global) -> Result<Left<L>, AllocError>
     ensures { IfOk result (λ left. IsUnused (L.seen_rx left.1)) }
 {
@@ -131,12 +107,12 @@ fn lower_of_pair<L: Lane, R: Wait>(rt: &R, alloc: Global) -> Result<Left<L>, All
         return Err(AllocError);
     };
     let ports = one_port::<L>(alloc, tx, rx, far_ringer)?;
-    say_all::<L, R>(rt, far_tx);
+    put_all::<L, R>(rt, far_tx);
     let _ringer = rung(rt, ringer);
     Ok((run_lower(rt, alloc, &plan, ports, bell)?, far_rx))
 }
 
-// The name of a fault, as far as it is told here.
+// Returns the name of a fault, as far as it matters here.
 fn name_of(fault: Option<SiteFault>) -> &'static str {
     match fault {
         None => "none",
@@ -145,7 +121,7 @@ fn name_of(fault: Option<SiteFault>) -> &'static str {
     }
 }
 
-// The kind of the next letter, where Close was not taken.
+// Takes the next letter and returns its kind. None if Close was taken before.
 fn next_kind<L: Lane, R: Wait>(rt: &R, letters: &mut L::Rx) -> Option<Kind4>
     requires { length (L.seen_rx letters.old).letters < 2 ^ 61 }
     ensures { length (L.seen_rx letters.new).letters ≤ length (L.seen_rx letters.old).letters + 1 }
@@ -159,8 +135,8 @@ fn next_kind<L: Lane, R: Wait>(rt: &R, letters: &mut L::Rx) -> Option<Kind4>
     }
 }
 
-// What is told of a site's end: its fault, whether a letter was handed back, its meals, and how many forks, tokens and
-// events of its journal there are.
+// What is printed of the end of a site: its fault, whether it returned a stray letter, its meals, and the numbers of
+// its forks, its tokens and the events of its journal.
 #[derive(Drop)]
 struct Ended {
     fault: &'static str,
@@ -171,7 +147,7 @@ struct Ended {
     journal: usize,
 }
 
-fn ended_of<L: Lane>(end: SiteEnd<L, Eater>) -> Ended {
+fn ended_of<L: Lane>(end: SiteEnd<L, Taster>) -> Ended {
     Ended {
         fault: name_of(end.fault),
         stray: end.stray.is_some(),
@@ -182,7 +158,7 @@ fn ended_of<L: Lane>(end: SiteEnd<L, Eater>) -> Ended {
     }
 }
 
-fn tell_ended<R: Print>(rt: &R, ended: &Ended) -> io::Result<()> {
+fn print_ended<R: Print>(rt: &R, ended: &Ended) -> io::Result<()> {
     print!(rt; "{} stray={} ate={} ", ended.fault, ended.stray, ended.ate)?;
     print!(rt;
         "forks={} tokens={} journal={}",
@@ -191,8 +167,8 @@ fn tell_ended<R: Print>(rt: &R, ended: &Ended) -> io::Result<()> {
     Ok(())
 }
 
-// Tells the kinds of the letters, four at most, and ends the line.
-fn tell_kinds<L: Lane, R: Wait + Print>(rt: &R, mut letters: L::Rx) -> io::Result<()>
+// Prints the kinds of the letters, four at most, and ends the line.
+fn print_kinds<L: Lane, R: Wait + Print>(rt: &R, mut letters: L::Rx) -> io::Result<()>
     requires { IsUnused (L.seen_rx letters) }
 {
     for taken in 0..4u32 {
@@ -205,10 +181,10 @@ fn tell_kinds<L: Lane, R: Wait + Print>(rt: &R, mut letters: L::Rx) -> io::Resul
     Ok(())
 }
 
-/// Tells how the lower site of the pair ended: its fault, whether a letter was handed back, its meals, its forks and
-/// tokens, the events of its journal, and the kinds of the letters that it put.
-pub fn tell<L: Lane, R: Wait + Print>(rt: &R, alloc: Global) -> io::Result<()> {
+/// Runs the lower site of the pair, and prints how it ended: its fault, whether it returned a stray letter, its meals,
+/// the numbers of its forks, its tokens and the events of its journal, and the kinds of the letters that it put.
+pub fn print_left<L: Lane, R: Wait + Print>(rt: &R, alloc: Global) -> io::Result<()> {
     let (end, letters) = lower_of_pair::<L, R>(rt, alloc)?;
-    tell_ended(rt, &ended_of(end))?;
-    tell_kinds::<L, R>(rt, letters)
+    print_ended(rt, &ended_of(end))?;
+    print_kinds::<L, R>(rt, letters)
 }

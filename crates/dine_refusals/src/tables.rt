@@ -3,24 +3,25 @@ ghost use Rattle.std.specs.Prelude.{◌≡◌, IfOk};
 ghost use Rattle.dine_graph.specs.Plan.{edge_count, site_count};
 ghost use Rattle.dine_run.specs.Tables.{IsGatheredOf};
 
-use crate::calls::Told;
+use crate::calls::Outcome;
 use crate::pair::pair;
 use dine::{PlanDiner, world_text, write_edges, write_sites};
+use dine_core::World;
+use dine_link::{Bell, EmptyChecks};
 use dine_plan::Plan;
 use dine_run::{EdgeRow, Gathered, SiteOut, SiteRow, edge_table, site_table};
 use dine_token::Fork;
-use dine_world::World;
 use std::alloc::{AllocError, Global};
 
-// What a call answered that fails only where memory is refused.
-fn told_of<T: Drop>(answer: Result<T, AllocError>) -> Told {
-    match answer {
-        Ok(_) => Told::Whole,
-        Err(_) => Told::Memory,
+// Returns the outcome of a call that fails only if an allocation fails.
+fn outcome_of<T: Drop>(ended: Result<T, AllocError>) -> Outcome {
+    match ended {
+        Ok(_) => Outcome::Whole,
+        Err(_) => Outcome::Memory,
     }
 }
 
-// The plan of the pair, which has these two sites and this edge.
+// Returns the plan of the pair, and checks that it has two sites and an edge, which the contract then has.
 fn plan_of_pair(alloc: Global) -> Result<Plan, AllocError>
     ensures sites { IfOk result (λ plan. site_count plan ≡ 2) }
     ensures edges { IfOk result (λ plan. edge_count plan ≡ 1) }
@@ -32,7 +33,15 @@ fn plan_of_pair(alloc: Global) -> Result<Plan, AllocError>
     Ok(plan)
 }
 
-// What a site of the pair left that ate once, as far as the tables read it.
+// Returns the record of a bell that made no check.
+fn no_checks(alloc: Global) -> Result<EmptyChecks, AllocError> {
+    match Bell::open(alloc, 0) {
+        Ok((_ringers, bell)) => Ok(bell.into_empty_checks()),
+        Err(_) => Err(AllocError),
+    }
+}
+
+// Returns what a site of the pair left that ate once, as far as the tables read it.
 fn out_of(alloc: Global, plan: &Plan, site: u32) -> Result<SiteOut<PlanDiner>, AllocError>
     requires { site_count plan.now ≡ 2 }
     ensures { IfOk result (λ out. out.site ≡ site) }
@@ -47,12 +56,13 @@ fn out_of(alloc: Global, plan: &Plan, site: u32) -> Result<SiteOut<PlanDiner>, A
         diner: PlanDiner::open(alloc, plan, site)?,
         tokens: Vec::new(alloc),
         journal: Vec::new(alloc),
+        checks: no_checks(alloc)?,
         stray: None,
         fault: None,
     })
 }
 
-// What is gathered of the pair, as far as the tables read it.
+// Returns what is gathered of the pair, as far as the tables read it.
 fn gathered_of_pair(alloc: Global, plan: &Plan) -> Result<Gathered<PlanDiner>, AllocError>
     requires sites { site_count plan.now ≡ 2 }
     requires edges { edge_count plan.now ≡ 1 }
@@ -71,22 +81,22 @@ fn gathered_of_pair(alloc: Global, plan: &Plan) -> Result<Gathered<PlanDiner>, A
     })
 }
 
-/// The rows of the edges of a gathered pair.
-pub fn edges(alloc: Global) -> Result<Told, AllocError> {
+/// Makes the rows of the edges of a gathered pair.
+pub fn edges(alloc: Global) -> Result<Outcome, AllocError> {
     let plan = plan_of_pair(alloc)?;
     let gathered = gathered_of_pair(alloc, &plan)?;
-    Ok(told_of(edge_table(alloc, &plan, &gathered)))
+    Ok(outcome_of(edge_table(alloc, &plan, &gathered)))
 }
 
-/// The rows of the sites of a gathered pair.
-pub fn sites(alloc: Global) -> Result<Told, AllocError> {
+/// Makes the rows of the sites of a gathered pair.
+pub fn sites(alloc: Global) -> Result<Outcome, AllocError> {
     let plan = plan_of_pair(alloc)?;
     let gathered = gathered_of_pair(alloc, &plan)?;
-    Ok(told_of(site_table(alloc, &plan, &gathered)))
+    Ok(outcome_of(site_table(alloc, &plan, &gathered)))
 }
 
-/// The text of the table of the pair's edges.
-pub fn edges_text(alloc: Global) -> Result<Told, AllocError> {
+/// Writes the table of the edges of the pair.
+pub fn edges_text(alloc: Global) -> Result<Outcome, AllocError> {
     let plan = plan_of_pair(alloc)?;
     let rows = [EdgeRow {
         edge: 0,
@@ -96,11 +106,11 @@ pub fn edges_text(alloc: Global) -> Result<Told, AllocError> {
         hi_meals: 1,
         value: 0,
     }];
-    Ok(told_of(write_edges(alloc, &plan, &rows)))
+    Ok(outcome_of(write_edges(alloc, &plan, &rows)))
 }
 
-/// The text of the table of the pair's sites.
-pub fn sites_text(alloc: Global) -> Result<Told, AllocError> {
+/// Writes the table of the sites of the pair.
+pub fn sites_text(alloc: Global) -> Result<Outcome, AllocError> {
     let plan = plan_of_pair(alloc)?;
     let row = |site| SiteRow {
         site,
@@ -108,15 +118,15 @@ pub fn sites_text(alloc: Global) -> Result<Told, AllocError> {
         failed: 0,
     };
     let rows = [row(0), row(1)];
-    Ok(told_of(write_sites(alloc, &plan, &rows)))
+    Ok(outcome_of(write_sites(alloc, &plan, &rows)))
 }
 
-/// The text of the pair's world after its last event.
-pub fn world(alloc: Global) -> Result<Told, AllocError> {
+/// Writes the world of the pair after its last event.
+pub fn world(alloc: Global) -> Result<Outcome, AllocError> {
     let plan = pair(alloc)?;
     let mut world = World::open(alloc, &plan)?;
     let events = world.finish();
-    let told = told_of(world_text(alloc, &plan, &world, events));
+    let outcome = outcome_of(world_text(alloc, &plan, &world, events));
     world.into_forks();
-    Ok(told)
+    Ok(outcome)
 }

@@ -1,4 +1,4 @@
--- Ends of runs: where nothing is enabled all is eaten and closed, and each log is whole.
+-- Ends of runs: if no event is enabled, all meals are eaten, all links are closed, and each log is whole.
 pub mod Stuck
 pub mod Finishing
 pub mod Complete

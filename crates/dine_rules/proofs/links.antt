@@ -1,5 +1,5 @@
--- All sites of a reached world: what lies between two ends, one fork and one token an edge, and the letter that comes
--- next.
+-- All sites of a reached world: the letters between two ends, one fork and one token for each edge, and the next
+-- letter.
 pub mod Across
 pub mod WorldStreams
 pub mod EachSite

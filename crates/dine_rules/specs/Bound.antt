@@ -1,5 +1,5 @@
--- How many events there were, and how many there can be. The events that led to a world are as many as its effects, and
--- within the bound: the laws `events_are_counted` and `events_are_bounded`.
+-- How many events there were, and how many there can be. The number of events that led to a world is the number of its
+-- effects, and is at most the bound: the laws `events_are_counted` and `events_are_bounded`.
 use Rattle.std.specs.Prelude.{ℕ, ◌+◌, ◌-◌, ◌*◌, length, sum, map, if◌then◌else◌}
 use Rattle.std.specs.List.{range_with_len}
 use Rattle.dine_graph.specs.Plan.{SeenPlan, site_count, edge_count, job_count, lo_of, hi_of}
@@ -10,12 +10,12 @@ use Rattle.dine_rules.specs.World.{WorldState}
 abbrev pub letters_at : Traffic → ℕ
 letters_at traffic = length traffic.put + length traffic.taken
 
--- the effects of a site: three a meal, one less while it lasts, one for hunger, one where it has quit, and each letter
--- put or taken; nothing is cut off at 0, since who eats has begun a meal
+-- The effects of a site: three for each meal, one less while it eats; one if it is hungry; one if it has quit; and one
+-- for each letter put or taken. The subtraction does not go below 0, since a site that eats has begun a meal.
 abbrev pub site_effects : LocalState → ℕ
 site_effects state = 3 * state.ate + (if is_hungry state.phase then 1 else 0) + (if state.has_quit then 1 else 0) + sum (map letters_at state.traffic) - (if is_eating state.phase then 1 else 0)
 
--- the effects of all sites: as many as the events that led to the world
+-- the effects of all sites, which are as many as the events that led to the world
 abbrev pub effects_of : WorldState → ℕ
 effects_of world = sum (map site_effects world)
 
@@ -23,8 +23,9 @@ effects_of world = sum (map site_effects world)
 abbrev pub meals_due : SeenPlan → ℕ → ℕ
 meals_due plan edge = job_count plan (lo_of plan edge) + job_count plan (hi_of plan edge)
 
--- the bound on the events of the world: three for each meal that is due and, for each edge, four for each meal due at
--- its ends and eight more; a site that quits drops a meal at least, which has three events
+-- The bound on the events of the world: three for each meal that is due; and for each edge four for each meal that is
+-- due at its ends, and eight more. A Quit needs no number of its own: a site that quits drops at least one meal, which
+-- would have three events.
 abbrev pub bound_of : SeenPlan → ℕ
 bound_of plan = 3 * sum (map (job_count plan) (range_with_len 0 (site_count plan)))
     + sum (map (λ edge. 4 * meals_due plan edge + 8) (range_with_len 0 (edge_count plan)))

@@ -1,6 +1,6 @@
--- The two ends of an edge, by whole lists alone: what each end put and took, and how many meals it ate. So they are
--- left when threads have joined. Lists that fit need not come from an order of events, and none is asked for here.
--- Whether a letter that was put will be taken they leave out.
+-- The two ends of an edge, by whole lists alone: what each end put and took, and how many meals it ate. That is what
+-- threads leave when they have joined. The definitions do not ask whether an order of events leads to these lists, nor
+-- whether a letter that was put will be taken.
 use Rattle.std.specs.Prelude.{◌≡◌, ℕ, ◌+◌, ◌<◌, ◌≤◌, List, [], length, slice_get, Option, Some, if◌then◌else◌, ◌==◌}
 use mathlib.Core.List.{IsPrefix}
 use Rattle.dine_token.specs.declared.log_entry.Entry.{Entry}
@@ -29,18 +29,18 @@ pub record AreLinked (here there : Traffic) : Type 0 where
   pub comes : IsPrefix here.taken there.put
   pub goes : IsPrefix there.taken here.put
 
--- The Forks that each end took are, in order, the first of those that the other put. So it is also where a letter
+-- The Forks that each end took are the first Forks that the other end put, in order. That holds also if a letter
 -- between them was refused.
 pub record AreForksLinked (here there : Traffic) : Type 0 where
   pub comes : (k : ℕ) (fork : SeenFork) → slice_get (forks_among here.taken) k ≡ Some fork → slice_get (forks_among there.put) k ≡ Some fork
   pub goes : (k : ℕ) (fork : SeenFork) → slice_get (forks_among there.taken) k ≡ Some fork → slice_get (forks_among here.put) k ≡ Some fork
 
--- Both links are wholly taken: each end took all that the other put.
+-- Both links are empty: each end took all that the other end put.
 pub record AreWhollyTaken (here there : Traffic) : Type 0 where
   pub comes : here.taken ≡ there.put
   pub goes : there.taken ≡ here.put
 
--- the letter that comes next: the first that the other end put and this end did not take
+-- the next letter: the first that the other end put and this end did not take
 abbrev pub next_between : Traffic → Traffic → Option Letter
 next_between here there = slice_get there.put (length here.taken)
 
@@ -48,8 +48,9 @@ next_between here there = slice_get there.put (length here.taken)
 abbrev pub traffic_across : SeenPlan → WorldState → ℕ → ℕ → Traffic
 traffic_across plan world s i = traffic_at (state_of world (neighbour_at plan s i)) (place_of plan (neighbour_at plan s i) (edge_at plan s i))
 
--- An end accounts for the fork: the Forks that it put are those of the edge, lawful and in a chain with their values,
--- and it ate at most the meals that are due to it, and at least those that the last Fork which it took has of it.
+-- An end accounts for the fork. The Forks that it put are forks of the edge, with lawful logs, and their logs and
+-- values are chained. It ate at most the meals that are due to it. It ate at least the meals of its own in the last
+-- Fork that it took.
 pub record AccountsForFork (plan : SeenPlan) (s edge ate : ℕ) (traffic : Traffic) : Type 0 where
   pub chained : IsChained plan s edge ate traffic
   pub values : AreValuesChained plan s edge traffic
@@ -57,11 +58,12 @@ pub record AccountsForFork (plan : SeenPlan) (s edge ate : ℕ) (traffic : Traff
   pub ate_within : ate ≤ job_count plan s
   pub last_within : meals_of s (last_log_or [] traffic.taken) ≤ ate
 
--- An end accounts for the token: it put no more Requests than tokens came to it, and the higher end started with one.
+-- An end accounts for the token: it put no more Requests than it had tokens. It had those that it took, and the higher
+-- end started with one.
 abbrev pub AccountsForToken : SeenPlan → ℕ → ℕ → Traffic → Type 0
 AccountsForToken plan s edge traffic = requests_in traffic.put ≤ (if hi_of plan edge == s then 1 else 0) + requests_in traffic.taken
 
--- A lawful log, with the meals of each end from 1 to the last that it ate, each once.
+-- A lawful log that has the meals of each end, from 1 to the number that the end ate, each once.
 pub record IsWholeLog (plan : SeenPlan) (edge low_ate high_ate : ℕ) (log : List Entry) : Type 0 where
   pub lawful : IsLawful (lo_of plan edge, hi_of plan edge) (job_count plan (lo_of plan edge), job_count plan (hi_of plan edge)) log
   pub lower_count : meals_of (lo_of plan edge) log ≡ low_ate

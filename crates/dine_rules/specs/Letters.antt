@@ -1,6 +1,6 @@
--- Letters, and lists of letters in the order in which they were put or taken. The definitions of the rules speak of
--- whole lists of letters, and know nothing of flags or slots. They compute, so laws such as `small_plans_run_as_worked`
--- work small plans out from them.
+-- Letters, and lists of letters in the order in which they were put or taken. The definitions of the rules use whole
+-- lists of letters, and no flags or slots. They compute: laws such as `small_plans_run_as_worked` run small plans with
+-- them.
 use Rattle.std.specs.Prelude.{ℕ, suc, Bool, true, false, List, [], ◌∷◌}
 use Rattle.dine_token.specs.declared.log_entry.Entry.{Entry}
 use Rattle.dine_token.specs.Fork.{SeenFork}
@@ -8,11 +8,6 @@ use Rattle.dine_rules.specs.declared.letters.Letter.{Letter}
 use Rattle.dine_rules.specs.declared.letters.Letter.TheVariants.{Fork, Request, Done, Close}
 use Rattle.dine_rules.specs.declared.letters.Kind4.{Kind4}
 use Rattle.dine_rules.specs.declared.letters.Kind4.TheVariants as kind
-
--- A letter as contracts see it: a Fork with its edge, ends, due numbers, log and value, a Request with its edge, Done
--- or Close. The rule of a link speaks of lists of these.
-abbrev pub SeenLetter : Type 0
-SeenLetter = Letter
 
 -- the kind of a letter, without its contents
 abbrev pub kind_of : Letter → Kind4

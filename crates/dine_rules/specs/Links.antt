@@ -1,4 +1,4 @@
--- The letters in the links, and what there is of each edge in the whole world.
+-- The letters in the links, and the forks and tokens of each edge in the whole world.
 use Rattle.std.specs.Prelude.{ℕ, ◌+◌, ◌<◌, List, length, drop}
 use Rattle.dine_graph.specs.Plan.{SeenPlan, IsPlan, site_count, edge_count, edges_of, lo_of, hi_of}
 use Rattle.dine_rules.specs.declared.events.Event.{Event}
@@ -8,12 +8,12 @@ use Rattle.dine_rules.specs.Local.{traffic_at}
 use Rattle.dine_rules.specs.Holdings.{fork_at, token_at}
 use Rattle.dine_rules.specs.World.{WorldState, Reaches, state_of, place_of, put_to}
 
--- so it is in every world that events reach from the start, for the link to each site at each place
+-- P holds in every world that events reach from the start, for the link to each site at each place
 abbrev pub ForEachLink : (SeenPlan → WorldState → ℕ → ℕ → Type 0) → Type 0
 ForEachLink P = (plan : SeenPlan) (events : List Event) (world : WorldState) (s i : ℕ) → IsPlan plan → Reaches plan events world
     → s < site_count plan → i < length (edges_of plan s) → P plan world s i
 
--- so it is in every world that events reach from the start, for each edge
+-- P holds in every world that events reach from the start, for each edge
 abbrev pub ForEachEdge : (SeenPlan → WorldState → ℕ → Type 0) → Type 0
 ForEachEdge P = (plan : SeenPlan) (events : List Event) (world : WorldState) (edge : ℕ) → IsPlan plan → Reaches plan events world
     → edge < edge_count plan → P plan world edge

@@ -1,17 +1,17 @@
--- One site, by what it has put and taken. A place is a position in the list of the site's edges.
+-- The state of one site, by what it has put and taken. A place is a position in the list of the site's edges, from 0.
 use Rattle.std.specs.Prelude.{ℕ, ◌==◌, ◌||◌, Bool, true, false, List, [], map, slice_index_or}
 use Rattle.dine_graph.specs.Plan.{SeenPlan, edges_of, job_count, job_of, other_of}
 use Rattle.dine_rules.specs.declared.letters.Letter.{Letter}
 use Rattle.dine_rules.specs.declared.phase.Phase.{Phase}
 use Rattle.dine_rules.specs.declared.phase.Phase.TheVariants.{Thinking, Hungry, Eating}
 
--- all that an end has put, and all that it has taken, in order
+-- all letters that an end has put, and all that it has taken, each in order
 pub record Traffic : Type 0 where
   pub put : List Letter
   pub taken : List Letter
 
--- a site: what it does, how many meals it began, whether it has to quit before it grows hungry again, whether it has
--- quit, and its traffic at each place, in edge order [paper: neighbours]
+-- A site: its phase, the number of meals that it began, whether it has to quit, whether it has quit, and its traffic at
+-- each place, in the order of its edges. [paper: neighbours]
 pub record LocalState : Type 0 where
   pub phase : Phase
   pub ate : ℕ
@@ -46,7 +46,7 @@ abbrev pub is_eating : Phase → Bool
 is_eating Eating = true
 is_eating _ = false
 
--- the job of the meal that the site began last fails
+-- whether the plan says that this job fails: the one of the meal that the site began last
 abbrev pub meal_fails : SeenPlan → ℕ → LocalState → Bool
 meal_fails plan s state = (job_of plan s state.ate).fails
 

@@ -15,12 +15,12 @@ pub record Counted : Type 0 where
 abbrev pub from_here : WorldState → Counted
 from_here world = record { world = world; events = 0 }
 
--- the run with this event more; without one it is as it was
+-- the run after this event; if there is none, the run as it was
 abbrev pub chosen : SeenPlan → Counted → Option Event → Counted
 chosen plan now None = now
 chosen plan now (Some e) = record { world = unwrap_or (world_after plan now.world e) now.world; events = now.events + 1 }
 
--- the run with the n-th of the enabled events more, n from 0; a choice with no event does nothing
+-- the run after the n-th of the enabled events, from 0; if there is no such event, the run as it was
 abbrev pub choose : SeenPlan → Counted → ℕ → Counted
 choose plan now n = chosen plan now (slice_get (enabled_events plan now.world) n)
 
@@ -29,17 +29,17 @@ abbrev pub replay : SeenPlan → Counted → List ℕ → Counted
 replay plan now [] = now
 replay plan now (n ∷ choices) = replay plan (choose plan now n) choices
 
--- with an event, the rest of a run after it; without one, nothing more
+-- the rest of a run after this event; if there is none, the run as it was
 abbrev pub carried_on : (Counted → Counted) → SeenPlan → Counted → Option Event → Counted
 carried_on rest plan now None = now
 carried_on rest plan now (Some e) = rest (chosen plan now (Some e))
 
--- the first enabled event is done until none is, at most so many times
+-- the run after the first enabled event, again and again, until no event is enabled, with at most n events
 abbrev pub finish_within : ℕ → SeenPlan → Counted → Counted
 finish_within zero plan now = now
 finish_within (suc n) plan now = carried_on (finish_within n plan) plan now (slice_get (enabled_events plan now.world) 0)
 
--- the run of the choices and then of the first enabled events; `bound_of` events are enough to its end
+-- the run of the choices, and then of the first enabled events to its end, which takes at most `bound_of` events
 abbrev pub whole_run : SeenPlan → List ℕ → Counted
 whole_run plan choices = finish_within (bound_of plan) plan (replay plan (from_here (start plan)) choices)
 

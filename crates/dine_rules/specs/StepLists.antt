@@ -4,12 +4,12 @@ use Rattle.dine_graph.specs.Plan.{SeenPlan}
 use Rattle.dine_rules.specs.Local.{LocalState}
 use Rattle.dine_rules.specs.Steps.{Step, Give, Begin, may, after}
 
--- the steps lead from one state to the other, each where it may be done
+-- the steps lead from one state to the other, and each of them is allowed when its turn comes
 abbrev pub LeadTo : SeenPlan → ℕ → LocalState → List Step → LocalState → Type 0
 LeadTo plan s state [] new = state ≡ new
 LeadTo plan s state (step ∷ steps) new = (may plan s state step ≡ true) × LeadTo plan s (after plan s state step) steps new
 
--- the meals that begin
+-- how many meals begin in the steps
 abbrev pub begins_in : List Step → ℕ
 begins_in [] = 0
 begins_in (Begin ∷ steps) = suc (begins_in steps)

@@ -16,8 +16,9 @@ use Rattle.dine_rules.specs.Holdings.{hand, fork_at, token_at, hand_at}
 use Rattle.dine_rules.specs.Values.{hand_value, value_by}
 use Rattle.dine_rules.specs.Breach.{is_allowed}
 
--- The steps of a site. A number is a place. End says whether the job of the meal failed. Take takes the letter that
--- lies next there; Break gives the link up after a fault, and is no step of the world in one thread.
+-- The steps of a site. A number is a place: a position in the list of the site's edges, from 0. End says whether the
+-- job of the meal failed. Take takes a letter at its place. Break closes its place after a fault. Only a site on a
+-- thread does a Break; a world in one thread never does.
 pub data Step : Type 0 where
   Give : ℕ → Step
   Ask : ℕ → Step
@@ -44,51 +45,62 @@ fork_with plan edge log value = record {
 abbrev pub fork_by : SeenPlan → ℕ → List Entry → SeenFork
 fork_by plan edge log = fork_with plan edge log (value_by plan edge log)
 
--- the fork of the edge as it is opened [paper: start]
+-- the fork of the edge at the start, with an empty log and the value of the plan [paper: start]
 abbrev pub opened_fork : SeenPlan → ℕ → SeenFork
 opened_fork plan edge = fork_with plan edge [] (value_of plan edge)
 
--- the fork in the hand of an end of the edge, that ate so many meals and has this traffic [paper: clean and dirty]
+-- The fork in the hand of site s, an end of the edge. The site began `ate` meals and has this traffic at the edge. The
+-- fork means something only if the site holds it. [paper: clean and dirty]
 abbrev pub hand_fork : SeenPlan → ℕ → ℕ → ℕ → Traffic → SeenFork
 hand_fork plan s edge ate traffic = fork_with plan edge (hand s ate traffic) (hand_value plan s edge ate traffic)
 
--- the fork in hand at place i of a state
+-- the fork in the hand of the site at place i
 abbrev pub hand_fork_at : SeenPlan → ℕ → LocalState → ℕ → SeenFork
 hand_fork_at plan s state i = hand_fork plan s (edge_at plan s i) state.ate (traffic_at state i)
 
--- the fork that is given at place i of a state: that in hand, moved to the other end [paper: release rule]
+-- the fork that a Give at place i sends: the fork in hand, with a Move to the other end [paper: release rule]
 abbrev pub given_fork : SeenPlan → ℕ → LocalState → ℕ → SeenFork
 given_fork plan s state i = moved (neighbour_at plan s i) (hand_fork_at plan s state i)
 
--- the state where a letter more is put at place i
+-- the state after one more letter is put at place i
 abbrev pub with_put : ℕ → Letter → LocalState → LocalState
 with_put i l state = let traffic = traffic_at state i in
     record state { traffic = slice_set state.traffic i (record traffic { put = traffic.put ++ l ∷ [] }) }
 
--- the state where a letter more is taken at place i
+-- the state after one more letter is taken at place i
 abbrev pub with_taken : ℕ → Letter → LocalState → LocalState
 with_taken i l state = let traffic = traffic_at state i in
     record state { traffic = slice_set state.traffic i (record traffic { taken = traffic.taken ++ l ∷ [] }) }
 
 module _ (plan : SeenPlan) (s : ℕ) where
-  -- Close was not put at place i
+  -- the site has not put Close at place i
   abbrev pub is_open : LocalState → ℕ → Bool
   is_open state i = not (has_close (traffic_at state i).put)
 
-  -- at place i the fork is held, and it is clean or was not asked for
+  -- the site holds the fork of place i, and the fork is clean or the neighbour has not asked for it (the token is away)
   abbrev pub is_ready : LocalState → ℕ → Bool
   is_ready state i = fork_at plan s state i == 1 && (not (is_dirty (hand_at s state i)) || token_at plan s state i == 0)
 
-  -- the site drops its jobs left after a meal that failed: it resigns, and has some left. No more is kept of an
-  -- outcome, so a journal need not show any other failure.
+  -- The site drops the jobs that it has left: the job of its meal failed, it resigns, and it has jobs left. The outcome
+  -- of a meal changes nothing else. So a journal need not show any other failure.
   abbrev pub drops_jobs : LocalState → Bool → Bool
   drops_jobs state failed = failed && resigns plan s && nat_lt state.ate (job_count plan s)
 
-  -- the site may grow hungry: it thinks, has meals left, and neither has to quit nor has quit
+  -- the site may grow hungry: it thinks, it has jobs left, it does not have to quit, and it has not quit
   abbrev pub may_grow_hungry : LocalState → Bool
   may_grow_hungry state = is_thinking state.phase && nat_lt state.ate (job_count plan s) && (not state.must_quit && not state.has_quit)
 
-  -- What each step needs: Ask by the request rule, Give by the release rule, Begin with all forks.
+  -- What each step needs. A place has to be one of the site's places.
+  -- - Give (release rule): the site does not eat, it holds fork and token, the fork is dirty, and Close was not put.
+  -- - Ask (request rule): the site is hungry, it holds the token and not the fork, and Close was not put.
+  -- - Hungry: as `may_grow_hungry` says.
+  -- - Begin: the site is hungry and holds all forks, each of them clean or not asked for.
+  -- - End: the site eats.
+  -- - Quit: the site thinks and has to quit.
+  -- - Done: the site thinks and has no job left, and neither Done nor Close was put.
+  -- - Close: Done was put and taken, and Close was not put.
+  -- - Break: the site does not eat, and Close was not put.
+  -- - Take: the letter is allowed.
   -- [paper: request rule, release rule, all forks]
   abbrev pub may : LocalState → Step → Bool
   may state (Give i) = nat_lt i (length state.traffic) && (not (is_eating state.phase) && (fork_at plan s state i == 1 && token_at plan s state i == 1)
@@ -104,8 +116,12 @@ module _ (plan : SeenPlan) (s : ℕ) where
   may state (Break i) = nat_lt i (length state.traffic) && (not (is_eating state.phase) && is_open state i)
   may state (Take i l) = nat_lt i (length state.traffic) && is_allowed plan s state i l
 
-  -- What each step changes. A given fork has the log and the value in hand, and the Move to the other end; a meal
-  -- counts as it begins. After a meal that failed a site that resigns has to quit, where it has jobs left.
+  -- What each step changes.
+  -- - Give puts the fork in hand, with a Move to the other end. Ask puts the token, as a Request.
+  -- - Hungry and Begin change the phase. Begin also counts the meal.
+  -- - End goes back to thinking. If the site drops its jobs, it has to quit. Quit notes that the site has quit.
+  -- - Done puts Done. Close and Break put Close.
+  -- - Take adds the letter to those that were taken.
   -- [paper: request rule, release rule, arrival]
   abbrev pub after : LocalState → Step → LocalState
   after state (Give i) = with_put i (letter.Fork (given_fork plan s state i)) state
@@ -119,12 +135,13 @@ module _ (plan : SeenPlan) (s : ℕ) where
   after state (Break i) = with_put i letter.Close state
   after state (Take i l) = with_taken i l state
 
-  -- One step of the site: what it needs is so, and the new state is the changed one.
+  -- One step of the site: the old state allows the step, and the new state is the one after it.
   pub record LocalStep (old : LocalState) (step : Step) (new : LocalState) : Type 0 where
     pub needs : may old step ≡ true
     pub changes : new ≡ after old step
 
--- What an event does with the links of its site: it takes a letter at a place, puts one at a place, or neither.
+-- What an event does with the links of its site: it takes a letter at a place, it puts one at a place, or it does
+-- neither.
 pub data Shape : Type 0 where
   Takes : ℕ → Shape
   Puts : ℕ → Shape
@@ -142,21 +159,21 @@ shape_of (event.Ask i) = Puts i
 shape_of (event.Done i) = Puts i
 shape_of (event.Close i) = Puts i
 
--- the place that an event has, where it has one, is one of so many
+-- the place of an event of this shape, if it has one, is less than n
 abbrev pub IsPlaceWithin : ℕ → Shape → Type 0
 IsPlaceWithin n (Takes i) = i < n
 IsPlaceWithin n (Puts i) = i < n
 IsPlaceWithin n Alone = Unit {0}
 
--- what an event of this shape does to the letters of its site: one more is taken at its place, one more is put there,
--- or none moves
+-- how an event of this shape changes the letters of its site: one more is taken at its place, one more is put there, or
+-- none is
 abbrev pub MovesBy : Shape → LocalState → LocalState → Type 0
 MovesBy (Takes i) old new = (l : Letter) × (new ≡ with_taken i l old)
 MovesBy (Puts i) old new = (l : Letter) × (new ≡ with_put i l old)
 MovesBy Alone old new = new.traffic ≡ old.traffic
 
--- the step that an event is, by the outcome of the meal that ends, and by the next letter at each place: a Take takes
--- that letter, where there is one
+-- The step for an event. An End has the given outcome of the meal. A Take takes the next letter at its place. If there
+-- is no letter, there is no step.
 abbrev pub step_by : Bool → (ℕ → Option Letter) → EventKind → Option Step
 step_by failed next (event.Take i) = option_map (Take i) (next i)
 step_by failed next (event.Give i) = Some (Give i)

@@ -1,4 +1,4 @@
--- The letters of one direction of a link, and what a site promises of those it puts and takes.
+-- The letters of a link, and what holds of the letters that a site puts and takes.
 use Rattle.std.specs.Prelude.{◌≡◌, ℕ, ◌+◌, ◌<◌, ◌≤◌, ◌==◌, ◌&&◌, ◌||◌, not, Bool, true, false, List, [], ◌∷◌, ◌++◌, length, slice_get, Some, if◌then◌else◌}
 use Rattle.dine_token.specs.declared.log_entry.Entry.{Entry}
 use Rattle.dine_token.specs.declared.log_entry.Entry.TheVariants.{Move}
@@ -15,7 +15,8 @@ use Rattle.dine_rules.specs.Values.{AreValuesChained}
 use Rattle.dine_rules.specs.Breach.{was_sent_to, is_fork_of}
 use Rattle.dine_rules.specs.Steps.{Step, Take}
 
--- Forks and Requests take turns, whatever stands between them; `fork_next` says which of the two is next
+-- Forks and Requests alternate, with any other letters between them. `fork_next` says whether the first of them is a
+-- Fork.
 abbrev pub is_alternating : Bool → List Letter → Bool
 is_alternating fork_next [] = true
 is_alternating fork_next (Fork fork ∷ letters) = fork_next && is_alternating false letters
@@ -23,7 +24,7 @@ is_alternating fork_next (Request edge ∷ letters) = not fork_next && is_altern
 is_alternating fork_next (Done ∷ letters) = is_alternating fork_next letters
 is_alternating fork_next (Close ∷ letters) = is_alternating fork_next letters
 
--- at most one Done, and no Request behind it
+-- at most one Done, and no Request after it
 abbrev pub is_done_last : List Letter → Bool
 is_done_last [] = true
 is_done_last (Done ∷ letters) = not (has_done letters) && requests_in letters == 0
@@ -31,7 +32,7 @@ is_done_last (Fork fork ∷ letters) = is_done_last letters
 is_done_last (Request edge ∷ letters) = is_done_last letters
 is_done_last (Close ∷ letters) = is_done_last letters
 
--- nothing stands behind Close
+-- no letter after Close
 abbrev pub is_close_last : List Letter → Bool
 is_close_last [] = true
 is_close_last (Close ∷ []) = true
@@ -40,8 +41,9 @@ is_close_last (Fork fork ∷ letters) = is_close_last letters
 is_close_last (Request edge ∷ letters) = is_close_last letters
 is_close_last (Done ∷ letters) = is_close_last letters
 
--- The letters of one direction: Forks and Requests take turns, a Fork first from the lower end and a Request first from
--- the higher; no Request stands behind Done, and nothing behind Close. [paper: request rule, release rule]
+-- The letters of one link, or the first ones of them. Forks and Requests alternate. The first of them is a Fork if the
+-- lower end puts them, and a Request if the higher end does. There is at most one Done, no Request comes after it, and
+-- nothing comes after Close. [paper: request rule, release rule]
 pub record IsLawfulStream (from_lower : Bool) (letters : List Letter) : Type 0 where
   pub alternating : is_alternating from_lower letters ≡ true
   pub done_last : is_done_last letters ≡ true
@@ -69,35 +71,39 @@ logs_of (Request edge ∷ letters) = logs_of letters
 logs_of (Done ∷ letters) = logs_of letters
 logs_of (Close ∷ letters) = logs_of letters
 
--- The log is the one before, with meals of the site numbered on from those in it, and the Move to the other end.
--- [paper: release rule]
+-- The log is `before`, then meals of the site, whose numbers go on from those in `before`, then a Move to the other
+-- end. [paper: release rule]
 pub record CarriesOn (s to : ℕ) (before log : List Entry) : Type 0 where
   pub meals : ℕ
   pub is : log ≡ before ++ meals_from s (meals_of s before + 1) meals ++ Move to ∷ []
 
--- The same, and at least one meal was added. [paper: clean and dirty]
+-- As `CarriesOn`, and at least one meal was added. [paper: clean and dirty]
 pub record CarriesOnEaten (s to : ℕ) (before log : List Entry) : Type 0 where
   pub meals : ℕ
   pub some : 1 ≤ meals
   pub is : log ≡ before ++ meals_from s (meals_of s before + 1) meals ++ Move to ∷ []
 
--- The k-th of the logs taken, from 0, is there, and the log carries it on, with at least one meal.
+-- The k-th log taken, from 0, exists, and the log carries it on with at least one meal.
 pub record CarriesOnTaken (s to : ℕ) (taken : List (List Entry)) (k : ℕ) (log : List Entry) : Type 0 where
   pub before : List Entry
   pub is_taken : slice_get taken k ≡ Some before
   pub carries : CarriesOnEaten s to before log
 
--- The chain of a site at an edge. Its first Fork from the lower end carries on the empty log, and may go without a
--- meal. Each other Fork that it puts carries on the Fork taken before it, which is there: from the lower end the next
--- one the k-th taken, from the higher end the k-th one the k-th. Where the fork is gone, the last Fork put has all
--- meals that the site ate. [paper: clean and dirty, release rule]
+-- The log of each Fork that a site puts at an edge carries on an earlier log: this log, then meals of the site, then a
+-- Move (`CarriesOn`). Number the Forks put and the Forks taken, each from 0.
+-- - At the lower end, Fork 0 carries on the empty log, and need not have a meal. Fork k + 1 carries on the k-th Fork
+--   taken, with at least one meal.
+-- - At the higher end, Fork k carries on the k-th Fork taken, with at least one meal.
+-- - If the site does not hold the fork, the log of the last Fork that it put has all meals that the site ate. If it put
+--   none, it ate none.
+-- [paper: clean and dirty, release rule]
 pub record IsChained (plan : SeenPlan) (s edge ate : ℕ) (traffic : Traffic) : Type 0 where
   pub first : (lo_of plan edge == s) ≡ true → (log : List Entry) → slice_get (logs_of traffic.put) 0 ≡ Some log → CarriesOn s (other_of plan edge s) [] log
   pub next : (lo_of plan edge == s) ≡ true → (k : ℕ) (log : List Entry) → slice_get (logs_of traffic.put) (k + 1) ≡ Some log → CarriesOnTaken s (other_of plan edge s) (logs_of traffic.taken) k log
   pub answers : (lo_of plan edge == s) ≡ false → (k : ℕ) (log : List Entry) → slice_get (logs_of traffic.put) k ≡ Some log → CarriesOnTaken s (other_of plan edge s) (logs_of traffic.taken) k log
   pub last : forks_held plan s edge traffic ≡ 0 → meals_of s (last_log_or [] traffic.put) ≡ ate
 
--- each Fork among the letters is that of the edge, with a lawful log
+-- each Fork among the letters is the fork of the edge, and has a lawful log
 abbrev pub AreLawfulForks : SeenPlan → ℕ → List Letter → Type 0
 AreLawfulForks plan edge letters = (k : ℕ) (fork : SeenFork) → slice_get letters k ≡ Some (Fork fork)
     → (is_fork_of plan edge fork ≡ true) × IsLawful fork.ends fork.due fork.log
@@ -118,58 +124,62 @@ ends_at_place plan s i = (lo_of plan (edge_at plan s i), hi_of plan (edge_at pla
 abbrev pub due_at_place : SeenPlan → ℕ → ℕ → ℕ × ℕ
 due_at_place plan s i = (job_count plan (lo_of plan (edge_at plan s i)), job_count plan (hi_of plan (edge_at plan s i)))
 
--- the site waits for the fork, or has it clean in hand: it asked, and did not eat since
+-- The site asked for the fork, and has not eaten since. So it has neither fork nor token, or it has the fork clean in
+-- hand.
 abbrev pub has_asked_since_meal : SeenPlan → ℕ → LocalState → ℕ → Bool
 has_asked_since_meal plan s state i = (fork_at plan s state i == 0 && token_at plan s state i == 0)
     || (fork_at plan s state i == 1 && not (is_dirty (hand_at s state i)))
 
--- What a site keeps at one place, whatever letters it is offered.
+-- What holds at one place of a site in every state that its steps reach, whatever letters arrive there.
 -- [paper: one fork, clean and dirty, request rule, release rule, arrival]
 pub record KeepsStreamsAt (plan : SeenPlan) (s : ℕ) (state : LocalState) (i : ℕ) : Type 0 where
-  -- what it put is a lawful stream, in a chain with their values, of lawful forks, and asks for the edge's fork
+  -- the letters put: a lawful stream; the Forks are of this edge, with lawful logs, chained, and so are their values;
+  -- the Requests name this edge
   pub put_lawful : IsLawfulStream (is_lower_at plan s i) (traffic_at state i).put
   pub put_chained : IsChained plan s (edge_at plan s i) state.ate (traffic_at state i)
   pub put_values : AreValuesChained plan s (edge_at plan s i) (traffic_at state i)
   pub put_forks : AreLawfulForks plan (edge_at plan s i) (traffic_at state i).put
   pub put_requests : AreRequestsOf (edge_at plan s i) (traffic_at state i).put
-  -- what it took is a lawful stream of the other end's direction, each Close behind a Done, of lawful forks, and asks
-  -- for this fork
+  -- the letters taken: a lawful stream of the other direction, with Done before Close; the Forks are of this edge, with
+  -- lawful logs; the Requests name this edge
   pub taken_lawful : IsLawfulStream (not (is_lower_at plan s i)) (traffic_at state i).taken
   pub taken_orderly : is_orderly (traffic_at state i).taken ≡ true
   pub taken_forks : AreLawfulForks plan (edge_at plan s i) (traffic_at state i).taken
   pub taken_requests : AreRequestsOf (edge_at plan s i) (traffic_at state i).taken
-  -- each Fork taken was sent here, and the last of them has no meal of the site that it did not eat
+  -- each Fork taken was sent to this site, and the last one has at most as many meals of this site as it ate
   pub forks_come_here : (k : ℕ) (fork : SeenFork) → slice_get (traffic_at state i).taken k ≡ Some (Fork fork) → was_sent_to (lo_of plan (edge_at plan s i)) s fork.log ≡ true
   pub last_within : meals_of s (last_log_or [] (traffic_at state i).taken) ≤ state.ate
-  -- no more is put than came, and at most one fork and one token are here
+  -- forks here and Forks put are together as many as forks at the start and Forks taken; the same holds of tokens and
+  -- Requests; and at most one fork and one token are here
   pub forks_counted : fork_at plan s state i + forks_in (traffic_at state i).put ≡ (if is_lower_at plan s i then 1 else 0) + forks_in (traffic_at state i).taken
   pub tokens_counted : token_at plan s state i + requests_in (traffic_at state i).put ≡ (if is_lower_at plan s i then 0 else 1) + requests_in (traffic_at state i).taken
   pub one_fork : fork_at plan s state i ≤ 1
   pub one_token : token_at plan s state i ≤ 1
-  -- a Fork is put for a Request taken, and taken for a Request put
+  -- there are no more Forks put than Requests taken, and no more Forks taken than Requests put
   pub given_when_asked : forks_in (traffic_at state i).put ≤ requests_in (traffic_at state i).taken
   pub comes_when_asked : forks_in (traffic_at state i).taken ≤ requests_in (traffic_at state i).put
-  -- a fork in hand has a lawful log, and where it is clean the site is hungry for it
+  -- a fork in hand has a lawful log, and if it is clean the site is hungry
   pub hand_lawful : fork_at plan s state i ≡ 1 → IsLawful (ends_at_place plan s i) (due_at_place plan s i) (hand_at s state i)
   pub clean_is_hungry : fork_at plan s state i ≡ 1 → is_dirty (hand_at s state i) ≡ false → is_hungry state.phase ≡ true
-  -- who has neither fork nor token waits, hungry
+  -- if the site has neither fork nor token, it is hungry
   pub waiter_is_hungry : fork_at plan s state i ≡ 0 → token_at plan s state i ≡ 0 → is_hungry state.phase ≡ true
-  -- who was asked for a fork in hand is asked by a neighbour with meals left
+  -- if the site holds fork and token, the neighbour that asked has meals left, by the log in hand
   pub asker_has_left : fork_at plan s state i ≡ 1 → token_at plan s state i ≡ 1 → meals_of (neighbour_at plan s i) (hand_at s state i) < job_count plan (neighbour_at plan s i)
-  -- a Request is put again only after its fork came and was eaten with
+  -- there are at most as many Requests put as meals; or one more, if the site asked and has not eaten since
   pub requests_within : requests_in (traffic_at state i).put ≤ state.ate + (if has_asked_since_meal plan s state i then 1 else 0)
-  -- who put Done has no job left, and thinks
+  -- if the site has put Done, it has no job left, and thinks
   pub done_after_all : has_done (traffic_at state i).put ≡ true → has_no_job_left plan s state ≡ true
   pub done_thinks : has_done (traffic_at state i).put ≡ true → is_thinking state.phase ≡ true
-  -- Close is taken only after Done was put
+  -- if the site has taken Close, it has put Done
   pub closed_after : has_close (traffic_at state i).taken ≡ true → has_done (traffic_at state i).put ≡ true
 
--- the site may drop jobs: it resigns, it thinks, and it ate fewer meals than are due
+-- the site may drop jobs: it resigns, it thinks, and it ate fewer meals than are due to it
 abbrev pub MayDropJobs : SeenPlan → ℕ → LocalState → Type 0
 MayDropJobs plan s state = (resigns plan s ≡ true) × (is_thinking state.phase ≡ true) × (state.ate < job_count plan s)
 
--- What a site keeps: the same at every place, never more meals than are due, and one at least while it eats. Who has to
--- quit, or has quit, resigns, thinks and ate fewer meals than are due; and nobody quits twice.
+-- What holds of a site in every state that its steps reach. `KeepsStreamsAt` holds at each of its places. It ate at
+-- most the meals that are due to it, fewer if it is hungry, and at least one if it eats. If it has to quit, or has
+-- quit, then it resigns, it thinks, and it ate fewer meals than are due. A site that has to quit has not quit before.
 pub record KeepsStreams (plan : SeenPlan) (s : ℕ) (state : LocalState) : Type 0 where
   pub places : (i : ℕ) → i < length state.traffic → KeepsStreamsAt plan s state i
   pub every_place : length state.traffic ≡ length (edges_of plan s)
@@ -180,8 +190,9 @@ pub record KeepsStreams (plan : SeenPlan) (s : ℕ) (state : LocalState) : Type 
   pub has_dropped : state.has_quit ≡ true → MayDropJobs plan s state
   pub quits_once : state.must_quit ≡ true → state.has_quit ≡ false
 
--- What a site put at place i is in order, by what it ate and took there: a lawful stream, of lawful forks, in a chain
--- with their values, that asks for the edge's fork.
+-- What a site put at place i is in order, by the number of meals that it ate and by what it took there. The letters put
+-- are a lawful stream. Their Forks are of the edge of the place, with lawful logs, and logs and values are chained.
+-- Their Requests name that edge.
 pub record IsPutInOrder (plan : SeenPlan) (s i ate : ℕ) (traffic : Traffic) : Type 0 where
   pub lawful : IsLawfulStream (is_lower_at plan s i) traffic.put
   pub chained : IsChained plan s (edge_at plan s i) ate traffic
@@ -189,7 +200,8 @@ pub record IsPutInOrder (plan : SeenPlan) (s i ate : ℕ) (traffic : Traffic) : 
   pub forks : AreLawfulForks plan (edge_at plan s i) traffic.put
   pub requests : AreRequestsOf (edge_at plan s i) traffic.put
 
--- a fork that is offered has a lawful log, as each value of its type has; no more is asked of the letters that come
+-- If the step takes a Fork, its log is lawful. Each value of the type `Fork` has a lawful log. Nothing else is required
+-- of the letters that arrive.
 abbrev pub IsProper : Step → Type 0
 IsProper (Take i (Fork fork)) = IsLawful fork.ends fork.due fork.log
 IsProper _ = Unit {0}

@@ -1,27 +1,28 @@
-//! Why a letter is not in turn.
+//! Why a site may not take a letter.
 ghost use Rattle.std.specs.Prelude.{◌≡◌};
 
-/// Why a letter is not in turn. The first that applies, in this order, is told.
+/// Why a site may not take a letter. If several causes apply, the first of this list is reported.
 #[derive(Clone, Copy, Debug, PartialEq, Eq)]
 pub enum Breach {
     /// A letter after Close.
     AfterClose,
-    /// A Request that the site can't have been sent.
+    /// A Request that the other end cannot have sent in turn.
     RequestOutOfTurn,
-    /// A Fork where the fork or the token is here.
+    /// A Fork, although the fork or the token is here.
     ForkOutOfTurn,
-    /// A Fork that is not the one of this edge with the log that it has to have.
+    /// A Fork that is not the fork of this edge, or whose log is not as it has to be.
     StrangeFork,
-    /// Done twice, or before all meals of its sender are in the fork.
+    /// A second Done; or, while the fork is here, a Done of a site that does not resign, before the log has all its
+    /// meals.
     DoneOutOfTurn,
-    /// Close before both sites are done.
+    /// A Close before both sites said Done.
     ClosedEarly,
 }
 
 impl Breach {
     ghost use Rattle.dine_rules.specs.Breach.{number_of};
 
-    /// The number of the breach, 1 to 6.
+    /// Returns the number of the breach, 1 to 6.
     pub fn number(self) -> u8
         ensures { result ≡ number_of self }
     {

@@ -1,4 +1,5 @@
-/// An event of a site of the world.
+//! The events of journals and schedules.
+/// An event of a world: a site, and what it does.
 #[derive(Clone, Copy, Debug, PartialEq, Eq)]
 pub struct Event {
     pub site: u32,
@@ -10,7 +11,7 @@ pub struct Event {
 pub enum EventKind {
     /// Takes the next letter in the link to the site.
     Take(u32),
-    /// Sends a dirty fork that was asked for: the release rule.
+    /// Sends a dirty fork that the neighbour asked for: the release rule.
     Give(u32),
     /// Ends a meal.
     End,

@@ -3,7 +3,7 @@ ghost use Rattle.std.specs.Prelude.{◌≡◌};
 
 use dine_token::{Fork, Token};
 
-/// What goes over a link.
+/// What a site sends to a neighbour.
 #[derive(Drop)]
 pub enum Letter {
     /// The fork of the edge.
@@ -28,7 +28,7 @@ pub enum Kind4 {
 impl Letter {
     ghost use Rattle.dine_rules.specs.Letters.{kind_of};
 
-    /// The kind of the letter.
+    /// Returns the kind of the letter.
     pub fn kind(&self) -> Kind4
         ensures { result ≡ kind_of self.now }
     {

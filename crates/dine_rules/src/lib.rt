@@ -1,4 +1,4 @@
-//! The rules of the hygienic solution: what goes over a link, what a site may do, and the laws of all runs.
+//! The rules of Chandy and Misra's hygienic solution: the letters, the steps of a site, and the laws of all runs.
 #![tactic(auto)]
 
 mod breach;

@@ -1,4 +1,5 @@
-/// What a site does.
+//! The phase of a site.
+/// What a site is doing.
 #[derive(Clone, Copy, Debug, PartialEq, Eq)]
 pub enum Phase {
     Thinking,

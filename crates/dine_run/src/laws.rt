@@ -7,7 +7,7 @@ ghost use Rattle.dine_rules.specs.Journals.{IsOrderOf};
 ghost use Rattle.dine_rules.specs.World.{Reaches, WorldState};
 ghost use Rattle.dine_rules.specs.declared.events.Event.{Event};
 ghost use Rattle.dine_rules.specs.declared.events.EventKind.{EventKind};
-ghost use Rattle.dine_world.specs.Worlds.{forks_seen};
+ghost use Rattle.dine_core.specs.Worlds.{forks_seen};
 ghost use Rattle.dine_link.specs.Links.{SeenLink};
 ghost use Rattle.dine_threads.specs.Headline.{IsHeadline};
 ghost use Rattle.dine_threads.specs.Journals.{AreJournals};
@@ -15,11 +15,16 @@ ghost use Rattle.dine_rules.specs.Shown.{plan_shown};
 
 use dine_rules::laws;
 
-/// Where a run gathered forks, links and journals, each order of the journals that a world of the plan accepts, where
-/// jobs fail as the journals show, leads to the very forks that were gathered, each with its log.
+/// If a run gathered forks, links and journals, each order of the journals that a world accepts leads to the gathered
+/// forks, each with its log. The world is one of the plan, in which jobs fail as the journals show.
 pub fn orders_give_the_gathered_forks()
-    ensures { (plan : SeenPlan) (ates : List ℕ) (links : List SeenLink) (forks : List SeenFork) (journals : List (List EventKind)) (events : List Event) (world : WorldState)
-        → IsPlan plan → IsHeadline plan ates links forks → AreJournals plan ates links journals → IsOrderOf journals events → Reaches (plan_shown plan journals) events world
+    ensures { (plan : SeenPlan) (ates : List ℕ) (links : List SeenLink) (forks : List SeenFork)
+        (journals : List (List EventKind)) (events : List Event) (world : WorldState)
+        → IsPlan plan
+        → IsHeadline plan ates links forks
+        → AreJournals plan ates links journals
+        → IsOrderOf journals events
+        → Reaches (plan_shown plan journals) events world
         → forks ≡ forks_seen (plan_shown plan journals) world }
 {
     laws::edges_have_a_place_at_each_end();

@@ -28,8 +28,10 @@ pub fn order_of<D: Diner>(
     gathered: &Gathered<D>,
 ) -> Result<Vec<Event>, AllocError>
     requires ordered { HaveOrder plan.now (map (λ out. out.journal.items) gathered.now.sites.items) }
-    ensures order { IfOk result (λ events. let journals = map (λ out. out.journal.items) gathered.now.sites.items in IsWholeOrder (plan_shown plan.now journals) journals events.items) }
-    ensures lowest { IfOk result (λ events. let journals = map (λ out. out.journal.items) gathered.now.sites.items in IsLowestFirst (plan_shown plan.now journals) journals events.items) }
+    ensures order { IfOk result (λ events. let journals = map (λ out. out.journal.items) gathered.now.sites.items in
+        IsWholeOrder (plan_shown plan.now journals) journals events.items) }
+    ensures lowest { IfOk result (λ events. let journals = map (λ out. out.journal.items) gathered.now.sites.items in
+        IsLowestFirst (plan_shown plan.now journals) journals events.items) }
     ensures apart { IfOk result (λ events. NeighboursEatApart plan.now events.items) }
 {
     laws::neighbours_eat_apart_in_each_order();

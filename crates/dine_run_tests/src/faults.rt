@@ -1,24 +1,30 @@
-// What an answer of `run` that gathers nothing, or not all, says.
+// The faults of `run`.
 use crate::asserts::same;
-use crate::diners::Taster;
-use dine_run::{Breach, CallLog, Joined, RunFault, SiteFault, SiteOut};
+use dine_link::{Bell, EmptyChecks};
+use dine_run::{Breach, Joined, RunFault, SiteFault, SiteOut};
+use dine_test_diners::Taster;
 use std::alloc::{AllocError, Global};
 use std::process::Abort;
 use std::test::Fail;
 
-// A site that did nothing, and ended with this fault where there is one.
+/// Returns the record of a bell that made no check.
+pub fn no_checks(alloc: Global) -> Result<EmptyChecks, AllocError> {
+    match Bell::open(alloc, 0) {
+        Ok((_ringers, bell)) => Ok(bell.into_empty_checks()),
+        Err(_) => Err(AllocError),
+    }
+}
+
+// Returns what a site left that did nothing, and ended with this fault if there is one.
 fn left(alloc: Global, site: u32, fault: Option<SiteFault>) -> Result<SiteOut<Taster>, AllocError> {
-    let diner = Taster {
-        log: CallLog::open(alloc, 0)?,
-        fails_each: 0,
-    };
     Ok(SiteOut {
         site,
         ate: 0,
         failed: 0,
-        diner,
+        diner: Taster::open(alloc, 0, 0)?,
         tokens: Vec::new(alloc),
         journal: Vec::new(alloc),
+        checks: no_checks(alloc)?,
         stray: None,
         fault,
     })
@@ -39,7 +45,7 @@ fn broken(alloc: Global, fault: SiteFault) -> Result<RunFault<Taster>, AllocErro
     })
 }
 
-// The fault is told in these words, and by this name.
+// Checks the text of the fault, and its name by `Debug`.
 fn says<R: Abort>(
     rt: &R,
     alloc: Global,
@@ -60,12 +66,12 @@ fn a_run_that_did_not_begin_says_why(rt: HostRuntime) -> Result<(), Fail> {
     let alloc = rt.alloc();
     let diners = Vec::new(alloc);
     let differ = RunFault::DinersDiffer { given: 0, diners };
-    let words = ("run refused: diners differ", "DinersDiffer");
-    says(&rt, alloc, differ, words)?;
+    let text = ("run refused: diners differ", "DinersDiffer");
+    says(&rt, alloc, differ, text)?;
     says(&rt, alloc, RunFault::Memory, ("out of memory", "Memory"))?;
     let thread = RunFault::Thread(2);
-    let words = ("run refused: thread of site 2", "Thread(2)");
-    says(&rt, alloc, thread, words)
+    let text = ("run refused: thread of site 2", "Thread(2)");
+    says(&rt, alloc, thread, text)
 }
 
 #[test]
@@ -92,8 +98,8 @@ fn a_run_that_broke_names_its_site_and_the_fault_of_it(rt: HostRuntime) -> Resul
             ("run broken at site 1: Memory", "Broken(1, Memory)"),
         ),
     ];
-    for (fault, words) in cases {
-        says(&rt, alloc, broken(alloc, fault)?, words)?;
+    for (fault, text) in cases {
+        says(&rt, alloc, broken(alloc, fault)?, text)?;
     }
     Ok(())
 }

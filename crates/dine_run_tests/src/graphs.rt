@@ -1,11 +1,11 @@
 // Graphs, the plans of them, and what is left of a run on one: it is held against the graph, and each fork's log
 // against the rules, entry by entry.
 use crate::asserts::same;
-use crate::diners::Taster;
 use dine_core::EventKind;
 use dine_link::LinkEnd;
 use dine_plan::{Plan, read_plan};
 use dine_run::{Call, SiteOut};
+use dine_test_diners::Taster;
 use dine_token::{Entry, Fork};
 use std::alloc::{AllocError, Global};
 use std::process::Abort;
@@ -24,7 +24,7 @@ impl Graph {
         self.resigning.get(site as usize).copied().unwrap_or(false)
     }
 
-    // How many meals the site eats where each job fails whose number is a multiple of this, or none where it is 0.
+    // Returns the number of meals of the site if the jobs fail whose numbers are multiples of this, or none if it is 0.
     pub fn meals(&self, site: u32, fails_each: u32) -> Option<u32> {
         let jobs = self.jobs.get(site as usize).copied()?;
         if self.resigns(site) && fails_each > 0 && fails_each < jobs {
@@ -35,7 +35,7 @@ impl Graph {
     }
 }
 
-// The graphs that are run on. All sites have as many jobs, where no other is said.
+// The graphs of the runs. All sites have the same number of jobs, unless something else is given.
 #[derive(Clone, Copy)]
 pub enum Shape {
     // Sites without edges.
@@ -177,7 +177,7 @@ fn random(rt: &impl Abort, alloc: Global, seed: u32) -> Graph {
     graph
 }
 
-// So many jobs, as a plan has them.
+// Returns the text of a number of jobs, as a plan has them.
 fn push_jobs(text: &mut String, jobs: u32) -> Result<(), AllocError> {
     text.push_str("jobs = [")?;
     for _ in 0..jobs {
@@ -223,20 +223,20 @@ struct Ate {
     meals: u32,
 }
 
-// The two ends of a fork by its log: where it is and where it is not, and whether it was eaten with since it was last
+// The two ends of a fork by its log: the end that has it and the other one, and whether it was used since it was last
 // sent.
 #[derive(Clone, Copy)]
-struct Told {
+struct Way {
     here: Ate,
     there: Ate,
     is_used: bool,
     moves: u32,
 }
 
-// What the log tells: the fork goes to and fro, from the lower end first. Only the end where it is eats with it, and
-// its meals are numbered from 1. From then on it is eaten with before it is sent again.
-fn told_by(rt: &impl Abort, fork: &Fork, lower: u32, higher: u32) -> Told {
-    let mut told = Told {
+// Checks the log: the fork goes to and fro, from the lower end first. Only the end that has it eats with it, and the
+// meals of an end are numbered from 1. After the first Move it is used before it is sent again.
+fn way_of(rt: &impl Abort, fork: &Fork, lower: u32, higher: u32) -> Way {
+    let mut way = Way {
         here: Ate {
             site: lower,
             meals: 0,
@@ -251,24 +251,24 @@ fn told_by(rt: &impl Abort, fork: &Fork, lower: u32, higher: u32) -> Told {
     for i in 0..fork.len() {
         match fork.entry(i) {
             Entry::Move { to } => {
-                assert!(rt; told.is_used);
-                same(rt, &to, &told.there.site);
-                told = Told {
-                    here: told.there,
-                    there: told.here,
+                assert!(rt; way.is_used);
+                same(rt, &to, &way.there.site);
+                way = Way {
+                    here: way.there,
+                    there: way.here,
                     is_used: false,
-                    moves: told.moves.wrapping_add(1),
+                    moves: way.moves.wrapping_add(1),
                 };
             }
             Entry::Meal { site, k } => {
-                let next = (told.here.site, told.here.meals.checked_add(1));
+                let next = (way.here.site, way.here.meals.checked_add(1));
                 same(rt, &(site, Some(k)), &next);
-                told.here.meals = k;
-                told.is_used = true;
+                way.here.meals = k;
+                way.is_used = true;
             }
         }
     }
-    told
+    way
 }
 
 // The two ends of an edge, the lower one first.
@@ -283,8 +283,8 @@ fn ends_at(rt: &impl Abort, graph: &Graph, edge: u32) -> (u32, u32) {
 fn holds_fork(rt: &impl Abort, graph: &Graph, fails_each: u32, edge: u32, fork: &Fork) {
     let (lower, higher) = ends_at(rt, graph, edge);
     same(rt, &(fork.edge(), fork.ends()), &(edge, (lower, higher)));
-    let told = told_by(rt, fork, lower, higher);
-    for end in [told.here, told.there] {
+    let way = way_of(rt, fork, lower, higher);
+    for end in [way.here, way.there] {
         let ate = (edge, end.site, Some(end.meals));
         same(
             rt,
@@ -292,7 +292,7 @@ fn holds_fork(rt: &impl Abort, graph: &Graph, fails_each: u32, edge: u32, fork: 
             &ate,
         );
     }
-    let at_end = (told.here.site, told.is_used, told.moves);
+    let at_end = (way.here.site, way.is_used, way.moves);
     same(rt, &(fork.at(), fork.is_dirty(), fork.moves()), &at_end);
 }
 
@@ -328,7 +328,7 @@ pub fn holds_links(rt: &impl Abort, graph: &Graph, forks: &[Fork], links: &[Link
     }
 }
 
-// The diner was called for each meal in order, and the jobs that were to fail did.
+// Checks that the diner was called for each meal in order, and that the right jobs failed.
 fn holds_calls(rt: &impl Abort, diner: &Taster, meals: u32) {
     let calls = diner.log.calls();
     same(rt, &calls.len(), &(meals as usize));
@@ -338,13 +338,13 @@ fn holds_calls(rt: &impl Abort, diner: &Taster, meals: u32) {
     }
 }
 
-// The journal tells of one Quit where the site dropped jobs, and else of none.
+// Checks that the journal has one Quit if the site dropped jobs, and else none.
 fn holds_journal(rt: &impl Abort, journal: &[EventKind], has_quit: bool) {
     let quits = journal.iter().filter(|kind| **kind == EventKind::Quit);
     same(rt, &quits.count(), &usize::from(has_quit));
 }
 
-// The site ate all its jobs, or those up to the first that failed.
+// Checks that the site did all its jobs, or those up to the first that failed.
 fn holds_site(
     rt: &impl Abort,
     graph: &Graph,
@@ -367,7 +367,7 @@ fn holds_site(
     holds_journal(rt, site.journal.as_slice(), jobs != Some(meals));
 }
 
-// Each site in order, and one token an edge in all their hands.
+// Checks each site in order, and that they have one token for each edge.
 pub fn holds_sites(rt: &impl Abort, graph: &Graph, fails_each: u32, sites: &[SiteOut<Taster>]) {
     same(rt, &sites.len(), &graph.jobs.len());
     let mut tokens = 0usize;

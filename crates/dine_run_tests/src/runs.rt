@@ -1,56 +1,53 @@
 // Whole runs on graphs of many kinds.
 use crate::asserts::same;
-use crate::diners::{Taster, outcomes_of, tasters};
 use crate::graphs::*;
-use dine_core::{Event, EventKind};
-use dine_link::{ChannelLane, Lane, LinkEnd, RingLane};
+use crate::links::{BOTH, Links};
+use dine_core::{Event, EventKind, World};
+use dine_link::{ChannelLane, LinkEnd, RingLane};
 use dine_plan::{Plan, read_plan};
 use dine_run::{Gathered, SiteOut, order, run};
+use dine_test_diners::{Taster, outcomes_of, tasters};
 use dine_test_plans::{RESIGNING_PAIR, RING};
 use dine_token::Fork;
-use dine_world::World;
 use std::alloc::Global;
 use std::process::Abort;
 use std::sync::Wait;
 use std::thread::Threads;
 
-// Runs the plan of the graph over links of a lane. All that is left is as it has to be.
-fn runs_over<L: Lane + 'static, R: Threads + Wait + Abort + Copy + Send + 'static>(
+// Runs the plan of the graph over links of a kind, and checks all that is left.
+fn runs_over<R: Threads + Wait + Abort + Copy + Send + 'static>(
     rt: &R,
     alloc: Global,
+    links: Links,
     graph: &Graph,
     plan: &Plan,
     fails_each: u32,
-)
-where
-    L::Tx: 'static,
-    L::ClosedTx: 'static,
-    L::Rx: 'static,
-{
-    let gathered = left_of::<L, R>(rt, alloc, plan, fails_each);
+) {
+    let gathered = left_of(rt, alloc, links, plan, fails_each);
     holds(rt, alloc, graph, plan, fails_each, gathered)
 }
 
-// What is gathered of a run of the plan over links of a lane, where each job fails whose number is a multiple of this.
-fn left_of<L: Lane + 'static, R: Threads + Wait + Abort + Copy + Send + 'static>(
+// Returns what is gathered of a run of the plan over links of a kind, if the jobs fail whose numbers are multiples of
+// `fails_each`.
+fn left_of<R: Threads + Wait + Abort + Copy + Send + 'static>(
     rt: &R,
     alloc: Global,
+    links: Links,
     plan: &Plan,
     fails_each: u32,
-) -> Gathered<Taster>
-where
-    L::Tx: 'static,
-    L::ClosedTx: 'static,
-    L::Rx: 'static,
-{
+) -> Gathered<Taster> {
     let diners = tasters(alloc, plan, fails_each).expect(rt, "memory");
-    match run::<L, Taster>(rt, alloc, plan, diners) {
+    let ended = match links {
+        Links::Channels => run::<ChannelLane, Taster>(rt, alloc, plan, diners),
+        Links::Rings => run::<RingLane, Taster>(rt, alloc, plan, diners),
+    };
+    match ended {
         Ok(gathered) => gathered,
         Err(_) => panic!(rt; "no run"),
     }
 }
 
-// What was gathered is as it has to be.
+// Checks what was gathered.
 fn holds(
     rt: &impl Abort,
     alloc: Global,
@@ -72,19 +69,19 @@ fn holds(
     have_same_logs(rt, forks.as_slice(), world.as_slice())
 }
 
-// The one order of what the sites did.
+// Returns the order of what the sites did.
 fn ordered(rt: &impl Abort, alloc: Global, plan: &Plan, sites: Vec<SiteOut<Taster>>) -> Vec<Event> {
     let journals = journals_of(rt, alloc, sites);
     order(alloc, plan, journals.as_slice()).expect(rt, "an order")
 }
 
-// A world of the plan in which those jobs fail that fail at such diners.
+// Returns a world of the plan in which the jobs fail that fail with such diners.
 fn world_where(rt: &impl Abort, alloc: Global, plan: &Plan, fails_each: u32) -> World {
     let fails = outcomes_of(alloc, plan, fails_each).expect(rt, "memory");
     World::open_with(alloc, plan, fails.as_slice()).expect(rt, "memory")
 }
 
-// The journals of the sites, in order.
+// Returns the journals of the sites, in order.
 fn journals_of(rt: &impl Abort, alloc: Global, sites: Vec<SiteOut<Taster>>) -> Vec<Vec<EventKind>> {
     let mut journals = Vec::new(alloc);
     for out in sites {
@@ -94,7 +91,7 @@ fn journals_of(rt: &impl Abort, alloc: Global, sites: Vec<SiteOut<Taster>>) -> V
     journals
 }
 
-// The forks of the world, where the same jobs fail, that is stepped through the events.
+// Steps a world in which the same jobs fail through the events, and returns its forks.
 fn stepped(
     rt: &impl Abort,
     alloc: Global,
@@ -110,6 +107,7 @@ fn stepped(
     world.into_forks()
 }
 
+// Checks that each two forks have the same log.
 fn have_same_logs(rt: &impl Abort, ones: &[Fork], others: &[Fork]) {
     same(rt, &ones.len(), &others.len());
     for (one, other) in ones.iter().zip(others) {
@@ -117,7 +115,7 @@ fn have_same_logs(rt: &impl Abort, ones: &[Fork], others: &[Fork]) {
     }
 }
 
-// The two forks have the same log.
+// Checks that the two forks have the same log.
 fn same_log(rt: &impl Abort, one: &Fork, other: &Fork) {
     same(rt, &one.periods(), &other.periods());
     for i in 0..one.periods() {
@@ -126,7 +124,7 @@ fn same_log(rt: &impl Abort, one: &Fork, other: &Fork) {
     }
 }
 
-// Each two forks have the same entries.
+// Checks that each two forks have the same entries.
 fn have_same_entries(rt: &impl Abort, ones: &[Fork], others: &[Fork]) {
     same(rt, &ones.len(), &others.len());
     for (one, other) in ones.iter().zip(others) {
@@ -138,24 +136,20 @@ fn have_same_entries(rt: &impl Abort, ones: &[Fork], others: &[Fork]) {
     }
 }
 
-// The plan of the graph runs once over links of a lane.
-fn runs_once<L: Lane + 'static, R: Threads + Wait + Abort + Copy + Send + 'static>(
+// Runs the plan of a graph once over links of a kind.
+fn runs_once<R: Threads + Wait + Abort + Copy + Send + 'static>(
     rt: &R,
     alloc: Global,
+    links: Links,
     shape: Shape,
     fails_each: u32,
-)
-where
-    L::Tx: 'static,
-    L::ClosedTx: 'static,
-    L::Rx: 'static,
-{
+) {
     let graph = graph_of(rt, alloc, shape);
     let plan = plan_of(rt, alloc, &graph);
-    runs_over::<L, R>(rt, alloc, &graph, &plan, fails_each)
+    runs_over(rt, alloc, links, &graph, &plan, fails_each)
 }
 
-// So many forks, each with two meals of both its ends.
+// Checks the number of forks, and that each has two meals of both its ends.
 fn have_two_meals(rt: &impl Abort, forks: &[Fork], count: usize) {
     same(rt, &forks.len(), &count);
     for fork in forks {
@@ -165,7 +159,7 @@ fn have_two_meals(rt: &impl Abort, forks: &[Fork], count: usize) {
     }
 }
 
-// So many links, of each of which all that was put was taken, and Close was put.
+// Checks the number of links, and that on each all that was put was taken, and Close was put.
 fn are_shut(rt: &impl Abort, links: &[LinkEnd], count: usize) {
     same(rt, &links.len(), &count);
     for link in links {
@@ -173,7 +167,7 @@ fn are_shut(rt: &impl Abort, links: &[LinkEnd], count: usize) {
     }
 }
 
-// So many sites, each of which ate twice, without a fault.
+// Checks the number of sites, and that each ate twice, without a fault.
 fn ate_twice(rt: &impl Abort, sites: &[SiteOut<Taster>], count: usize) {
     same(rt, &sites.len(), &count);
     for site in sites {
@@ -181,22 +175,18 @@ fn ate_twice(rt: &impl Abort, sites: &[SiteOut<Taster>], count: usize) {
     }
 }
 
-// Five sites in a ring eat twice each over links of a lane, and a world goes the same way, entry by entry.
-fn five_eat<L: Lane + 'static, R: Threads + Wait + Abort + Copy + Send + 'static>(
+// Runs five sites in a ring over links of a kind. Each eats twice, and a world comes to the same forks, entry by entry.
+fn five_eat<R: Threads + Wait + Abort + Copy + Send + 'static>(
     rt: &R,
     alloc: Global,
-)
-where
-    L::Tx: 'static,
-    L::ClosedTx: 'static,
-    L::Rx: 'static,
-{
+    links: Links,
+) {
     let plan = read_plan(alloc, RING).expect(rt, "a plan");
     let Gathered {
         forks,
         sites,
         links,
-    } = left_of::<L, R>(rt, alloc, &plan, 0);
+    } = left_of(rt, alloc, links, &plan, 0);
     have_two_meals(rt, forks.as_slice(), 5);
     are_shut(rt, links.as_slice(), 10);
     ate_twice(rt, sites.as_slice(), 5);
@@ -206,12 +196,13 @@ where
 }
 
 #[test]
-fn ring_of_five_eats_and_a_world_goes_the_same_way(rt: HostRuntime) {
-    five_eat::<ChannelLane, HostRuntime>(&rt, rt.alloc());
-    five_eat::<RingLane, HostRuntime>(&rt, rt.alloc())
+fn ring_of_five_eats_and_a_world_comes_to_the_same_forks(rt: HostRuntime) {
+    for links in BOTH {
+        five_eat(&rt, rt.alloc(), links);
+    }
 }
 
-// How often each of two sites quits in the order.
+// Returns how often each of two sites quits in the order.
 fn quits_in(events: &[Event]) -> (u32, u32) {
     let mut quits = (0u32, 0u32);
     for event in events {
@@ -224,19 +215,15 @@ fn quits_in(events: &[Event]) -> (u32, u32) {
     quits
 }
 
-// The lower site's second job of three fails, and it resigns: its part of the order has one Quit, and a world in which
-// this meal alone fails goes the same way, entry by entry.
-fn lower_quits<L: Lane + 'static, R: Threads + Wait + Abort + Copy + Send + 'static>(
+// Runs a pair whose lower site resigns, and whose second job of three fails. Its part of the order has one Quit, and a
+// world in which only this meal fails comes to the same forks, entry by entry.
+fn lower_quits<R: Threads + Wait + Abort + Copy + Send + 'static>(
     rt: &R,
     alloc: Global,
-)
-where
-    L::Tx: 'static,
-    L::ClosedTx: 'static,
-    L::Rx: 'static,
-{
+    links: Links,
+) {
     let plan = read_plan(alloc, RESIGNING_PAIR).expect(rt, "a plan");
-    let Gathered { forks, sites, .. } = left_of::<L, R>(rt, alloc, &plan, 2);
+    let Gathered { forks, sites, .. } = left_of(rt, alloc, links, &plan, 2);
     let events = ordered(rt, alloc, &plan, sites);
     same(rt, &quits_in(events.as_slice()), &(1, 0));
     second_fails(rt, alloc, &plan);
@@ -244,7 +231,7 @@ where
     have_same_entries(rt, forks.as_slice(), world.as_slice())
 }
 
-// Of the jobs of the plan the second one of the lower site fails alone, where each second one of a site does.
+// Checks that only the second job of the lower site fails, if each second job of a site does.
 fn second_fails(rt: &impl Abort, alloc: Global, plan: &Plan) {
     let fails = outcomes_of(alloc, plan, 2).expect(rt, "memory");
     let lists: [&[bool]; 2] = [&[false, true, false], &[false]];
@@ -256,15 +243,16 @@ fn second_fails(rt: &impl Abort, alloc: Global, plan: &Plan) {
 
 #[test]
 fn site_that_resigns_quits_once_in_the_order(rt: HostRuntime) {
-    lower_quits::<ChannelLane, HostRuntime>(&rt, rt.alloc());
-    lower_quits::<RingLane, HostRuntime>(&rt, rt.alloc())
+    for links in BOTH {
+        lower_quits(&rt, rt.alloc(), links);
+    }
 }
 
 #[test]
 fn rings_eat_all_their_meals(rt: HostRuntime) {
     for sites in [5, 64] {
         let ring = Shape::Ring { sites, jobs: 1000 };
-        runs_once::<ChannelLane, HostRuntime>(&rt, rt.alloc(), ring, 0);
+        runs_once(&rt, rt.alloc(), Links::Channels, ring, 0);
     }
 }
 
@@ -274,29 +262,35 @@ fn stars_eat_all_their_meals(rt: HostRuntime) {
         sites: 64,
         jobs: 1000,
     };
-    runs_once::<ChannelLane, HostRuntime>(&rt, rt.alloc(), star, 0)
+    runs_once(&rt, rt.alloc(), Links::Channels, star, 0)
 }
 
 #[test]
 fn sites_that_are_all_neighbours_eat_all_their_meals(rt: HostRuntime) {
     let complete = Shape::Complete { jobs: 1000 };
-    runs_once::<ChannelLane, HostRuntime>(&rt, rt.alloc(), complete, 0)
+    runs_once(&rt, rt.alloc(), Links::Channels, complete, 0)
 }
 
 #[test]
 fn grids_eat_all_their_meals(rt: HostRuntime) {
     let grid = Shape::Grid { jobs: 1000 };
-    runs_once::<ChannelLane, HostRuntime>(&rt, rt.alloc(), grid, 7)
+    runs_once(&rt, rt.alloc(), Links::Channels, grid, 7)
 }
 
 #[test]
 fn random_graphs_eat_their_meals(rt: HostRuntime) {
     for seed in 0..30u32 {
-        runs_once::<ChannelLane, HostRuntime>(&rt, rt.alloc(), Shape::Random { seed }, seed % 4);
+        runs_once(
+            &rt,
+            rt.alloc(),
+            Links::Channels,
+            Shape::Random { seed },
+            seed % 4,
+        );
     }
 }
 
-// The same graphs, with fewer jobs, over links that are rings.
+// Runs the same graphs with fewer jobs over rings.
 #[test]
 fn meals_are_eaten_over_rings(rt: HostRuntime) {
     for shape in [
@@ -315,18 +309,25 @@ fn meals_are_eaten_over_rings(rt: HostRuntime) {
         Shape::Complete { jobs: 100 },
         Shape::Grid { jobs: 100 },
     ] {
-        runs_once::<RingLane, HostRuntime>(&rt, rt.alloc(), shape, 7);
+        runs_once(&rt, rt.alloc(), Links::Rings, shape, 7);
     }
     for seed in 0..30u32 {
-        runs_once::<RingLane, HostRuntime>(&rt, rt.alloc(), Shape::Random { seed }, seed % 4);
+        runs_once(
+            &rt,
+            rt.alloc(),
+            Links::Rings,
+            Shape::Random { seed },
+            seed % 4,
+        );
     }
 }
 
-// The first site's second job of three fails, and it resigns.
+// The first site resigns, and its second job of three fails.
 #[test]
 fn site_that_resigns_eats_no_more(rt: HostRuntime) {
-    runs_once::<ChannelLane, HostRuntime>(&rt, rt.alloc(), Shape::ResigningPair, 2);
-    runs_once::<RingLane, HostRuntime>(&rt, rt.alloc(), Shape::ResigningPair, 2)
+    for links in BOTH {
+        runs_once(&rt, rt.alloc(), links, Shape::ResigningPair, 2);
+    }
 }
 
 #[test]
@@ -334,7 +335,8 @@ fn many_small_runs_end(rt: HostRuntime) {
     let graph = graph_of(&rt, rt.alloc(), Shape::Ring { sites: 5, jobs: 2 });
     let plan = plan_of(&rt, rt.alloc(), &graph);
     for round in 0..200u32 {
-        runs_over::<ChannelLane, HostRuntime>(&rt, rt.alloc(), &graph, &plan, round % 3);
-        runs_over::<RingLane, HostRuntime>(&rt, rt.alloc(), &graph, &plan, round % 3);
+        for links in BOTH {
+            runs_over(&rt, rt.alloc(), links, &graph, &plan, round % 3);
+        }
     }
 }

@@ -3,9 +3,10 @@ ghost use Rattle.std.specs.Prelude.{◌≡◌, IfOk};
 ghost use Rattle.dine_run.specs.Tables.{IsGatheredOf};
 
 use crate::asserts::same;
-use crate::diners::Taster;
+use crate::faults::no_checks;
 use dine_plan::{Plan, read_plan};
-use dine_run::{CallLog, EdgeRow, Gathered, SiteOut, SiteRow, edge_table, site_table};
+use dine_run::{EdgeRow, Gathered, SiteOut, SiteRow, edge_table, site_table};
+use dine_test_diners::Taster;
 use dine_token::{Act, Fork, Held, Meal};
 use std::alloc::{AllocError, Global};
 use std::process::Abort;
@@ -60,20 +61,20 @@ fn fork_of_one(alloc: Global) -> Result<Fork, AllocError>
 fn out_of(alloc: Global, site: u32, ate: u32, failed: u32) -> Result<SiteOut<Taster>, AllocError>
     ensures { IfOk result (λ out. out.site ≡ site) }
 {
-    let log = CallLog::open(alloc, 0)?;
     Ok(SiteOut {
         site,
         ate,
         failed,
-        diner: Taster { log, fails_each: 0 },
+        diner: Taster::open(alloc, 0, 0)?,
         tokens: Vec::new(alloc),
         journal: Vec::new(alloc),
+        checks: no_checks(alloc)?,
         stray: None,
         fault: None,
     })
 }
 
-// What is gathered of the path, where one of a's two jobs failed. The tables read no links.
+// Returns what is gathered of the path if one of the two jobs of a failed. The tables read no links.
 fn gathered_of_path<R: Abort>(
     rt: &R,
     alloc: Global,

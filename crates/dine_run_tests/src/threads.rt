@@ -1,9 +1,11 @@
-// Runs with real threads.
+// When threads eat, and which diners come back.
 use crate::asserts::same;
-use crate::diners::{Taster, Waiter, waiters};
-use dine_link::{ChannelLane, Lane, RingLane};
+use crate::diners::{Waiter, waiters};
+use crate::links::{BOTH, Links};
+use dine_link::{ChannelLane, RingLane};
 use dine_plan::{Plan, read_plan};
-use dine_run::{CallLog, RunFault, SiteOut, run, run_within};
+use dine_run::{RunFault, SiteOut, run, run_within};
+use dine_test_diners::Taster;
 use dine_test_plans::{PAIR, PATH};
 use std::alloc::Global;
 use std::process::Abort;
@@ -11,6 +13,7 @@ use std::sync::atomic::{AtomicU32, Ordering};
 use std::sync::{Arc, Wait};
 use std::thread::Threads;
 
+// Sixteen sites without an edge, with one job each.
 const SIXTEEN: &str = "version = 1\n\
     [[site]]\nname = \"a\"\njobs = [{ name = \"x\" }]\n[[site]]\nname = \"b\"\njobs = [{ name = \"x\" }]\n\
     [[site]]\nname = \"c\"\njobs = [{ name = \"x\" }]\n[[site]]\nname = \"d\"\njobs = [{ name = \"x\" }]\n\
@@ -21,95 +24,84 @@ const SIXTEEN: &str = "version = 1\n\
     [[site]]\nname = \"m\"\njobs = [{ name = \"x\" }]\n[[site]]\nname = \"n\"\njobs = [{ name = \"x\" }]\n\
     [[site]]\nname = \"o\"\njobs = [{ name = \"x\" }]\n[[site]]\nname = \"p\"\njobs = [{ name = \"x\" }]\n";
 
-// Each of the sites had one meal, whose job went well.
+// Checks that each site had one meal, whose job went well.
 fn ate_once(rt: &impl Abort, sites: &[SiteOut<Waiter>]) {
     for site in sites {
         same(rt, &(site.ate, site.failed), &(1, 0));
     }
 }
 
-// Runs with waiting diners, none of which fails, over links of a lane.
-fn meet_over<L: Lane + 'static, R: Threads + Wait + Abort + Copy + Send + 'static>(
+// Runs a plan over links of a kind, with diners that wait for one another. No job fails.
+fn meet_over<R: Threads + Wait + Abort + Copy + Send + 'static>(
     rt: &R,
     alloc: Global,
+    links: Links,
     text: &str,
     all: u32,
-)
-where
-    L::Tx: 'static,
-    L::ClosedTx: 'static,
-    L::Rx: 'static,
-{
+) {
     let plan = read_plan(alloc, text).expect(rt, "a plan");
     let entered = Arc::new(alloc, AtomicU32::new(0)).expect(rt, "memory");
     let diners = waiters(alloc, &plan, all, plan.edges() == 0, &entered).expect(rt, "memory");
-    let Ok(gathered) = run::<L, Waiter>(rt, alloc, &plan, diners) else {
+    let ended = match links {
+        Links::Channels => run::<ChannelLane, Waiter>(rt, alloc, &plan, diners),
+        Links::Rings => run::<RingLane, Waiter>(rt, alloc, &plan, diners),
+    };
+    let Ok(gathered) = ended else {
         panic!(rt; "no run");
     };
     same(rt, &gathered.sites.len(), &(plan.sites() as usize));
     ate_once(rt, gathered.sites.as_slice());
 }
 
-// The same over channels and over rings.
-fn meet<R: Threads + Wait + Abort + Copy + Send + 'static>(
-    rt: &R,
-    alloc: Global,
-    text: &str,
-    all: u32,
-) {
-    meet_over::<ChannelLane, R>(rt, alloc, text, all);
-    meet_over::<RingLane, R>(rt, alloc, text, all)
-}
-
 #[test]
 fn sites_that_share_no_edge_eat_at_the_same_time(rt: HostRuntime) {
-    meet(&rt, rt.alloc(), SIXTEEN, 16)
+    for links in BOTH {
+        meet_over(&rt, rt.alloc(), links, SIXTEEN, 16);
+    }
 }
 
 #[test]
 fn ends_of_a_path_eat_at_the_same_time(rt: HostRuntime) {
-    meet(&rt, rt.alloc(), PATH, 2)
+    for links in BOTH {
+        meet_over(&rt, rt.alloc(), links, PATH, 2);
+    }
 }
 
-// So many diners, at most 3.
+// Returns a number of diners, at most 3.
 fn diners_for_one(rt: &impl Abort, alloc: Global, count: usize) -> Vec<Taster> {
     let mut diners = Vec::new(alloc);
     for each in 1..4u32 {
         if diners.len() < count {
-            let log = CallLog::open(alloc, 1).expect(rt, "memory");
-            let diner = Taster {
-                log,
-                fails_each: each,
-            };
+            let diner = Taster::open(alloc, 1, each).expect(rt, "memory");
             diners.push(diner).expect(rt, "memory");
         }
     }
     diners
 }
 
-// These are the first of them, and none was called.
+// Checks that these are the first of them, and that none was called.
 fn were_not_called(rt: &impl Abort, diners: &[Taster]) {
     for (each, diner) in (1..4u32).zip(diners) {
         same(rt, &(diner.fails_each, diner.log.calls().len()), &(each, 0));
     }
 }
 
-// Two sites are not run with so many diners, at most 3 and not 2. They come back in order, and none was called.
-fn handed_back<L: Lane + 'static, R: Threads + Wait + Abort + Copy + Send + 'static>(
+// Checks that two sites are not run with this number of diners, at most 3 and not 2. The diners come back in order, and
+// none was called.
+fn come_back<R: Threads + Wait + Abort + Copy + Send + 'static>(
     rt: &R,
     alloc: Global,
+    links: Links,
     count: usize,
-)
-where
-    L::Tx: 'static,
-    L::ClosedTx: 'static,
-    L::Rx: 'static,
-{
+) {
     let plan = read_plan(alloc, PAIR).expect(rt, "a plan");
     let diners = diners_for_one(rt, alloc, count);
     assert!(rt; diners.len() != plan.sites() as usize);
-    let Err(RunFault::DinersDiffer { given, diners }) = run::<L, Taster>(rt, alloc, &plan, diners)
-    else {
+    let ended = match links {
+        Links::Channels => run::<ChannelLane, Taster>(rt, alloc, &plan, diners),
+        Links::Rings => run::<RingLane, Taster>(rt, alloc, &plan, diners),
+    };
+    let Err(RunFault::DinersDiffer { given, diners }) = ended else {
         panic!(rt; "a run");
     };
     same(rt, &(given, diners.len()), &(count, count));
@@ -119,36 +111,38 @@ where
 #[test]
 fn too_few_or_too_many_diners_come_back(rt: HostRuntime) {
     for count in [1, 0, 3] {
-        handed_back::<ChannelLane, HostRuntime>(&rt, rt.alloc(), count);
-        handed_back::<RingLane, HostRuntime>(&rt, rt.alloc(), count);
+        for links in BOTH {
+            come_back(&rt, rt.alloc(), links, count);
+        }
     }
 }
 
-// A path of three sites on fewer threads than sites: the one that would need one more is told, and no diner is called.
-fn falls_short<L: Lane + 'static, R: Threads + Wait + Abort + Copy + Send + 'static>(
+// Runs a path of three sites on fewer threads than sites. The fault names the first site without a thread, and no diner
+// is called.
+fn falls_short<R: Threads + Wait + Abort + Copy + Send + 'static>(
     rt: &R,
     alloc: Global,
+    links: Links,
     threads: u32,
-)
-where
-    L::Tx: 'static,
-    L::ClosedTx: 'static,
-    L::Rx: 'static,
-{
+) {
     let plan = read_plan(alloc, PATH).expect(rt, "a plan");
     let entered = Arc::new(alloc, AtomicU32::new(0)).expect(rt, "memory");
     let diners = waiters(alloc, &plan, 1, true, &entered).expect(rt, "memory");
-    let ended = run_within::<L, Waiter>(rt, alloc, &plan, diners, threads);
+    let ended = match links {
+        Links::Channels => run_within::<ChannelLane, Waiter>(rt, alloc, &plan, diners, threads),
+        Links::Rings => run_within::<RingLane, Waiter>(rt, alloc, &plan, diners, threads),
+    };
     assert!(rt; matches!(ended, Err(RunFault::Thread(site)) if site == threads));
     same(rt, &entered.load(Ordering::SeqCst), &0);
-    // Each diner held it, so the threads that were started have ended.
+    // Each diner had a reference to it, so all threads that were started have ended.
     same(rt, &Arc::strong_count(&entered), &1);
 }
 
 #[test]
-fn fewer_threads_than_sites_are_told_and_nobody_eats(rt: HostRuntime) {
-    falls_short::<ChannelLane, HostRuntime>(&rt, rt.alloc(), 1);
-    falls_short::<RingLane, HostRuntime>(&rt, rt.alloc(), 1);
-    falls_short::<ChannelLane, HostRuntime>(&rt, rt.alloc(), 0);
-    falls_short::<RingLane, HostRuntime>(&rt, rt.alloc(), 0)
+fn fewer_threads_than_sites_are_reported_and_nobody_eats(rt: HostRuntime) {
+    for threads in [1, 0] {
+        for links in BOTH {
+            falls_short(&rt, rt.alloc(), links, threads);
+        }
+    }
 }

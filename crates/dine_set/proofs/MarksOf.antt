@@ -20,7 +20,7 @@ marks_of-set p xs i y lt =
     let within : i < length (map p xs) = omega (arith, length-map xs p) in
     rw (length-set, map-set) (sym (set-append_left (map p xs) (replicate (64 - length xs) false) i (p y) within))
 
--- one element comes at the end
+-- one element is added at the end
 pub marks_of-push : {X : Type 0} (p : X → Bool) (xs : List X) (y : X) → length xs < 64 → marks_of p (xs ++ y ∷ []) ≡ set (marks_of p xs) (length xs) (p y)
 unfolding marks_of
 marks_of-push p xs y room =

@@ -32,7 +32,7 @@ position-Some p xs i found = grind (arith, common_steps)
 pub position-None : {X : Type 0} (p : X → Bool) (xs : List X) → position p xs ≡ None → position_or_len p xs ≡ length xs
 position-None p xs none = grind (arith, common_steps, prefix_len-le-length)
 
--- where none passes there is no n-th
+-- if none passes there is no n-th
 nth_position-past : {X : Type 0} (p : X → Bool) (n : ℕ) (xs : List X) → position_or_len p xs ≡ length xs → nth_position p n xs ≡ None
 nth_position-past p n [] none = refl
 nth_position-past p n (x ∷ xs) none = at_first (p x) refl none (nth_position-past p n xs)

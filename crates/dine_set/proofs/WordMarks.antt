@@ -131,7 +131,7 @@ marks-remove w i h lt =
     marks-set _ w i false (omega (arith, and_le_l w (bit_not w64 (1 * 2 ^ i % 2 ^ 64)))) h lt (bit_at_clear_same w64 w i lt) (bit_at_clear_other w64 w i lt)
 
 -- ---- all marks
--- how many marks stand before the first: `trailing_zeros`, or 64
+-- the number of marks before the first that is set: `trailing_zeros`, or 64
 first-marks : (w : ℕ) → w < 2 ^ 64 → cond (w == 0) 64 (trailing_zeros w64 w) ≡ position_or_len (λ b. b) (marks_of_word w)
 first-marks w h =
     ap (λ n. cond (n == 0) 64 (trailing_zeros w64 n)) (sym (ap mask_l (map-id (marks_of_word w)) ∙ word_from_marks w h))

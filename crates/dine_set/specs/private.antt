@@ -1,2 +1,2 @@
--- What no public contract names: how values are kept, and what private functions promise one another.
+-- What no public contract names: what fields say, and what private functions promise one another.
 pub mod BitsFromMarks

@@ -1,11 +1,12 @@
-//! A set in one word.
+//! A set of numbers below 64, as the bits of one word.
 
-ghost use Rattle.std.specs.Prelude.{◌≡◌, ◌<◌, ◌≤◌, ◌-◌, ◌++◌, true, false, Some, IfNone, IfSome, is_none, replicate, slice_get, slice_set, position, count_by};
+ghost use Rattle.std.specs.Prelude.{◌≡◌, ◌<◌, ◌≤◌, ◌-◌, ◌++◌, true, false, Some, IfNone};
+ghost use Rattle.std.specs.Prelude.{IfSome, is_none, replicate, slice_get, slice_set, position, count_by};
 ghost use Rattle.dine_set.specs.Marks.{both_marks, marks_without, nth_position};
 
 use std::marker::Model;
 
-/// A set of numbers below 64. Contracts see it as the list of 64 truth values that says of each number whether it is in
+/// A set of numbers below 64. In contracts it is a list of 64 truth values, which say of each number whether it is in
 /// the set.
 #[derive(Clone, Copy)]
 pub struct BitSet64 {
@@ -31,21 +32,21 @@ impl Model for BitSet64 {
 
 #[tactic(auto, using(crate::proofs::WordMarks::word_laws))]
 impl BitSet64 {
-    /// The set without numbers.
+    /// Returns the empty set.
     pub fn empty() -> BitSet64
         ensures { result ≡ replicate 64 false }
     {
         BitSet64 { word: 0 }
     }
 
-    /// The set of all numbers below 64.
+    /// Returns the set of all numbers below 64.
     pub fn full() -> BitSet64
         ensures { result ≡ replicate 64 true }
     {
         BitSet64 { word: u64::MAX }
     }
 
-    /// The set of the numbers below `n`, which is at most 64.
+    /// Returns the set of the numbers below `n`, which is at most 64.
     pub fn below(n: u32) -> BitSet64
         requires { n ≤ 64 }
         ensures { result ≡ replicate n true ++ replicate (64 - n) false }
@@ -58,7 +59,7 @@ impl BitSet64 {
         }
     }
 
-    /// Whether `i` is in the set.
+    /// Returns whether `i`, which is below 64, is in the set.
     pub fn has(&self, i: u32) -> bool
         requires { i < 64 }
         ensures { slice_get self.now i ≡ Some result }
@@ -66,7 +67,7 @@ impl BitSet64 {
         (self.word >> i) & 1 == 1
     }
 
-    /// Puts `i` in.
+    /// Adds `i`, which is below 64.
     pub fn insert(&mut self, i: u32)
         requires { i < 64 }
         ensures { self.new ≡ slice_set self.old i true }
@@ -74,7 +75,7 @@ impl BitSet64 {
         self.word |= 1u64 << i;
     }
 
-    /// Takes `i` out.
+    /// Removes `i`, which is below 64.
     pub fn remove(&mut self, i: u32)
         requires { i < 64 }
         ensures { self.new ≡ slice_set self.old i false }
@@ -82,7 +83,7 @@ impl BitSet64 {
         self.word &= !(1u64 << i);
     }
 
-    /// Puts `i` in, or takes it out.
+    /// Adds `i`, which is below 64, if `is_in` is true, and removes it if not.
     pub fn set(&mut self, i: u32, is_in: bool)
         requires { i < 64 }
         ensures { self.new ≡ slice_set self.old i is_in }
@@ -94,14 +95,14 @@ impl BitSet64 {
         }
     }
 
-    /// Whether no number is in the set.
+    /// Returns whether the set is empty.
     pub fn is_empty(&self) -> bool
         ensures { result ≡ is_none (position (λ is_in. is_in) self.now) }
     {
         self.word == 0
     }
 
-    /// The least number in the set. None where it is empty.
+    /// Returns the least number in the set, `None` if it is empty.
     pub fn first(&self) -> Option<u32>
         ensures value { result ≡ position (λ is_in. is_in) self.now }
         ensures within { IfSome result (λ i. i < 64) }
@@ -112,7 +113,7 @@ impl BitSet64 {
         Some(self.word.trailing_zeros())
     }
 
-    /// The `n`-th number in the set, from 0 and from the least on. None where there are not so many.
+    /// Returns the `n`-th number of the set in ascending order, from 0, `None` if the set has at most `n` numbers.
     pub fn nth(&self, n: u32) -> Option<u32>
         ensures value { result ≡ nth_position (λ is_in. is_in) n self.now }
         ensures none { IfNone result (count_by (λ is_in. is_in) self.now ≤ n) }
@@ -129,7 +130,7 @@ impl BitSet64 {
         None
     }
 
-    /// How many numbers are in the set.
+    /// Returns the number of elements of the set, at most 64.
     pub fn len(&self) -> u32
         ensures value { result ≡ count_by (λ is_in. is_in) self.now }
         ensures few { result ≤ 64 }
@@ -137,7 +138,7 @@ impl BitSet64 {
         self.word.count_ones()
     }
 
-    /// The numbers that are in this set and in the other.
+    /// Returns the set of the numbers that are in both sets.
     pub fn intersection(self, other: BitSet64) -> BitSet64
         ensures { result ≡ both_marks self other }
     {
@@ -146,7 +147,7 @@ impl BitSet64 {
         }
     }
 
-    /// The numbers that are in this set and not in the other.
+    /// Returns the set of the numbers that are in this set and not in the other.
     pub fn difference(self, other: BitSet64) -> BitSet64
         ensures { result ≡ marks_without self other }
     {

@@ -1,4 +1,4 @@
-//! Sets of numbers below 64, each kept in one word.
+//! Sets of numbers below 64, each in one word.
 #![tactic(auto)]
 
 mod bit_set;

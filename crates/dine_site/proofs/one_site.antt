@@ -3,12 +3,13 @@ pub mod Letters
 pub mod Turns
 pub mod AtPlaces
 pub mod Meals
-pub mod Heeding
+pub mod Obeying
 pub mod Same
 pub mod WholeMeals
 pub mod Proceeding
 pub mod Quits
 pub mod Ways
+pub mod Checks
 pub mod Stops
 pub mod Ends
 pub mod Leaving

@@ -14,8 +14,8 @@ meals_called calls = map (λ (call : Call). call.k) calls
 abbrev pub failed_in : List Call → ℕ
 failed_in calls = count_by (λ (call : Call). not call.ok) calls
 
--- The diner was called for the meals 1, 2, 3, .. up to `ate`, once each and in this order. Each answer fits its marks,
--- `failed` of them are not Ok, and the marks stay.
+-- The diner was called for the meals 1, 2, 3, .. up to `ate`, once each and in this order. The result of each call fits
+-- the marks, `failed` of these calls failed, and the marks have not changed.
 pub record HasEaten {D : Type 0} (calls : D → List Call) (marks : D → List Bool) (fits : List Bool → ℕ → Bool → Bool) (ate failed : ℕ) (old new : D) : Type 0 where
   pub added : List Call
   pub called : calls new ≡ calls old ++ added
@@ -31,7 +31,7 @@ pub record HasLastFailed (old new : List Call) : Type 0 where
   pub called : new ≡ old ++ before ++ last ∷ []
   pub failed : last.ok ≡ false
 
--- of the calls after the old ones no other comes behind one that failed
+-- among the calls after the old ones, a call that failed is the last
 abbrev pub StopsAtFailed : List Call → List Call → Type 0
 StopsAtFailed old new = (before later : List Call) (call : Call) → new ≡ old ++ before ++ call ∷ later → call.ok ≡ false → later ≡ []
 
@@ -40,13 +40,13 @@ abbrev pub is_quit : EventKind → Bool
 is_quit event.Quit = true
 is_quit kind = false
 
--- the journal tells that the site quit
-abbrev pub tells_quit : List EventKind → Bool
-tells_quit journal = list_any is_quit journal
+-- the journal shows that the site quit
+abbrev pub shows_quit : List EventKind → Bool
+shows_quit journal = list_any is_quit journal
 
--- A site that resigns ate no meal after one whose job failed. One that quit resigns, and did so after a meal whose job
--- failed, its last.
-pub record HeedsFailures (resigns : Bool) (journal : List EventKind) (old new : List Call) : Type 0 where
+-- If the site resigns, no call follows one that failed. If the journal shows that it quit, it resigns, there were
+-- calls, and the last of them failed.
+pub record ObeysFailures (resigns : Bool) (journal : List EventKind) (old new : List Call) : Type 0 where
   pub stops : resigns ≡ true → StopsAtFailed old new
-  pub quits : tells_quit journal ≡ true → HasLastFailed old new
-  pub resigned : tells_quit journal ≡ true → resigns ≡ true
+  pub quits : shows_quit journal ≡ true → HasLastFailed old new
+  pub resigned : shows_quit journal ≡ true → resigns ≡ true

@@ -7,52 +7,53 @@ use Rattle.dine_rules.specs.declared.letters.Letter.{Letter}
 use Rattle.dine_rules.specs.Breach.{first_breach}
 use Rattle.dine_rules.specs.Local.{LocalState, Traffic, is_eating, start_of, traffic_at}
 use Rattle.dine_rules.specs.Streams.{IsPutInOrder, KeepsStreams}
-use Rattle.dine_core.specs.Core.{tokens_in_hand}
-use Rattle.dine_core.specs.Standing.{all_places, has_closed, has_finished}
+use Rattle.dine_site_core.specs.Core.{tokens_in_hand}
+use Rattle.dine_site_core.specs.Standing.{all_places, has_closed, has_finished}
 use Rattle.dine_link.specs.Closing.{is_close}
 use Rattle.dine_site.specs.declared.site_end.SiteFault.{SiteFault}
 use Rattle.dine_site.specs.declared.site_end.SiteFault.TheVariants as fault
 use Rattle.dine_site.specs.declared.site_end.Stray.{Stray}
+use Rattle.dine_site.specs.declared.manner.Manner.{Manner}
 use Rattle.dine_site.specs.Doings.{HasActed, HasDone}
 use Rattle.dine_site.specs.Ports.{SeenPort, PutsFit}
 
--- the letter that was handed back at place i, where one was
+-- the letter that was handed back at place i, if there is one
 abbrev pub letter_at : ℕ → Option Stray → Option Letter
 letter_at i None = None
 letter_at i (Some stray) = if stray.link == i then Some stray.letter else None
 
--- the letter that a breach handed back at place i
+-- the letter that was handed back for a breach at place i, if there is one
 abbrev pub breached_at : ℕ → Option SiteFault → Option Stray → Option Letter
 breached_at i (Some (fault.Breach link breach)) stray = letter_at i stray
 breached_at i _ stray = None
 
--- the letter that the link of place i refused
+-- the letter that the link of place i refused, if there is one
 abbrev pub refused_at : ℕ → Option SiteFault → Option Stray → Option Letter
 refused_at i (Some (fault.Lost link)) stray = letter_at i stray
 refused_at i _ stray = None
 
--- only a breach, and a link that refused, hand a letter back
+-- a letter is handed back only after a breach, or by a link that refused it
 abbrev pub hands_back : Option SiteFault → Bool
 hands_back (Some (fault.Breach link breach)) = true
 hands_back (Some (fault.Lost link)) = true
 hands_back _ = false
 
--- A letter was handed back at this place, one of the site's, and that is its first breach.
+-- A letter was handed back at this place, which is one of the site's, and the breach is the first that applies to it.
 pub record IsBreached (plan : SeenPlan) (s : ℕ) (state : LocalState) (stray : Option Stray) (link : ℕ) (breach : Breach) : Type 0 where
   pub letter : Letter
   pub handed_back : stray ≡ Some (record { link = link; letter = letter })
   pub within : link < length state.traffic
   pub first : first_breach plan s state link letter ≡ Some breach
 
--- What the links of a place have: all that was put in the one and all that was taken from the other, and whether a put
--- or a close was refused, and a take.
+-- What the two links of a place have: all letters put on the one, and all letters taken from the other; whether a put
+-- or a close was refused; and whether a take was refused.
 pub record OnLinks : Type 0 where
   pub put : List Letter
   pub taken : List Letter
   pub put_refused : Bool
   pub take_refused : Bool
 
--- what was put in the one and taken from the other, alone
+-- the letters put and the letters taken, without the refusals
 abbrev pub traffic_on : OnLinks → Traffic
 traffic_on links = record { put = links.put; taken = links.taken }
 
@@ -60,8 +61,9 @@ traffic_on links = record { put = links.put; taken = links.taken }
 abbrev pub nothing_on_links : OnLinks
 nothing_on_links = record { put = []; taken = []; put_refused = false; take_refused = false }
 
--- A place of the site refused, or a bell, for which the number of the places stands. A letter that was handed back was
--- to go to that place, and is no Close.
+-- `link` is a place or the number of the places. If it is a place, its link refused a put, a close or a take; if not,
+-- nothing is said of what refused. If a letter was handed back, it was to go to this place, and it is not Close; then
+-- `link` is not the number of the places.
 pub record IsLost (places : ℕ) (links : ℕ → OnLinks) (stray : Option Stray) (link : ℕ) : Type 0 where
   pub within : link ≤ places
   pub refused : link < places → ((links link).put_refused ≡ true) ⊎ ((links link).take_refused ≡ true)
@@ -76,8 +78,8 @@ on_links port = record { put = port.tx.letters; taken = port.rx.letters; put_ref
 abbrev pub links_at : {Identity : Type 0} → List (SeenPort Identity) → ℕ → OnLinks
 links_at ports i = slice_index_or (map on_links ports) i nothing_on_links
 
--- What a site tells of its end: its meals, the tokens in its hands, its journal, and why it ended early, with what was
--- handed back.
+-- What a site reports of its end: its meals, the tokens that it holds, its journal, and if it ended early, why, with
+-- the letter that was handed back.
 pub record Ending : Type 0 where
   pub ate : ℕ
   pub tokens : List ℕ
@@ -85,19 +87,22 @@ pub record Ending : Type 0 where
   pub stray : Option Stray
   pub fault : Option SiteFault
 
--- What a site tells fits a state of whole lists that keeps the streams, in which it does not eat. Its tokens are those
--- of this state, and so are its links, but for the letter of a breach, a letter that a link refused, and a Close that a
--- link refused; what its links have is in order all the same. It did the events of its journal, each in its turn, and
--- then it broke off, and where it was started it has put Close everywhere. Where it tells no fault it did all, just
--- those events, its links have exactly what it put, and none of them refused. A site that was not started is at its
--- start. A link that refused to give a letter is told. A breach that is told is so, and a link that is told lost.
-pub record HasEnded (plan : SeenPlan) (s : ℕ) (state : LocalState) (links : ℕ → OnLinks) (end : Ending) : Type 0 where
+-- The report of a site matches a state that keeps the streams. In this state the site does not eat, and it has the
+-- meals and the tokens of the report. It did the events of its journal, each in its turn, and then only put Close. Its
+-- links have the letters of this state, with three exceptions: a letter that was handed back for a breach, a letter
+-- that a link refused, and a Close that a link refused. What it put on its links is in order all the same. If the
+-- report has no fault, the site did all that it had to do, and did nothing but the events of its journal, its links
+-- have exactly what it put, and none of them refused. If the site was not started, the state is its initial state;
+-- otherwise it has put Close everywhere. If a link refused a take, the report names it as lost. If the report names a
+-- breach, the letter that was handed back has this breach. If it names a link as lost, `IsLost` holds of it. If it
+-- names neither, no letter was handed back.
+pub record HasEnded (manner : Manner) (plan : SeenPlan) (s : ℕ) (state : LocalState) (links : ℕ → OnLinks) (end : Ending) : Type 0 where
   pub keeps : KeepsStreams plan s state
   pub rests : is_eating state.phase ≡ false
   pub ate : end.ate ≡ state.ate
   pub tokens : end.tokens ≡ tokens_in_hand plan s state (all_places state)
-  pub did : HasDone plan s end.journal state
-  pub did_all : end.fault ≡ None → HasActed plan s end.journal state
+  pub did : HasDone manner plan s end.journal state
+  pub did_all : end.fault ≡ None → HasActed manner plan s end.journal state
   pub puts : (i : ℕ) → i < length state.traffic → PutsFit (links i).put_refused (refused_at i end.fault end.stray) (traffic_at state i).put (links i).put
   pub takes : (i : ℕ) → i < length state.traffic → (links i).taken ≡ (traffic_at state i).taken ++ option_to_list (breached_at i end.fault end.stray)
   pub in_order : (i : ℕ) → i < length state.traffic → IsPutInOrder plan s i state.ate (traffic_on (links i))
@@ -106,7 +111,7 @@ pub record HasEnded (plan : SeenPlan) (s : ℕ) (state : LocalState) (links : �
   pub finished : end.fault ≡ None → has_finished plan s state ≡ true
   pub closed : end.fault ≢ Some fault.NotStarted → has_closed state ≡ true
   pub not_started : end.fault ≡ Some fault.NotStarted → state ≡ start_of plan s
-  pub take_told : (i : ℕ) → i < length state.traffic → (links i).take_refused ≡ true → end.fault ≡ Some (fault.Lost i)
+  pub take_reported : (i : ℕ) → i < length state.traffic → (links i).take_refused ≡ true → end.fault ≡ Some (fault.Lost i)
   pub no_stray : hands_back end.fault ≡ false → end.stray ≡ None
   pub breach : (link : ℕ) (breach : Breach) → end.fault ≡ Some (fault.Breach link breach) → IsBreached plan s state end.stray link breach
   pub lost : (link : ℕ) → end.fault ≡ Some (fault.Lost link) → IsLost (length state.traffic) links end.stray link

@@ -7,6 +7,7 @@ pub mod Ports
 pub mod Times
 pub mod Endings
 pub mod SiteEnds
+pub mod SiteRuns
 pub mod FaultWords
 pub mod Running
 pub mod private

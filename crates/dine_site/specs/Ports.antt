@@ -98,7 +98,7 @@ pub record IsUnrefused {Identity : Type 0} (port : SeenPort Identity) : Type 0 w
   pub take : port.rx.refused ≡ false
   pub ring : port.ringer.refused ≡ false
 
--- nothing was put, taken, rung or refused yet
+-- The end for puts is live, and nothing was put, taken, rung or refused yet.
 pub record IsFreshPort {Identity : Type 0} (port : SeenPort Identity) : Type 0 where
   pub live : port.is_live ≡ true
   pub nothing_put : port.tx.letters ≡ []
@@ -108,22 +108,27 @@ pub record IsFreshPort {Identity : Type 0} (port : SeenPort Identity) : Type 0 w
   pub nothing_rung : port.ringer.rings ≡ 0
   pub unrefused : IsUnrefused port
 
--- the ends are those of the same two links, and the ringer is that of the same bell
+-- The ends are those of the same two links. The ringer is one of the same bell, with the same number.
 pub record SameLinks {Identity : Type 0} (old new : SeenPort Identity) : Type 0 where
   pub tx : new.tx.link ≡ old.tx.link
   pub rx : new.rx.link ≡ old.rx.link
   pub bell : new.ringer.bell ≡ old.ringer.bell
   pub number : new.ringer.number ≡ old.ringer.number
 
--- The bell was rung once for each letter put. Where it refused a ring, one letter has none, and the Close with which
--- the site then broke off may have none.
+-- There are at most as many rings as letters put, and exactly as many if no ring was refused. There are at most two
+-- letters more than rings.
 pub record HasRung {Identity : Type 0} (port : SeenPort Identity) : Type 0 where
   pub no_more : port.ringer.rings ≤ length port.tx.letters
   pub each : port.ringer.refused ≡ false → port.ringer.rings ≡ length port.tx.letters
   pub all_but_two : length port.tx.letters ≤ port.ringer.rings + 2
 
--- What a core put at a place is what was put on the link, but for a letter that the link refused; and for a Close,
--- where the link did refuse.
+-- The end for puts is shut. There is at most one letter more than rings.
+pub record LacksOneRing {Identity : Type 0} (port : SeenPort Identity) : Type 0 where
+  pub shut : port.is_live ≡ false
+  pub at_most_one : length port.tx.letters ≤ port.ringer.rings + 1
+
+-- What a core put at a place is what was put on the link, with two exceptions: a letter that the link refused, and a
+-- Close that the link refused.
 pub record PutsFit (has_refused : Bool) (refused : Option Letter) (by_core on_link : List Letter) : Type 0 where
   pub front : List Letter
   pub closing : List Letter

@@ -8,16 +8,17 @@ use Rattle.dine_site.specs.Ports.{SeenPort}
 abbrev pub AreLater : List ℕ → List ℕ → Type 0
 AreLater later sooner = (n put taken : ℕ) → slice_get sooner n ≡ Some put → slice_get later n ≡ Some taken → put < taken
 
--- the moment of a letter that is on its way out at place k
+-- the moment of a letter at place k whose event was done, and which is not put yet
 abbrev pub late_at : ℕ → ℕ → ℕ → List ℕ
 late_at k m i = if i == k then m ∷ [] else []
 
--- nothing is on its way out
+-- no letter whose event was done is left to put
 abbrev pub none_late : ℕ → List ℕ
 none_late i = []
 
 -- The events with moments are those of the journal, and the moments rise. Each letter was put at the moment of its
--- event, but for those that are on their way out, and taken later than it was put.
+-- event, except those that are not put yet. There are as many Takes at a place as letters were taken there, and each
+-- letter was taken later than it was put.
 pub record IsTimed {Identity : Type 0} (late : ℕ → List ℕ) (events : List (EventKind × ℕ)) (journal : List EventKind) (ports : List (SeenPort Identity)) : Type 0 where
   pub shown : map (λ event. event.0) events ≡ journal
   pub rise : Rise 0 events

@@ -7,8 +7,8 @@ use crate::diner::Call;
 use std::alloc::{AllocError, Global};
 use std::marker::Model;
 
-/// The calls that a diner has answered, in order, and for how many more there is room. Room is got once, when it is
-/// opened. A diner of one's own may hold one, and have its calls and its room from it.
+/// The calls of a diner, in order, and for how many more calls the log has capacity. The capacity is allocated once,
+/// when the log is opened. A diner of your own can keep one, and take its calls and its room from it.
 #[derive(Drop)]
 pub struct CallLog {
     calls: Vec<Call>,
@@ -28,8 +28,11 @@ impl Model for CallLog {
 }
 
 impl CallLog {
-    /// A log without calls, with room for one call for each job. It takes memory for them, and fails where that is
-    /// refused.
+    /// Opens a log without calls, with capacity for one call for each job.
+    ///
+    /// # Errors
+    ///
+    /// `AllocError` if an allocation fails.
     pub fn open(alloc: Global, jobs: u32) -> Result<CallLog, AllocError>
         ensures { IfOk result (λ log. log ≡ no_calls jobs) }
     {
@@ -37,7 +40,7 @@ impl CallLog {
         Ok(CallLog { calls, room: jobs })
     }
 
-    /// For how many more calls there is room.
+    /// Returns for how many more calls the log has capacity.
     pub fn room(&self) -> u32
         ensures { result ≡ self.now.room }
     {
@@ -54,7 +57,7 @@ impl CallLog {
         self.room -= 1;
     }
 
-    /// All calls so far, in order.
+    /// Returns all calls so far, in order.
     pub fn calls(&self) -> &[Call]
         ensures { result.now ≡ self.now.calls }
     {

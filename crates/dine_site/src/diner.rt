@@ -1,16 +1,27 @@
-//! Who eats: what a site does in its meals.
-ghost use Rattle.std.specs.Prelude.{◌≡◌, ◌+◌, ◌<◌, ◌∷◌, ◌++◌, ℕ, Bool, List, [], is_ok, true};
+//! Diners: what a site does in its meals.
+ghost use Rattle.std.specs.Prelude.{◌≡◌, ◌+◌, ◌<◌, ◌∷◌, ◌++◌, ℕ, Bool, List, Some, [], codes, is_ok, true};
 ghost use Rattle.dine_graph.specs.Plan.{SeenPlan};
 ghost use Rattle.dine_site.specs.WholeMeals.{IsOwnMeal, IsWhole};
 ghost use Rattle.dine_site.specs.declared.diner.Call.{Call};
 
 use dine_token::Meal;
-use thiserror::Error;
+use std::error::Error;
+use std::fmt;
 
 /// The job of a meal failed.
-#[derive(Clone, Copy, Debug, PartialEq, Eq, Error)]
-#[error("the job failed")]
+#[derive(Clone, Copy, Debug, PartialEq, Eq)]
 pub struct JobFault;
+
+/// `the job failed`.
+impl fmt::Display for JobFault {
+    ghost output = { λ _. Some (codes "the job failed") };
+
+    fn fmt<W: fmt::Write>(&self, f: &mut fmt::Formatter<W>) -> fmt::Result {
+        f.write_str("the job failed")
+    }
+}
+
+impl Error for JobFault {}
 
 /// One call of [`Diner::eat`]: the number of the meal, from 1, and whether its job went well.
 #[derive(Clone, Copy, Debug, PartialEq, Eq)]
@@ -24,26 +35,32 @@ pub trait Diner: Drop + Send {
     // All calls of `eat` so far, in order.
     ghost calls: { Self → List Call };
 
-    // What was marked for the meals beforehand, by their numbers from 1: it never changes. It is empty where nothing
-    // was.
+    // Truth values that the author of the diner chooses, and that no call changes; `fits` alone gives them a meaning. A
+    // diner of the program has one for each job: whether the job fails.
     ghost marks: { Self → List Bool };
 
-    // Whether the answer of a meal fits the marks: the marks, the number of the meal, and whether its job went well. It
-    // is always true for a diner that promises nothing of its answers.
+    // Whether the result of a meal fits the marks, by the marks, the number of the meal, and whether its job went well.
+    // It is always true for a diner that promises nothing of its results.
     ghost fits: { List Bool → ℕ → Bool → Bool };
 
-    // For how many calls there is room.
+    // For how many more calls of `eat` the diner has capacity.
     ghost room_left: { Self → ℕ };
 
-    // In which plan, and at which of its sites, it expects to eat. Most diners expect nothing.
+    // That it expects to eat in this plan, at this site. If a diner does not define it, it holds of each plan and site.
     ghost expects: { Self → SeenPlan → ℕ → Type 0 } = { λ _ _ _. Unit {0} };
 
-    /// For how many more calls of `eat` there is room.
+    /// Returns for how many more calls of `eat` the diner has capacity.
     fn room(&self) -> u32
         ensures { result ≡ room_left self.now };
 
-    /// Does the job of meal `k`. The meal has the forks of all edges of the site, in order; each is at the site, and
-    /// its log has `k` meals of the site, this one included.
+    /// Does the job of meal `k`, while the site holds the forks of all its edges.
+    ///
+    /// The diner has capacity for this call, and `meal` is meal `k`. Each fork of the meal is at the site that eats,
+    /// and its log has `k` meals of that site, this one included. The forks are those of all edges of the site, in the
+    /// order of the edges, in a plan in which the diner expects to eat at that site.
+    ///
+    /// The call is added to the calls of the diner, with its result, which fits the marks. The marks stay the same. The
+    /// call uses the capacity for one call. Each plan and site that the diner expected before, it expects afterwards.
     ///
     /// # Errors
     ///

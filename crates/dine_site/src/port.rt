@@ -2,7 +2,8 @@
 ghost use Rattle.std.specs.Prelude.{◌≡◌, ◌<◌, ◌^◌, true, false, length, MatchResult};
 ghost use Rattle.dine_rules.specs.Letters.{has_close};
 ghost use Rattle.dine_link.specs.Closing.{is_close};
-ghost use Rattle.dine_site.specs.Ports.{Sends, SendsClose, is_live_end, rung_on, seen_port, taken_on, unrung_on, untaken_on};
+ghost use Rattle.dine_site.specs.Ports.{Sends, SendsClose, is_live_end, rung_on, seen_port, taken_on, unrung_on};
+ghost use Rattle.dine_site.specs.Ports.{untaken_on};
 
 use dine_clock::Stamp;
 use dine_link::{Lane, Lost, Ringer, TxEnd};
@@ -18,7 +19,7 @@ pub struct Port<L: Lane> {
     pub ringer: Ringer,
 }
 
-// What came of a letter that was to be sent.
+// What happened to a letter that was to be sent.
 #[derive(Drop)]
 pub enum Sent {
     // It was put, and the bell was rung.
@@ -29,7 +30,7 @@ pub enum Sent {
     Refused(Letter),
 }
 
-// The same of Close.
+// What happened to a Close that was to be sent.
 #[derive(Clone, Copy)]
 pub enum Closed {
     Heard,
@@ -38,11 +39,11 @@ pub enum Closed {
 }
 
 impl<L: Lane> Port<L> {
-    // Puts a letter other than Close, where the end is live, and rings.
+    // Puts a letter other than Close in an end that is live, and rings.
     pub(crate) fn put<R: Wait>(&mut self, rt: &R, letter: Letter, stamp: Stamp) -> Sent
         requires live { is_live_end self.old.tx ≡ true }
         requires letter { is_close letter ≡ false }
-        requires room { length (seen_port L.Lane self.old).tx.letters < 2 ^ 61 }
+        requires few_letters { length (seen_port L.Lane self.old).tx.letters < 2 ^ 61 }
         ensures { Sends stamp.at letter (seen_port L.Lane self.old) (seen_port L.Lane self.new) result }
     {
         let kind = letter.kind();
@@ -59,10 +60,10 @@ impl<L: Lane> Port<L> {
         }
     }
 
-    // Puts Close, where the end is live, and rings. Where the link refuses it, the end stays live.
+    // Puts Close in an end that is live, and rings. If the link refuses it, the end stays live.
     pub(crate) fn close<R: Wait>(self, rt: &R, stamp: Stamp) -> (Port<L>, Closed)
         requires live { is_live_end self.tx ≡ true }
-        requires room { length (seen_port L.Lane self).tx.letters < 2 ^ 61 }
+        requires few_letters { length (seen_port L.Lane self).tx.letters < 2 ^ 61 }
         ensures { SendsClose stamp.at (seen_port L.Lane self) (seen_port L.Lane result.0) result.1 }
     {
         let Port { tx, rx, ringer } = self;
@@ -83,10 +84,10 @@ impl<L: Lane> Port<L> {
         }
     }
 
-    // Takes the next letter, where Close was not taken.
+    // Takes the next letter, at a place where Close was not taken.
     pub(crate) fn take<R: Wait>(&mut self, rt: &R) -> Result<(Letter, Stamp), Lost>
         requires open { has_close (seen_port L.Lane self.old).rx.letters ≡ false }
-        requires room { length (seen_port L.Lane self.old).rx.letters < 2 ^ 61 }
+        requires few_letters { length (seen_port L.Lane self.old).rx.letters < 2 ^ 61 }
         ensures { MatchResult result
             (λ got. seen_port L.Lane self.new ≡ taken_on got.1.at got.0 (seen_port L.Lane self.old))
             (λ _. seen_port L.Lane self.new ≡ untaken_on (seen_port L.Lane self.old)) }

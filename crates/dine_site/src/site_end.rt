@@ -1,4 +1,4 @@
-//! What a site leaves when it ends, and its fault in words.
+//! What a site leaves when it ends, and the words for its fault.
 ghost use Rattle.std.specs.Prelude.{◌≡◌, Some};
 ghost use Rattle.dine_site.specs.FaultWords.{site_fault_words};
 
@@ -11,7 +11,7 @@ use dine_token::{Fork, Token};
 use std::error::Error;
 use std::fmt;
 
-/// A letter that was handed back: the place where it came, or where it was to go.
+/// A letter that was handed back, with its place: the one at which it arrived, or the one to which it was to go.
 #[derive(Drop)]
 pub struct Stray {
     pub link: u32,
@@ -21,14 +21,14 @@ pub struct Stray {
 /// Why a site ended before it did all.
 #[derive(Clone, Copy, Debug, PartialEq, Eq)]
 pub enum SiteFault {
-    /// A letter that came at the place was not in turn.
+    /// The letter that arrived at this place was not allowed, for this reason.
     Breach(u32, Breach),
-    /// A put, a close or a take was refused at the place. Where it is the number of places, a ring or the wait for the
-    /// bell was.
+    /// The link of this place refused a put, a close or a take. If the number is the count of the places, so that no
+    /// place has it, a bell refused: the bell of a neighbour refused a ring, or the bell of the site refused a wait.
     Lost(u32),
     /// The site was not started, and did nothing.
     NotStarted,
-    /// Memory for the journal was refused, before an event.
+    /// An allocation for the journal failed, before an event.
     Memory,
 }
 
@@ -53,8 +53,8 @@ impl fmt::Display for SiteFault {
 impl Error for SiteFault {}
 
 /// What a site leaves when it ends: how many meals it began and how many of their jobs failed, its diner, the forks and
-/// tokens in its hands in edge order, its journal, its link ends in order, its bell, and, where it ended before it did
-/// all, the first cause with the letter that was handed back.
+/// tokens in its hands in edge order, its journal, its link ends in order, and its bell. If it ended before it did all,
+/// it also leaves the first cause, and the letter that was handed back.
 ///
 /// The journal has each event that the site did, in its order. The bell is kept so that neighbours that are not done
 /// can still ring it.

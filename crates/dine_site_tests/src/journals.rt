@@ -1,45 +1,19 @@
-// One order of the journals of two sites.
+// The order of the journals of two sites.
 use crate::asserts::same;
-use dine_core::{Event, EventKind};
+use dine_core::{Event, EventKind, World};
 use dine_plan::{Plan, read_plan};
 use dine_run::{OrderFault, order};
-use dine_test_plans::PAIR;
-use dine_world::World;
+use dine_test_plans::{HIGHER_JOURNAL, LOWER_JOURNAL, PAIR};
 use std::alloc::Global;
 use std::process::Abort;
 
-// The lower site of the pair has two jobs more, and resigns.
+// The pair, except that the lower site has two jobs more and resigns. By the plan no job fails.
 const RESIGNING: &str = "version = 2\n\
     [[site]]\nname = \"a\"\non_fault = \"resign\"\njobs = [{ name = \"x\" }, { name = \"y\" }, { name = \"z\" }]\n\
     [[site]]\nname = \"b\"\njobs = [{ name = \"y\" }]\n\
     [[edge]]\nends = [\"a\", \"b\"]\n";
 
-// What the lower site did where it ate first, and what the higher did.
-const LOWER: [EventKind; 9] = [
-    EventKind::Hungry,
-    EventKind::Begin,
-    EventKind::End,
-    EventKind::Done(0),
-    EventKind::Take(0),
-    EventKind::Give(0),
-    EventKind::Take(0),
-    EventKind::Close(0),
-    EventKind::Take(0),
-];
-
-pub const HIGHER: [EventKind; 9] = [
-    EventKind::Hungry,
-    EventKind::Ask(0),
-    EventKind::Take(0),
-    EventKind::Take(0),
-    EventKind::Begin,
-    EventKind::End,
-    EventKind::Done(0),
-    EventKind::Close(0),
-    EventKind::Take(0),
-];
-
-// What the lower site did where it ate twice, quit and was done.
+// The journal of the lower site if it ate twice, quit and put Done.
 const QUITTING: [EventKind; 13] = [
     EventKind::Hungry,
     EventKind::Begin,
@@ -60,7 +34,7 @@ fn pair(rt: &impl Abort, alloc: Global) -> Plan {
     read_plan(alloc, PAIR).expect(rt, "a plan")
 }
 
-// The order of the journals of two sites with these events.
+// Returns the order of the journals of two sites with these events.
 fn order_of(
     rt: &impl Abort,
     alloc: Global,
@@ -76,15 +50,15 @@ fn order_of(
     order(alloc, plan, journals.as_slice())
 }
 
-// These are the events, one after another, each as its site and its kind.
+// Checks the events, each by its site and its kind.
 fn are(rt: &impl Abort, events: &[Event], wanted: &[(u32, EventKind)]) {
     same(rt, &events.len(), &wanted.len());
-    for (event, told) in events.iter().zip(wanted) {
-        same(rt, &(event.site, event.kind), told);
+    for (event, one) in events.iter().zip(wanted) {
+        same(rt, &(event.site, event.kind), one);
     }
 }
 
-// The order of both.
+// The order of both journals of the pair.
 const LOWEST_FIRST: [(u32, EventKind); 18] = [
     (0, EventKind::Hungry),
     (0, EventKind::Begin),
@@ -106,7 +80,7 @@ const LOWEST_FIRST: [(u32, EventKind); 18] = [
     (1, EventKind::Take(0)),
 ];
 
-// A world of the plan goes through all events to its end.
+// Checks that a world of the plan goes through all events to its end.
 fn goes_through(rt: &impl Abort, alloc: Global, plan: &Plan, events: &[Event]) {
     let mut world = World::open(alloc, plan).expect(rt, "memory");
     for event in events {
@@ -120,7 +94,13 @@ fn goes_through(rt: &impl Abort, alloc: Global, plan: &Plan, events: &[Event]) {
 fn each_event_is_that_of_the_lowest_site_that_was_ready(rt: HostRuntime) {
     let alloc = rt.alloc();
     let plan = pair(&rt, alloc);
-    let events = order_of(&rt, alloc, &plan, LOWER.as_slice(), HIGHER.as_slice());
+    let events = order_of(
+        &rt,
+        alloc,
+        &plan,
+        LOWER_JOURNAL.as_slice(),
+        HIGHER_JOURNAL.as_slice(),
+    );
     let events = events.expect(&rt, "an order");
     are(&rt, events.as_slice(), LOWEST_FIRST.as_slice());
     goes_through(&rt, alloc, &plan, events.as_slice());
@@ -131,7 +111,7 @@ fn events_that_wait_for_ever_are_stuck(rt: HostRuntime) {
     let alloc = rt.alloc();
     let plan = pair(&rt, alloc);
     let higher = [EventKind::Take(0), EventKind::Take(0)];
-    let lower = LOWER.as_slice();
+    let lower = LOWER_JOURNAL.as_slice();
     let stuck = order_of(&rt, alloc, &plan, &lower[..4], higher.as_slice());
     same(
         &rt,
@@ -141,7 +121,7 @@ fn events_that_wait_for_ever_are_stuck(rt: HostRuntime) {
 }
 
 #[test]
-fn faults_of_orders_have_their_words(rt: HostRuntime) {
+fn faults_of_orders_have_their_texts(rt: HostRuntime) {
     let faults = [
         (OrderFault::CountDiffers, "1 CountDiffers"),
         (
@@ -151,9 +131,9 @@ fn faults_of_orders_have_their_words(rt: HostRuntime) {
         (OrderFault::NotClosed, "3 NotClosed"),
         (OrderFault::Memory, "4 Memory"),
     ];
-    for (fault, words) in faults {
+    for (fault, text) in faults {
         let line = format!(in rt.alloc(); "{fault}").expect(&rt, "memory");
-        same(&rt, &line.as_str(), &words);
+        same(&rt, &line.as_str(), &text);
     }
 }
 
@@ -170,27 +150,27 @@ fn journals_of_nothing_are_not_closed(rt: HostRuntime) {
 fn one_journal_for_two_sites_is_refused(rt: HostRuntime) {
     let alloc = rt.alloc();
     let plan = pair(&rt, alloc);
-    let journal = LOWER.as_slice().to_vec(alloc).expect(&rt, "memory");
+    let journal = LOWER_JOURNAL.as_slice().to_vec(alloc).expect(&rt, "memory");
     let mut journals = Vec::new(alloc);
     journals.push(journal).expect(&rt, "memory");
     let one = order(alloc, &plan, journals.as_slice());
     same(&rt, &one.err(), &Some(OrderFault::CountDiffers));
 }
 
-// The world fails the meal that the journal shows to have failed, which the plan does not.
+// By the plan no job fails, so the failed meal is the one that the journal has a Quit after.
 #[test]
 fn journals_show_which_meal_failed(rt: HostRuntime) {
     let alloc = rt.alloc();
     let plan = read_plan(alloc, RESIGNING).expect(&rt, "a plan");
-    let (lower, higher) = (QUITTING.as_slice(), HIGHER.as_slice());
+    let (lower, higher) = (QUITTING.as_slice(), HIGHER_JOURNAL.as_slice());
     let events = order_of(&rt, alloc, &plan, lower, higher).expect(&rt, "an order");
     same(&rt, &events.len(), &22);
     let quits = events.iter().filter(|event| event.kind == EventKind::Quit);
     same(&rt, &quits.count(), &1);
 }
 
-// After so many meals of the lower site and so many times Quit of it, with no event of the other, this many were
-// placed.
+// Checks how many events are placed if the lower site has this number of meals and of Quits, and the other has no
+// event.
 fn stuck_after(rt: &impl Abort, alloc: Global, plan: &Plan, meals: u32, quits: u32, placed: u32) {
     let mut lower = Vec::new(alloc);
     for _ in 0..meals {

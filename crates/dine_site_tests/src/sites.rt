@@ -1,12 +1,13 @@
 // What tests of sites share: one site on one thread, with its links and its bell, and what it leaves.
 ghost use Rattle.std.specs.Prelude.{◌≡◌, ◌≤◌, false, All, vec_len};
-ghost use Rattle.dine_core.specs.Standing.{IsFreshFor};
+ghost use Rattle.dine_site_core.specs.Standing.{IsFreshFor};
 ghost use Rattle.dine_link.specs.Links.{IsUnused};
 ghost use Rattle.dine_run.specs.Ports.{IsFreshPort, seen_ports};
 
 mod diners;
 mod ends;
 mod left;
+mod manners;
 mod one_site;
 mod refusals;
 mod star;
@@ -19,16 +20,16 @@ use dine_link::{Bell, ChannelLane, Lane, RingLane, Ringer, TxEnd};
 use dine_plan::{Plan, read_plan};
 use dine_rules::{Breach, Kind4};
 use dine_run::{Call, CallLog, Port, SiteFault, run_site};
+use dine_test_diners::Taster;
 use dine_test_plans::PAIR;
 use dine_token::Entry;
-use diners::Fixed;
 use ends::{Ends, Letters, Put, ends_of, fill, finds, finds_fork, link_from, one_ringer, ring_for};
 use left::{Left, is_left};
 use std::alloc::Global;
 use std::process::Abort;
 use std::sync::Wait;
 
-// The lower site of the pair ate and said Done, and has its fork.
+// The lower site of the pair ate and put Done, and has its fork.
 const LOWER_ATE: Left = Left {
     site: 0,
     meals: (1, 0),
@@ -62,7 +63,7 @@ const LOWER_GAVE: Left = Left {
     ..LOWER_ATE
 };
 
-// The higher site of the pair asked for the fork, which has not come.
+// The higher site of the pair asked for the fork, which has not arrived.
 const HIGHER_ASKED: Left = Left {
     site: 1,
     meals: (0, 0),
@@ -76,28 +77,28 @@ const HIGHER_ASKED: Left = Left {
     fault: None,
 };
 
-// The site of that number in the plan runs to its end, with these ports and this bell, and leaves this.
+// Runs the site with the number of `left` to its end, with these ports and this bell, and checks what it leaves.
 fn runs_in<L: Lane, R: Wait + Abort>(
     rt: &R,
     alloc: Global,
     plan: &Plan,
     ports: Vec<Port<L>>,
     bell: Bell,
-    fails_at: u32,
+    fails_each: u32,
     left: &Left,
 )
     requires degree { bell.degree ≡ vec_len ports }
-    requires unheard { bell.refused ≡ false }
+    requires unrefused { bell.refused ≡ false }
     requires unused { All IsFreshPort (seen_ports L.Lane ports.items) }
 {
     let core = core_of(rt, alloc, plan, left.site);
     assert!(rt; core.degree() as usize == ports.len());
-    let diner = Fixed::open(alloc, 2, fails_at).expect(rt, "memory");
-    let end = run_site::<R, L, Fixed>(rt, alloc, core, ports, bell, diner);
+    let diner = Taster::open(alloc, 2, fails_each).expect(rt, "memory");
+    let end = run_site::<R, L, Taster>(rt, alloc, core, ports, bell, diner);
     is_left(rt, end, left)
 }
 
-// The core of a site of at most two jobs.
+// Returns the core of a site with at most two jobs.
 fn core_of(rt: &impl Abort, alloc: Global, plan: &Plan, site: u32) -> SiteCore
     ensures fresh { IsFreshFor plan.now result }
     ensures due { result.due ≤ 2 }
@@ -109,10 +110,10 @@ fn core_of(rt: &impl Abort, alloc: Global, plan: &Plan, site: u32) -> SiteCore
     SiteCore::open(alloc, plan, site, forks, tokens).expect(rt, "memory")
 }
 
-// The bell of a site of that degree, and its ringers.
+// Returns the ringers of a site of this degree, and its bell.
 fn bell_of(rt: &impl Abort, alloc: Global, degree: u32) -> (Vec<Ringer>, Bell)
     ensures degree { result.1.degree ≡ degree }
-    ensures unheard { result.1.refused ≡ false }
+    ensures unrefused { result.1.refused ≡ false }
 {
     let Ok(opened) = Bell::open(alloc, degree) else {
         panic!(rt; "no memory for a bell");
@@ -120,7 +121,7 @@ fn bell_of(rt: &impl Abort, alloc: Global, degree: u32) -> (Vec<Ringer>, Bell)
     opened
 }
 
-// The one port of a site with one edge.
+// Returns the port of a site with one edge, in a list.
 fn one_port<L: Lane>(
     rt: &impl Abort,
     alloc: Global,
@@ -143,13 +144,13 @@ fn one_port<L: Lane>(
     ports
 }
 
-// The site with that number in a plan of two runs to its end with these ends, and leaves this.
+// Runs a site of a plan of two to its end, with these ends, and checks what it leaves.
 fn runs<L: Lane, R: Wait + Abort>(rt: &R, alloc: Global, text: &str, ends: Ends<L>, left: &Left)
     requires nothing_put { IsUnused (L.seen_tx ends.tx) }
     requires nothing_taken { IsUnused (L.seen_rx ends.rx) }
     requires silent { (ends.ringer.rings ≡ 0) × (ends.ringer.refused ≡ false) }
     requires degree { ends.bell.degree ≡ 1 }
-    requires unheard { ends.bell.refused ≡ false }
+    requires unrefused { ends.bell.refused ≡ false }
 {
     let plan = read_plan(alloc, text).expect(rt, "a plan");
     let Ends {
@@ -162,8 +163,8 @@ fn runs<L: Lane, R: Wait + Abort>(rt: &R, alloc: Global, text: &str, ends: Ends<
     runs_in::<L, R>(rt, alloc, &plan, ports, bell, 0, left)
 }
 
-// A site of the pair runs to its end over links in which its neighbour put these letters, each with its ring, and
-// leaves this. The neighbour has the link with all that the site put, and the bell that it rang.
+// Runs a site of the pair to its end, over links on which its neighbour has put these letters, each with its ring, and
+// checks what the site leaves. Returns the link with all that the site put, and the bell of its neighbour.
 fn meets<L: Lane, R: Wait + Abort>(
     rt: &R,
     alloc: Global,

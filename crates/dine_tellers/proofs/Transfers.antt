@@ -6,6 +6,7 @@ use Rattle.dine_token.specs.Lawful.{count_from}
 use Rattle.dine_graph.specs.Plan.{SeenPlan, job_count}
 use Rattle.dine_run.specs.CallLogs.{SeenCallLog}
 use Rattle.dine_run.specs.Diners.{HasEaten, HasLastFailed}
+use Rattle.dine_site.specs.declared.manner.Manner.TheVariants.{Eager}
 use Rattle.dine_run.specs.Gathered.{AreFinishedOuts, AreOutsOf}
 use Rattle.dine_site.specs.declared.diner.Call.{Call}
 use Rattle.dine_threads.specs.declared.gathered.SiteOut.{SiteOut}
@@ -44,7 +45,7 @@ none_failed marks ate failed old new none eaten had =
     let ill = had.failed in
     cc
 
-pub have_sent : (marks : Teller → List Bool) (room : Teller → ℕ) (plan : SeenPlan) (given : List Teller) (outs : List (SiteOut Teller)) → AreFresh plan given → AreOutsOf (record { calls = λ teller. teller.log.calls; marks = marks; fits = λ m k ok. ok; room_left = room; expects = λ teller plan site. Unit {0} }) plan given outs → AreFinishedOuts plan outs → HaveSent plan outs
+pub have_sent : (marks : Teller → List Bool) (room : Teller → ℕ) (plan : SeenPlan) (given : List Teller) (outs : List (SiteOut Teller)) → AreFresh plan given → AreOutsOf (record { calls = λ teller. teller.log.calls; marks = marks; fits = λ m k ok. ok; room_left = room; expects = λ teller plan site. Unit {0} }) Eager plan given outs → AreFinishedOuts plan outs → HaveSent plan outs
 have_sent marks room plan given outs fresh out_of finished s out at =
     let within : s < length given = omega (arith, slice_get_within outs s out at, out_of.count, fresh.count) in
     let old = there_is given s within in
@@ -52,6 +53,6 @@ have_sent marks room plan given outs fresh out_of finished s out at =
     let left = out_of.each s old.0 out old.1 at in
     let ate : out.ate ≡ job_count plan s = elim (finished s out at).has_no_job_left [
       | inl all ↦ all
-      | inr quit ↦ absurd (none_failed marks out.ate out.failed old.0 out.diner none left.eaten (left.heeds.quits quit.1))
+      | inr quit ↦ absurd (none_failed marks out.ate out.failed old.0 out.diner none left.eaten (left.obeys.quits quit.1))
     ] in
     out.diner.one_each ∙ calls_for (λ (teller : Teller). teller.log.calls) marks (λ m k ok. ok) out.ate out.failed old.0 out.diner none left.eaten ∙ ate

@@ -1,19 +1,18 @@
-//! A caller of `dine_run` with a diner of its own, of which all is proved: units go round a ring of accounts, and none
-//! is lost or made up.
+//! A caller of `dine_run` with a diner of its own: units go round a ring of accounts, and it is proved that none is
+//! lost or made.
 //!
 //! 1. **Write a plan.** A text names the sites, the jobs of each and the edges, and `read_plan` reads it. Sites that
 //!    share something need an edge. Here a site takes from its own account and pays into that of the next site. So each
 //!    account is used by two sites, and these have an edge.
 //! 2. **Write a diner**, as `teller.rt` does: a struct with a `CallLog` and what you keep beside it. Its method `eat`
-//!    does the job of meal `k` and notes the call. `run` asks for room for all jobs of the site, and promises one call
-//!    for each, in order. What your own fields have to do with the calls is yours to say in a ghost field, as
-//!    `one_each` does.
+//!    does the job of meal `k` and notes the call. `run` requires capacity for all jobs of the site, and promises one
+//!    call for each, in order. How your own fields follow from the calls you say in a ghost field, such as `one_each`.
 //! 3. **Call `run`** with the plan and a diner for each site, as `settle` does. Each site runs on a thread of its own.
-//! 4. **Take what comes back.** `Gathered` has the diners by site, the forks with the log of all meals, and the links.
+//! 4. **Use the result.** `Gathered` has the diners by site, the forks with the log of all meals, and the links.
 //!    So `settle` can promise each balance and the total, whatever the schedule was.
 //! 5. **Ask for one order** of what the threads did. Each site left its journal, and `order_of` puts all journals into
-//!    one list, which a world of one thread accepts. `run` promises that there is one, so only memory can be refused.
-//!    It goes to standard error, since it is another one after each run.
+//!    one list, which a world of one thread accepts. `run` promises that there is one, so `order_of` fails only without
+//!    memory. The order goes to standard error, since it differs from run to run.
 #![tactic(auto)]
 
 mod teller;
@@ -28,10 +27,10 @@ ghost use Rattle.dine_tellers.specs.Balances.{IsBooks};
 ghost use Rattle.dine_tellers.specs.Tellers.{AreFresh, HaveSent};
 
 use anyhow::{Result, bail};
-use dine_core::{Event, EventKind};
 use dine_link::ChannelLane;
 use dine_plan::{Plan, read_plan};
 use dine_run::{SiteOut, order_of, run};
+use dine_site_core::{Event, EventKind};
 use std::alloc::{AllocError, Global};
 use std::sync::Wait;
 use std::thread::Threads;
@@ -55,7 +54,7 @@ struct Books {
     total: u32,
 }
 
-// A teller for each site, with room for its jobs.
+// Returns a teller for each site, with capacity for its jobs.
 fn open_tellers(alloc: Global, plan: &Plan) -> Result<Vec<Teller>, AllocError>
     ensures { IfOk result (λ tellers. AreFresh plan.now tellers.items) }
 {
@@ -66,7 +65,7 @@ fn open_tellers(alloc: Global, plan: &Plan) -> Result<Vec<Teller>, AllocError>
     Ok(tellers)
 }
 
-// Each account has what came from the site before, and lacks what was sent.
+// Returns the balances: each account has what the site before it sent, and lacks what its own site sent.
 fn books_of(alloc: Global, plan: &Plan, outs: &[SiteOut<Teller>]) -> Result<Books, AllocError>
     requires count { length outs.now ≡ site_count plan.now }
     requires sent { HaveSent plan.now outs.now }
@@ -85,14 +84,15 @@ fn books_of(alloc: Global, plan: &Plan, outs: &[SiteOut<Teller>]) -> Result<Book
     Ok(Books { balances, total })
 }
 
-// Runs the plan, balances the books, and puts what the sites did into one order.
+// Runs the plan, and returns the balances and one order of what the sites did.
 fn settle<R: Threads + Wait + Copy + Send + 'static>(
     rt: &R,
     alloc: Global,
     plan: &Plan,
 ) -> Result<(Books, Vec<Event>)>
     ensures books { IfOk result (λ settled. IsBooks plan.now settled.0) }
-    ensures order { IfOk result (λ settled. (journals : List (List EventKind)) × IsWholeOrder (plan_shown plan.now journals) journals settled.1.items) }
+    ensures order { IfOk result (λ settled. (journals : List (List EventKind))
+        × IsWholeOrder (plan_shown plan.now journals) journals settled.1.items) }
     ensures apart { IfOk result (λ settled. NeighboursEatApart plan.now settled.1.items) }
 {
     let tellers = open_tellers(alloc, plan)?;
@@ -103,8 +103,8 @@ fn settle<R: Threads + Wait + Copy + Send + 'static>(
     Ok((books, order_of(alloc, plan, &gathered)?))
 }
 
-// Tells what each account has, and all together.
-fn tell_books(rt: &impl Print, plan: &Plan, books: &Books) -> Result<()>
+// Prints what each account has, and the total.
+fn print_books(rt: &impl Print, plan: &Plan, books: &Books) -> Result<()>
     requires { IsBooks plan.now books.now }
 {
     for site in 0..plan.sites() {
@@ -114,8 +114,8 @@ fn tell_books(rt: &impl Print, plan: &Plan, books: &Books) -> Result<()>
     Ok(())
 }
 
-// Tells what the sites did, and how many meals there were.
-fn tell_order<R: Print + Eprint>(rt: &R, plan: &Plan, events: &[Event]) -> Result<()> {
+// Prints what the sites did, and the number of meals.
+fn print_order<R: Print + Eprint>(rt: &R, plan: &Plan, events: &[Event]) -> Result<()> {
     let mut meals = 0u32;
     for event in events {
         if event.site < plan.sites() {
@@ -132,6 +132,6 @@ fn tell_order<R: Print + Eprint>(rt: &R, plan: &Plan, events: &[Event]) -> Resul
 fn main(rt: HostRuntime) -> Result<()> {
     let plan = read_plan(rt.alloc(), RING)?;
     let (books, events) = settle(&rt, rt.alloc(), &plan)?;
-    tell_books(&rt, &plan, &books)?;
-    tell_order(&rt, &plan, events.as_slice())
+    print_books(&rt, &plan, &books)?;
+    print_order(&rt, &plan, events.as_slice())
 }

@@ -6,7 +6,7 @@ use dine_run::{CallLog, Diner, JobFault};
 use dine_token::Meal;
 use std::alloc::{AllocError, Global};
 
-/// How many units it sent, which is one at each call. A site has at most 1,000 jobs.
+/// A teller and the number of units that it sent, one at each call. A site has at most 1,000 jobs.
 #[derive(Drop)]
 pub struct Teller {
     pub log: CallLog,
@@ -16,7 +16,7 @@ pub struct Teller {
 }
 
 impl Teller {
-    /// A teller that sent nothing, with room for so many jobs.
+    /// Returns a teller that sent nothing, with capacity for a number of jobs.
     pub fn open(alloc: Global, jobs: u32) -> Result<Teller, AllocError>
         requires { jobs ≤ 1000 }
         ensures { IfOk result (λ teller. teller.log ≡ no_calls jobs) }

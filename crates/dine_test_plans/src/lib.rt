@@ -1,6 +1,8 @@
-//! The plans that tests of several crates are about. What the program prints for them stands in the heads of the same
-//! plans in `plans/` and `tests/cases/`.
+//! The plans that tests of several crates use, and the journals of a run of the pair. The heads of the same plans in
+//! `plans/` and `tests/cases/` have what the program prints for them.
 #![tactic(auto)]
+
+use dine_rules::EventKind;
 
 /// Two sites with one job each, and an edge between them.
 pub const PAIR: &str = r#"version = 1
@@ -91,7 +93,7 @@ jobs = [{ name = "y" }]
 ends = ["a", "b"]
 "#;
 
-/// The same, where the lower site resigns once a job failed.
+/// The same pair, except that the lower site resigns.
 pub const RESIGNING_PAIR: &str = r#"version = 2
 [[site]]
 name = "a"
@@ -103,3 +105,29 @@ jobs = [{ name = "y" }]
 [[edge]]
 ends = ["a", "b"]
 "#;
+
+/// The journal of the lower site of the pair if it eats first.
+pub const LOWER_JOURNAL: [EventKind; 9] = [
+    EventKind::Hungry,
+    EventKind::Begin,
+    EventKind::End,
+    EventKind::Done(0),
+    EventKind::Take(0),
+    EventKind::Give(0),
+    EventKind::Take(0),
+    EventKind::Close(0),
+    EventKind::Take(0),
+];
+
+/// The journal of the higher site of the pair if the lower site eats first.
+pub const HIGHER_JOURNAL: [EventKind; 9] = [
+    EventKind::Hungry,
+    EventKind::Ask(0),
+    EventKind::Take(0),
+    EventKind::Take(0),
+    EventKind::Begin,
+    EventKind::End,
+    EventKind::Done(0),
+    EventKind::Close(0),
+    EventKind::Take(0),
+];

@@ -1,4 +1,4 @@
-// Whole runs, from words and input to what is printed and told.
+// Whole commands, from arguments and input to output and line of a fault.
 use super::input::{stuttered, stuttered_of};
 use super::output::{takes_pieces, writes, writes_of};
 use crate::asserts::same;
@@ -14,30 +14,30 @@ use std::thread::Threads;
 const USAGE: &str =
     "dine: usage: dine [run [--table edges|sites] [--links channel|ring] | replay [--choices LIST] | check]\n";
 
-// What a run leaves: the number of its status, what it printed, and what it told of a fault.
+// What a command leaves: the number of its status, what it printed, and the line of a fault.
 pub type Left<'a> = (u8, &'a str, &'a str);
 
-// The number of the status of a run with the words of the line.
+// Returns the number of the status of a command with the arguments of the line.
 pub fn run_into<
     H: Threads + Wait + AllocGlobal + Abort + Copy + Send + 'static,
     R: Read,
     W: Write,
     F: Write,
 >(rt: &H, line: &str, input: &mut R, output: &mut W, faults: &mut F) -> u8 {
-    let words = words_in(rt, rt.alloc(), line);
-    run_cmd(rt, rt.alloc(), words.as_slice(), input, output, faults).number()
+    let arguments = arguments_in(rt, rt.alloc(), line);
+    run_cmd(rt, rt.alloc(), arguments.as_slice(), input, output, faults).number()
 }
 
-fn words_in(rt: &impl Abort, alloc: Global, line: &str) -> Vec<String> {
-    let mut words = Vec::new(alloc);
-    for word in line.split_whitespace() {
-        let word = String::from_str(alloc, word).expect(rt, "memory");
-        words.push(word).expect(rt, "memory");
+fn arguments_in(rt: &impl Abort, alloc: Global, line: &str) -> Vec<String> {
+    let mut arguments = Vec::new(alloc);
+    for argument in line.split_whitespace() {
+        let argument = String::from_str(alloc, argument).expect(rt, "memory");
+        arguments.push(argument).expect(rt, "memory");
     }
-    words
+    arguments
 }
 
-// Runs the words of the line, and compares all that this leaves.
+// Runs the arguments of the line, and compares all that this leaves.
 pub fn leaves<H: Threads + Wait + AllocGlobal + Abort + Copy + Send + 'static, R: Read>(
     rt: &H,
     line: &str,
@@ -45,10 +45,10 @@ pub fn leaves<H: Threads + Wait + AllocGlobal + Abort + Copy + Send + 'static, R
     wanted: Left,
 ) {
     let mut written = Vec::new(rt.alloc());
-    let mut told = Vec::new(rt.alloc());
-    let number = run_into(rt, line, input, &mut written, &mut told);
+    let mut reported = Vec::new(rt.alloc());
+    let number = run_into(rt, line, input, &mut written, &mut reported);
     let output = std::str::from_utf8(written.as_slice()).ok();
-    let faults = std::str::from_utf8(told.as_slice()).ok();
+    let faults = std::str::from_utf8(reported.as_slice()).ok();
     same(
         rt,
         &(line, number, output, faults),
@@ -83,7 +83,7 @@ fn a_run_reads_and_writes_as_the_other_commands(rt: HostRuntime) {
 const WRITING_FAILED: Left<'static> = (6, "", "dine: writing failed\n");
 
 #[test]
-fn a_ring_without_words_is_read_and_written(rt: HostRuntime) {
+fn a_ring_without_arguments_is_read_and_written(rt: HostRuntime) {
     for (step, bad_read) in [(8192, 1), (100, 3)] {
         let given = (step, bad_read, io::ErrorKind::Other);
         let read = stuttered_of(&rt, RING, "dine", given, READING_FAILED);
@@ -100,7 +100,7 @@ fn a_ring_without_words_is_read_and_written(rt: HostRuntime) {
 }
 
 #[test]
-fn refused_words_leave_the_input_unread(rt: HostRuntime) {
+fn refused_arguments_leave_the_input_unread(rt: HostRuntime) {
     for line in [
         "dine --help",
         "dine eat",
@@ -131,13 +131,13 @@ fn each_command_refuses_a_text_that_is_no_plan(rt: HostRuntime) {
         "dine replay --choices 1",
         "dine check",
     ] {
-        for (text, told) in refusals {
-            text_leaves(&rt, line, text, (3, "", told));
+        for (text, refusal) in refusals {
+            text_leaves(&rt, line, text, (3, "", refusal));
         }
     }
 }
 
-// A plan of so many sites with a job each, and no edge.
+// Returns the text of a plan of a number of sites with a job each, and no edge.
 fn sites_alone(alloc: Global, sites: u32) -> Result<String, AllocError> {
     let mut text = String::from_str(alloc, "version = 1\n")?;
     for site in 0..sites {

@@ -9,7 +9,7 @@ use std::io;
 use std::io::Write;
 use std::process::{Abort, ExitCode};
 
-// Takes all bytes, and counts the flushes behind the last of them.
+// A writer that takes all bytes, and counts the flushes after the last of them.
 #[derive(Drop)]
 struct Flushed {
     held: Vec<u8>,
@@ -36,8 +36,12 @@ fn ends<R: Abort>(rt: &R, alloc: Global, fault: Fault, status: Status, line: &st
         flushes: 0,
     };
     let ended = fault.end(&mut faults);
-    let told = std::str::from_utf8(faults.held.as_slice()).ok();
-    same(rt, &(ended, told, faults.flushes), &(status, Some(line), 1));
+    let reported = std::str::from_utf8(faults.held.as_slice()).ok();
+    same(
+        rt,
+        &(ended, reported, faults.flushes),
+        &(status, Some(line), 1),
+    );
 }
 
 #[test]

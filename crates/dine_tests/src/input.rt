@@ -31,8 +31,8 @@ impl Read for Stuttering {
     }
 }
 
-// Runs the words of the line with the plan of two sites, given at most so many bytes at a time, with such a failure at
-// such a read. It leaves this. Answers how many reads there were, and how many bytes are left.
+// Runs the arguments of the line with the plan of two sites, in pieces of a number of bytes, with a failure at a read.
+// Checks what it leaves. Returns the number of reads, and the number of bytes that are left.
 pub fn stuttered<H: Threads + Wait + AllocGlobal + Abort + Copy + Send + 'static>(
     rt: &H,
     line: &str,
@@ -111,8 +111,8 @@ fn an_interrupted_read_is_tried_again(rt: HostRuntime) {
     }
 }
 
-// So many line feeds, given at most `step` at a time, are refused with this status and line. Answers how many reads
-// there were, and how many of the line feeds are left.
+// Checks that a number of line feeds, in pieces of `step`, is refused with this status and line. Returns the number of
+// reads, and the number of line feeds that are left.
 fn feeds_leave<H: Threads + Wait + AllocGlobal + Abort + Copy + Send + 'static>(
     rt: &H,
     feeds: (usize, usize),

@@ -1,6 +1,6 @@
-//! The tests of `dine`, by what anyone can see of it. There is nothing else here, so that it is not proved a second
-//! time for them. What is printed for a plan stands in the plans' heads, which `tools/plans` tries with the program,
-//! and below `tests/texts/`, which `tools/texts` tries.
+//! The tests of `dine`, by public items. They are in a crate of their own, so that `dine` is not proved a second time
+//! for them. What is printed for a plan is in the heads of the plans, which `tools/plans` tries with the program, and
+//! in `tests/texts/`, which `tools/texts` tries.
 #![tactic(auto)]
 
 #[cfg(test)]

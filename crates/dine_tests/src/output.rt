@@ -9,7 +9,8 @@ use std::process::Abort;
 use std::sync::Wait;
 use std::thread::Threads;
 
-// Takes at most `step` bytes a call. It fails with `kind` at the write `bad_write`, and at its flush where `bad_flush`.
+// A writer that takes at most `step` bytes a call. Its write `bad_write` fails with `kind`, and its flush if
+// `bad_flush`.
 #[derive(Drop)]
 pub struct Choppy {
     held: Vec<u8>,
@@ -57,7 +58,7 @@ const TAKEN: &str = "ok: 2 sites, 1 edges, 2 jobs\n";
 
 const WRITING_FAILED: &str = "dine: writing failed\n";
 
-// Runs the words of the line with the plan of two sites into the output, and compares all that this leaves.
+// Runs the arguments of the line with the plan of two sites into the output, and compares all that this leaves.
 pub fn writes<H: Threads + Wait + AllocGlobal + Abort + Copy + Send + 'static>(
     rt: &H,
     line: &str,
@@ -76,10 +77,10 @@ pub fn writes_of<H: Threads + Wait + AllocGlobal + Abort + Copy + Send + 'static
     wanted: Left,
 ) {
     let mut input = text.as_bytes();
-    let mut told = Vec::new(rt.alloc());
-    let number = run_into(rt, line, &mut input, output, &mut told);
+    let mut reported = Vec::new(rt.alloc());
+    let number = run_into(rt, line, &mut input, output, &mut reported);
     let held = std::str::from_utf8(output.held.as_slice()).ok();
-    let faults = std::str::from_utf8(told.as_slice()).ok();
+    let faults = std::str::from_utf8(reported.as_slice()).ok();
     same(
         rt,
         &(line, number, held, faults),
@@ -97,7 +98,7 @@ fn the_whole_text_is_written_and_flushed(rt: HostRuntime) {
 }
 
 #[test]
-fn an_output_that_fails_is_told(rt: HostRuntime) {
+fn an_output_that_fails_is_reported(rt: HostRuntime) {
     // How many bytes a write takes, which one fails, whether the flush fails, what goes out, and how many writes there
     // are.
     let cases = [
@@ -134,30 +135,30 @@ fn an_interrupted_write_is_tried_again(rt: HostRuntime) {
     }
 }
 
-// Runs the words of the line with the text, into an output that takes so many bytes at a time. It ends with a status of
-// this number, whatever becomes of the line that tells why.
-fn tells_into<H: Threads + Wait + AllocGlobal + Abort + Copy + Send + 'static>(
+// Runs the arguments of the line with the text, into an output that takes a number of bytes at a time. Checks the
+// number of the status, whether or not the line of the fault is written.
+fn ends_into<H: Threads + Wait + AllocGlobal + Abort + Copy + Send + 'static>(
     rt: &H,
     run: (&str, &str, usize, u8),
-    told: &mut Choppy,
+    reported: &mut Choppy,
 ) {
     let (line, text, step, number) = run;
     let mut input = text.as_bytes();
     let mut output = takes_pieces(rt.alloc(), step);
-    let status = run_into(rt, line, &mut input, &mut output, told);
+    let status = run_into(rt, line, &mut input, &mut output, reported);
     same(rt, &(line, status), &(line, number));
 }
 
 #[test]
-fn a_fault_is_told_in_a_line_and_flushed(rt: HostRuntime) {
-    let mut told = takes_pieces(rt.alloc(), 100);
-    tells_into(&rt, ("dine check", PAIR, 0, 6), &mut told);
-    same(&rt, &(told.writes, told.flushes), &(2, 1));
-    same(&rt, &told.held.as_slice(), &WRITING_FAILED.as_bytes());
+fn a_fault_is_reported_in_a_line_and_flushed(rt: HostRuntime) {
+    let mut reported = takes_pieces(rt.alloc(), 100);
+    ends_into(&rt, ("dine check", PAIR, 0, 6), &mut reported);
+    same(&rt, &(reported.writes, reported.flushes), &(2, 1));
+    same(&rt, &reported.held.as_slice(), &WRITING_FAILED.as_bytes());
 }
 
 #[test]
-fn a_fault_that_can_not_be_told_changes_no_status(rt: HostRuntime) {
+fn a_fault_that_cannot_be_reported_changes_no_status(rt: HostRuntime) {
     for run in [
         ("dine eat", PAIR, 100, 2),
         ("dine replay", "", 100, 3),
@@ -165,10 +166,10 @@ fn a_fault_that_can_not_be_told_changes_no_status(rt: HostRuntime) {
         ("dine replay", PAIR, 100, 0),
     ] {
         for bad_write in 1..=2 {
-            let mut told = takes_pieces(rt.alloc(), 5);
-            told.bad_write = bad_write;
-            tells_into(&rt, run, &mut told);
-            assert!(rt; b"dine:".starts_with(told.held.as_slice()));
+            let mut reported = takes_pieces(rt.alloc(), 5);
+            reported.bad_write = bad_write;
+            ends_into(&rt, run, &mut reported);
+            assert!(rt; b"dine:".starts_with(reported.held.as_slice()));
         }
     }
 }

@@ -35,7 +35,7 @@ fn left<R: Threads + Wait + Copy + Send + Abort + 'static>(
 }
 
 #[test]
-fn a_diner_has_room_for_its_jobs(rt: HostRuntime) {
+fn a_diner_has_capacity_for_its_jobs(rt: HostRuntime) {
     let plan = read_plan(rt.alloc(), JOBS).expect(&rt, "a plan");
     assert!(&rt; 0 < plan.sites());
     let diner = PlanDiner::open(rt.alloc(), &plan, 0).expect(&rt, "memory");
@@ -56,7 +56,7 @@ fn middle_job_fails(rt: HostRuntime) {
     same(&rt, &first.diner.calls(), &calls.as_slice());
 }
 
-// The words are those of xorshift by its author's own shifts and first word.
+// The words of xorshift, with the shifts and the first word of its author.
 #[test]
 fn each_turn_of_a_job_is_taken(rt: HostRuntime) {
     let sites = left(&rt, rt.alloc());

@@ -61,7 +61,7 @@ fn edges_are<R: Abort>(rt: &R, alloc: Global, version: u32, wanted: &str) {
 }
 
 #[test]
-fn edges_are_told_by_the_names_of_their_ends(rt: HostRuntime) {
+fn edges_have_the_names_of_their_ends(rt: HostRuntime) {
     let wanted = "edge,lo,hi,lo_meals,hi_meals\n0,a,B-2_,0,1000\n1,B-2_,c,12,4294967295\n";
     edges_are(&rt, rt.alloc(), 1, wanted);
 }
@@ -74,7 +74,7 @@ fn edges_of_version_two_have_a_value(rt: HostRuntime) {
 }
 
 #[test]
-fn sites_are_told_by_name(rt: HostRuntime) {
+fn sites_have_their_names(rt: HostRuntime) {
     let plan = path(&rt, rt.alloc(), 1);
     let rows = [
         SiteRow {

@@ -1,8 +1,8 @@
--- The headline. Whenever all sites have joined (Ok or Broken), what was taken from each link is a prefix of what was
--- put, in order, each letter once, nothing after Close. Where `run` answers Ok, everything put was taken, exactly one
--- fork per edge is gathered, and its log is lawful and holds every meal that either end ate exactly once. Where it
--- answers Broken, at most one fork per edge is found, and each breach that a site tells is a Close that came early.
--- When anything happened, and in what order the sites ate, is not said.
+-- The headline. If `run` returns Ok or Broken, all sites have joined: the letters taken from each link are a prefix of
+-- the letters put on it, and nothing was put after Close. If it returns Ok, all letters that were put were taken, and
+-- exactly one fork for each edge is gathered; its log is lawful, and has every meal that either end ate, exactly once.
+-- If it returns Broken, at most one fork for each edge is found, and each breach that a site reports is a Close that
+-- arrived early. No definition says when anything happened, or in which order the sites ate.
 use Rattle.std.specs.Prelude.{◌≡◌, ◌≢◌, ℕ, ◌+◌, ◌<◌, ◌≤◌, ◌==◌, List, All, filter, length, map, slice_get, slice_index_or, vec_len, Some, Result, Ok, Err, if◌then◌else◌}
 use Rattle.std.specs.Global.{Vec}
 use Rattle.std.specs.List.{range_with_len}
@@ -20,9 +20,11 @@ use Rattle.dine_threads.specs.declared.gathered.RunFault.{RunFault}
 use Rattle.dine_threads.specs.declared.gathered.RunFault.TheVariants.{DinersDiffer, Memory, Thread, Broken}
 use Rattle.dine_threads.specs.Brokens.{AllClosedEarly, AreStatesLeft}
 use Rattle.dine_threads.specs.Gathered.{AreLinksOf, AreOutsOf, IsTakenInOrder, IsClosedWhole, IsLowestFault, low_traffic, high_traffic, traffic_of}
+use Rattle.dine_site.specs.declared.manner.Manner.{Manner}
 use Rattle.dine_site.specs.declared.diner.Diner as diners
 
--- Once all have joined: each link was taken in order, and what each end put is in order.
+-- All sites have joined: there are two links for each edge, from each link the letters were taken in order, and what
+-- each end put is in order.
 pub record AllJoined (plan : SeenPlan) (ates : List ℕ) (links : List SeenLink) : Type 0 where
   pub by_edge : AreLinksOf plan links
   pub in_order : All IsTakenInOrder links
@@ -39,37 +41,40 @@ module _ (plan : SeenPlan) (ates : List ℕ) (links : List SeenLink) where
       then hand (lo_of plan edge) (ate_of (lo_of plan edge)) (low_traffic links edge)
       else hand (hi_of plan edge) (ate_of (hi_of plan edge)) (high_traffic links edge)
 
-  -- Exactly one end holds the edge's fork: this is it, with a whole log, and the value that the log gives.
-  -- [paper: one fork]
+  -- Exactly one end holds the edge's fork, and this is the fork. Its log is whole, and its value is the one that the
+  -- log gives. [paper: one fork]
   pub record IsTheFork (edge : ℕ) (fork : SeenFork) : Type 0 where
     pub one : forks_held plan (lo_of plan edge) edge (low_traffic links edge) + forks_held plan (hi_of plan edge) edge (high_traffic links edge) ≡ 1
     pub in_hand : fork ≡ fork_by plan edge (log_in_hand edge)
     pub whole : IsWholeLog plan edge (ate_of (lo_of plan edge)) (ate_of (hi_of plan edge)) fork.log
 
-  -- `run` answers Ok: all joined, all put was taken, and there is one fork an edge, by edge, each as `IsTheFork`.
+  -- `run` returned Ok: all sites have joined, all letters that were put were taken, and there is one fork for each
+  -- edge, in the order of the edges. `IsTheFork` holds of each.
   pub record IsHeadline (forks : List SeenFork) : Type 0 where
     pub joined : AllJoined plan ates links
     pub all_taken : All IsClosedWhole links
     pub one_fork_an_edge : map (λ (fork : SeenFork). fork.edge) forks ≡ range_with_len 0 (edge_count plan)
     pub each_fork : (edge : ℕ) (fork : SeenFork) → slice_get forks edge ≡ Some fork → IsTheFork edge fork
 
--- Exactly one end of each edge holds its token, and each site has those that it holds, in edge order.
+-- Exactly one end of each edge holds its token. Each site has left the tokens that it holds, in the order of the edges.
 pub record AreTokensOf {D : Type 0} (plan : SeenPlan) (links : List SeenLink) (outs : List (SiteOut D)) : Type 0 where
   pub one : (edge : ℕ) → edge < edge_count plan → tokens_held plan (lo_of plan edge) edge (low_traffic links edge) + tokens_held plan (hi_of plan edge) edge (high_traffic links edge) ≡ 1
   pub stand : (s : ℕ) (out : SiteOut D) → slice_get outs s ≡ Some out → out.tokens.items ≡ filter (λ edge. tokens_held plan s edge (traffic_of plan links s edge) == 1) (edges_of plan s)
 
--- Why a run gathered nothing, or not all: the diners were not as many as the sites, and these are they; or all joined,
--- the site named is the lowest with a fault, and what is found is as `AreStatesLeft` and `AllClosedEarly` say. Where
--- memory or a thread is told to have been refused, nothing is said of the cause, nor of what moved.
-abbrev pub FaultIs : {D : Type 0} → diners.Ghosts D → SeenPlan → Vec D → RunFault D → Type 0
-FaultIs eater plan diners (DinersDiffer given back) = (given ≡ vec_len diners) × (back ≡ diners) × (vec_len diners ≢ site_count plan)
-FaultIs eater plan diners Memory = vec_len diners ≡ site_count plan
-FaultIs eater plan diners (Thread site) = (vec_len diners ≡ site_count plan) × (site < site_count plan)
-FaultIs eater plan diners (Broken site joined) = (vec_len diners ≡ site_count plan) × AllJoined plan (map (λ (out : SiteOut _). out.ate) joined.sites.items) joined.links.items × AreOutsOf eater plan diners.items joined.sites.items × IsLowestFault site joined.sites.items
-    × AreStatesLeft plan joined.sites.items joined.links.items joined.forks.items × AllClosedEarly joined.sites.items
+-- What holds if `run` returns an error. DinersDiffer: there are not as many diners as sites, and the error has their
+-- number and the diners. The other three: there are as many diners as sites. Thread: the site that is named is one of
+-- the plan. Memory, Thread: nothing is said of the cause, or of the letters that moved. Broken: all sites have joined,
+-- the site that is named is the lowest with a fault, and `AreOutsOf`, `AreStatesLeft` and `AllClosedEarly` say what was
+-- found.
+abbrev pub FaultIs : {D : Type 0} → diners.Ghosts D → Manner → SeenPlan → Vec D → RunFault D → Type 0
+FaultIs eater manner plan diners (DinersDiffer given back) = (given ≡ vec_len diners) × (back ≡ diners) × (vec_len diners ≢ site_count plan)
+FaultIs eater manner plan diners Memory = vec_len diners ≡ site_count plan
+FaultIs eater manner plan diners (Thread site) = (vec_len diners ≡ site_count plan) × (site < site_count plan)
+FaultIs eater manner plan diners (Broken site joined) = (vec_len diners ≡ site_count plan) × AllJoined plan (map (λ (out : SiteOut _). out.ate) joined.sites.items) joined.links.items × AreOutsOf eater manner plan diners.items joined.sites.items × IsLowestFault site joined.sites.items
+    × AreStatesLeft manner plan joined.sites.items joined.links.items joined.forks.items × AllClosedEarly joined.sites.items
 
--- With fewer threads than sites nothing is gathered and nothing breaks: a site that is told to lack a thread has at
--- most as many before it as there are threads.
+-- What a run with too few threads returns: an error, and not Broken. If the error is Thread, the number of the site
+-- that is named is at most `threads`.
 abbrev pub FallsShort : {G D : Type 0} → ℕ → Result G (RunFault D) → Type 0
 FallsShort threads (Ok gathered) = ⊥
 FallsShort threads (Err (DinersDiffer given back)) = Unit {0}

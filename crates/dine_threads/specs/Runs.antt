@@ -2,6 +2,7 @@
 use Rattle.std.specs.Prelude.{◌≡◌, ℕ, ◌≤◌, map, slice_get, vec_len, Some}
 use Rattle.std.specs.Global.{Vec}
 use Rattle.dine_graph.specs.Plan.{SeenPlan, job_count, site_count}
+use Rattle.dine_site.specs.declared.manner.Manner.{Manner}
 use Rattle.dine_site.specs.declared.diner.Diner as diners
 use Rattle.dine_threads.specs.declared.gathered.Gathered.{Gathered}
 use Rattle.dine_threads.specs.declared.gathered.SiteOut.{SiteOut}
@@ -9,24 +10,25 @@ use Rattle.dine_threads.specs.Gathered.{AreFinishedOuts, AreOutsOf}
 use Rattle.dine_threads.specs.Headline.{AreTokensOf, IsHeadline}
 use Rattle.dine_threads.specs.Journals.{HaveActed, HaveOrder}
 
--- where there are as many diners as sites, each has room for the calls of all meals of its site
+-- if there are as many diners as sites, each diner has capacity for the calls of all jobs of its site
 abbrev pub HaveRoom : {D : Type 0} → diners.Ghosts D → SeenPlan → Vec D → Type 0
 HaveRoom {D} eater plan given = vec_len given ≡ site_count plan → (s : ℕ) (one : D) → slice_get given.items s ≡ Some one
     → job_count plan s ≤ eater.room_left one
 
--- where there are as many diners as sites, each expects to eat at the site of its number, in this plan
+-- if there are as many diners as sites, each diner expects to eat in this plan, at the site of its number
 abbrev pub HaveSites : {D : Type 0} → diners.Ghosts D → SeenPlan → Vec D → Type 0
 HaveSites {D} eater plan given = vec_len given ≡ site_count plan → (s : ℕ) (one : D) → slice_get given.items s ≡ Some one
     → eater.expects one plan s
 
--- What `run` gathered where it answers Ok, of a plan and the diners that it was given: there were as many as sites,
--- each site did all, the headline holds, and each journal, token and diner is as its line says.
-pub record IsRun {D : Type 0} (eater : diners.Ghosts D) (plan : SeenPlan) (given : Vec D) (gathered : Gathered D) : Type 0 where
+-- What `run` returns as Ok, for a plan and the diners that were given. There was a diner for each site, no site has a
+-- job left or a fault, and the headline holds. The other lines are about the journals, the list that merges them, the
+-- tokens, and the sites with their diners.
+pub record IsRun {D : Type 0} (eater : diners.Ghosts D) (manner : Manner) (plan : SeenPlan) (given : Vec D) (gathered : Gathered D) : Type 0 where
   pub many : vec_len given ≡ site_count plan
   pub finished : AreFinishedOuts plan gathered.sites.items
   pub headline : IsHeadline plan (map (λ (out : SiteOut D). out.ate) gathered.sites.items) gathered.links.items gathered.forks.items
   pub journals : HaveActed plan (map (λ (out : SiteOut D). out.ate) gathered.sites.items) gathered.links.items
-      (map (λ (out : SiteOut D). out.journal.items) gathered.sites.items)
+      manner (map (λ (out : SiteOut D). out.journal.items) gathered.sites.items)
   pub ordered : HaveOrder plan (map (λ (out : SiteOut D). out.journal.items) gathered.sites.items)
   pub tokens : AreTokensOf plan gathered.links.items gathered.sites.items
-  pub sites : AreOutsOf eater plan given.items gathered.sites.items
+  pub sites : AreOutsOf eater manner plan given.items gathered.sites.items

@@ -11,8 +11,8 @@ use Rattle.dine_threads.specs.declared.gathered.SiteOut.{SiteOut}
 use Rattle.dine_threads.specs.declared.tables.EdgeRow.{EdgeRow}
 use Rattle.dine_threads.specs.declared.tables.SiteRow.{SiteRow}
 
--- What is gathered is of that plan: one fork for each edge, in order, with the plan's ends and due meals, and one of
--- what the sites left for each site, in order.
+-- What is gathered is of that plan: there is one fork for each edge, in order, with the plan's ends and due meals, and
+-- what each site left, in order.
 pub record IsGatheredOf {D : Type 0} (plan : SeenPlan) (forks : List SeenFork) (outs : List (SiteOut D)) : Type 0 where
   pub one_fork_an_edge : map (λ (fork : SeenFork). fork.edge) forks ≡ range_with_len 0 (edge_count plan)
   pub ends : (edge : ℕ) (fork : SeenFork) → slice_get forks edge ≡ Some fork → fork.ends ≡ (lo_of plan edge, hi_of plan edge)
@@ -20,7 +20,7 @@ pub record IsGatheredOf {D : Type 0} (plan : SeenPlan) (forks : List SeenFork) (
   pub count : length outs ≡ site_count plan
   pub site : (s : ℕ) (out : SiteOut D) → slice_get outs s ≡ Some out → out.site ≡ s
 
--- the row of an edge, by how many meals each of its ends has, and its value
+-- the row of an edge, by how many meals each of its ends has, and by its value
 abbrev pub edge_row : SeenPlan → (ℕ → ℕ) → ℕ → ℕ → EdgeRow
 edge_row plan meals value edge = record {
   edge = edge;
@@ -43,15 +43,15 @@ edge_rows plan forks = map (logged_row plan forks) (range_with_len 0 (edge_count
 abbrev pub due_edge_rows : SeenPlan → (ℕ → ℕ) → List ℕ → List EdgeRow
 due_edge_rows plan meals values = map (λ edge. edge_row plan meals (slice_index_or values edge 0) edge) (range_with_len 0 (edge_count plan))
 
--- the value of an edge after so many meals of each site: that of some whole log, and where no job sets a value, what
--- the jobs of these meals add up to
+-- the value of an edge after this number of meals of each site: the one that some whole log gives; and if no job sets a
+-- value, the sum of what the jobs of these meals add
 pub record IsDueValue (plan : SeenPlan) (meals : ℕ → ℕ) (edge value : ℕ) : Type 0 where
   pub log : List Entry
   pub whole : IsWholeLog plan edge (meals (lo_of plan edge)) (meals (hi_of plan edge)) log
   pub by_log : value ≡ value_by plan edge log
   pub added : has_no_set plan ≡ true → value ≡ added_up plan edge (meals (lo_of plan edge)) (meals (hi_of plan edge))
 
--- a value of each edge after these meals, in order
+-- a value for each edge after these meals, in order
 pub record AreDueValues (plan : SeenPlan) (meals : ℕ → ℕ) (values : List ℕ) : Type 0 where
   pub count : length values ≡ edge_count plan
   pub each : (edge value : ℕ) → slice_get values edge ≡ Some value → IsDueValue plan meals edge value

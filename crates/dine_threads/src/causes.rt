@@ -1,4 +1,4 @@
-//! Why a run gathers nothing, or not all, in words.
+//! Why a run gathers nothing, or not all, and the words for it.
 ghost use Rattle.std.specs.Prelude.{◌≡◌, Some};
 ghost use Rattle.dine_threads.specs.Causes.{cause_of, cause_words};
 
@@ -12,9 +12,9 @@ use std::fmt;
 pub enum RunCause {
     /// There were not as many diners as sites.
     DinersDiffer,
-    /// Memory was refused before any thread started.
+    /// An allocation failed before any thread started.
     Memory,
-    /// The thread of this site was refused.
+    /// The thread of this site could not be started.
     Thread(u32),
     /// This is the lowest site that ended with a fault, and its fault.
     Broken(u32, SiteFault),
@@ -29,9 +29,9 @@ impl<D: Diner> From<&RunFault<D>> for RunCause {
             RunFault::Memory => RunCause::Memory,
             RunFault::Thread(site) => RunCause::Thread(*site),
             RunFault::Broken { site, joined } => {
-                // `run` tells no site as broken that has no fault; that would be one not started.
-                let told = joined.sites.get(*site as usize).and_then(|out| out.fault);
-                let fault = told.unwrap_or(SiteFault::NotStarted);
+                // A site without a fault counts as not started; `run` never reports one as broken.
+                let found = joined.sites.get(*site as usize).and_then(|out| out.fault);
+                let fault = found.unwrap_or(SiteFault::NotStarted);
                 RunCause::Broken(*site, fault)
             }
         }
@@ -55,7 +55,7 @@ impl fmt::Display for RunCause {
 
 impl Error for RunCause {}
 
-/// The cause in words.
+/// The words for the cause.
 impl<D: Diner> fmt::Display for RunFault<D> {
     ghost output = { λ fault. Some (cause_words (cause_of fault)) };
 

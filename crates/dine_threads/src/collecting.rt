@@ -1,26 +1,30 @@
-// What the sites left is brought together: their link ends by edge, their forks by edge, and the rest by site.
-ghost use Rattle.std.specs.Prelude.{◌≡◌, ◌<◌, ◌≤◌, ◌*◌, ◌^◌, All, IfOk, Some, None, is_some, length, map, position, replicate, slice_get, vec_len, vec_capacity};
+// Gathers what the sites left: their link ends by edge, their forks by edge, and the rest by site.
+ghost use Rattle.std.specs.Prelude.{◌≡◌, ◌<◌, ◌≤◌, ◌*◌, ◌^◌, All, IfOk, Some, None, is_some, length, map, position};
+ghost use Rattle.std.specs.Prelude.{replicate, slice_get, vec_len, vec_capacity};
 ghost use Rattle.dine_graph.specs.Plan.{edge_count, edges_of, site_count};
-ghost use Rattle.dine_threads.specs.private.Collecting.{AreForksOf, AreJoined, AreLinksLeft, AreWholeEnds, IsRoomFor, IsTakenToClose, forks_left, found, laid, links_left, out_of, rows_left};
+ghost use Rattle.dine_threads.specs.private.Collecting.{AreForksOf, AreJoined, AreLinksLeft, AreWholeEnds, IsRoomFor};
+ghost use Rattle.dine_threads.specs.private.Collecting.{IsTakenToClose, forks_left, found, in_slots, links_left};
+ghost use Rattle.dine_threads.specs.private.Collecting.{out_of, rows_left};
 ghost use Rattle.dine_threads.specs.Gathered.{IsTakenInOrder};
 ghost use Rattle.dine_threads.specs.private.Wirings.{AreWired};
 
 use crate::gathered::SiteOut;
-use crate::slots::{Both, fill_row, pair_up};
+use crate::slots::{EdgePair, fill_row, pair_up};
 use dine_graph::Plan;
 use dine_link::{Lane, LinkEnd};
 use dine_site::{Diner, Port, SiteEnd};
 use dine_token::Fork;
 use std::alloc::{AllocError, Global};
 
-/// Room for all that is gathered, got before any thread starts: an `S` is what a site left, and a `P` is a port.
+/// The lists for all that is gathered, allocated before any thread starts: an `S` is what a site left, and a `P` is a
+/// port.
 #[derive(Drop)]
 pub struct Room<S, P> {
     pub sites: Vec<S>,
-    // An empty row for the ports of each site, and room for the rows that are filled.
+    // An empty row for the ports of each site, and a list for the rows that are filled.
     pub empty: Vec<Vec<Option<P>>>,
     pub rows: Vec<Vec<Option<P>>>,
-    pub pairs: Vec<Both<P>>,
+    pub pairs: Vec<EdgePair<P>>,
     pub links: Vec<LinkEnd>,
     pub slots: Vec<Option<Fork>>,
     pub forks: Vec<Fork>,
@@ -28,10 +32,11 @@ pub struct Room<S, P> {
 
 pub type RoomOf<L, D> = Room<SiteOut<D>, Port<L>>;
 
-// An empty row for the ports of each site.
+// Returns an empty row for the ports of each site.
 fn empty_rows<P: Drop>(alloc: Global, plan: &Plan) -> Result<Vec<Vec<Option<P>>>, AllocError>
     ensures count { IfOk result (λ rows. vec_len rows ≡ site_count plan.now) }
-    ensures room { IfOk result (λ rows. (s : _) (row : _) → slice_get rows.items s ≡ Some row → length (edges_of plan.now s) ≤ vec_capacity row) }
+    ensures room { IfOk result (λ rows. (s : _) (row : _)
+        → slice_get rows.items s ≡ Some row → length (edges_of plan.now s) ≤ vec_capacity row) }
     ensures none { IfOk result (λ rows. (s : _) (row : _) → slice_get rows.items s ≡ Some row → vec_len row ≡ 0) }
 {
     let mut rows = Vec::with_capacity(alloc, plan.sites() as usize)?;
@@ -41,7 +46,7 @@ fn empty_rows<P: Drop>(alloc: Global, plan: &Plan) -> Result<Vec<Vec<Option<P>>>
     Ok(rows)
 }
 
-// An empty slot for each edge.
+// Returns an empty slot for each edge.
 fn empty_slots<P: Drop>(alloc: Global, plan: &Plan) -> Result<Vec<Option<P>>, AllocError>
     ensures { IfOk result (λ slots. slots.items ≡ replicate (edge_count plan.now) None) }
 {
@@ -52,11 +57,12 @@ fn empty_slots<P: Drop>(alloc: Global, plan: &Plan) -> Result<Vec<Option<P>>, Al
     Ok(slots)
 }
 
-// Room for the ports, the links and the forks of each edge. Whatever is refused here leaves little to drop.
+// Returns lists with capacity for the ports, the links and the forks of each edge. Split for the checker: see
+// CONTRIBUTING, cost of proofs.
 fn edge_lists<P: Drop>(
     alloc: Global,
     edges: usize,
-) -> Result<(Vec<Both<P>>, Vec<LinkEnd>, Vec<Fork>), AllocError>
+) -> Result<(Vec<EdgePair<P>>, Vec<LinkEnd>, Vec<Fork>), AllocError>
     requires { edges < 2 ^ 16 }
     ensures pairs { IfOk result (λ lists. edges ≤ vec_capacity lists.0) }
     ensures no_pair { IfOk result (λ lists. vec_len lists.0 ≡ 0) }
@@ -71,7 +77,8 @@ fn edge_lists<P: Drop>(
     Ok((pairs, links, forks))
 }
 
-// Room for what each site left, an empty row for the ports of each, and room for the rows that are filled.
+// Returns lists with capacity for what each site left and for the rows that are filled, and an empty row for the ports
+// of each site. Split for the checker: see CONTRIBUTING, cost of proofs.
 fn site_lists<S: Drop, P: Drop>(
     alloc: Global,
     plan: &Plan,
@@ -79,8 +86,10 @@ fn site_lists<S: Drop, P: Drop>(
     ensures sites { IfOk result (λ lists. site_count plan.now ≤ vec_capacity lists.0) }
     ensures no_site { IfOk result (λ lists. vec_len lists.0 ≡ 0) }
     ensures empty_rows { IfOk result (λ lists. vec_len lists.1 ≡ site_count plan.now) }
-    ensures empty_room { IfOk result (λ lists. (s : _) (row : _) → slice_get lists.1.items s ≡ Some row → length (edges_of plan.now s) ≤ vec_capacity row) }
-    ensures no_thing { IfOk result (λ lists. (s : _) (row : _) → slice_get lists.1.items s ≡ Some row → vec_len row ≡ 0) }
+    ensures empty_room { IfOk result (λ lists. (s : _) (row : _)
+        → slice_get lists.1.items s ≡ Some row → length (edges_of plan.now s) ≤ vec_capacity row) }
+    ensures no_thing { IfOk result (λ lists. (s : _) (row : _)
+        → slice_get lists.1.items s ≡ Some row → vec_len row ≡ 0) }
     ensures rows { IfOk result (λ lists. site_count plan.now ≤ vec_capacity lists.2) }
     ensures no_row { IfOk result (λ lists. vec_len lists.2 ≡ 0) }
 {
@@ -90,6 +99,7 @@ fn site_lists<S: Drop, P: Drop>(
     Ok((sites, empty, rows))
 }
 
+/// Returns the lists for all that is gathered, empty and with the capacity that they need.
 pub fn make_room<S: Drop, P: Drop>(alloc: Global, plan: &Plan) -> Result<Room<S, P>, AllocError>
     ensures { IfOk result (IsRoomFor plan.now) }
 {
@@ -106,7 +116,7 @@ pub fn make_room<S: Drop, P: Drop>(alloc: Global, plan: &Plan) -> Result<Room<S,
     })
 }
 
-/// The lowest site with a fault.
+/// Returns the lowest site with a fault.
 pub fn first_fault<L: Lane, D: Diner>(ends: &[SiteEnd<L, D>]) -> Option<u32>
     requires few { length ends.now ≤ 64 }
     ensures { result ≡ position (λ end. is_some end.fault) ends.now }
@@ -117,10 +127,10 @@ pub fn first_fault<L: Lane, D: Diner>(ends: &[SiteEnd<L, D>]) -> Option<u32>
     }
 }
 
-// Lays the forks into the slots of their edges.
-fn lay_forks(forks: Vec<Fork>, slots: &mut Vec<Option<Fork>>)
+// Moves the forks into the slots of their edges.
+fn place_forks(forks: Vec<Fork>, slots: &mut Vec<Option<Fork>>)
     requires { All (λ fork. fork.edge < vec_len slots.old) forks.items }
-    ensures { slots.new.items ≡ laid forks.items slots.old.items }
+    ensures { slots.new.items ≡ in_slots forks.items slots.old.items }
 {
     for fork in forks {
         let edge = fork.edge() as usize;
@@ -128,7 +138,8 @@ fn lay_forks(forks: Vec<Fork>, slots: &mut Vec<Option<Fork>>)
     }
 }
 
-// Takes the end of a site apart: its ports into an empty row, its forks into the slots of their edges, and the rest.
+// Takes apart what a site left: its ports go into an empty row, its forks into the slots of their edges, and the rest
+// is returned.
 fn take_out<L: Lane, D: Diner>(
     end: SiteEnd<L, D>,
     row: &mut Vec<Option<Port<L>>>,
@@ -139,7 +150,7 @@ fn take_out<L: Lane, D: Diner>(
     requires forks { All (λ fork. fork.edge < vec_len slots.old) end.forks.items }
     ensures out { result ≡ out_of end }
     ensures row { row.new.items ≡ map Some end.ports.items }
-    ensures slots { slots.new.items ≡ laid end.forks.items slots.old.items }
+    ensures slots { slots.new.items ≡ in_slots end.forks.items slots.old.items }
 {
     let SiteEnd {
         site,
@@ -151,12 +162,12 @@ fn take_out<L: Lane, D: Diner>(
         journal,
         clock: _,
         ports,
-        bell: _,
+        bell,
         stray,
         fault,
     } = end;
     fill_row(ports, row);
-    lay_forks(forks, slots);
+    place_forks(forks, slots);
     SiteOut {
         site,
         ate,
@@ -164,12 +175,14 @@ fn take_out<L: Lane, D: Diner>(
         diner,
         tokens,
         journal,
+        checks: bell.into_empty_checks(),
         stray,
         fault,
     }
 }
 
-/// Takes the ends apart: the ports into rows by site, the forks into slots by edge, and the rest by site.
+/// Takes apart what the sites left: the ports go into rows by site, the forks into slots by edge, and the rest into a
+/// list by site.
 fn take_apart<L: Lane, D: Diner>(
     plan: &Plan,
     ends: Vec<SiteEnd<L, D>>,
@@ -180,7 +193,8 @@ fn take_apart<L: Lane, D: Diner>(
 )
     requires whole { AreWholeEnds plan.now ends.items }
     requires empty_rows { vec_len empty ≡ site_count plan.now }
-    requires empty_room { (s : _) (row : _) → slice_get empty.items s ≡ Some row → length (edges_of plan.now s) ≤ vec_capacity row }
+    requires empty_room { (s : _) (row : _)
+        → slice_get empty.items s ≡ Some row → length (edges_of plan.now s) ≤ vec_capacity row }
     requires no_thing { (s : _) (row : _) → slice_get empty.items s ≡ Some row → vec_len row ≡ 0 }
     requires site_room { site_count plan.now ≤ vec_capacity sites.old }
     requires no_site { vec_len sites.old ≡ 0 }
@@ -189,7 +203,7 @@ fn take_apart<L: Lane, D: Diner>(
     requires slots { vec_len slots.old ≡ edge_count plan.now }
     ensures sites { sites.new.items ≡ map out_of ends.items }
     ensures rows { map (λ row. row.items) rows.new.items ≡ map (λ end. map Some end.ports.items) ends.items }
-    ensures slots { slots.new.items ≡ laid (forks_left ends.items) slots.old.items }
+    ensures slots { slots.new.items ≡ in_slots (forks_left ends.items) slots.old.items }
 {
     let mut empty = empty.into_iter();
     for end in ends {
@@ -199,8 +213,8 @@ fn take_apart<L: Lane, D: Diner>(
     }
 }
 
-// The links of each edge, the one from the lower end first.
-fn reconcile_all<L: Lane>(pairs: Vec<Both<Port<L>>>, links: &mut Vec<LinkEnd>)
+// Joins the ends of each link. The link from the lower end of an edge comes first.
+fn reconcile_all<L: Lane>(pairs: Vec<EdgePair<Port<L>>>, links: &mut Vec<LinkEnd>)
     requires joined { All (AreJoined L.Lane) pairs.items }
     requires room { 2 * vec_len pairs ≤ vec_capacity links.old }
     requires none { vec_len links.old ≡ 0 }
@@ -209,13 +223,13 @@ fn reconcile_all<L: Lane>(pairs: Vec<Both<Port<L>>>, links: &mut Vec<LinkEnd>)
     ensures whole { All IsTakenToClose links.new.items }
 {
     for pair in pairs {
-        let Both { low, high } = pair;
+        let EdgePair { low, high } = pair;
         links.push_reserved(L::reconcile(low.tx, high.rx));
         links.push_reserved(L::reconcile(high.tx, low.rx));
     }
 }
 
-// The forks that were found, by edge.
+// Moves the forks that were found into a list, by edge.
 fn pick_forks(slots: Vec<Option<Fork>>, forks: &mut Vec<Fork>)
     requires room { vec_len slots ≤ vec_capacity forks.old }
     requires none { vec_len forks.old ≡ 0 }
@@ -228,7 +242,7 @@ fn pick_forks(slots: Vec<Option<Fork>>, forks: &mut Vec<Fork>)
     }
 }
 
-/// Brings together what the sites left.
+/// Gathers what the sites left: the forks by edge, the rest by site, and the links by edge.
 pub fn collect<L: Lane, D: Diner>(
     plan: &Plan,
     ends: Vec<SiteEnd<L, D>>,
@@ -237,7 +251,7 @@ pub fn collect<L: Lane, D: Diner>(
     requires room { IsRoomFor plan.now room }
     requires whole { AreWholeEnds plan.now ends.items }
     requires wired { AreWired plan.now (rows_left L.Lane ends.items) }
-    ensures forks { result.0.items ≡ found (laid (forks_left ends.items) (replicate (edge_count plan.now) None)) }
+    ensures forks { result.0.items ≡ found (in_slots (forks_left ends.items) (replicate (edge_count plan.now) None)) }
     ensures sites { result.1.items ≡ map out_of ends.items }
     ensures links { AreLinksLeft plan.now (rows_left L.Lane ends.items) result.2.items }
     ensures in_order { All IsTakenInOrder result.2.items }

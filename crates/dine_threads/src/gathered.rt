@@ -1,13 +1,14 @@
 //! What is gathered when all sites have joined, and why there may be nothing to gather.
-use dine_link::LinkEnd;
+use dine_link::{EmptyChecks, LinkEnd};
 use dine_rules::EventKind;
 use dine_site::{Diner, SiteFault, Stray};
 use dine_token::{Fork, Token};
 use std::convert::AsSlice;
 
 /// What a site left: how many meals it began and how many of their jobs failed, its diner, the tokens in its hands in
-/// edge order, its journal, which has each event that it did in its order, and, where it ended before it did all, the
-/// first cause with the letter that was handed back.
+/// edge order, its journal, which has each event that it did, in order, and the checks of its bell that found no ring
+/// left, which only proofs read. If it ended before it did all, it also left the first cause, and the letter that was
+/// handed back.
 #[derive(Drop)]
 pub struct SiteOut<D: Diner> {
     pub site: u32,
@@ -16,6 +17,7 @@ pub struct SiteOut<D: Diner> {
     pub diner: D,
     pub tokens: Vec<Token>,
     pub journal: Vec<EventKind>,
+    pub checks: EmptyChecks,
     pub stray: Option<Stray>,
     pub fault: Option<SiteFault>,
 }
@@ -29,8 +31,9 @@ impl<D: Diner> AsSlice<EventKind> for SiteOut<D> {
     }
 }
 
-/// All that is gathered when all sites have joined: the forks that were found in their hands, by edge, which is one for
-/// each edge if every site did all; the sites by number; and the links by edge, the one from the lower end first.
+/// All that is gathered when all sites have joined: the forks that were found in their hands, by edge; what the sites
+/// left, by number; and the links by edge, of which the one from the lower end is first. If every site did all, there
+/// is one fork for each edge.
 #[derive(Drop)]
 pub struct Gathered<D: Diner> {
     pub forks: Vec<Fork>,
@@ -46,10 +49,10 @@ pub type Joined<D> = Gathered<D>;
 pub enum RunFault<D: Diner> {
     /// There are not as many diners as sites. Nothing was started, and these are the diners.
     DinersDiffer { given: usize, diners: Vec<D> },
-    /// Memory was refused before any thread started. The diners are dropped.
+    /// An allocation failed before any thread started. The diners are dropped.
     Memory,
-    /// The thread of this site was refused, for want of memory or another cause. Those that were started before it have
-    /// ended, no letter moved, and the diners are dropped.
+    /// The thread of this site could not be started: out of memory, or for another cause. The threads that were started
+    /// before it have ended, no letter moved, and the diners are dropped.
     Thread(u32),
     /// All sites have joined, and this is the lowest one with a fault.
     Broken { site: u32, joined: Joined<D> },

@@ -1,14 +1,14 @@
-// Things that stand at places, one row a site, and are taken by place.
+// Things that are taken by site and place, from one row for each site.
 ghost use Rattle.std.specs.Prelude.{◌≡◌, ◌≢◌, ◌≤◌, Some, map, vec_capacity, vec_len};
 ghost use Rattle.dine_graph.specs.Plan.{edge_count};
-ghost use Rattle.dine_threads.specs.private.Spots.{AreBothAt, AreFull, slot_at};
+ghost use Rattle.dine_threads.specs.private.Spots.{ArePairsAt, AreFull, slot_at};
 
 use dine_graph::Plan;
 use dine_rules::laws;
 
-// What stands at the two ends of an edge.
+// The things at the two ends of an edge.
 #[derive(Drop)]
-pub struct Both<P> {
+pub struct EdgePair<P> {
     pub low: P,
     pub high: P,
 }
@@ -20,7 +20,7 @@ pub struct Spot {
     pub at: u32,
 }
 
-// Takes what stands at the place.
+// Takes the thing at the place, if there is one.
 pub fn take_slot<P: Drop>(rows: &mut Vec<Vec<Option<P>>>, spot: Spot) -> Option<P>
     ensures value { result ≡ slot_at rows.old.items spot }
     ensures others { (other : _) → other ≢ spot → slot_at rows.new.items other ≡ slot_at rows.old.items other }
@@ -37,7 +37,7 @@ pub fn take_slot<P: Drop>(rows: &mut Vec<Vec<Option<P>>>, spot: Spot) -> Option<
     row[at].take()
 }
 
-// Things, each in a slot of its own.
+// Moves the things into the row, each into a slot of its own.
 pub fn fill_row<P: Drop>(things: Vec<P>, row: &mut Vec<Option<P>>)
     requires room { vec_len things ≤ vec_capacity row.old }
     requires none { vec_len row.old ≡ 0 }
@@ -48,13 +48,13 @@ pub fn fill_row<P: Drop>(things: Vec<P>, row: &mut Vec<Option<P>>)
     }
 }
 
-// What stands at the two ends of each edge.
-pub fn pair_up<P: Drop>(plan: &Plan, rows: &mut Vec<Vec<Option<P>>>, pairs: &mut Vec<Both<P>>)
+// Takes the things at the two ends of each edge, and adds them to the pairs, by edge.
+pub fn pair_up<P: Drop>(plan: &Plan, rows: &mut Vec<Vec<Option<P>>>, pairs: &mut Vec<EdgePair<P>>)
     requires full { AreFull plan.now rows.old.items }
     requires room { edge_count plan.now ≤ vec_capacity pairs.old }
     requires none { vec_len pairs.old ≡ 0 }
     ensures count { vec_len pairs.new ≡ edge_count plan.now }
-    ensures each { AreBothAt plan.now rows.old.items pairs.new.items }
+    ensures each { ArePairsAt plan.now rows.old.items pairs.new.items }
 {
     laws::edges_have_a_place_at_each_end();
     for edge in 0..plan.edges() {
@@ -75,6 +75,6 @@ pub fn pair_up<P: Drop>(plan: &Plan, rows: &mut Vec<Vec<Option<P>>>, pairs: &mut
             },
         )
         .unwrap();
-        pairs.push_reserved(Both { low, high });
+        pairs.push_reserved(EdgePair { low, high });
     }
 }

@@ -1,4 +1,4 @@
-//! What was eaten, in a row for each edge and in a row for each site.
+//! The tables of what was eaten: a row for each edge, and a row for each site.
 ghost use Rattle.std.specs.Prelude.{◌≡◌, IfOk};
 ghost use Rattle.dine_threads.specs.Tables.{IsGatheredOf, edge_rows, site_rows};
 
@@ -27,10 +27,14 @@ pub struct SiteRow {
     pub failed: u32,
 }
 
-/// A row for each edge of the plan, in order. What was gathered has to be of that plan: a fork for each edge and what
+/// Returns a row for each edge of the plan, in order. What was gathered is of that plan: a fork for each edge, and what
 /// each site left, in order.
 ///
-/// All memory is taken at once. Fails only where that is refused, and then nothing is left behind.
+/// All memory is allocated at once.
+///
+/// # Errors
+///
+/// `AllocError` if the allocation fails. Nothing is left behind.
 pub fn edge_table<D: Diner>(
     alloc: Global,
     plan: &Plan,
@@ -55,10 +59,14 @@ pub fn edge_table<D: Diner>(
     Ok(rows)
 }
 
-/// A row for each site of the plan, in order. What was gathered has to be of that plan: a fork for each edge and what
+/// Returns a row for each site of the plan, in order. What was gathered is of that plan: a fork for each edge, and what
 /// each site left, in order.
 ///
-/// All memory is taken at once. Fails only where that is refused, and then nothing is left behind.
+/// All memory is allocated at once.
+///
+/// # Errors
+///
+/// `AllocError` if the allocation fails. Nothing is left behind.
 pub fn site_table<D: Diner>(
     alloc: Global,
     plan: &Plan,

@@ -76,7 +76,7 @@ counted_lawful ends due ordered = push_induction (λ log. IsLawful ends due log 
   more log (Meal site k) so_far lawful = counted_meal ends due log site k ordered lawful (so_far (IsLawful-front ends due log (Meal site k ∷ []) lawful))
   more log (Move to) so_far lawful = counted_move ends due log to lawful (so_far (IsLawful-front ends due log (Move to ∷ []) lawful))
 
--- where a lawful log is clean, an end has a meal left
+-- if a lawful log is clean, an end has a meal left
 clean_has_left : (ends due : ℕ × ℕ) (log : List Entry) → ends.0 < ends.1 → IsLawful ends due log → is_dirty log ≡ false → meals_of ends.0 log + meals_of ends.1 log < due.0 + due.1
 clean_has_left ends due log ordered lawful clean = elim (at_an_end ends due log lawful) [ inl w ↦ lower w.0 | inr w ↦ higher w.0 ] where
   last : (before : List Entry) × (to : ℕ) × (log ≡ before ++ Move to ∷ [])

@@ -16,7 +16,7 @@ use Rattle.dine_token.proofs.Logs.{turn, meals_of-push_own, meals_of-push_other,
 use Rattle.dine_token.proofs.Lawfulness.{at_an_end, IsLawful-push_meal, IsLawful-push_move}
 use Rattle.dine_token.proofs.Bounds.{length-lawful, moves-lawful, counted_lawful}
 use Rattle.dine_token.proofs.Periods.{period, periods_of-push_move, length-periods_of}
-use Rattle.dine_token.proofs.Told.{IsPlaced, IsTold, told_lawful, periods-small}
+use Rattle.dine_token.proofs.LawfulPeriods.{IsPlaced, HasPeriods, lawful_has_periods, periods-small}
 
 -- a fork is at one of its ends
 pub IsEnd-location : (fork : SeenFork) → IsFork fork → IsEnd fork (location fork)
@@ -71,29 +71,29 @@ length-fork fork proper = length-lawful fork.ends fork.due fork.log proper.order
 pub length-periods : (fork : SeenFork) → IsFork fork → length (periods_of fork.ends.0 fork.log) ≤ fork.due.0 + fork.due.1 + 1
 length-periods fork proper = omega (arith, length-periods_of fork.ends.0 fork.log, moves-lawful fork.ends fork.due fork.log proper.ordered proper.lawful)
 
--- so where a Move may be made, there is room for the period that it opens
+-- so if a Move may be made, there is capacity for the period that it opens
 pub room_to_move : (fork : SeenFork) (to : ℕ) → IsFork fork → MayMove to fork → length (periods_of fork.ends.0 fork.log) < fork.due.0 + fork.due.1 + 1
 room_to_move fork to proper may =
     omega (arith, length-periods (moved to fork) (IsFork-moved fork to proper may), ap length (periods_of-push_move fork.ends.0 fork.log to), length_push (periods_of fork.ends.0 fork.log) (period to (meals_of to fork.log + 1) 0))
 
 -- what its periods are
-pub told_fork : (fork : SeenFork) → IsFork fork → IsTold fork.ends.0 1000 fork.log
-told_fork fork proper = told_lawful fork.ends fork.due 1000 proper.ordered proper.lower_due proper.higher_due fork.log proper.lawful
+pub fork_has_periods : (fork : SeenFork) → IsFork fork → HasPeriods fork.ends.0 1000 fork.log
+fork_has_periods fork proper = lawful_has_periods fork.ends fork.due 1000 proper.ordered proper.lower_due proper.higher_due fork.log proper.lawful
 
 pub periods_small : (fork : SeenFork) → IsFork fork → All (λ (p : Period). p.first + p.count ≤ 1001) (periods_of fork.ends.0 fork.log)
 periods_small fork proper =
-    let told = told_fork fork proper in
-    let at : (end : ℕ) → told.last.site ≡ end → meals_of told.last.site fork.log ≡ meals_of end fork.log = λ end same. ap (λ (e : ℕ). meals_of e fork.log) same in
-    periods-small fork.ends.0 1000 fork.log told (elim (IsEnd-location fork proper) [
-      | inl w ↦ omega (arith, at fork.ends.0 (told.here ∙ w), proper.lawful.lower_within, proper.lower_due)
-      | inr w ↦ omega (arith, at fork.ends.1 (told.here ∙ w), proper.lawful.higher_within, proper.higher_due)
+    let parts = fork_has_periods fork proper in
+    let at : (end : ℕ) → parts.last.site ≡ end → meals_of parts.last.site fork.log ≡ meals_of end fork.log = λ end same. ap (λ (e : ℕ). meals_of e fork.log) same in
+    periods-small fork.ends.0 1000 fork.log parts (elim (IsEnd-location fork proper) [
+      | inl w ↦ omega (arith, at fork.ends.0 (parts.here ∙ w), proper.lawful.lower_within, proper.lower_due)
+      | inr w ↦ omega (arith, at fork.ends.1 (parts.here ∙ w), proper.lawful.higher_within, proper.higher_due)
     ])
 
 pub placed_fork : (fork : SeenFork) → IsFork fork → IsPlaced (periods_of fork.ends.0 fork.log)
 placed_fork fork proper =
-    let told = told_fork fork proper in
+    let parts = fork_has_periods fork proper in
     let P : List Period → Type 0 = λ l. IsPlaced l in
-    subst P (sym told.is) told.placed
+    subst P (sym parts.is) parts.placed
 
 -- no end has more than 1,000 meals due
 pub due_small : (fork : SeenFork) (end : ℕ) → IsFork fork → due_at fork.ends fork.due end ≤ 1000

@@ -76,7 +76,7 @@ within_meal end site log k due within next small = elim (cases_eq site end) [
       let longer : meals_of end (log ++ Meal site k ∷ []) ≡ meals_of end log + 1 = ap length (numbers_of-push_at end site log k same) ∙ length_push (numbers_of end log) k in
       let fits : k ≤ due = small same in
       omega arith
-  | inr other ↦ let kept : meals_of end (log ++ Meal site k ∷ []) ≡ meals_of end log = meals_of-push_other end site log k other in omega arith
+  | inr other ↦ let contents : meals_of end (log ++ Meal site k ∷ []) ≡ meals_of end log = meals_of-push_other end site log k other in omega arith
 ]
 
 pub IsLawful-push_meal : (ends due : ℕ × ℕ) (log : List Entry) (site k : ℕ) → ends.0 < ends.1 → IsLawful ends due log → location_of ends.0 log ≡ site → meals_of site log + 1 ≡ k → k ≤ due_at ends due site

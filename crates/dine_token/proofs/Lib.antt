@@ -2,7 +2,7 @@ pub mod Logs
 pub mod Lawfulness
 pub mod Bounds
 pub mod Periods
-pub mod Told
+pub mod LawfulPeriods
 pub mod Forks
 pub mod Places
-pub mod Kept
+pub mod Contents

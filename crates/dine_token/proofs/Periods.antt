@@ -1,4 +1,4 @@
--- The periods of a log as it grows, and what they tell.
+-- The periods of a log as it grows, and the log that has them.
 use Rattle.std.proofs.Common.{◌≡◌, ℕ, zero, suc, ◌+◌, List, [], ◌∷◌, ◌++◌, length, get_or, set, refl, sym, ◌∙◌, ap, arith, append_assoc, append-nil, add-zero, add-one}
 use Rattle.dine_token.specs.declared.log_entry.Entry.{Entry}
 use Rattle.dine_token.specs.declared.log_entry.Entry.TheVariants.{Meal, Move}
@@ -94,7 +94,7 @@ length-moved_periods before (Move to ∷ log) = ap suc (length-moved_periods (be
 pub length-periods_of : (start : ℕ) (log : List Entry) → length (periods_of start log) ≡ moves_of log + 1
 length-periods_of start log = omega (arith, length-moved_periods [] log)
 
--- ---- what they tell
+-- ---- the log that has them
 
 meals_from-suc : (site first n : ℕ) → meals_from site first (suc n) ≡ meals_from site first n ++ Meal site (first + n) ∷ []
 meals_from-suc site first zero = rw add-zero
@@ -127,8 +127,8 @@ entries_of-one_more [] last =
 entries_of-one_more (p ∷ front) last =
     let added = Meal last.site (last.first + last.count) ∷ [] in
     let more : meals_in (one_more last) ++ [] ≡ (meals_in last ++ []) ++ added = append-nil _ ∙ meals_in-one_more last ∙ ap (λ (l : List Entry). l ++ added) (sym (append-nil (meals_in last))) in
-    let told = entries_of (p ∷ front) in
+    let parts = entries_of (p ∷ front) in
     entries_of-append p front (one_more last ∷ [])
-    ∙ ap (λ (l : List Entry). told ++ Move last.site ∷ l) more
-    ∙ sym (append_assoc told (Move last.site ∷ meals_in last ++ []) added)
+    ∙ ap (λ (l : List Entry). parts ++ Move last.site ∷ l) more
+    ∙ sym (append_assoc parts (Move last.site ∷ meals_in last ++ []) added)
     ∙ ap (λ (l : List Entry). l ++ added) (sym (entries_of-append p front (last ∷ [])))

@@ -1,4 +1,4 @@
--- Where an entry of a log stands among its periods.
+-- The period of an entry of a log.
 use Rattle.std.proofs.Common.{◌≡◌, ℕ, zero, suc, ◌+◌, ◌<◌, ◌≤◌, List, [], ◌∷◌, ◌++◌, length, take, drop, get_or, Some, slice_get, sym, ◌∙◌, ap, inl, inr, arith, append_assoc, append-nil, add-zero, length-append}
 use Rattle.std.proofs.Math.Seq.{split_at}
 use Rattle.std.proofs.lemmas.Bool.{cases_lt}
@@ -11,7 +11,7 @@ use Rattle.dine_token.specs.Lawful.{IsLawful}
 use Rattle.dine_token.specs.Periods.{meals_from, meals_in, moved_entries, entries_of}
 use Rattle.dine_token.proofs.Periods.{length-meals_from, entries_of-append}
 
--- entry i lies in one of the periods from `low` on, and before `high`
+-- entry i is in one of the periods from `low` on, and before `high`
 pub record IsBetween (ps : List Period) (i low high : ℕ) : Type 0 where
   pub some : low < high
   pub within : high ≤ length ps
@@ -42,7 +42,7 @@ cut (q ∷ ps) (suc j) p some within got =
     ap entries_of (split_at (q ∷ ps) (suc j) p within) ∙ entries_of-append q (take j ps) (get_or (q ∷ ps) (suc j) p ∷ rest)
     ∙ ap (λ (x : Period). entries_of (q ∷ take j ps) ++ moved_entries (x ∷ rest)) there
 
--- how many entries stand up to the end of a period
+-- the number of entries up to the end of a period
 pub size_first : (ps : List Period) (p : Period) → 0 < length ps → slice_get ps 0 ≡ Some p → length (entries_of (take 1 ps)) ≡ p.count
 size_first [] p within got = absurd (omega (arith, within))
 size_first (q ∷ ps) p within got =

@@ -7,8 +7,8 @@ use Rattle.dine_token.specs.Values.{applied}
 use Rattle.dine_token.specs.Log.{is_dirty, location_of, meals_of}
 use Rattle.dine_token.specs.Lawful.{IsLawful, due_at}
 
--- a fork: its edge, its ends and the meals due to them, (lower, higher), each at most 1,000, its log, and the value
--- that it carries
+-- a fork: its edge, its ends and the meals due to them, each as (lower, higher), its log, and the value it carries;
+-- `IsFork` has the limits
 pub record SeenFork : Type 0 where
   pub edge : ℕ
   pub ends : ℕ × ℕ
@@ -16,7 +16,7 @@ pub record SeenFork : Type 0 where
   pub log : List Entry
   pub value : ℕ
 
--- the fork that stands past the end of a list
+-- the fork that is read past the end of a list
 abbrev pub no_fork : SeenFork
 no_fork = record { edge = 0; ends = (0, 0); due = (0, 0); log = []; value = 0 }
 
@@ -40,12 +40,12 @@ moved to fork = record fork { log = fork.log ++ Move to ∷ [] }
 abbrev pub eaten : ℕ → ℕ → Act → SeenFork → SeenFork
 eaten site k act fork = record fork { log = fork.log ++ Meal site k ∷ []; value = applied act fork.value }
 
--- the fork was eaten with since it came, or has not moved yet [paper: clean and dirty]
+-- the fork was eaten with since it arrived, or has not moved yet [paper: clean and dirty]
 abbrev pub IsDirty : SeenFork → Type 0
 IsDirty fork = is_dirty fork.log ≡ true
 
 -- What is true of every fork: the lower end is below the higher, at most 1,000 meals are due to each, the log is
--- lawful, and the value is at most 1,000,000 for the start and as much for each meal of the log.
+-- lawful, and the value is at most 1,000,000 times one more than the meals of the log.
 pub record IsFork (fork : SeenFork) : Type 0 where
   pub ordered : fork.ends.0 < fork.ends.1
   pub lower_due : fork.due.0 ≤ 1000
@@ -53,15 +53,15 @@ pub record IsFork (fork : SeenFork) : Type 0 where
   pub lawful : IsLawful fork.ends fork.due fork.log
   pub bounded : fork.value ≤ 1000000 * (meals_of fork.ends.0 fork.log + meals_of fork.ends.1 fork.log + 1)
 
--- The fork may be sent to an end: it is dirty, that end is the one where it is not, and has meals left. Of the token
--- and of who eats a fork knows nothing. [paper: release rule]
+-- The fork may be sent to an end: it is dirty, that end is the one where it is not, and has meals left. This says
+-- nothing of the token, nor of which site eats. [paper: release rule]
 pub record MayMove (to : ℕ) (fork : SeenFork) : Type 0 where
   pub dirty : is_dirty fork.log ≡ true
   pub to_other_end : to ≡ other_end fork (location fork)
   pub hungry : meals_of to fork.log < due_at fork.ends fork.due to
 
 -- Meal k of the site may be eaten with the fork: the fork is there, k is the site's next meal, and at most what is due.
--- Of hunger and of other forks a fork knows nothing. [paper: all forks]
+-- This says nothing of hunger, nor of other forks. [paper: all forks]
 pub record MayEat (site k : ℕ) (fork : SeenFork) : Type 0 where
   pub held : location fork ≡ site
   pub next : meals_of site fork.log + 1 ≡ k

@@ -10,7 +10,7 @@ is_dirty (Meal site k ∷ log) = is_dirty log
 is_dirty (Move to ∷ []) = false
 is_dirty (Move to ∷ entry ∷ log) = is_dirty (entry ∷ log)
 
--- where the last Move went, or `start`; there already or on its way [paper: one fork]
+-- where the last Move went, or `start` if there is none; the fork is there, or on its way there [paper: one fork]
 abbrev pub location_of : ℕ → List Entry → ℕ
 location_of start [] = start
 location_of start (Meal site k ∷ log) = location_of start log
@@ -22,7 +22,7 @@ numbers_of site [] = []
 numbers_of site (Meal eater k ∷ log) = if eater == site then k ∷ numbers_of site log else numbers_of site log
 numbers_of site (Move to ∷ log) = numbers_of site log
 
--- how many meals of a site the log holds
+-- the number of meals of a site in the log
 abbrev pub meals_of : ℕ → List Entry → ℕ
 meals_of site log = length (numbers_of site log)
 
@@ -32,6 +32,6 @@ destinations_of [] = []
 destinations_of (Meal site k ∷ log) = destinations_of log
 destinations_of (Move to ∷ log) = to ∷ destinations_of log
 
--- how many Moves the log holds
+-- the number of Moves in the log
 abbrev pub moves_of : List Entry → ℕ
 moves_of log = length (destinations_of log)

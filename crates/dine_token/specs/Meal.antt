@@ -2,7 +2,7 @@
 use Rattle.std.specs.Prelude.{ℕ, List}
 use Rattle.dine_token.specs.Fork.{SeenFork}
 
--- a meal: who eats, its number, from 1, and the forks in hand, in the order in which they came
+-- a meal: the site that eats, the number of the meal, and the forks, in the order in which they were given
 pub record SeenMeal : Type 0 where
   pub site : ℕ
   pub k : ℕ

@@ -1,19 +1,19 @@
--- The periods of a log: the stays of the fork at its two ends. That they tell a lawful log, and are at most one more
--- than the meals due, is the law `periods_tell_the_log`.
+-- The periods of a log: the stays of the fork at its two ends. That they give back a lawful log, and are at most one
+-- more than the meals due, is the law `periods_tell_the_log`.
 use Rattle.std.specs.Prelude.{ℕ, ◌+◌, List, [], ◌∷◌, ◌++◌, zero, suc}
 use Rattle.dine_token.specs.declared.log_entry.Entry.{Entry}
 use Rattle.dine_token.specs.declared.log_entry.Entry.TheVariants.{Meal, Move}
 use Rattle.dine_token.specs.declared.log_period.Period.{Period}
 use Rattle.dine_token.specs.Log.{meals_of}
 
--- how many meals stand before the first Move
+-- the number of meals before the first Move
 abbrev pub meals_until_move : List Entry → ℕ
 meals_until_move [] = 0
 meals_until_move (Meal site k ∷ log) = suc (meals_until_move log)
 meals_until_move (Move to ∷ log) = 0
 
 -- a period for each Move of a log: it is at the site to which the Move goes, its first meal is one more than that
--- site's meals before, and its meals are those up to the next Move. `before` is what stands before these entries.
+-- site's meals before, and its meals are those up to the next Move. `before` has the entries before these.
 abbrev pub moved_periods : List Entry → List Entry → List Period
 moved_periods before [] = []
 moved_periods before (Meal site k ∷ log) = moved_periods (before ++ Meal site k ∷ []) log
@@ -32,12 +32,12 @@ meals_from site first (suc n) = Meal site first ∷ meals_from site (first + 1) 
 abbrev pub meals_in : Period → List Entry
 meals_in period = meals_from period.site period.first period.count
 
--- what the periods behind the first tell: each its Move, and its meals
+-- the entries of the periods behind the first: the Move and the meals of each
 abbrev pub moved_entries : List Period → List Entry
 moved_entries [] = []
 moved_entries (period ∷ periods) = Move period.site ∷ meals_in period ++ moved_entries periods
 
--- the log that the periods tell
+-- the log that has these periods
 abbrev pub entries_of : List Period → List Entry
 entries_of [] = []
 entries_of (period ∷ periods) = meals_in period ++ moved_entries periods

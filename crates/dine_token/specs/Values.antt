@@ -12,7 +12,7 @@ amount_of (Set amount) = amount
 abbrev pub IsAct : Act → Type 0
 IsAct act = amount_of act ≤ 1000000
 
--- a value after an act: Add adds its amount, Set puts it in the value's place
+-- a value after an act: Add adds its amount, and Set makes the amount the value
 abbrev pub applied : Act → ℕ → ℕ
 applied (Add amount) value = value + amount
 applied (Set amount) value = amount

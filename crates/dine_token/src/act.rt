@@ -2,12 +2,12 @@
 ghost use Rattle.std.specs.Prelude.{◌≡◌, ◌<◌, ◌^◌};
 ghost use Rattle.dine_token.specs.Values.{applied};
 
-/// What a meal does to the value of each edge of its site. An amount is at most 1,000,000.
+/// What a meal does to the value of each edge of its site. The amount is at most 1,000,000.
 #[derive(Clone, Copy, Debug, PartialEq, Eq)]
 pub enum Act {
     /// The amount is added.
     Add(u64),
-    /// The amount takes the place of the value.
+    /// The value becomes the amount.
     Set(u64),
 }
 

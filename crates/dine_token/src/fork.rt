@@ -1,3 +1,4 @@
+//! The fork of an edge, with the log of its meals and its moves.
 ghost use Rattle.std.specs.Prelude.{◌≡◌, ◌<◌, ◌≤◌, ◌+◌, [], length, take, Some, slice_get, IfOk};
 ghost use Rattle.dine_token.specs.Log.{is_dirty, meals_of, moves_of};
 ghost use Rattle.dine_token.specs.Lawful.{due_at};
@@ -11,18 +12,18 @@ use crate::log_period::Period;
 use std::alloc::{AllocError, Global};
 use std::marker::Model;
 
-/// The fork of an edge, with the log of what was done with it. There is one for each edge, so it has no `Clone`.
+/// The fork of an edge, with the log of its meals and moves. Each edge has one fork, so `Fork` has no `Clone`.
 ///
-/// Its log is lawful by the rules of Chandy and Misra's hygienic solution (ACM TOPLAS 6(4), 1984).
+/// The log obeys the rules of Chandy and Misra's hygienic solution (ACM TOPLAS 6(4), 1984).
 #[derive(Drop)]
 pub struct Fork {
-    // What it keeps stays where it is in memory: a fork moves four times a meal, and in each letter that brings it.
-    kept: Box<Kept>,
+    // In a box, so that to move a fork copies a pointer: a fork is moved four times a meal, and with each letter.
+    contents: Box<Contents>,
 }
 
-// What a fork keeps: its edge, the ends and their due meals, and the periods of its log with what they come to.
+// The contents of a fork: its edge, the two ends and their due meals, and the periods of its log with their totals.
 #[derive(Drop)]
-pub(crate) struct Kept {
+pub(crate) struct Contents {
     pub(crate) edge: u32,
     pub(crate) lower: u32,
     pub(crate) higher: u32,
@@ -41,18 +42,21 @@ impl Model for Fork {
 
     ghost Value = { SeenFork };
 
-    ghost use Rattle.dine_token.specs.private.Fields.{seen, IsWellKept};
+    ghost use Rattle.dine_token.specs.private.Fields.{seen, IsSound};
 
     ghost view = { seen };
 
-    ghost invariant = { IsWellKept };
+    ghost invariant = { IsSound };
 }
 
 impl Fork {
-    /// The fork of edge `edge` between the sites `lower` and `higher`, which have so many meals due, each at most
-    /// 1,000. It is at the lower end, dirty, its log is empty, and it carries the value `value`, at most 1,000,000.
+    /// Makes the fork of edge `edge` between the sites `lower` and `higher`, which have `lower_due` and `higher_due`
+    /// meals due, each at most 1,000. The fork is at the lower end and dirty, its log is empty, and it carries the
+    /// value `value`, at most 1,000,000. All its memory is allocated here, for each period that the log may get too.
     ///
-    /// It takes memory for itself and for each period that the log may come to, once. Fails where that is refused.
+    /// # Errors
+    ///
+    /// Returns `AllocError` if an allocation fails.
     pub fn open(
         alloc: Global,
         edge: u32,
@@ -66,16 +70,18 @@ impl Fork {
         requires lower_due { lower_due ≤ 1000 }
         requires higher_due { higher_due ≤ 1000 }
         requires value { value ≤ 1000000 }
-        ensures { IfOk result (λ fork. fork ≡ record { edge = edge; ends = (lower, higher); due = (lower_due, higher_due); log = []; value = value }) }
+        ensures { IfOk result
+            (λ fork. fork
+            ≡ record { edge = edge; ends = (lower, higher); due = (lower_due, higher_due); log = []; value = value }) }
     {
-        let room = lower_due as usize + higher_due as usize + 1;
-        let mut periods = Vec::with_capacity(alloc, room)?;
+        let capacity = lower_due as usize + higher_due as usize + 1;
+        let mut periods = Vec::with_capacity(alloc, capacity)?;
         periods.push_reserved(Period {
             site: lower,
             first: 1,
             count: 0,
         });
-        let kept = Kept {
+        let contents = Contents {
             edge,
             lower,
             higher,
@@ -88,86 +94,86 @@ impl Fork {
             value,
             periods,
         };
-        let kept = Box::new(alloc, kept)?;
-        Ok(Fork { kept })
+        let contents = Box::new(alloc, contents)?;
+        Ok(Fork { contents })
     }
 
-    /// The number of its edge.
+    /// Returns the number of its edge.
     pub fn edge(&self) -> u32
         ensures { result ≡ self.now.edge }
     {
-        self.kept.edge
+        self.contents.edge
     }
 
-    /// Its ends, the lower site first.
+    /// Returns its two ends, the lower site first.
     pub fn ends(&self) -> (u32, u32)
         ensures ends { result ≡ self.now.ends }
         ensures proper { IsFork self.now }
     {
-        (self.kept.lower, self.kept.higher)
+        (self.contents.lower, self.contents.higher)
     }
 
-    /// How many meals an end has due in all, at most 1,000.
+    /// Returns the number of meals that an end has due in all, at most 1,000.
     pub fn due_of(&self, end: u32) -> u32
         requires { IsEnd self.now end }
         ensures due { result ≡ due_at self.now.ends self.now.due end }
         ensures bound { result ≤ 1000 }
     {
-        if end == self.kept.lower {
-            self.kept.lower_due
+        if end == self.contents.lower {
+            self.contents.lower_due
         } else {
-            self.kept.higher_due
+            self.contents.higher_due
         }
     }
 
-    /// How many meals of an end the log holds.
+    /// Returns the number of meals of an end in the log.
     pub fn meals_of(&self, end: u32) -> u32
         requires { IsEnd self.now end }
         ensures meals { result ≡ meals_of end self.now.log }
         ensures bound { result ≤ due_at self.now.ends self.now.due end }
     {
-        if end == self.kept.lower {
-            self.kept.lower_meals
+        if end == self.contents.lower {
+            self.contents.lower_meals
         } else {
-            self.kept.higher_meals
+            self.contents.higher_meals
         }
     }
 
-    /// The value that it carries: what it was opened with, after the acts of all its meals. At most 1,000,000 times one
-    /// more than its meals.
+    /// Returns the value that it carries: the one that it was opened with, after the acts of all its meals. It is at
+    /// most 1,000,000 times one more than the number of its meals.
     pub fn value(&self) -> u64
         ensures value { result ≡ self.now.value }
         ensures proper { IsFork self.now }
     {
-        self.kept.value
+        self.contents.value
     }
 
-    /// Whether the fork was eaten with since it came, or has not moved yet.
+    /// Returns whether the fork was eaten with since it arrived, or has not moved yet.
     pub fn is_dirty(&self) -> bool
         ensures dirty { result ≡ is_dirty self.now.log }
         ensures proper { IsFork self.now }
     {
-        self.kept.dirty
+        self.contents.dirty
     }
 
-    /// The end where the fork is, or to which it is on its way.
+    /// Returns the end where the fork is, or to which it is on its way.
     pub fn at(&self) -> u32
         ensures at { result ≡ location self.now }
         ensures end { IsEnd self.now result }
     {
-        self.kept.location
+        self.contents.location
     }
 
-    /// How many entries the log has, at most twice the meals that are due to both ends.
+    /// Returns the number of entries of the log, at most twice the meals that are due to both ends.
     pub fn len(&self) -> u32
         ensures len { result ≡ length self.now.log }
         ensures proper { IsFork self.now }
     {
-        let kept = &*self.kept;
-        kept.lower_meals + kept.higher_meals + self.moves()
+        let contents = &*self.contents;
+        contents.lower_meals + contents.higher_meals + self.moves()
     }
 
-    /// Entry `i` of the log, from 0.
+    /// Returns entry `i` of the log, from 0.
     pub fn entry(&self, i: u32) -> Entry
         requires { i < length self.now.log }
         ensures { slice_get self.now.log i ≡ Some result }
@@ -190,7 +196,7 @@ impl Fork {
         }
     }
 
-    // The place of the period that has entry `i`, found by halves.
+    // The place of the period that has entry `i`, by binary search.
     fn period_with(&self, i: u32) -> u32
         requires { i < length self.now.log }
         ensures within { result < length (periods_of self.now.ends.0 self.now.log) }
@@ -211,7 +217,7 @@ impl Fork {
         low
     }
 
-    // How many entries of the log stand before those of the period at this place: the Moves before its own, and the
+    // The number of entries of the log before those of the period at this place: the Moves before its own, and the
     // meals of both ends so far, which are one less than the numbers of their next meals.
     fn entries_before(&self, place: u32) -> u32
         requires place { place < length (periods_of self.now.ends.0 self.now.log) }
@@ -226,67 +232,68 @@ impl Fork {
         place + period.first + former.first + former.count - 3
     }
 
-    /// How many periods the log has, at least 1: one more than its Moves. They tell the whole log.
+    /// Returns the number of periods of the log, at least 1: one more than its Moves. The periods give the whole log.
     pub fn periods(&self) -> u32
         ensures count { result ≡ length (periods_of self.now.ends.0 self.now.log) }
         ensures some { 1 ≤ result }
         ensures whole { entries_of (periods_of self.now.ends.0 self.now.log) ≡ self.now.log }
         ensures proper { IsFork self.now }
     {
-        self.kept.periods.len() as u32
+        self.contents.periods.len() as u32
     }
 
-    /// Period `i` of the log, from 0. Only the first and the last may be without a meal.
+    /// Returns period `i` of the log, from 0. Only the first and the last may have no meal.
     pub fn period(&self, i: u32) -> Period
         requires { i < length (periods_of self.now.ends.0 self.now.log) }
         ensures period { slice_get (periods_of self.now.ends.0 self.now.log) i ≡ Some result }
         ensures bound { result.first + result.count ≤ 1001 }
         ensures used { 0 < i → i + 1 < length (periods_of self.now.ends.0 self.now.log) → 1 ≤ result.count }
     {
-        self.kept.periods[i as usize]
+        self.contents.periods[i as usize]
     }
 
-    /// How many Moves the log has.
+    /// Returns the number of Moves in the log.
     pub fn moves(&self) -> u32
         ensures { result ≡ moves_of self.now.log }
     {
-        self.kept.periods.len() as u32 - 1
+        self.contents.periods.len() as u32 - 1
     }
 
-    // Writes a Move to the other end: it opens a period there. It takes no memory.
+    // Writes a Move to the other end, which opens a period there. It allocates nothing.
     pub(crate) fn move_to(&mut self, to: u32)
         requires { MayMove to self.old }
         ensures moved { self.new ≡ moved to self.old }
         ensures proper { IsFork self.new }
     {
         let first = self.meals_of(to) + 1;
-        let kept = &mut *self.kept;
-        kept.location = to;
-        kept.dirty = false;
-        kept.periods.push_reserved(Period {
+        let contents = &mut *self.contents;
+        contents.location = to;
+        contents.dirty = false;
+        contents.periods.push_reserved(Period {
             site: to,
             first,
             count: 0,
         });
     }
 
-    // Writes meal k of the site where the fork is: the last period has one more; and does the act. It takes no memory.
+    // Writes meal `k` of the site where the fork is, as one more of the last period, and does the act. It allocates
+    // nothing.
     pub(crate) fn eat(&mut self, site: u32, k: u32, act: Act)
         requires may_eat { MayEat site k self.old }
         requires act { IsAct act }
         ensures eaten { self.new ≡ eaten site k act self.old }
         ensures proper { IsFork self.new }
     {
-        let value = act.apply(self.kept.value);
-        let kept = &mut *self.kept;
-        kept.dirty = true;
-        kept.value = value;
-        if site == kept.lower {
-            kept.lower_meals = k;
+        let value = act.apply(self.contents.value);
+        let contents = &mut *self.contents;
+        contents.dirty = true;
+        contents.value = value;
+        if site == contents.lower {
+            contents.lower_meals = k;
         } else {
-            kept.higher_meals = k;
+            contents.higher_meals = k;
         }
-        let last = kept.periods.len() - 1;
-        kept.periods[last].count += 1;
+        let last = contents.periods.len() - 1;
+        contents.periods[last].count += 1;
     }
 }

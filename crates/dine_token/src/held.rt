@@ -1,3 +1,4 @@
+//! A fork in the hand of a site.
 ghost use Rattle.std.specs.Prelude.{◌≡◌};
 ghost use Rattle.dine_token.specs.Fork.{IsFork, MayMove, MayEat, moved, eaten};
 ghost use Rattle.dine_token.specs.Values.{IsAct};
@@ -6,7 +7,7 @@ use crate::act::Act;
 use crate::fork::Fork;
 use std::marker::Model;
 
-/// A fork in the hand of the site where it is. It has to be spent: given away, kept, or eaten with.
+/// A fork in the hand of the site where it is. It cannot be dropped: it is given away, put down, or eaten with.
 pub struct Held {
     fork: Fork,
 }
@@ -20,22 +21,22 @@ impl Model for Held {
 }
 
 impl Held {
-    /// Takes a fork that came, or that was here from the start, in hand. Its log stays.
+    /// Takes a fork in hand that arrived, or that was here from the start. Its log stays.
     pub fn take(fork: Fork) -> Held
         ensures same { result ≡ fork }
     {
         Held { fork }
     }
 
-    /// The fork in hand.
+    /// Returns the fork in hand.
     pub fn fork(&self) -> &Fork
         ensures { result.now ≡ self.now }
     {
         &self.fork
     }
 
-    /// Sends the fork clean to the other end, which has meals left, and writes the Move. The release rule allows it
-    /// only where the fork is dirty.
+    /// Returns the fork clean, to be sent to the other end, and writes the Move. The release rule allows this only if
+    /// the fork is dirty, and the other end must have meals left.
     pub fn give(self, to: u32) -> Fork
         requires { MayMove to self }
         ensures moved { result ≡ moved to self }
@@ -46,7 +47,7 @@ impl Held {
         fork
     }
 
-    /// Lays the fork down where it is. Its log stays.
+    /// Puts the fork down where it is. Its log stays.
     pub fn keep(self) -> Fork
         ensures same { result ≡ self }
     {
@@ -54,7 +55,7 @@ impl Held {
         fork
     }
 
-    // Writes meal k of the site into the fork, and does its act.
+    // Writes meal `k` of the site into the fork, and does its act.
     pub(crate) fn eat(&mut self, site: u32, k: u32, act: Act)
         requires may_eat { MayEat site k self.old }
         requires act { IsAct act }

@@ -1,5 +1,5 @@
-//! The tokens of the dining philosophers: forks that carry the log of their meals and moves, request tokens,
-//! and the hands and meals that hold forks. A fork or a token moves from one owner to the next, and can't be copied.
+//! The tokens of the dining philosophers: forks that carry the log of their meals and moves, request tokens, and the
+//! hands and meals that hold forks. A fork or a token is moved from one owner to the next, and cannot be copied.
 #![tactic(auto)]
 
 mod act;

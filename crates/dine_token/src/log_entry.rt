@@ -1,3 +1,5 @@
+//! What a fork's log is made of.
+
 /// An entry of a fork's log.
 #[derive(Clone, Copy, Debug, PartialEq, Eq)]
 pub enum Entry {

@@ -1,3 +1,4 @@
+//! A meal of a site, with all its forks.
 ghost use Rattle.std.specs.Prelude.{◌≡◌, ◌<◌, ◌^◌, All, Some, length, map, slice_get, vec_len};
 ghost use Rattle.dine_token.specs.Fork.{IsDirty, MayEat, eaten};
 ghost use Rattle.dine_token.specs.Values.{IsAct};
@@ -7,7 +8,7 @@ use crate::fork::Fork;
 use crate::held::Held;
 use std::marker::Model;
 
-/// All forks of a site while it eats. It has to be spent, by [`Meal::end`].
+/// All forks of a site while it eats. It cannot be dropped: it is ended by [`Meal::end`].
 pub struct Meal {
     site: u32,
     k: u32,
@@ -27,9 +28,9 @@ impl Model for Meal {
 }
 
 impl Meal {
-    /// Begins meal `k` of the site, from 1, writes it into each fork, and does its act to the value of each. Each fork
-    /// has to be at the site and to have `k - 1` of its meals, and `k` is at most its due. The amount of the act is at
-    /// most 1,000,000. It takes no memory.
+    /// Begins meal `k` of the site, from 1: writes it into each fork, and does its act to the value of each. Each fork
+    /// must be at the site and have `k - 1` meals of the site, `k` is at most the meals due to the site, and the amount
+    /// of the act is at most 1,000,000. It allocates nothing.
     pub fn begin(site: u32, k: u32, act: Act, hands: Vec<Held>) -> Meal
         requires may_eat { All (MayEat site k) hands.items }
         requires act { IsAct act }
@@ -45,28 +46,28 @@ impl Meal {
         Meal { site, k, hands }
     }
 
-    /// The site that eats.
+    /// Returns the site that eats.
     pub fn site(&self) -> u32
         ensures { result ≡ self.now.site }
     {
         self.site
     }
 
-    /// The number of the meal, from 1.
+    /// Returns the number of the meal, from 1.
     pub fn k(&self) -> u32
         ensures { result ≡ self.now.k }
     {
         self.k
     }
 
-    /// How many forks the site eats with.
+    /// Returns the number of forks that the site eats with.
     pub fn len(&self) -> u32
         ensures { result ≡ length self.now.forks }
     {
         self.hands.len() as u32
     }
 
-    /// Fork `i`, from 0, in the order in which the hands came.
+    /// Returns fork `i`, from 0, in the order of the hands that `begin` took.
     pub fn fork(&self, i: u32) -> &Fork
         requires { i < length self.now.forks }
         ensures { slice_get self.now.forks i ≡ Some result.now }
@@ -74,7 +75,7 @@ impl Meal {
         self.hands[i as usize].fork()
     }
 
-    /// Ends the meal. The forks come back in the same order, dirty, and their logs stay.
+    /// Ends the meal and returns the forks in the same order. They are dirty, and their logs stay.
     pub fn end(self) -> Vec<Held>
         ensures forks { result.items ≡ self.forks }
         ensures dirty { All IsDirty result.items }

@@ -1,9 +1,10 @@
+//! The request token of an edge.
 ghost use Rattle.std.specs.Prelude.{◌≡◌};
 
 use std::marker::Model;
 
-/// The request token of an edge: who holds it may ask for the edge's fork, or has been asked for it.
-/// There is one for each edge, so it has no `Clone`.
+/// The request token of an edge: the site that holds it may ask for the edge's fork, or was asked for it. Each edge has
+/// one token, so `Token` has no `Clone`.
 #[derive(Drop)]
 pub struct Token {
     edge: u32,
@@ -18,14 +19,14 @@ impl Model for Token {
 }
 
 impl Token {
-    /// The token of edge `edge`.
+    /// Makes the token of edge `edge`.
     pub fn open(edge: u32) -> Token
         ensures { result ≡ edge }
     {
         Token { edge }
     }
 
-    /// The number of its edge.
+    /// Returns the number of its edge.
     pub fn edge(&self) -> u32
         ensures { result ≡ self.now }
     {

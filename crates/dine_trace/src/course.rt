@@ -2,9 +2,8 @@
 
 use crate::events::Enabled;
 use crate::fault_lines::Fault;
-use dine_core::{EventKind, Kind4};
+use dine_core::{EventKind, Kind4, World};
 use dine_plan::Plan;
-use dine_world::World;
 use serde::Serialize;
 use std::alloc::{AllocError, Global};
 

@@ -1,8 +1,8 @@
 //! What the ends of the edges of a world are.
 
 use crate::events::name_of;
+use dine_core::{Whereabouts, World};
 use dine_plan::Plan;
-use dine_world::{Whereabouts, World};
 use std::alloc::AllocError;
 
 /// Adds a line for each edge to the text: what each of its ends is, and to which end a fork or a token is on its way.

@@ -1,8 +1,7 @@
 //! The events of a world in words.
 
-use dine_core::{Event, EventKind, Kind4};
+use dine_core::{Event, EventKind, Kind4, World};
 use dine_plan::Plan;
-use dine_world::World;
 use std::alloc::AllocError;
 
 /// An event that is enabled in a world, with what is to be said of it once it is done too.

@@ -27,7 +27,7 @@ mod trace;
 mod words;
 
 use course::course_text;
-use dine::words_of;
+use dine::arguments_of;
 use dine_plan::Plan;
 use dine_words::{Status, exit_of, plan_of_bytes, read_input, write_line};
 use fault_lines::Fault;
@@ -51,7 +51,7 @@ fn show<H: Threads + Wait + Copy + Send + 'static, R: Read, W: Write>(
     input: &mut R,
     output: &mut W,
 ) -> Result<(), Fault> {
-    let asked = asked_of(alloc, words_of(alloc, given)?.as_slice())?;
+    let asked = asked_of(alloc, arguments_of(alloc, given)?.as_slice())?;
     let bytes = read_input(alloc, input)?;
     match asked {
         Asked::Of(form, choices) => show_of(alloc, bytes.as_slice(), form, choices, output),

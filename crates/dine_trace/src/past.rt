@@ -1,9 +1,8 @@
 //! What was done in a world so far.
 
 use crate::events::Enabled;
-use dine_core::EventKind;
+use dine_core::{EventKind, World};
 use dine_plan::Plan;
-use dine_world::World;
 use std::alloc::{AllocError, Global};
 
 /// What the events of a world were that were done so far.

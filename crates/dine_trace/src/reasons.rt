@@ -1,9 +1,8 @@
 //! What a hungry site waits for, and why an event is not enabled.
 
 use crate::events::ate;
-use dine_core::{Phase, Said};
+use dine_core::{Phase, Said, Whereabouts, World};
 use dine_plan::Plan;
-use dine_world::{Whereabouts, World};
 use serde::Serialize;
 
 /// An edge that keeps a hungry site from eating, the neighbour there, and why.

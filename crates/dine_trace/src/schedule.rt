@@ -2,13 +2,12 @@
 
 use crate::fault_lines::Fault;
 use dine::{PlanDiner, open_diners};
-use dine_core::Event;
+use dine_core::{Event, World};
 use dine_link::{ChannelLane, Lane, RingLane};
 use dine_plan::Plan;
 use dine_run::{order_of, run};
 use dine_token::Fork;
 use dine_words::Links;
-use dine_world::World;
 use std::alloc::{AllocError, Global};
 use std::sync::Wait;
 use std::thread::Threads;

@@ -3,11 +3,10 @@
 use crate::edges::push_edges;
 use crate::events::{Enabled, push_event};
 use crate::fault_lines::Fault;
-use dine_core::Event;
+use dine_core::{Event, World};
 use dine_log_text::replay_text;
 use dine_plan::Plan;
 use dine_words::write_out;
-use dine_world::World;
 use std::alloc::{AllocError, Global};
 use std::io::Write;
 

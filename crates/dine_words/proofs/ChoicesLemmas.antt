@@ -15,7 +15,7 @@ same_test : (bs : List ℕ) → list_all is_ascii_digit bs ≡ all_ascii_digits 
 same_test [] = refl
 same_test (b ∷ bs) = ap (λ (t : Bool). is_ascii_digit b && t) (same_test bs)
 
--- what four tests come to, of which the first and the last can't both hold
+-- the result of four tests, of which the first and the last cannot both hold
 never_both : (a b c d : Bool) → (a ≡ true → d ≡ true → ⊥) → (a && b && c && d) ≡ false
 never_both false b c d h = refl
 never_both true false c d h = refl
@@ -39,7 +39,7 @@ unread_is_none {E} bs r e is digits read =
 abbrev behind : Option ℕ → Option (List ℕ) → Option (List ℕ)
 behind first rest = option_and_then (λ choice. option_map (λ choices. choice ∷ choices) rest) first
 
--- where a list is there behind the first choice, both are there
+-- if there is a list behind the first choice, there are both
 both_there : (first : Option ℕ) (rest : Option (List ℕ)) (all : List ℕ) → behind first rest ≡ Some all → (n : ℕ) × (ns : List ℕ) × (first ≡ Some n) × (rest ≡ Some ns) × (n ∷ ns ≡ all)
 both_there None rest all is = absurd cc
 both_there (Some n) None all is = absurd cc

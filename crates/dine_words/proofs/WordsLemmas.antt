@@ -7,13 +7,13 @@ use Rattle.dine_words.specs.Words.{fault_of_kind}
 use Rattle.dine_words.specs.declared.words.WordsFault.{WordsFault}
 use Rattle.dine_words.specs.declared.words.WordsFault.TheVariants.{Usage, Memory}
 
--- `clap` does not take the words that are told as `Usage`
+-- `clap` does not accept the arguments that are refused as `Usage`
 pub usage_is_refused : {T : Type 0} (r : Result T WordsFault) (kind : ErrorKind) (b : Bool) → IsErrAnd r (λ fault. fault ≡ fault_of_kind kind) → (b ≡ true → kind ≡ OutOfMemory)
     → IsErrOf r Usage → b ≡ false
-usage_is_refused r kind false told passes is = refl
-usage_is_refused (Ok x) kind true told passes is = absurd told
-usage_is_refused (Err fault) kind true told passes is =
-    let memory : fault ≡ Memory = told ∙ ap fault_of_kind (passes refl) in cc
+usage_is_refused r kind false reported passes is = refl
+usage_is_refused (Ok x) kind true reported passes is = absurd reported
+usage_is_refused (Err fault) kind true reported passes is =
+    let memory : fault ≡ Memory = reported ∙ ap fault_of_kind (passes refl) in cc
 
 -- a test that is false, before another and behind it
 pub false_first : (a b : Bool) → a ≡ false → (a && b) ≡ false

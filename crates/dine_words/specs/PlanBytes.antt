@@ -7,7 +7,7 @@ use Rattle.dine_reader.specs.RefusalTests.{first_fault}
 use Rattle.dine_reader.specs.declared.plan_fault.PlanFault.{PlanFault}
 use Rattle.dine_reader.specs.declared.plan_fault.PlanFault.TheVariants as fault
 
--- why the bytes are refused, where they are: bytes that are no text are no TOML
+-- why the bytes are refused, if they are: bytes that are no text are no TOML
 abbrev pub fault_of_bytes : List ℕ → Option PlanFault
 fault_of_bytes bytes = if is_utf8 bytes then first_fault bytes else Some fault.NotToml
 

@@ -3,7 +3,7 @@ use Rattle.std.specs.Prelude.{ℕ}
 use Rattle.dine_words.specs.declared.status.Status.{Status}
 use Rattle.dine_words.specs.declared.status.Status.TheVariants.{Success, Usage, PlanRefused, RunFailed, OutOfMemory, InputOutput}
 
--- the number of each status, 0 to 6; 1 is never used
+-- the number of each status: 0, or 2 to 6
 abbrev pub number_of : Status → ℕ
 number_of Success = 0
 number_of Usage = 2

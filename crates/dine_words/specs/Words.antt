@@ -1,4 +1,4 @@
--- The commands of the program, as `clap` finds them in the words of the command line.
+-- The commands of the program, as `clap` finds them in the arguments.
 use Rattle.std.specs.Prelude.{◌≡◌, ◌⊎◌, ◌&&◌, ℕ, Bool, List, [], Option, Some, None, codes, if◌then◌else◌, is_some, option_map, true}
 use Rattle.std.specs.Option.{option_map_or}
 use Rattle.std.specs.Str.{bytes_eq}
@@ -17,7 +17,7 @@ use Rattle.dine_words.specs.declared.words.Table.TheVariants.{Edges, Sites}
 use Rattle.dine_words.specs.declared.words.WordsFault.{WordsFault}
 use Rattle.dine_words.specs.declared.words.WordsFault.TheVariants.{Usage, Memory}
 
--- `dine`, which wants no subcommand and has no help of its own
+-- `dine`, which needs no subcommand and has no help of its own
 abbrev pub program_alone : App
 program_alone = on_top (λ s. record s {
   disable_help_flag = true;
@@ -52,13 +52,13 @@ replay_app = with_rule (new_app (codes "replay")) choices_rule
 abbrev pub dine_app : App
 dine_app = with_subcommand (with_subcommand (with_subcommand program_alone run_app.top) replay_app.top) (new_app (codes "check")).top
 
--- what is asked for: a run with this table over links of this kind, a replay of these choices, or the plan's size
+-- a request: a run with this table over links of this kind, a replay of these choices, or a check of the plan
 pub data Asked : Type 0 where
   Runs : Table → Links → Asked
   Replays : List ℕ → Asked
   Checks : Asked
 
--- what a `Command` of the code asks for
+-- the request of a `Command` of the code
 abbrev pub asked_of : Command → Asked
 asked_of (Run table links) = Runs table links
 asked_of (Replay choices) = Replays choices.items
@@ -70,8 +70,8 @@ table_of name =
     if bytes_eq name (codes "edges") then Some Edges
     else (if bytes_eq name (codes "sites") then Some Sites else None)
 
--- the table in what `clap` finds behind `run`: that of edges where the option is not there, and else the one of its
--- text, if a table has that name
+-- the table in what `clap` finds behind `run`: that of edges without the option, and else the table that has the text
+-- of the option as its name, if there is one
 abbrev pub table_in : List Row → Option Table
 table_in found = option_map_or table_of (first_of (codes "table") found) (Some Edges)
 
@@ -81,12 +81,12 @@ links_of name =
     if bytes_eq name (codes "channel") then Some Channel
     else (if bytes_eq name (codes "ring") then Some Ring else None)
 
--- the kind of links in what `clap` finds behind `run`: rings where the option is not there, and else that of its text,
--- if a kind has that name
+-- the kind of links in what `clap` finds behind `run`: rings without the option, and else the kind that has the text of
+-- the option as its name, if there is one
 abbrev pub links_in : List Row → Option Links
 links_in found = option_map_or links_of (first_of (codes "links") found) (Some Ring)
 
--- a run, where there is a table and a kind of links
+-- a run, if there is a table and a kind of links
 abbrev pub runs_with : Option Table → Option Links → Option Asked
 runs_with (Some table) (Some links) = Some (Runs table links)
 runs_with _ _ = None
@@ -95,8 +95,8 @@ runs_with _ _ = None
 abbrev pub run_in : List Row → Option Asked
 run_in found = runs_with (table_in found) (links_in found)
 
--- the choices in what `clap` finds behind `replay`: an empty list where the option is not there, and else those of its
--- text, if it has them
+-- the choices in what `clap` finds behind `replay`: an empty list without the option, and else those of the text of the
+-- option, if it has that form
 abbrev pub choices_in : List Row → Option (List ℕ)
 choices_in found = option_map_or choices_of (first_of (codes "choices") found) (Some [])
 
@@ -104,31 +104,31 @@ choices_in found = option_map_or choices_of (first_of (codes "choices") found) (
 abbrev pub IsCommandName : Text → Type 0
 IsCommandName name = (name ≡ codes "run") ⊎ ((name ≡ codes "replay") ⊎ (name ≡ codes "check"))
 
--- what is asked for by a command of this name, and by what `clap` finds behind the name
+-- the request of a command of this name, with what `clap` finds behind the name
 abbrev pub asked_by : Text × List Row → Option Asked
 asked_by found =
     if bytes_eq found.0 (codes "run") then run_in found.1
     else (if bytes_eq found.0 (codes "replay") then option_map Replays (choices_in found.1)
     else (if bytes_eq found.0 (codes "check") then Some Checks else None))
 
--- what the words ask for, as `clap` finds it: a run with the table of edges, over rings, where they name no command
+-- the request of the arguments, as `clap` finds it: a run with the table of edges, over rings, if they name no command
 abbrev pub command_in : App → List Text → Option Asked
 command_in app words = option_map_or asked_by (subcommand_of app words) (Some (Runs Edges Ring))
 
--- `clap` finds no fault in the words
+-- `clap` finds no fault in the arguments
 abbrev pub HasNoFault : App → List Text → Type 0
 HasNoFault app words = fault_of app words ≡ []
 
--- `clap` takes the words, and they ask for something: the text of `--table`, where there is one, names a table, that of
+-- `clap` accepts the arguments, and they have a request: the text of `--table`, if there is one, names a table, that of
 -- `--links` a kind of links, and that of `--choices` has choices
 abbrev pub are_taken : App → List Text → Bool
 are_taken app words = takes app words && is_some (command_in app words)
 
--- `clap` finds no fault in the words, and they ask for something
+-- `clap` finds no fault in the arguments, and they have a request
 abbrev pub AreRight : App → List Text → Type 0
 AreRight app words = HasNoFault app words × (is_some (command_in app words) ≡ true)
 
--- what a fault of `clap` is: want of memory is told apart from every other cause, which is a fault of usage
+-- the fault for a kind of error of `clap`: `Memory` if it is out of memory, and else `Usage`
 abbrev pub fault_of_kind : ErrorKind → WordsFault
 fault_of_kind OutOfMemory = Memory
 fault_of_kind _ = Usage

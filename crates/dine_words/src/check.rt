@@ -1,11 +1,15 @@
-//! The text of the command `check`.
+//! The output of the command `check`.
 ghost use Rattle.std.specs.Prelude.{◌≡◌, ◌++◌, IfOk, OnOk, string_bytes};
 ghost use Rattle.dine_words.specs.Check.{check_text, job_total, sizes_line};
 
 use dine_graph::Plan;
 use std::alloc::{AllocError, Global};
 
-/// How large the plan is, in words.
+/// Makes the line that says how large the plan is.
+///
+/// # Errors
+///
+/// Returns `AllocError` if an allocation fails.
 pub fn check_text(alloc: Global, plan: &Plan) -> Result<String, AllocError>
     ensures { IfOk result (λ text. string_bytes text ≡ check_text plan.now) }
 {
@@ -14,14 +18,14 @@ pub fn check_text(alloc: Global, plan: &Plan) -> Result<String, AllocError>
     Ok(text)
 }
 
-// Adds the line of so many sites, edges and jobs to the text.
+// Adds the line with these numbers of sites, edges and jobs to the text.
 fn push_sizes(text: &mut String, sites: u32, edges: u32, jobs: u32) -> Result<(), AllocError>
     ensures { OnOk result (string_bytes text.new ≡ string_bytes text.old ++ sizes_line sites edges jobs) }
 {
     writeln!(text, "ok: {sites} sites, {edges} edges, {jobs} jobs")
 }
 
-// How many jobs all sites have together.
+// The number of jobs of all sites.
 fn job_total(plan: &Plan) -> u32
     ensures { result ≡ job_total plan.now }
 {

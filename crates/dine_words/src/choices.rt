@@ -1,4 +1,4 @@
-//! LIST of `--choices`.
+//! The LIST of `--choices`.
 ghost use Rattle.std.specs.Prelude.{◌≡◌, IfOk, IsErrOf, None, Some};
 ghost use Rattle.std.specs.Char.{is_ascii_digit};
 ghost use Rattle.std.specs.List.{list_all};
@@ -7,10 +7,15 @@ ghost use Rattle.dine_words.specs.Choices.{choice_of, choices_of};
 use crate::words::WordsFault;
 use std::alloc::Global;
 
+// The greatest number of digits of a choice.
 const MAX_DIGITS: usize = 10;
 
-/// The choices of the text: one or more numbers of 1 to 10 decimal digits, at most 4294967295 each, separated by single
-/// commas. Any other text is refused as `Usage`.
+/// Returns the choices of the text: one or more numbers of 1 to 10 decimal digits, at most 4294967295 each, separated
+/// by single commas.
+///
+/// # Errors
+///
+/// Returns `Usage` if the text has another form, and `Memory` if an allocation fails.
 pub fn choices_of(alloc: Global, list: &str) -> Result<Vec<u32>, WordsFault>
     ensures choices { IfOk result (λ choices. choices_of list.now ≡ Some choices.items) }
     ensures refused { IsErrOf result WordsFault.Usage → choices_of list.now ≡ None }
@@ -25,7 +30,7 @@ pub fn choices_of(alloc: Global, list: &str) -> Result<Vec<u32>, WordsFault>
     Ok(choices)
 }
 
-// The choice that the text writes, where it is one.
+// The choice that the text writes, if it is one.
 fn choice_of(text: &str) -> Option<u32>
     ensures { result ≡ choice_of text.now }
 {

@@ -6,27 +6,32 @@ ghost use Rattle.dine_words.specs.Input.{TakesAtMost, input_limit};
 use std::alloc::Global;
 use std::io::{ErrorKind, Read};
 
-/// How many bytes an input may have.
+/// The greatest number of bytes of an input.
 pub const INPUT_LIMIT: usize = 8_388_608;
 
-// How many bytes one read asks for at most.
+// The greatest number of bytes that one read asks for.
 const CHUNK: usize = 4096;
 
 /// Why an input was not read to its end.
 #[derive(Clone, Copy)]
 pub enum InputFault {
-    /// A read failed, or was interrupted again and again.
+    /// A read failed, or reads were interrupted again and again.
     Failed,
-    /// More than `INPUT_LIMIT` bytes came.
+    /// There are more than `INPUT_LIMIT` bytes.
     TooLong,
-    /// The buffer could not grow.
+    /// An allocation failed.
     Memory,
 }
 
-/// All the bytes of `input`, of which there may be `INPUT_LIMIT`.
+/// Reads all bytes of `input`, at most `INPUT_LIMIT`.
 ///
-/// It takes at most one byte more than that from `input`, by at most as many reads. An interrupted
-/// read is tried again among these. After an `Err` the bytes that were taken are lost.
+/// It takes at most `INPUT_LIMIT + 1` bytes from `input`, by at most as many reads. A read that is interrupted is tried
+/// again, and counts as one of these.
+///
+/// # Errors
+///
+/// Returns `Failed` if a read fails, `TooLong` if there are more bytes, and `Memory` if an allocation fails. The bytes
+/// that were taken are lost.
 pub fn read_input<R: Read>(alloc: Global, input: &mut R) -> Result<Vec<u8>, InputFault>
     ensures bytes { IfOk result (λ taken. IfSome (R.remaining input.old) (λ left. taken.items ≡ left)) }
     ensures end { OnOk result (IsAtEnd (R.remaining input.new)) }

@@ -1,5 +1,5 @@
-//! What stands on a plan alone: what the words ask for, the input and the plan that it is, what is written, and the
-//! statuses.
+//! What depends on a plan alone: the arguments, the input, the plan of its bytes, the output of `check`, what is
+//! written, and the statuses.
 #![tactic(auto)]
 
 mod check;

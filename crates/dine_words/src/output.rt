@@ -1,4 +1,4 @@
-//! A text or a line, written whole.
+//! Texts and lines, written whole.
 ghost use Rattle.std.specs.Prelude.{◌∷◌, ◌++◌, [], OnOk};
 ghost use Rattle.std.specs.Io.KnownBytes.{Appends};
 ghost use Rattle.dine_words.specs.Output.{WritesPrefix};
@@ -11,9 +11,12 @@ const LINE_FEED: u8 = b'\n';
 #[derive(Clone, Copy)]
 pub struct WriteFault;
 
-/// Writes the whole `text` and flushes.
+/// Writes the whole `text` and flushes. A write that is interrupted is tried again.
 ///
-/// An interrupted write is tried again. Whatever happens, what goes out is a prefix of `text`.
+/// # Errors
+///
+/// Returns `WriteFault` if a write or the flush fails, or if a write takes no byte. What was written is a prefix of
+/// `text`.
 pub fn write_out<W: Write>(output: &mut W, text: &[u8]) -> Result<(), WriteFault>
     ensures whole { OnOk result (Appends (W.contents output.old) (W.contents output.new) text.now) }
     ensures prefix { WritesPrefix (W.contents output.old) (W.contents output.new) text.now }
@@ -24,7 +27,9 @@ pub fn write_out<W: Write>(output: &mut W, text: &[u8]) -> Result<(), WriteFault
 
 /// Writes the whole `line` and a line feed, and flushes.
 ///
-/// Whatever happens, what goes out is a prefix of these.
+/// # Errors
+///
+/// Returns `WriteFault` as `write_out` does. What was written is a prefix of the line and the line feed.
 pub fn write_line<W: Write>(output: &mut W, line: &str) -> Result<(), WriteFault>
     ensures whole { OnOk result (Appends (W.contents output.old) (W.contents output.new) (line.now ++ LINE_FEED ∷ [])) }
     ensures prefix { WritesPrefix (W.contents output.old) (W.contents output.new) (line.now ++ LINE_FEED ∷ []) }

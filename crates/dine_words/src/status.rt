@@ -8,22 +8,22 @@ use std::process::ExitCode;
 /// How a command ended.
 #[derive(Clone, Copy, Debug, PartialEq, Eq)]
 pub enum Status {
-    /// The text was written whole.
+    /// The output was written whole.
     Success,
-    /// The words are refused, and nothing was read.
+    /// The arguments are refused, and nothing was read.
     Usage,
     /// The input is no plan.
     PlanRefused,
     /// The run of the threads failed.
     RunFailed,
-    /// Memory was refused.
+    /// An allocation failed.
     OutOfMemory,
     /// Reading or writing failed, or the input is too long.
     InputOutput,
 }
 
 impl Status {
-    /// The number that the process ends with: 0 and 2 to 6.
+    /// Returns the exit status of the process: 0, or 2 to 6.
     pub fn number(self) -> u8
         ensures { result ≡ number_of self }
     {
@@ -38,7 +38,7 @@ impl Status {
     }
 }
 
-/// What the process ends with: the number of the status.
+/// Returns the exit code of the process: the number of the status.
 pub fn exit_of(status: Status) -> ExitCode
     ensures { exit_status result ≡ number_of status }
 {

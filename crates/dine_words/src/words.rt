@@ -1,7 +1,9 @@
-//! The words of the command line, read by `clap`.
+//! The arguments of the command line, read by `clap`.
 ghost use Rattle.std.specs.Prelude.{◌≡◌, IfOk, IsErrOf, None, OnOk, Some, false, is_some, map, string_bytes};
 ghost use Rattle.clap.specs.Words.{app_of, found_of, kind_of, rows_of, rule_of, with_subcommand};
-ghost use Rattle.dine_words.specs.Words.{AreRight, HasNoFault, IsCommandName, are_taken, asked_by, asked_of, choices_in, command_in, dine_app, fault_of_kind, links_in, links_of, option_rule, run_app, run_in, table_in, table_of};
+ghost use Rattle.dine_words.specs.Words.{AreRight, HasNoFault, IsCommandName, are_taken, asked_by, asked_of};
+ghost use Rattle.dine_words.specs.Words.{choices_in, command_in, dine_app, fault_of_kind, links_in, links_of};
+ghost use Rattle.dine_words.specs.Words.{option_rule, run_app, run_in, table_in, table_of};
 ghost use Rattle.dine_words.specs.declared.words.WordsFault.TheVariants.{Memory};
 
 use crate::choices::choices_of;
@@ -52,17 +54,17 @@ pub enum Command {
     Run(Table, Links),
     /// Go through the plan's events one by one, those of the choices first, and print the logs.
     Replay(Vec<u32>),
-    /// Read the plan, and say how large it is.
+    /// Read the plan, and print how large it is.
     Check,
 }
 
-/// Why the words name no command.
+/// Why the arguments name no command.
 #[derive(Clone, Copy)]
 pub enum WordsFault {
-    /// `clap` refuses the words, LIST is no list of choices, or no table or no kind of links has the name. A question
-    /// for help or the version is refused too.
+    /// `clap` refuses the arguments, LIST is no list of choices, or no table or no kind of links has the name. A
+    /// question for help or for the version is refused too.
     Usage,
-    /// There was no memory to read them.
+    /// An allocation failed.
     Memory,
 }
 
@@ -85,15 +87,18 @@ impl From<AllocError> for WordsFault {
     }
 }
 
-/// The command that the words name, of which the first is the program's own name. Where they name none it is `run` with
-/// the table of edges, over rings.
+/// Returns the command that the arguments name, the first of which is the program's own name. If they name none, it is
+/// `run` with the table of edges, over rings.
 ///
-/// It answers `Usage` where the words are refused, and `Memory` where memory is.
+/// # Errors
+///
+/// Returns `Usage` if the arguments are refused, and `Memory` if an allocation fails.
 pub fn command_of(alloc: Global, words: &[String]) -> Result<Command, WordsFault>
     ensures ok { IfOk result (λ command. command_in dine_app (map string_bytes words.now) ≡ Some (asked_of command)) }
     ensures taken { OnOk result (AreRight dine_app (map string_bytes words.now)) }
     ensures usage { IsErrOf result WordsFault.Usage → are_taken dine_app (map string_bytes words.now) ≡ false }
-    ensures fault { IsErrOf result WordsFault.Usage → HasNoFault dine_app (map string_bytes words.now) → command_in dine_app (map string_bytes words.now) ≡ None }
+    ensures fault { IsErrOf result WordsFault.Usage → HasNoFault dine_app (map string_bytes words.now)
+        → command_in dine_app (map string_bytes words.now) ≡ None }
 {
     let matches = program(alloc)?.try_get_matches_from(words)?;
     match matches.subcommand() {
@@ -102,7 +107,7 @@ pub fn command_of(alloc: Global, words: &[String]) -> Result<Command, WordsFault
     }
 }
 
-// The command of the name, with what the parse found behind it.
+// The command of this name, with the options that `clap` found behind it.
 fn command_named(
     alloc: Global,
     name: &str,
@@ -153,7 +158,7 @@ fn text_option<'a>(alloc: Global, name: &'a str) -> clap::Arg<'a>
         .action(clap::ArgAction::Set)
 }
 
-// The run that the parse met.
+// The run with the options that `clap` found.
 fn run_met(matches: &clap::ArgMatches<'_>) -> Result<Command, WordsFault>
     ensures run { IfOk result (λ command. run_in (rows_of (found_of matches.now)) ≡ Some (asked_of command)) }
     ensures refused { IsErrOf result WordsFault.Usage → run_in (rows_of (found_of matches.now)) ≡ None }
@@ -164,7 +169,7 @@ fn run_met(matches: &clap::ArgMatches<'_>) -> Result<Command, WordsFault>
     }
 }
 
-// The table whose name the parse met. Where it met none it is that of edges.
+// The table of the option `--table`. Without that option it is the table of edges.
 fn table_met(matches: &clap::ArgMatches<'_>) -> Option<Table>
     ensures { result ≡ table_in (rows_of (found_of matches.now)) }
 {
@@ -185,7 +190,7 @@ fn table_of(name: &str) -> Option<Table>
     }
 }
 
-// The kind of links whose name the parse met. Where it met none they are rings.
+// The kind of links of the option `--links`. Without that option they are rings.
 fn links_met(matches: &clap::ArgMatches<'_>) -> Option<Links>
     ensures { result ≡ links_in (rows_of (found_of matches.now)) }
 {
@@ -206,7 +211,7 @@ fn links_of(name: &str) -> Option<Links>
     }
 }
 
-// The choices that the parse met. Where it met none there are none.
+// The choices of the option `--choices`. Without that option there are none.
 fn choices_met(alloc: Global, matches: &clap::ArgMatches<'_>) -> Result<Vec<u32>, WordsFault>
     ensures choices { IfOk result (λ choices. choices_in (rows_of (found_of matches.now)) ≡ Some choices.items) }
     ensures refused { IsErrOf result WordsFault.Usage → choices_in (rows_of (found_of matches.now)) ≡ None }

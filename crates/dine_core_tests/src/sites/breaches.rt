@@ -262,7 +262,7 @@ fn done_before_the_last_meal_is_refused(rt: HostRuntime) {
     leave(&rt, rt.alloc(), cores);
 }
 
-// No meal is due to the higher site, so its Done comes at once, and once.
+// No meal is due to the higher site, so its Done arrives at once, and only once.
 #[test]
 fn second_done_is_refused(rt: HostRuntime) {
     let steps = [

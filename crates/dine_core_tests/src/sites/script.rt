@@ -1,9 +1,9 @@
 // Scripts: what some sites do one after another, and the letters that go between them. A test is a list of steps, which
 // one function goes through, so that each call is proved once and not once more in each test.
 use super::{
-    Told, ask_at, break_off, close, core_of, eat, eat_with, foreign, give_at, grow_hungry,
-    is_broken_off, lies_fork_of, may_do, next_is, quit, refuse, say_done_at, spend, take_at,
-    told_of, value_of, waits,
+    Report, ask_at, break_off, close, core_of, eat, eat_with, foreign, give_at, grow_hungry,
+    is_broken_off, is_fork_with, may_do, next_is, quit, refuse, report_of, say_done_at, spend,
+    take_at, value_of, waits,
 };
 use crate::asserts::same;
 use crate::forks::opened;
@@ -20,8 +20,7 @@ pub const B: usize = 1;
 
 pub const C: usize = 2;
 
-// A step of the site with this number in the script. Letters lie on a pile: what is put comes on top, and what is taken
-// is the topmost.
+// A step of the site with this number in the script. The letters are on a stack: a put pushes one, and a take pops one.
 #[derive(Clone, Copy)]
 pub enum Step {
     Hungry(usize),
@@ -52,12 +51,12 @@ pub enum Step {
     Waits(usize, (Option<u32>, u32, u32)),
     // Whether Close went both ways at each of its places.
     Closed(usize, bool),
-    // It ate so many meals.
+    // It ate this number of meals.
     Ate(usize, u32),
-    // It has so many places.
+    // It has this number of places.
     Degree(usize, u32),
-    // This is what it tells of itself and its first place.
-    Tells(usize, Told),
+    // This is what it reports of itself and its first place.
+    Reports(usize, Report),
     // It has nothing left to do.
     Finished(usize),
     // The topmost letter is of this kind.
@@ -90,7 +89,7 @@ fn top(rt: &impl Abort, pile: &mut Vec<Letter>) -> Letter {
     pile.pop().expect(rt, "a letter")
 }
 
-// The letter that comes on top by this step, if one does.
+// Returns the letter that this step pushes, if it pushes one.
 fn letter_put(
     rt: &impl Abort,
     alloc: Global,
@@ -115,7 +114,7 @@ fn letter_put(
     }
 }
 
-// A step by which a letter comes on top.
+// Does a step that pushes a letter.
 fn puts(
     rt: &impl Abort,
     alloc: Global,
@@ -145,7 +144,7 @@ fn seen_at<'a>(rt: &impl Abort, cores: &'a [SiteCore], n: usize) -> &'a SiteCore
     cores.get(n).expect(rt, "a site")
 }
 
-// A step that looks at a site.
+// Does a step that checks a site.
 fn looks(rt: &impl Abort, cores: &[SiteCore], step: Step) {
     match step {
         Step::May(n, may) => may_do(rt, seen_at(rt, cores, n), may),
@@ -154,13 +153,13 @@ fn looks(rt: &impl Abort, cores: &[SiteCore], step: Step) {
         Step::Closed(n, is_closed) => same(rt, &seen_at(rt, cores, n).is_closed(), &is_closed),
         Step::Ate(n, k) => same(rt, &seen_at(rt, cores, n).ate(), &k),
         Step::Degree(n, places) => same(rt, &seen_at(rt, cores, n).degree(), &places),
-        Step::Tells(n, told) => same(rt, &told_of(rt, seen_at(rt, cores, n), 0), &told),
+        Step::Reports(n, report) => same(rt, &report_of(rt, seen_at(rt, cores, n), 0), &report),
         Step::Finished(n) => assert!(rt; seen_at(rt, cores, n).is_finished()),
         _ => {}
     }
 }
 
-// A step by which a letter leaves the pile, or comes back to it.
+// Does a step that pops a letter, or pushes it again.
 fn lands(rt: &impl Abort, cores: &mut Vec<SiteCore>, pile: &mut Vec<Letter>, step: Step) {
     match step {
         Step::Take(n, i) => {
@@ -179,7 +178,7 @@ fn lands(rt: &impl Abort, cores: &mut Vec<SiteCore>, pile: &mut Vec<Letter>, ste
         }
         Step::LiesForkOf(log) => {
             let letter = top(rt, pile);
-            lies_fork_of(rt, &letter, log);
+            is_fork_with(rt, &letter, log);
             pile.push(letter).expect(rt, "memory");
         }
         Step::LiesWith(value) => same(rt, &value_of(rt, &top(rt, pile)), &value),
@@ -196,7 +195,7 @@ pub fn seat(rt: &impl Abort, cores: &mut Vec<SiteCore>, core: SiteCore) {
     cores.push_reserved(core);
 }
 
-// The cores of these sites of a plan, as they are at the start, with room for four in all.
+// Returns the cores of these sites of a plan before the first step, with capacity for four.
 pub fn seated(rt: &impl Abort, alloc: Global, plan: &Plan, sites: &[u32]) -> Vec<SiteCore> {
     let mut cores = Vec::with_capacity(alloc, 4).expect(rt, "memory");
     for site in sites {

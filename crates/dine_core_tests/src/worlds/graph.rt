@@ -53,7 +53,7 @@ impl Graph<'_> {
         (a.min(b), a.max(b))
     }
 
-    /// The place of the edge at the site: how many edges of the site come before it.
+    /// Returns the place of the edge at the site: the number of edges of the site before it.
     pub(super) fn place_of(&self, site: u32, edge: u32) -> u32 {
         let mut places = 0u32;
         for earlier in 0..edge {

@@ -1,4 +1,4 @@
-//! Letters and lists of letters, as the rules look at them.
+//! Letters and lists of letters, as the rules see them.
 
 use dine_rules::Kind4;
 use dine_token::{Entry, Period};
@@ -63,7 +63,7 @@ pub(super) fn meals_of(site: u32, log: &[Entry]) -> u32 {
     meals
 }
 
-/// The period that begins at the site behind these entries, without a meal as yet.
+/// Returns the period that begins at the site after these entries, without a meal yet.
 pub(super) fn period_behind(log: &[Entry], site: u32) -> Period {
     let first = meals_of(site, log).saturating_add(1);
     let count = 0;
@@ -75,7 +75,7 @@ pub(super) fn is_dirty(log: &[Entry]) -> bool {
     !matches!(log.last(), Some(Entry::Move { .. }))
 }
 
-/// Where the last Move of the log went, or the lower end.
+/// Returns the site of the last Move of the log, or the lower end if there is none.
 pub(super) fn location_of(lower: u32, log: &[Entry]) -> u32 {
     let mut location = lower;
     for entry in log {

@@ -4,10 +4,9 @@ use super::graph::Graph;
 use super::letters::{
     Letter, count_of, has, is_dirty, last_log, location_of, meals_of, period_behind,
 };
-use dine_core::Said;
+use dine_core::{Said, Whereabouts};
 use dine_rules::{Event, EventKind, Kind4, Phase};
 use dine_token::{Entry, Period};
-use dine_world::Whereabouts;
 use std::alloc::Global;
 use std::process::Abort;
 
@@ -35,7 +34,7 @@ pub(super) struct Model<'a, R: Abort> {
     sites: Vec<Site>,
 }
 
-/// The events of a site with so many places, in the fixed order.
+/// Returns the events of a site with a number of places, in the fixed order.
 pub(super) fn events_at(rt: &impl Abort, alloc: Global, site: u32, places: u32) -> Vec<Event> {
     let mut events = Vec::new(alloc);
     for i in 0..places {
@@ -160,7 +159,7 @@ impl<'a, R: Abort> Model<'a, R> {
         }
     }
 
-    /// Does for each choice n the n-th enabled event, and passes over a choice with none. Answers how many there were.
+    /// Does for each choice n the n-th enabled event, and skips a choice with none. Returns the number of events.
     pub(super) fn replay(&mut self, choices: &[u32]) -> u64 {
         let mut events = 0u64;
         for n in choices {
@@ -171,7 +170,7 @@ impl<'a, R: Abort> Model<'a, R> {
         events
     }
 
-    /// Does the first enabled event until there is none, and answers how many there were.
+    /// Does the first enabled event until there is none, and returns the number of events.
     pub(super) fn finish(&mut self) -> u64 {
         let bound = self.graph.bound();
         for events in 0..bound {
@@ -204,7 +203,7 @@ impl<'a, R: Abort> Model<'a, R> {
         effects
     }
 
-    /// The log of the edge's fork, which is in one hand or on its way to one end.
+    /// Returns the log of the fork of the edge, which is at one site or on its way to one.
     pub(super) fn fork_log(&self, edge: u32) -> Vec<Entry> {
         let (lower, higher) = self.graph.ends(edge);
         let at_lower = self.is_near(lower, self.graph.place_of(lower, edge));
@@ -243,7 +242,8 @@ impl<'a, R: Abort> Model<'a, R> {
         kinds
     }
 
-    /// Where the one fork of the edge is, or its one token, which is a Request in a link. None where there is not one.
+    /// Returns where the fork of the edge is, or its token, which is a Request in a link. None if there is not exactly
+    /// one.
     pub(super) fn where_is(&self, edge: u32, kind: Kind4) -> Option<Whereabouts> {
         let (lower, higher) = self.graph.ends(edge);
         let mut found = None;
@@ -266,8 +266,8 @@ impl<'a, R: Abort> Model<'a, R> {
         if count == 1 { found } else { None }
     }
 
-    /// Whether the one fork of the edge is dirty: at a site its log tells, and on its way it is clean. None where there
-    /// is not one.
+    /// Returns whether the fork of the edge is dirty: at a site its log has that, and on its way it is clean. None if
+    /// there is not exactly one.
     pub(super) fn is_fork_dirty(&self, edge: u32) -> Option<bool> {
         match self.where_is(edge, Kind4::Fork)? {
             Whereabouts::At(site) => {
@@ -305,7 +305,7 @@ impl<'a, R: Abort> Model<'a, R> {
         true
     }
 
-    // Does the n-th enabled event, where there is one.
+    // Does the n-th enabled event, if there is one.
     fn choose(&mut self, n: u32) -> bool {
         let event = self.enabled().get(n as usize).copied();
         if let Some(event) = event {
@@ -350,8 +350,8 @@ impl<'a, R: Abort> Model<'a, R> {
         self.graph.other(self.edge_at(site, place), site)
     }
 
-    // How many forks the site holds at the place: the lower end has one at the start, a taken one comes, a put one
-    // goes.
+    // Returns the number of forks of the site at the place: 1 at the start at the lower end, plus those that were
+    // taken, less those that were put.
     fn forks_held(&self, site: u32, place: u32) -> u32 {
         let (lower, _) = self.graph.ends(self.edge_at(site, place));
         self.held(site, place, Kind4::Fork, site == lower)
@@ -371,7 +371,7 @@ impl<'a, R: Abort> Model<'a, R> {
             .expect(self.rt, "no more goes than came")
     }
 
-    // The log in hand: that of the last Fork taken, and the site's own meals since.
+    // Returns the log at the site: that of the last Fork taken, and the own meals of the site since.
     fn hand(&self, site: u32, place: u32) -> Vec<Entry> {
         let old = last_log(self.traffic(site, place).taken.as_slice());
         let mut log = self.copy_of(old);
@@ -392,7 +392,7 @@ impl<'a, R: Abort> Model<'a, R> {
         copy
     }
 
-    // Whether the fork is at the site, in its hand or on the way to it.
+    // Returns whether the fork is at the site or on its way to it.
     fn is_near(&self, site: u32, place: u32) -> bool {
         let put = self.put_to(site, place);
         let taken = self.traffic(site, place).taken.as_slice();
@@ -435,7 +435,7 @@ impl<'a, R: Abort> Model<'a, R> {
         !closed && self.is_allowed(site, place, letter)
     }
 
-    // Whether the letter may come, where Close was not taken.
+    // Returns whether the letter may arrive, if Close was not taken.
     fn is_allowed(&self, site: u32, place: u32, letter: &Letter) -> bool {
         let traffic = self.traffic(site, place);
         let done_taken = has(Kind4::Done, traffic.taken.as_slice());
@@ -546,7 +546,7 @@ impl<'a, R: Abort> Model<'a, R> {
         traffic.put.push(letter).expect(rt, "memory");
     }
 
-    // The log in hand, with the Move to the other end.
+    // Returns the log at the site, with the Move to the other end.
     fn given_log(&self, site: u32, place: u32) -> Vec<Entry> {
         let to = self.neighbour_at(site, place);
         let mut log = self.hand(site, place);

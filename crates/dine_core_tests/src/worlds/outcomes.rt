@@ -1,15 +1,15 @@
 //! Worlds that are opened with outcomes of their own.
 ghost use Rattle.std.specs.Prelude.{◌≡◌, true};
-ghost use Rattle.dine_world.specs.Worlds.{AreOutcomesFor, lists_of};
+ghost use Rattle.dine_core.specs.Worlds.{AreOutcomesFor, lists_of};
 
 use super::graph::Graph;
 use super::{RESIGNING, entry_at, opened, plan_by, spend};
 use crate::asserts::same;
 use crate::plans::read;
+use dine_core::World;
 use dine_plan::Plan;
 use dine_test_plans::RESIGNING_PAIR;
 use dine_token::Entry;
-use dine_world::World;
 use std::alloc::Global;
 use std::process::Abort;
 
@@ -71,7 +71,7 @@ fn outcomes_are_given_in_place_of_the_plans(rt: HostRuntime) {
     let _forks = spend(&rt, &plan, world);
 }
 
-// Where these are those of the plan, all goes as without them.
+// If these are the outcomes of the plan, the run is the same as without them.
 #[test]
 fn outcomes_of_the_plan_may_be_given(rt: HostRuntime) {
     let plan = plan_by(&rt, rt.alloc(), RESIGNING);

@@ -1,15 +1,14 @@
-//! Where forks and tokens are, the letters in the links and what was said, as a world tells it.
+//! Where forks and tokens are, the letters in the links, and who put Done, as a world reports it.
 
 use super::model::Model;
 use super::{opened, pair, spend};
 use crate::asserts::same;
-use dine_core::Said;
+use dine_core::{Said, Whereabouts, World};
 use dine_rules::Kind4;
-use dine_world::{Whereabouts, World};
 use std::process::Abort;
 
 // There is no such site or place.
-fn tells_nothing(rt: &impl Abort, world: &World, site: u32, place: u32) {
+fn reports_nothing(rt: &impl Abort, world: &World, site: u32, place: u32) {
     same(rt, &world.letters_to(site, place), &None);
     same(rt, &world.letter_to(site, place, 0), &None);
     same(rt, &world.said(site, place), &None);
@@ -25,7 +24,7 @@ fn has_letters(rt: &impl Abort, world: &World, site: u32, place: u32, kinds: &[K
     }
 }
 
-// The world tells of the edge's fork and token what the model does.
+// Checks that world and model report the same of the fork and the token of an edge.
 fn same_fork_and_token<R: Abort>(rt: &R, model: &Model<R>, world: &World, edge: u32) {
     let fork = model.where_is(edge, Kind4::Fork);
     same(rt, &world.where_is_fork(edge), &fork);
@@ -34,7 +33,7 @@ fn same_fork_and_token<R: Abort>(rt: &R, model: &Model<R>, world: &World, edge: 
     same(rt, &world.is_fork_dirty(edge), &model.is_fork_dirty(edge));
 }
 
-/// The world tells what the model says of each edge, and of each place of each site.
+/// Checks that world and model report the same of each edge, and of each place of each site.
 pub(super) fn same_readers<R: Abort>(rt: &R, model: &Model<R>, world: &World) {
     let edges = model.graph.edge_count();
     for edge in 0..edges {
@@ -54,15 +53,15 @@ pub(super) fn same_readers<R: Abort>(rt: &R, model: &Model<R>, world: &World) {
             has_letters(rt, world, site, place, kinds.as_slice());
             same(rt, &world.said(site, place), &Some(model.said(site, place)));
         }
-        tells_nothing(rt, world, site, places);
+        reports_nothing(rt, world, site, places);
     }
-    tells_nothing(rt, world, sites, 0);
+    reports_nothing(rt, world, sites, 0);
 }
 
-// What each end of the pair has said, where both said the same of the other.
+// Checks what each end of the pair has put, if both have put the same.
 fn have_said(rt: &impl Abort, world: &World, said: Said) {
-    let told = (world.said(0, 0), world.said(1, 0));
-    same(rt, &told, &(Some(said), Some(said)));
+    let found = (world.said(0, 0), world.said(1, 0));
+    same(rt, &found, &(Some(said), Some(said)));
 }
 
 fn all_or_none(is_said: bool) -> Said {
@@ -74,8 +73,8 @@ fn all_or_none(is_said: bool) -> Said {
     }
 }
 
-// A moment of the pair: the choices that lead there from the one before, where the fork and the token are then, whether
-// the fork is dirty, and the letters to the lower end and to the higher.
+// A moment of the pair: the choices that lead to it from the moment before, where the fork and the token are, whether
+// the fork is dirty, and the letters to the lower end and to the higher end.
 struct Moment<'a> {
     choices: &'a [u32],
     fork: Whereabouts,
@@ -86,8 +85,8 @@ struct Moment<'a> {
 }
 
 fn is_at(rt: &impl Abort, world: &World, moment: &Moment) {
-    let told = (world.where_is_fork(0), world.where_is_token(0));
-    same(rt, &told, &(Some(moment.fork), Some(moment.token)));
+    let found = (world.where_is_fork(0), world.where_is_token(0));
+    same(rt, &found, &(Some(moment.fork), Some(moment.token)));
     same(rt, &world.is_fork_dirty(0), &Some(moment.is_dirty));
     has_letters(rt, world, 0, 0, moment.to_lower);
     has_letters(rt, world, 1, 0, moment.to_higher);
@@ -134,13 +133,13 @@ const MOMENTS: [Moment; 4] = [
     },
 ];
 
-// There is no edge but the first, and no place but one at each of the two sites.
-fn tells_of_one_edge(rt: &impl Abort, world: &World) {
-    let told = (world.where_is_fork(1), world.where_is_token(1));
-    same(rt, &told, &(None, None));
+// Checks that there is only one edge, and only one place at each of the two sites.
+fn has_one_edge(rt: &impl Abort, world: &World) {
+    let found = (world.where_is_fork(1), world.where_is_token(1));
+    same(rt, &found, &(None, None));
     same(rt, &world.is_fork_dirty(1), &None);
-    tells_nothing(rt, world, 0, 1);
-    tells_nothing(rt, world, 2, 0);
+    reports_nothing(rt, world, 0, 1);
+    reports_nothing(rt, world, 2, 0);
 }
 
 #[test]
@@ -155,6 +154,6 @@ fn readers_follow_a_pair(rt: HostRuntime) {
     let _ = world.finish();
     is_at(&rt, &world, &AT_START);
     have_said(&rt, &world, all_or_none(true));
-    tells_of_one_edge(&rt, &world);
+    has_one_edge(&rt, &world);
     let _forks = spend(&rt, &plan, world);
 }

@@ -7,10 +7,10 @@ use super::outcomes::opened_with;
 use super::readers::same_readers;
 use super::{act_of, entry_at, first_value, opened, period_at, plan_by};
 use crate::asserts::same;
+use dine_core::{NotEnabled, World};
 use dine_plan::Plan;
 use dine_rules::{Event, EventKind, Kind4};
 use dine_token::{Act, Entry, Fork, Period};
-use dine_world::{NotEnabled, World};
 use std::alloc::Global;
 use std::process::Abort;
 
@@ -85,7 +85,7 @@ fn same_forks<R: Abort>(rt: &R, model: &Model<R>, world: &World) {
     assert!(rt; world.fork(edges).is_none());
 }
 
-// The world is as the model says after so many events, with its enabled events.
+// Checks that the world is as the model says after a number of events, and its enabled events too.
 fn agree<R: Abort>(rt: &R, model: &Model<R>, enabled: &[Event], world: &World, events: u64) {
     same_events(rt, enabled, world);
     same_sites(rt, model, world);
@@ -98,7 +98,7 @@ fn agree<R: Abort>(rt: &R, model: &Model<R>, enabled: &[Event], world: &World, e
     same(rt, &model.effects(), &events);
 }
 
-// The same, where the enabled events are not at hand.
+// The same, without a list of the enabled events.
 fn agree_anew<R: Abort>(rt: &R, model: &Model<R>, world: &World, events: u64) {
     let enabled = model.enabled();
     agree(rt, model, enabled.as_slice(), world, events);
@@ -116,7 +116,7 @@ fn all_events(rt: &impl Abort, alloc: Global, graph: Graph) -> Vec<Event> {
     all
 }
 
-// Each event that is not enabled is refused.
+// Checks that each event that is not enabled is refused.
 fn refuse_others(rt: &impl Abort, all: &[Event], enabled: &[Event], world: &mut World) {
     for event in all {
         if !enabled.contains(event) {
@@ -130,7 +130,7 @@ fn step_both<R: Abort>(rt: &R, model: &mut Model<R>, world: &mut World, event: E
     model.step(event);
 }
 
-// The run is over, and the forks come out with the model's logs, in edge order.
+// Checks that the run is over, and that the forks have the logs of the model, in the order of edges.
 fn end_both<R: Abort>(rt: &R, model: &Model<R>, world: World) {
     same(rt, &world.count(), &0);
     same(rt, &world.enabled(u32::MAX), &None);
@@ -206,7 +206,7 @@ fn world_of(rt: &impl Abort, trial: &Trial) -> World {
     }
 }
 
-// The enabled events, after so many, where world and model are compared and refusals tried.
+// Returns the enabled events after a number of events, compares world and model, and tries refusals.
 fn compare<R: Abort>(
     rt: &R,
     trial: &Trial,
@@ -220,7 +220,7 @@ fn compare<R: Abort>(
     enabled
 }
 
-// A run to the end, compared after every event, with refusals tried at each state. Answers its choices.
+// Does a run to the end, compares after every event, and tries refusals at each state. Returns its choices.
 fn run_alike(rt: &impl Abort, trial: &Trial, mut chooser: Chooser) -> Vec<u32> {
     let (mut model, mut world) = (model_of(rt, trial), world_of(rt, trial));
     let mut choices = Vec::new(trial.alloc);
@@ -267,7 +267,7 @@ fn draw_choices(rt: &impl Abort, trial: &Trial, seed: u32) -> Vec<u32> {
     choices
 }
 
-// The choices lead both to the same state, after so many events.
+// Checks that the choices lead world and model to the same state, after a number of events.
 fn replay_both<R: Abort>(rt: &R, model: &mut Model<R>, world: &mut World, choices: &[u32]) -> u64 {
     let replayed = model.replay(choices);
     same(rt, &world.replay(choices), &replayed);
@@ -275,7 +275,7 @@ fn replay_both<R: Abort>(rt: &R, model: &mut Model<R>, world: &mut World, choice
     replayed
 }
 
-// The first events lead both to the same state, from one after so many events.
+// Checks that the first events lead world and model to the same state, from a state after a number of events.
 fn finish_both<R: Abort>(rt: &R, model: &mut Model<R>, world: &mut World, events: u64) {
     let finished = model.finish();
     same(rt, &world.finish(), &finished);
@@ -290,8 +290,8 @@ fn replay_alike(rt: &impl Abort, trial: &Trial, choices: &[u32]) {
     end_both(rt, &model, world);
 }
 
-// Both finish from states all along the run. Nothing but `finish` asks a world for its first event alone, and so has it
-// keep which sites it found to have none.
+// World and model finish from states all along the run. Only `finish` asks a world for its first event alone, so only
+// then the world keeps which sites have none.
 fn finish_alike(rt: &impl Abort, trial: &Trial, choices: &[u32]) {
     for length in 0..choices.len() {
         if length % 5 == 0 {
@@ -300,7 +300,7 @@ fn finish_alike(rt: &impl Abort, trial: &Trial, choices: &[u32]) {
     }
 }
 
-// Runs and replays of plans, each with so many jobs at each site and these edges.
+// Runs and replays plans, each by the number of jobs at each site and its edges.
 fn go_alike(rt: &impl Abort, alloc: Global, plans: &[(&[u32], &[(u32, u32)])]) {
     for (jobs, edges) in plans {
         go_alike_by(rt, &trial_of(rt, alloc, jobs, edges));
@@ -342,7 +342,7 @@ fn run_branches(rt: &impl Abort, trial: &Trial, branches: &mut Vec<Vec<Event>>) 
     end_both(rt, &model, world);
 }
 
-// Leaves out the last chosen event that another can stand for. False where there is none.
+// Goes to the next run: the last choice that has another event gets that one. Returns false if there is none.
 fn advance(rt: &impl Abort, branches: &mut Vec<Vec<Event>>) -> bool {
     for _ in 0..branches.len() {
         let mut branch = branches.pop().expect(rt, "a branch");
@@ -355,7 +355,7 @@ fn advance(rt: &impl Abort, branches: &mut Vec<Vec<Event>>) -> bool {
     false
 }
 
-// Does all runs from the branches on, and answers how many there are.
+// Does all runs from the branches on, and returns their number.
 fn run_all(rt: &impl Abort, trial: &Trial, mut branches: Vec<Vec<Event>>) -> u32 {
     for runs in 1..100_000u32 {
         run_branches(rt, trial, &mut branches);
@@ -423,7 +423,7 @@ fn pair_runs_alike_where_the_lower_is_asked(rt: HostRuntime) {
     same(&rt, &run_pair(&rt, rt.alloc(), first), &6_147);
 }
 
-// Plans with so many jobs at each site and these edges, and how many runs each has.
+// Plans, by the number of jobs at each site and their edges, and the number of runs of each.
 const SMALLEST: [(&[u32], &[(u32, u32)], u32); 5] = [
     (&[2], &[], 1),
     (&[1, 2], &[], 84),
@@ -553,8 +553,8 @@ const RESIGNING_LOWER: Graph = Graph {
     resigning: &[true, false],
 };
 
-// All runs of a pair whose lower site quits after the first of its two meals, where the higher has no job, and of such
-// a site alone.
+// All runs of a pair whose lower site quits after the first of its two meals and whose higher site has no job, and of
+// such a site alone.
 #[test]
 fn resigning_sites_run_alike_in_all_ways(rt: HostRuntime) {
     same(&rt, &run_whole(&rt, rt.alloc(), RESIGNING_ALONE), &1);
@@ -590,7 +590,7 @@ fn drawn_runs_of_twelve_sites_go_alike(rt: HostRuntime) {
     replay_alike(&rt, &trial, half);
 }
 
-// Whether the event is among those that the world tells as enabled.
+// Returns whether the event is among the enabled events of the world.
 fn offers(world: &World, event: Event) -> bool {
     for n in 0..world.count() {
         if world.enabled(n) == Some(event) {
@@ -610,7 +610,7 @@ const HIGHER_BEGINS: Event = Event {
     kind: EventKind::Begin,
 };
 
-// After the choices the fork and the request lie in the link to the higher site, which takes both.
+// After the choices the fork and the request are in the link to the higher site, which takes both.
 fn takes_both(rt: &impl Abort, trial: &Trial, choices: &[u32]) {
     let (mut model, mut world) = (model_of(rt, trial), world_of(rt, trial));
     let replayed = (model.replay(choices), world.replay(choices));
@@ -633,7 +633,7 @@ fn takes_both(rt: &impl Abort, trial: &Trial, choices: &[u32]) {
 
 // The higher site asks first, and the lower asks for the fork back as soon as it gave it.
 #[test]
-fn fork_and_request_lie_in_one_link(rt: HostRuntime) {
+fn fork_and_request_are_in_one_link(rt: HostRuntime) {
     let trial = trial_of(&rt, rt.alloc(), [1, 1].as_slice(), [(0, 1)].as_slice());
     takes_both(&rt, &trial, &[1, 1, 0, 0, 0, 0]);
 }

@@ -1,11 +1,11 @@
--- How a plan is kept: what stands for its value, and what is kept beside that.
+-- The plan that the fields of a Plan describe, and what the fields obey.
 use Rattle.std.specs.Prelude.{◌≡◌, ℕ, ◌<◌, map, length, Some, slice_get, slice_index_or, Vec}
 use Rattle.std.specs.declared.alloc.Global.{Global}
 use Rattle.dine_graph.specs.Plan.{SeenPlan, IsPlan, site_count, edge_count, lo_of, hi_of, edges_of}
 use Rattle.dine_graph.specs.Site.{seen_site}
 use Rattle.dine_graph.specs.declared.plans.Plan.TheInside.{Inside}
 
--- the plan that the fields of a `Plan` stand for
+-- the plan that the fields of a `Plan` describe
 abbrev pub seen_plan : Inside → SeenPlan
 seen_plan a = record { version = a.version; sites = map seen_site a.sites.items; edges = a.ends.items; values = a.values.items }
 
@@ -13,8 +13,8 @@ seen_plan a = record { version = a.version; sites = map seen_site a.sites.items;
 abbrev pub places_at : Inside → ℕ → ℕ × ℕ
 places_at a e = slice_index_or a.places.items e (0, 0)
 
--- The value is a plan, and beside it are kept the ascending list of edges of each site and the places of each edge.
-pub record IsKept (a : Inside) : Type 0 where
+-- The value is a plan, and the other fields have the ascending list of edges of each site and the places of each edge.
+pub record IsSound (a : Inside) : Type 0 where
   pub plan : IsPlan (seen_plan a)
   pub lists : length a.edges_of.items ≡ site_count (seen_plan a)
   pub list_at : (s : ℕ) (v : Vec ℕ Global) → s < site_count (seen_plan a) → (slice_index_or a.edges_of.items s v).items ≡ edges_of (seen_plan a) s

@@ -5,18 +5,18 @@ use lib.ListN.{get_elem?}
 use Rattle.dine_link.specs.declared.stamped.Stamped.{Stamped}
 use Rattle.dine_link.specs.declared.rule.Known.{Known}
 
--- what a pass knows: whether it may put and may take, all that was put where it may put, and all that was taken where
+-- what a pass knows: whether it may put, whether it may take, all that was put if it may put, and all that was taken if
 -- it may take
 abbrev pub known : Bool → Bool → List Stamped → List Stamped → Known
 known puts takes put taken = record { puts = puts; takes = takes; put = put; taken = taken }
 
--- One pass alone may put, and it has the list of all that was put. The same of the pass that may take.
+-- Only one pass may put, and it knows all that was put. Only one pass may take, and it knows all that was taken.
 pub record Fits (putter taker : ℕ) (put taken : List Stamped) (pass : ℕ) (view : Known) : Type 0 where
   pub puts : view.puts ≡ true → (pass ≡ putter) × (view.put ≡ put)
   pub takes : view.takes ≡ true → (pass ≡ taker) × (view.taken ≡ taken)
 
--- At each moment what was put is what was taken and then what the channel holds, oldest first, and each pass fits these
--- lists.
+-- What was put is what was taken, followed by what the channel holds, oldest first. Each pass fits these lists. This
+-- holds at each moment.
 pub record IsInOrder (queue : List Stamped) (views : List Known) : Type 0 where
   pub putter : ℕ
   pub taker : ℕ
@@ -29,21 +29,21 @@ pub record IsInOrder (queue : List Stamped) (views : List Known) : Type 0 where
 abbrev pub fresh : Known
 fresh = known true true [] []
 
--- a pass that is used up: it may do nothing
+-- a pass that was joined to another one: it may do nothing
 abbrev pub spent : Known
 spent = known false false [] []
 
--- the part of a pass that may put
+-- the part of a pass that puts
 abbrev pub putting : Known → Known
 putting view = known true false view.put []
 
--- the part of a pass that may take
+-- the part of a pass that takes
 abbrev pub taking : Known → Known
 taking view = known false true [] view.taken
 
--- the two parts in one pass again
-abbrev pub both : Known → Known → Known
-both putter taker = known true true putter.put taker.taken
+-- the two parts joined into one pass
+abbrev pub joined : Known → Known → Known
+joined putter taker = known true true putter.put taker.taken
 
 -- what a pass knows after it put a letter
 abbrev pub after_put : Known → Stamped → Known

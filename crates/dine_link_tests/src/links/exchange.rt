@@ -1,5 +1,6 @@
 // One thread puts letters in a link, and another takes them, whatever lane the link is of.
-ghost use Rattle.std.specs.Prelude.{◌≡◌, ◌+◌, ◌<◌, ◌≤◌, ◌^◌, ◌++◌, ◌∷◌, [], length, if◌then◌else◌, vec_len, vec_capacity};
+ghost use Rattle.std.specs.Prelude.{◌≡◌, ◌+◌, ◌<◌, ◌≤◌, ◌^◌, ◌++◌, ◌∷◌, [], if◌then◌else◌};
+ghost use Rattle.std.specs.Prelude.{length, vec_len, vec_capacity};
 ghost use Rattle.dine_rules.specs.declared.letters.Letter.TheVariants.{Close};
 ghost use Rattle.dine_link.specs.Closing as closing;
 ghost use Rattle.dine_link.specs.Lanes.{seen_end};
@@ -14,7 +15,7 @@ use std::sync::Wait;
 use std::thread;
 use std::thread::{Promise, PromisedHandle, Threads};
 
-// What one thread is to do: to put the letters in their order, and then Close where `closes` says so.
+// What one thread is to do: to put the letters in their order, and then Close if `closes`.
 #[derive(Drop)]
 pub struct Task<L: Lane> {
     tx: L::Tx,
@@ -31,7 +32,7 @@ fn is_close(letter: &Letter) -> bool
 
 // Puts the letters in their order. Close is not among them.
 fn put_each<L: Lane, R: Wait + Abort>(rt: &R, tx: &mut L::Tx, letters: Vec<Letter>)
-    requires room { length (L.seen_tx tx.old).letters + vec_len letters < 2 ^ 61 }
+    requires few_letters { length (L.seen_tx tx.old).letters + vec_len letters < 2 ^ 61 }
     ensures { L.seen_tx tx.new ≡ with_letters letters.items (L.seen_tx tx.old) }
 {
     for letter in letters {
@@ -42,8 +43,9 @@ fn put_each<L: Lane, R: Wait + Abort>(rt: &R, tx: &mut L::Tx, letters: Vec<Lette
 
 // Does the task. Close is not among its letters.
 fn put_all<L: Lane, R: Wait + Abort>(rt: &R, task: Task<L>) -> TxEnd<L>
-    requires room { length (L.seen_tx task.tx).letters + vec_len task.letters < 2 ^ 61 }
-    ensures { seen_end L.seen_tx L.seen_closed result ≡ with_letters (if task.closes then task.letters.items ++ Close ∷ [] else task.letters.items) (L.seen_tx task.tx) }
+    requires few_letters { length (L.seen_tx task.tx).letters + vec_len task.letters < 2 ^ 61 }
+    ensures { seen_end L.seen_tx L.seen_closed result ≡ with_letters
+        (if task.closes then task.letters.items ++ Close ∷ [] else task.letters.items) (L.seen_tx task.tx) }
 {
     let Task {
         mut tx,
@@ -60,7 +62,7 @@ fn put_all<L: Lane, R: Wait + Abort>(rt: &R, task: Task<L>) -> TxEnd<L>
     TxEnd::Shut(closed)
 }
 
-// Takes so many letters, in the order in which they come.
+// Takes a number of letters, in the order in which they arrive.
 fn take_many<L: Lane, R: Wait + Abort>(
     rt: &R,
     rx: &mut L::Rx,
@@ -94,7 +96,9 @@ impl<L: Lane> Promise<TxEnd<L>> for AllPut<L> {
     ghost use Rattle.dine_link.specs.Lanes.{seen_end};
     ghost use Rattle.dine_link.specs.Links.{with_letters};
 
-    ghost kept_by = { λ promise after. seen_end L.seen_tx L.seen_closed after ≡ with_letters (if promise.task.value.closes then promise.task.value.letters.items ++ Close ∷ [] else promise.task.value.letters.items) (L.seen_tx promise.task.value.tx) };
+    ghost kept_by = { λ promise after. let task = promise.task.value
+        in seen_end L.seen_tx L.seen_closed after ≡ with_letters
+        (if task.closes then task.letters.items ++ Close ∷ [] else task.letters.items) (L.seen_tx task.tx) };
 }
 
 // Has a thread of its own do the task.
@@ -105,7 +109,7 @@ where
     L::Tx: 'static,
     L::ClosedTx: 'static,
     L::Rx: 'static,
-    requires room { length (L.seen_tx task.tx).letters + vec_len task.letters < 2 ^ 61 }
+    requires few_letters { length (L.seen_tx task.tx).letters + vec_len task.letters < 2 ^ 61 }
     ensures { result.promise.task.value ≡ task }
 {
     let promise = AllPut::<L> {
@@ -116,7 +120,8 @@ where
         promise,
         move || -> TxEnd<L>
             requires { length (L.seen_tx task.tx).letters + vec_len task.letters < 2 ^ 61 }
-            ensures { seen_end L.seen_tx L.seen_closed result ≡ with_letters (if task.closes then task.letters.items ++ Close ∷ [] else task.letters.items) (L.seen_tx task.tx) }
+            ensures { seen_end L.seen_tx L.seen_closed result ≡ with_letters
+                (if task.closes then task.letters.items ++ Close ∷ [] else task.letters.items) (L.seen_tx task.tx) }
         { put_all::<L, R>(&rt, task) },
     );
     let Ok(child) = started else {
@@ -125,7 +130,7 @@ where
     child
 }
 
-// Puts the letters in one thread and takes `count` of them in this one. Answers the link, and the letters taken.
+// Puts the letters in one thread and takes `count` of them in this one. Returns the link, and the letters taken.
 pub fn exchange<L, R>(
     rt: R,
     alloc: Global,

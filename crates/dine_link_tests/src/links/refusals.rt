@@ -1,16 +1,16 @@
-// Steps where the other end is gone, and what is told of refusals.
+// Steps after the other end is gone, and what a link reports of refusals.
 use super::steps::{
-    Told, kind_and_edge, opened, puts, refuses_close, refuses_put, refuses_take, takes, tells,
+    Report, kind_and_edge, opened, puts, refuses_close, refuses_put, refuses_take, reports, takes,
 };
 use crate::asserts::same;
-use dine_link::{ChannelLane, FaultLane, Lane, LinkEnd, RingLane, TxEnd, fault_rx, fault_tx};
+use dine_link::{ChannelLane, FaultLane, Lane, RingLane, TxEnd, fault_rx, fault_tx};
 use dine_rules::{Kind4, Letter};
 use dine_token::Token;
 use std::alloc::Global;
 use std::process::Abort;
 use std::sync::Wait;
 
-// A refused put hands its letter back, and a refused close its end, which is then as it was: it refuses again.
+// A refused put returns its letter, and a refused close its end, which is unchanged: it refuses again.
 fn nobody_takes<L: Lane, R: Wait + Abort>(rt: &R, alloc: Global) {
     let (mut tx, rx) = opened::<L>(rt, alloc, 0, 0);
     drop(rx);
@@ -39,8 +39,7 @@ fn channel_refuses_steps_where_the_other_end_is_gone(rt: HostRuntime) {
     nobody_puts::<ChannelLane, HostRuntime>(&rt, rt.alloc());
 }
 
-// Ends that refuse after one step hand back what they were given, and then refuse each step, though the other end is
-// there.
+// Ends that refuse after one step return what they were given. Then they refuse each step, though the other end lives.
 #[test]
 fn fault_lane_refuses_after_its_steps(rt: HostRuntime) {
     let (tx, rx) = opened::<ChannelLane>(&rt, rt.alloc(), 4, 2);
@@ -56,44 +55,59 @@ fn fault_lane_refuses_after_its_steps(rt: HostRuntime) {
     let tx = refuses_close::<FaultLane, HostRuntime>(&rt, tx);
     takes::<FaultLane, HostRuntime>(&rt, &mut rx, (Kind4::Done, None));
     refuses_take::<FaultLane, HostRuntime>(&rt, &mut rx);
-    let wanted = Told {
+    let wanted = Report {
         name: (4, 2),
         count: (1, 1, false),
         refused: (true, true),
     };
-    tells(&rt, &FaultLane::reconcile(TxEnd::Live(tx), rx), wanted);
+    reports(&rt, &FaultLane::reconcile(TxEnd::Live(tx), rx), wanted);
 }
 
-// A link of which these refusals are told. One letter was put, and none taken.
-fn told_of(refused: (bool, bool)) -> Told {
-    Told {
+// Returns the report of a link with these refusals. One letter was put, and none taken.
+fn report_of(refused: (bool, bool)) -> Report {
+    Report {
         name: (3, 1),
         count: (1, 0, false),
         refused,
     }
 }
 
-// A link over which one letter was put, and none taken.
-fn after_a_put<L: Lane, R: Wait + Abort>(rt: &R, alloc: Global) -> LinkEnd {
+// A link of which no step was refused notes no refusal.
+fn notes_no_refusal<L: Lane, R: Wait + Abort>(rt: &R, alloc: Global) {
     let (mut tx, rx) = opened::<L>(rt, alloc, 3, 1);
     puts::<L, R>(rt, &mut tx, Letter::Done);
-    L::reconcile(TxEnd::Live(tx), rx)
-}
-
-// Such a link tells no refusal where none was, and then those that it is told of.
-fn tells_refusals(rt: &impl Abort, end: LinkEnd) {
-    tells(rt, &end, told_of((false, false)));
-    let end = end.and_refused(true, false);
-    tells(rt, &end, told_of((true, false)));
-    let end = end.and_refused(false, true);
-    tells(rt, &end, told_of((true, true)));
+    reports(
+        rt,
+        &L::reconcile(TxEnd::Live(tx), rx),
+        report_of((false, false)),
+    );
 }
 
 #[test]
-fn link_tells_the_refusals_of_its_ends(rt: HostRuntime) {
-    tells_refusals(
-        &rt,
-        after_a_put::<ChannelLane, HostRuntime>(&rt, rt.alloc()),
-    );
-    tells_refusals(&rt, after_a_put::<RingLane, HostRuntime>(&rt, rt.alloc()));
+fn link_without_a_refusal_notes_none(rt: HostRuntime) {
+    notes_no_refusal::<ChannelLane, HostRuntime>(&rt, rt.alloc());
+    notes_no_refusal::<RingLane, HostRuntime>(&rt, rt.alloc());
+    notes_no_refusal::<FaultLane, HostRuntime>(&rt, rt.alloc());
+}
+
+// The second step of the putting end is refused.
+#[test]
+fn link_notes_a_refused_put(rt: HostRuntime) {
+    let (tx, rx) = opened::<ChannelLane>(&rt, rt.alloc(), 3, 1);
+    let (mut tx, rx) = (fault_tx(tx, Some(1)), fault_rx(rx, None));
+    puts::<FaultLane, HostRuntime>(&rt, &mut tx, Letter::Done);
+    let tx = refuses_close::<FaultLane, HostRuntime>(&rt, tx);
+    let end = FaultLane::reconcile(TxEnd::Live(tx), rx);
+    reports(&rt, &end, report_of((true, false)));
+}
+
+// The first step of the taking end is refused.
+#[test]
+fn link_notes_a_refused_take(rt: HostRuntime) {
+    let (tx, rx) = opened::<ChannelLane>(&rt, rt.alloc(), 3, 1);
+    let (mut tx, mut rx) = (fault_tx(tx, None), fault_rx(rx, Some(0)));
+    puts::<FaultLane, HostRuntime>(&rt, &mut tx, Letter::Done);
+    refuses_take::<FaultLane, HostRuntime>(&rt, &mut rx);
+    let end = FaultLane::reconcile(TxEnd::Live(tx), rx);
+    reports(&rt, &end, report_of((false, true)));
 }

@@ -25,7 +25,7 @@ fn pause<R: Wait>(rt: &R) {
     Parker::new().park_timeout(rt, Duration::from_millis(1));
 }
 
-// Puts the letters. Answers the end where all were put.
+// Puts the letters. Returns the end if all were put.
 fn put_slowly<L: Lane, R: Wait>(rt: &R, mut tx: L::Tx) -> Option<L::Tx>
     requires { (L.seen_tx tx).letters ≡ [] }
 {
@@ -38,7 +38,7 @@ fn put_slowly<L: Lane, R: Wait>(rt: &R, mut tx: L::Tx) -> Option<L::Tx>
     Some(tx)
 }
 
-// Takes the letters. Answers how many came in order before one did not, or before a take was refused.
+// Takes the letters. Returns how many arrived in order before one did not, or before a take was refused.
 fn take_slowly<L: Lane, R: Wait>(rt: &R, rx: &mut L::Rx) -> u32
     requires { (L.seen_rx rx.old).letters ≡ [] }
 {
@@ -62,7 +62,7 @@ fn take_slowly<L: Lane, R: Wait>(rt: &R, rx: &mut L::Rx) -> u32
     LETTERS
 }
 
-// All letters go over a link of a lane, and neither end is told that the other is gone.
+// All letters go over a link of a lane, and no step reports that the other end is gone.
 fn go_slowly<L, R>(rt: R, alloc: Global) -> Result<(), Fail>
 where
     R: Threads + Wait + Abort + Copy + Send + 'static,

@@ -31,16 +31,16 @@ pub fn kind_and_edge(letter: &Letter) -> (Kind4, Option<u32>) {
 // Puts a letter.
 pub fn puts<L: Lane, R: Wait + Abort>(rt: &R, tx: &mut L::Tx, letter: Letter)
     requires letter { is_close letter ≡ false }
-    requires room { length (L.seen_tx tx.old).letters < 2 ^ 61 }
+    requires few_letters { length (L.seen_tx tx.old).letters < 2 ^ 61 }
     ensures { L.seen_tx tx.new ≡ with_letter letter (L.seen_tx tx.old) }
 {
     assert!(rt; L::put(rt, tx, letter).is_ok());
 }
 
-// The link refuses a put, and hands the letter back.
+// Checks that the link refuses a put, and returns the letter.
 pub fn refuses_put<L: Lane, R: Wait + Abort>(rt: &R, tx: &mut L::Tx, letter: Letter) -> Letter
     requires letter { is_close letter ≡ false }
-    requires room { length (L.seen_tx tx.old).letters < 2 ^ 61 }
+    requires few_letters { length (L.seen_tx tx.old).letters < 2 ^ 61 }
     ensures back { result ≡ letter }
     ensures end { L.seen_tx tx.new ≡ after_refusal (L.seen_tx tx.old) }
 {
@@ -52,7 +52,7 @@ pub fn refuses_put<L: Lane, R: Wait + Abort>(rt: &R, tx: &mut L::Tx, letter: Let
 
 // Puts Close.
 pub fn closes<L: Lane, R: Wait + Abort>(rt: &R, tx: L::Tx) -> TxEnd<L>
-    requires room { length (L.seen_tx tx).letters < 2 ^ 61 }
+    requires few_letters { length (L.seen_tx tx).letters < 2 ^ 61 }
     ensures { seen_end L.seen_tx L.seen_closed result ≡ with_letter Close (L.seen_tx tx) }
 {
     let Ok(closed) = L::close(rt, tx) else {
@@ -61,9 +61,9 @@ pub fn closes<L: Lane, R: Wait + Abort>(rt: &R, tx: L::Tx) -> TxEnd<L>
     TxEnd::Shut(closed)
 }
 
-// The link refuses Close, and hands its end back.
+// Checks that the link refuses Close, and returns its end.
 pub fn refuses_close<L: Lane, R: Wait + Abort>(rt: &R, tx: L::Tx) -> L::Tx
-    requires room { length (L.seen_tx tx).letters < 2 ^ 61 }
+    requires few_letters { length (L.seen_tx tx).letters < 2 ^ 61 }
     ensures { L.seen_tx result ≡ after_refusal (L.seen_tx tx) }
 {
     let Err((tx, Lost)) = L::close(rt, tx) else {
@@ -72,9 +72,9 @@ pub fn refuses_close<L: Lane, R: Wait + Abort>(rt: &R, tx: L::Tx) -> L::Tx
     tx
 }
 
-// Takes a letter of which this is told.
+// Takes a letter, and checks it.
 pub fn takes<L: Lane, R: Wait + Abort>(rt: &R, rx: &mut L::Rx, wanted: (Kind4, Option<u32>))
-    requires room { length (L.seen_rx rx.old).letters < 2 ^ 61 }
+    requires few_letters { length (L.seen_rx rx.old).letters < 2 ^ 61 }
     ensures link { (L.seen_rx rx.new).link ≡ (L.seen_rx rx.old).link }
     ensures count { length (L.seen_rx rx.new).letters ≡ length (L.seen_rx rx.old).letters + 1 }
 {
@@ -87,30 +87,30 @@ pub fn takes<L: Lane, R: Wait + Abort>(rt: &R, rx: &mut L::Rx, wanted: (Kind4, O
 
 // The link refuses a take, before Close was taken.
 pub fn refuses_take<L: Lane, R: Wait + Abort>(rt: &R, rx: &mut L::Rx)
-    requires room { length (L.seen_rx rx.old).letters < 2 ^ 61 }
+    requires few_letters { length (L.seen_rx rx.old).letters < 2 ^ 61 }
     ensures { L.seen_rx rx.new ≡ after_refusal (L.seen_rx rx.old) }
 {
     assert!(rt; !L::is_closed(rx));
     assert!(rt; L::take(rt, rx).is_err());
 }
 
-// What a link tells after its use.
+// What a link reports after its use.
 #[derive(Clone, Copy, Debug, PartialEq, Eq)]
-pub struct Told {
+pub struct Report {
     // Its edge, and the site that put.
     pub name: (u32, u32),
     // How many letters were put and taken, and whether Close was put.
     pub count: (u64, u64, bool),
-    // Whether a put and a take was refused.
+    // Whether a put was refused, and whether a take was.
     pub refused: (bool, bool),
 }
 
-// The link tells this.
-pub fn tells(rt: &impl Abort, end: &LinkEnd, wanted: Told) {
-    let told = Told {
+// Checks what the link reports.
+pub fn reports(rt: &impl Abort, end: &LinkEnd, wanted: Report) {
+    let report = Report {
         name: (end.edge(), end.from()),
         count: (end.put(), end.taken(), end.shut()),
         refused: (end.put_refused(), end.take_refused()),
     };
-    same(rt, &told, &wanted);
+    same(rt, &report, &wanted);
 }

@@ -1,5 +1,5 @@
-// A full link makes the one who puts wait. A test looks at most so often for what another thread does, so that it fails
-// and does not hang.
+// A thread that puts into a full link waits. A test checks a limited number of times what another thread does, so that
+// it fails and does not hang.
 ghost use Rattle.std.specs.Prelude.{◌≡◌, []};
 
 use super::steps::puts;
@@ -16,7 +16,7 @@ use std::thread;
 use std::thread::{Parker, Threads};
 use std::time::Duration;
 
-// How often a test looks again, each time after a pause of a millisecond.
+// How often a test checks again, each time after a pause of a millisecond.
 const LOOKS: u32 = 20000;
 
 // Puts five letters, and counts each that was put.
@@ -34,7 +34,7 @@ fn pause<R: Wait>(rt: &R) {
     Parker::new().park_timeout(rt, Duration::from_millis(1));
 }
 
-// So many are counted by the end of the looks.
+// Checks that a number is counted in time.
 fn comes_to<R: Wait + Abort>(rt: &R, count: &AtomicU64, wanted: u64) {
     for _ in 0..LOOKS {
         if count.load(Ordering::SeqCst) >= wanted {

@@ -1,5 +1,4 @@
 //! The text of all meals of a site, which is made once for the logs of all its forks.
-
 ghost use Rattle.std.specs.Prelude.{◌≡◌, ◌+◌, ◌≤◌, ◌++◌, codes, string_bytes, IfOk, IfSome, IsSome, OnOk};
 ghost use Rattle.std.specs.Fmt.{decimal};
 ghost use Rattle.dine_token.specs.Periods.{meals_in};
@@ -9,14 +8,14 @@ use dine_token::Period;
 use std::alloc::{AllocError, Global};
 use std::marker::Model;
 
-// The text of a site's meals from the first on, each behind a comma. Contracts see the name of the site and how
-// many meals there are.
+// The text of a site's meals from the first on, each after a comma. Contracts see the name of the site and the number
+// of meals.
 #[derive(Drop)]
 pub(super) struct MealTexts<'p> {
     name: &'p str,
     text: String,
 
-    // How long the text of the first k meals is, for each k from none to all.
+    // The length of the text of the first k meals, for each k from 0 to the number of meals.
     starts: Vec<usize>,
 }
 
@@ -32,7 +31,7 @@ impl<'p> Model for MealTexts<'p> {
 }
 
 impl<'p> MealTexts<'p> {
-    // The text of so many meals of a site with this name.
+    // Returns the text of `meals` meals of a site with this name.
     pub(super) fn make(
         alloc: Global,
         name: &'p str,
@@ -50,9 +49,11 @@ impl<'p> MealTexts<'p> {
         Ok(MealTexts { name, text, starts })
     }
 
-    // The entries of the period's meals, as the first of a line or not. None where the text has not all of them.
+    // Returns the entries of the period's meals, or None if the text does not have all of them. `is_first` says whether
+    // they are the first entries of their line.
     pub(super) fn of_period(&self, is_first: bool, period: Period) -> Option<&str>
-        ensures part { IfSome result (λ part. part.now ≡ entries_text (λ site. self.now.name) (separator is_first) (meals_in period)) }
+        ensures part { IfSome result (λ part.
+            part.now ≡ entries_text (λ site. self.now.name) (separator is_first) (meals_in period)) }
         ensures some { 1 ≤ period.first → period.first + period.count ≤ self.now.meals + 1 → IsSome result }
     {
         if period.count == 0 {
@@ -73,21 +74,22 @@ impl<'p> MealTexts<'p> {
     }
 }
 
-// What stands before an entry.
+// Returns the text before an entry.
 pub(super) fn separator(is_first: bool) -> &'static str
     ensures { result.now ≡ separator is_first }
 {
     if is_first { " " } else { ", " }
 }
 
-// Adds meal `k` of the site with this name to the text, as the first entry of its line or not.
+// Adds meal `k` of the site with this name to the text. `is_first` says whether it is the first entry of its line.
 pub(super) fn push_meal(
     text: &mut String,
     is_first: bool,
     name: &str,
     k: u32,
 ) -> Result<(), AllocError>
-    ensures { OnOk result (string_bytes text.new ≡ string_bytes text.old ++ (separator is_first ++ (name.now ++ codes "#" ++ decimal k))) }
+    ensures { OnOk result (string_bytes text.new
+        ≡ string_bytes text.old ++ (separator is_first ++ (name.now ++ codes "#" ++ decimal k))) }
 {
     text.push_str(separator(is_first))?;
     text.push_str(name)?;

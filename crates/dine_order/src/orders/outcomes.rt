@@ -1,7 +1,7 @@
-// The outcomes of meals that journals show.
+//! The outcomes of meals that journals show.
 ghost use Rattle.std.specs.Prelude.{◌≡◌, IfOk, length, map};
 ghost use Rattle.dine_graph.specs.Plan.{site_count};
-ghost use Rattle.dine_world.specs.Worlds.{lists_of};
+ghost use Rattle.dine_core.specs.Worlds.{lists_of};
 ghost use Rattle.dine_rules.specs.Shown.{shown_by, shown_in};
 ghost use Rattle.dine_order.specs.Orders.{noted};
 
@@ -10,7 +10,7 @@ use dine_graph::Plan;
 use std::alloc::{AllocError, Global};
 use std::convert::AsSlice;
 
-/// For each site, which of its jobs failed: the last one before each Quit of its journal, and no other.
+// Returns for each site which of its jobs failed: the last one before each Quit of its journal, and no other.
 pub(super) fn shown_by<J: AsSlice<EventKind>>(
     alloc: Global,
     plan: &Plan,
@@ -27,12 +27,12 @@ pub(super) fn shown_by<J: AsSlice<EventKind>>(
     Ok(fails)
 }
 
-// Which of so many jobs failed.
+// Returns which of the `jobs` jobs of a site failed, by its journal.
 fn shown_in(alloc: Global, jobs: u32, journal: &[EventKind]) -> Result<Vec<bool>, AllocError>
     ensures { IfOk result (λ fails. fails.items ≡ shown_in jobs journal.now) }
 {
     let mut fails = vec![in alloc; false; jobs as usize]?;
-    // How many meals have ended.
+    // The number of meals that have ended.
     let mut ended = 0;
     for kind in journal.iter() {
         match *kind {
@@ -44,8 +44,8 @@ fn shown_in(alloc: Global, jobs: u32, journal: &[EventKind]) -> Result<Vec<bool>
     Ok(fails)
 }
 
-// The site quits after so many meals: the last one failed. Where none ended, or the site has no job of that number,
-// nothing is noted.
+// Notes that the site quits after `ended` meals, so that the last one failed. It notes nothing if no meal ended, or if
+// the site has no job of that number.
 fn note(fails: &mut Vec<bool>, ended: usize)
     ensures { fails.new.items ≡ noted ended fails.old.items }
 {

@@ -1,23 +1,22 @@
-// The events of the journals are placed one after the other.
+//! How the events of the journals are placed, one after the other.
 ghost use Rattle.std.specs.Prelude.{◌≡◌, ◌<◌, IfOk, IfSome, List, ◌∷◌, [], ◌++◌, length, map, replicate};
 ghost use Rattle.dine_graph.specs.Plan.{edges_of, site_count};
 ghost use Rattle.dine_rules.specs.Steps.{IsPlaceWithin, shape_of};
 ghost use Rattle.dine_rules.specs.World.{start};
 ghost use Rattle.dine_rules.specs.declared.events.Event.{Event};
 ghost use Rattle.dine_rules.specs.declared.events.EventKind.{EventKind};
-ghost use Rattle.dine_world.specs.Worlds.{IsWorldOf, SeenWorld};
+ghost use Rattle.dine_core.specs.Worlds.{IsWorldOf, SeenWorld};
 ghost use Rattle.dine_rules.specs.Shown.{plan_shown};
 ghost use Rattle.dine_order.specs.Orders.{FindsNext, IsFound, IsSearched, IsSearching, kind_at, receiver_of};
 
-use dine_core::{Event, EventKind};
+use dine_core::{Event, EventKind, World};
 use dine_graph::Plan;
 use dine_rules::laws;
 use dine_set::BitSet64;
-use dine_world::World;
 use std::alloc::{AllocError, Global};
 use std::convert::AsSlice;
 
-// Places events until no site is ready, and counts those of each site.
+// Places events until no site is ready, and counts the events of each site.
 pub(super) fn place_all<J: AsSlice<EventKind>>(
     alloc: Global,
     plan: &Plan,
@@ -25,10 +24,13 @@ pub(super) fn place_all<J: AsSlice<EventKind>>(
     world: &mut World,
     counts: &mut [u32],
 ) -> Result<Vec<Event>, AllocError>
-    requires world { let shown = plan_shown plan.now (map J.items journals.now) in IsWorldOf shown (start shown) world.old }
+    requires world { let shown = plan_shown plan.now (map J.items journals.now) in
+        IsWorldOf shown (start shown) world.old }
     requires journals { length journals.now ≡ site_count plan.now }
     requires counts { counts.old ≡ replicate (site_count plan.now) 0 }
-    ensures { IfOk result (λ placed. IsSearched (plan_shown plan.now (map J.items journals.now)) (map J.items journals.now) placed.items counts.new world.new) }
+    ensures { IfOk result (λ placed.
+        IsSearched (plan_shown plan.now (map J.items journals.now)) (map J.items journals.now)
+        placed.items counts.new world.new) }
 {
     laws::events_are_bounded();
     let mut placed = Vec::new(alloc);
@@ -40,8 +42,8 @@ pub(super) fn place_all<J: AsSlice<EventKind>>(
     Ok(placed)
 }
 
-// Does the next event of the lowest ready site. None where no site is ready. Each site that was tried in vain leaves
-// the set.
+// Does the next event of the lowest ready site, and returns it, or None if no site is ready. Each site that was tried
+// and is not ready leaves the set.
 fn place_next<J: AsSlice<EventKind>>(
     journals: &[J],
     counts: &[u32],
@@ -62,8 +64,8 @@ fn place_next<J: AsSlice<EventKind>>(
     None
 }
 
-// The next event of the site's journal, where so many of each site's were placed. None where there is none, or no such
-// site.
+// Returns the next event of the site's journal, given the number of events of each site that were placed. It returns
+// None if no event is left, or if there is no such site.
 fn next_kind<J: AsSlice<EventKind>>(journals: &[J], counts: &[u32], site: u32) -> Option<EventKind>
     ensures { result ≡ kind_at (map J.items journals.now) counts.now site }
 {
@@ -72,11 +74,13 @@ fn next_kind<J: AsSlice<EventKind>>(journals: &[J], counts: &[u32], site: u32) -
     journal.as_slice().get(*count as usize).copied()
 }
 
-// Counts an event that was placed, and puts the site into the set that gets a letter by it.
+// Counts an event that was placed. The site that gets a letter by it may be ready now, and is put into the set.
 #[tactic(auto, using(crate::proofs::Shown::sites_shown))]
 fn note(plan: &Plan, event: Event, counts: &mut [u32], untried: &mut BitSet64)
-    requires { (lists : List (List EventKind)) × (placed : List Event) × (seen : SeenWorld) × IsFound (plan_shown plan.now lists) lists placed counts.old untried.old event seen }
-    ensures { (lists : List (List EventKind)) (placed : List Event) (seen : SeenWorld) → IsFound (plan_shown plan.now lists) lists placed counts.old untried.old event seen
+    requires { (lists : List (List EventKind)) × (placed : List Event) × (seen : SeenWorld)
+        × IsFound (plan_shown plan.now lists) lists placed counts.old untried.old event seen }
+    ensures { (lists : List (List EventKind)) (placed : List Event) (seen : SeenWorld)
+        → IsFound (plan_shown plan.now lists) lists placed counts.old untried.old event seen
         → IsSearching (plan_shown plan.now lists) lists (placed ++ event ∷ []) counts.new untried.new seen }
 {
     laws::orders_grow_by_each_event();
@@ -89,7 +93,7 @@ fn note(plan: &Plan, event: Event, counts: &mut [u32], untried: &mut BitSet64)
     }
 }
 
-// The site that gets a letter by the event.
+// Returns the site that gets a letter by the event, if one does.
 fn receiver(plan: &Plan, event: Event) -> Option<u32>
     requires site { event.site < site_count plan.now }
     requires place { IsPlaceWithin (length (edges_of plan.now event.site)) (shape_of event.kind) }

@@ -1,4 +1,5 @@
--- The log of each edge's fork, wherever it lies: lawful, and in a complete world with all meals of both ends.
+-- The log of the fork of each edge, at a site or in a link: lawful, and in a complete world with all meals of both
+-- ends.
 use Rattle.std.proofs.Common.{◌≡◌, ◌⊎◌, ℕ, zero, suc, ◌+◌, ◌<◌, ◌≤◌, ◌==◌, ◌||◌, Bool, true, false, List, [], ◌∷◌, length, slice_get, Some, unwrap_or, refl, sym, ◌∙◌, ap, subst, inl, inr, arith}
 use Rattle.std.specs.Option.{option_or}
 use Rattle.std.proofs.lemmas.Bool.{eqb-true, eqb-false, ltb-true, ltb-false, lt-ltb, false≢true}

@@ -1,4 +1,4 @@
--- At no point of a list of events that the world accepts two neighbours are in a meal.
+-- At no point of a list of events that the world accepts are two neighbours in a meal.
 use Rattle.std.proofs.Common.{◌≡◌, ℕ, ◌<◌, Bool, true, false, List, [], ◌∷◌, ◌++◌, Option, Some, refl, sym, ◌∙◌, ap, subst, inl, inr, arith}
 use Rattle.std.specs.Option.{option_and_then}
 use Rattle.std.proofs.lemmas.Bool.{and_parts, cases_eq}

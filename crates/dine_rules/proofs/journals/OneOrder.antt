@@ -1,4 +1,4 @@
--- Two orders of the same journals lead to one world, and an order that exists is found whichever ready site goes first.
+-- Two orders of the same journals lead to one world. An order that exists is found, whichever ready site goes first.
 use Rattle.std.proofs.Common.{◌≡◌, ◌≢◌, ℕ, true, List, [], ◌∷◌, ◌++◌, length, slice_get, slice_set, Option, Some, is_some, refl, sym, ◌∙◌, ap, subst, inl, inr, append-nil, arith}
 use mathlib.Core.List.{IsPrefix}
 use Rattle.std.specs.Option.{option_and_then}

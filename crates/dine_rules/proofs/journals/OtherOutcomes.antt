@@ -206,7 +206,7 @@ module _ (plan : SeenPlan) (fails : List (List Bool)) where
 
 -- ---- no site resigns: outcomes do not matter
 
--- a failure that no site heeds
+-- a failure that changes nothing, since no site resigns
 unheeded : (failed : Bool) (b : Bool) (rest : Bool) → b ≡ false → (failed && b && rest) ≡ false
 unheeded true true rest none = absurd (false≢true (sym none))
 unheeded true false rest none = refl

@@ -1,4 +1,4 @@
--- The letter that comes next to a site is one that it may take.
+-- The next letter to a site is one that it may take.
 use Rattle.std.proofs.Common.{◌≡◌, ◌⊎◌, ℕ, ◌+◌, ◌<◌, ◌≤◌, Bool, true, false, cond, not, ◌||◌, ◌==◌, List, [], ◌∷◌, length, slice_get, refl, sym, ◌∙◌, ap, subst, inl, inr, arith}
 use Rattle.std.proofs.lemmas.Bool.{and_from, or_cases, or_left, or_right, cases_Bool, not_from_false, eqb-true, eq-eqb, lt-ltb}
 use Rattle.dine_token.specs.declared.log_entry.Entry.{Entry}

@@ -1,4 +1,4 @@
--- In a world that events reach from the start, who eats holds all forks, and no neighbour eats.
+-- In a world that events reach from the start, a site that eats holds all its forks, and no neighbour of it eats.
 use Rattle.std.proofs.Common.{◌≡◌, ℕ, ◌<◌, true, false, List, length, arith}
 use Rattle.dine_graph.specs.Plan.{SeenPlan, IsPlan, site_count, edges_of}
 use Rattle.dine_rules.specs.declared.events.Event.{Event}

@@ -1,4 +1,4 @@
--- The two ends of an edge: what they hold and what lies in the links between them, counted from what both keep.
+-- The two ends of an edge: what they hold, and what is in the links between them, counted from their lists.
 use Rattle.std.proofs.Common.{◌≡◌, ◌≢◌, ℕ, ◌+◌, ◌<◌, ◌≤◌, Bool, true, false, cond, not, List, [], ◌∷◌, ◌++◌, length, ◌∙◌, ap, arith}
 use Rattle.dine_graph.specs.Plan.{SeenPlan}
 use Rattle.dine_rules.specs.declared.letters.Letter.{Letter}

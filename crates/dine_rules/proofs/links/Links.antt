@@ -1,4 +1,4 @@
--- The links of a world that is kept: what lies in them, and what there is of each edge.
+-- The links of a world that keeps its streams: the letters in them, and the forks and tokens of each edge.
 use Rattle.std.proofs.Common.{◌≡◌, ℕ, ◌<◌, ◌≤◌, List, ◌++◌, length, drop, refl, sym, ◌∙◌, ap, arith}
 use mathlib.Core.List.{IsPrefix}
 use Rattle.std.proofs.Math.Seq.{drop-append_seam}

@@ -1,4 +1,4 @@
--- The Forks in a link, counted, and a log that lies near an end.
+-- The Forks in a link, counted, and the log of a fork at an end or on the way to it.
 use Rattle.std.proofs.Common.{◌≡◌, ℕ, ◌+◌, ◌<◌, Bool, List, length, Option, Some, None, ap, ◌∙◌, if◌then◌else◌}
 use Rattle.dine_token.specs.declared.log_entry.Entry.{Entry}
 use Rattle.dine_graph.specs.Plan.{SeenPlan, IsPlan, site_count, edges_of}

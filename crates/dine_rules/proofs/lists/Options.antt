@@ -1,4 +1,4 @@
--- What is there in an option, where it was made of others.
+-- Options that were made of other options.
 use Rattle.std.proofs.Common.{◌≡◌, Bool, true, false, cond, Option, Some, None, is_some, refl}
 use Rattle.std.specs.Option.{option_map, option_and_then}
 

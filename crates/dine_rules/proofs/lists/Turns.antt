@@ -1,4 +1,4 @@
--- A letter in the middle of a stream: what stands before it.
+-- A letter in the middle of a stream: what comes before it.
 use Rattle.std.proofs.Common.{◌≡◌, ℕ, ◌+◌, Bool, true, false, cond, not, ◌==◌, List, [], ◌∷◌, ◌++◌, length, slice_get, Some, refl, sym, ◌∙◌, ap, arith}
 use Rattle.std.proofs.lemmas.Bool.{false≢true, true≢false, and_parts, not-true, eqb-true}
 use Rattle.dine_token.specs.Fork.{SeenFork}

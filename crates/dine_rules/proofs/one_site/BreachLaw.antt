@@ -1,4 +1,4 @@
--- A letter is allowed exactly where it is no breach.
+-- A letter is allowed exactly if it meets no breach.
 use Rattle.std.proofs.Common.{◌≡◌, ◌↔◌, ℕ, Bool, true, false, cond, not, ◌&&◌, ◌||◌, ◌==◌, nat_lt, nat_le, Option, Some, None, refl, ◌∙◌}
 use Rattle.std.proofs.lemmas.Bool.{false≢true, and_parts, and_from, not-true, not_from_false, cond-false, ltb-true, leb-false, lt-ltb, lt-leb}
 use Rattle.dine_graph.specs.Plan.{SeenPlan, job_count, lo_of}

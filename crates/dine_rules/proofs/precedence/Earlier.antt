@@ -1,5 +1,5 @@
--- In an order of all sites, each once: where each site with some property has one before it that has it too, none has
--- it.
+-- In an order of all sites, each once: if each site with some property has one before it that has it too, no site has
+-- the property.
 use Rattle.std.proofs.Common.{◌≡◌, ℕ, Bool, true, false, eqb, List, [], ◌∷◌, get_or, IsPermutation, refl, sym, ◌∙◌, ap, subst, inl, inr, arith}
 use Rattle.std.specs.List.{range_with_len, IsDistinct, AllByRecursion}
 use Rattle.std.proofs.lemmas.Bool.{false≢true, false_from_ne_true, ne_eqb, eqb-true, eqb-false, eq-eqb, cases_Bool}

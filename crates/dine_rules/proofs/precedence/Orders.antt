@@ -1,4 +1,4 @@
--- Lists of sites in an order: who stands before whom, and what stays so when one goes to the end.
+-- Lists of sites in an order: which of two sites comes first, and what stays so when one goes to the end.
 use Rattle.std.proofs.Common.{◌≡◌, ◌≢◌, ◌⊎◌, ℕ, zero, suc, ◌+◌, ◌<◌, ◌≤◌, List, [], ◌∷◌, ◌++◌, length, get_or, reverse, Contains, IsPermutation, refl, sym, ◌∙◌, ap, subst, inl, inr, arith, zero-add}
 use Rattle.std.specs.List.{range_with_len}
 use Rattle.std.proofs.lemmas.Bool.{cases_eq}

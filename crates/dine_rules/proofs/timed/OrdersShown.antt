@@ -1,4 +1,4 @@
--- The order of timed journals, where the plan's jobs fail as the journals show.
+-- The order of timed journals, if the jobs of the plan fail as the journals show.
 use Rattle.std.proofs.Common.{◌≡◌, ◌==◌, ◌||◌, ℕ, ◌<◌, Bool, false, List, sym, ◌∙◌, ap, arith}
 use Rattle.dine_graph.specs.Plan.{SeenPlan, IsPlan, site_count}
 use Rattle.dine_rules.specs.declared.events.Event.{Event}

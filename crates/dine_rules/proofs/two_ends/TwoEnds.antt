@@ -1,5 +1,4 @@
--- Two ends of an edge whose sites keep their streams, by whole lists: a letter that comes next and is not allowed is a
--- Close.
+-- Two ends of an edge whose sites keep their streams, by whole lists: if the next letter is not allowed, it is a Close.
 use Rattle.std.proofs.Common.{◌≡◌, ℕ, ◌<◌, Bool, true, false, not, ◌||◌, ◌==◌, cond, List, [], ◌∷◌, ◌++◌, append-nil, length, drop, slice_get, Some, None, refl, sym, ◌∙◌, ap, subst, inl, inr, arith}
 use mathlib.Core.List.{IsPrefix}
 use Rattle.std.proofs.lemmas.Bool.{false≢true, true≢false, cond-false, not-true}

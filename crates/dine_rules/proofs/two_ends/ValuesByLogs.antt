@@ -1,4 +1,4 @@
--- The values that two linked ends put and have in hand are those of the logs, and where all jobs add they add up.
+-- The values that two linked ends put and have in hand are those of the logs. If all jobs add, they are sums.
 use Rattle.std.proofs.Common.{◌≡◌, ◌⊎◌, ℕ, zero, suc, ◌+◌, ◌-◌, ◌<◌, ◌==◌, Bool, true, false, List, [], ◌∷◌, ◌++◌, length, get_or, slice_get, Some, refl, sym, ◌∙◌, ap, subst, inl, inr, arith, Option}
 use Rattle.std.specs.List.{list_all}
 use Rattle.std.proofs.lemmas.Bool.{and_parts, cond-true, cond-false, eq-eqb, false≢true, ne_eqb}
@@ -20,7 +20,7 @@ use Rattle.dine_rules.specs.JoinedEnds.{AccountsForFork, AreForksLinked, AreLink
 use Rattle.dine_rules.specs.Letters.{forks_among, forks_in, last_log_or, last_value_or}
 use Rattle.dine_rules.specs.Local.{Traffic, edge_at, neighbour_at, traffic_at}
 use Rattle.dine_rules.specs.Streams.{CarriesOnTaken, logs_of}
-use Rattle.dine_rules.specs.Values.{CarriesValue, TellsValues, added_up, after_meals, amounts_of, hand_value, has_no_set, is_add, value_along, value_by, value_to}
+use Rattle.dine_rules.specs.Values.{CarriesValue, KeepsValuesOfLogs, added_up, after_meals, amounts_of, hand_value, has_no_set, is_add, value_along, value_by, value_to}
 use Rattle.dine_rules.specs.World.{WorldState, place_of, state_of}
 use Rattle.dine_rules.proofs.links.Across.{IsAcross, across}
 use Rattle.dine_rules.proofs.links.WorldStreams.{WorldKeeps}
@@ -139,13 +139,13 @@ module _ (plan : SeenPlan) (edge low_ate high_ate : ℕ) (low high : Traffic) (o
       (λ before b. came before (linked.comes k before b)) fork (ap (slice_get (forks_among low.put)) (let e : k + 1 ≡ suc k = omega arith in e) ∙ h) in
       (next, answered (suc k) next)
 
-  pub low_tells : TellsValues plan (lo_of plan edge) edge low_ate low
+  pub low_tells : KeepsValuesOfLogs plan (lo_of plan edge) edge low_ate low
   low_tells = record {
     put = λ k fork h. (let at = among low.put k fork h in (both at.0).0 fork at.1);
     in_hand = by_hand plan edge (lo_of plan edge) low_ate low (λ k fork h. (both k).1 fork (linked.comes k fork h));
   }
 
-  pub high_tells : TellsValues plan (hi_of plan edge) edge high_ate high
+  pub high_tells : KeepsValuesOfLogs plan (hi_of plan edge) edge high_ate high
   high_tells = record {
     put = λ k fork h. (let at = among high.put k fork h in (both at.0).1 fork at.1);
     in_hand = by_hand plan edge (hi_of plan edge) high_ate high (λ k fork h. (both k).0 fork (linked.goes k fork h));
@@ -235,17 +235,17 @@ module _ (plan : SeenPlan) (is_plan : IsPlan plan) (world : WorldState) (kept : 
   linked = forks_linked near far (world_linked plan is_plan world kept s i is_site within)
 
   -- each Fork put, and the fork in hand, have the value of their log
-  pub world_tells : TellsValues plan s edge (state_of world s).ate near
+  pub world_tells : KeepsValuesOfLogs plan s edge (state_of world s).ate near
   world_tells =
       let at = placed plan s i is_plan within in
       elim at.sides [
         | inl w ↦
-            subst (λ (x : ℕ). TellsValues plan x edge (state_of world s).ate near) w.0
+            subst (λ (x : ℕ). KeepsValuesOfLogs plan x edge (state_of world s).ate near) w.0
             (low_tells plan edge (state_of world s).ate far_ate near far at.ordered
             (subst (λ (x : ℕ). AccountsForFork plan x edge (state_of world s).ate near) (sym w.0) accounts_near)
             (subst (λ (x : ℕ). AccountsForFork plan x edge far_ate far) w.1 accounts_far) linked)
         | inr w ↦
-            subst (λ (x : ℕ). TellsValues plan x edge (state_of world s).ate near) w.0
+            subst (λ (x : ℕ). KeepsValuesOfLogs plan x edge (state_of world s).ate near) w.0
             (high_tells plan edge far_ate (state_of world s).ate far near at.ordered
             (subst (λ (x : ℕ). AccountsForFork plan x edge far_ate far) w.1 accounts_far)
             (subst (λ (x : ℕ). AccountsForFork plan x edge (state_of world s).ate near) (sym w.0) accounts_near)

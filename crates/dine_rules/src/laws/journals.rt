@@ -1,13 +1,17 @@
-//! Laws on journals, the events of each site in its order, and on the orders that hold all of them in one list.
+//! Laws on journals, which are the events of each site in its order, and on lists that merge the events of all sites.
 
-ghost use Rattle.std.specs.Prelude.{◌≡◌, ◌≢◌, ◌<◌, ◌+◌, ◌++◌, Bool, List, None, Option, Some, [], ◌∷◌, false, length, slice_get, true, ℕ};
-ghost use Rattle.dine_graph.specs.Plan.{IsPlan, SeenPlan, act_of, edges_of, job_count, job_of, name_of, resigns, site_count};
+ghost use Rattle.std.specs.Prelude.{◌≡◌, ◌≢◌, ◌<◌, ◌+◌, ◌++◌, Bool, List, None, Option, Some, [], ◌∷◌, false, length};
+ghost use Rattle.std.specs.Prelude.{slice_get, true, ℕ};
+ghost use Rattle.dine_graph.specs.Plan.{IsPlan, SeenPlan, act_of, edges_of, job_count, job_of, name_of, resigns};
+ghost use Rattle.dine_graph.specs.Plan.{site_count};
 ghost use Rattle.dine_rules.specs.Outcomes.{NoSiteResigns, with_outcomes};
 ghost use Rattle.dine_token.specs.declared.log_entry.Entry.TheVariants.{Meal, Move};
 ghost use Rattle.dine_rules.specs.Examples.{pair, resigning};
 ghost use Rattle.dine_rules.specs.Holdings.{fork_at, hand_at};
-ghost use Rattle.dine_rules.specs.JournalExamples.{accepted_as, higher_journal, left_by, lower_journal, merged, quit_by, ready_after};
-ghost use Rattle.dine_rules.specs.Journals.{AreStatesAfter, FailAsShown, IsFrontOf, IsJournal, IsOrderOf, IsPlacedToEnd, IsWholeOrder, OrdersGrow, outcomes_in, part_of};
+ghost use Rattle.dine_rules.specs.JournalExamples.{accepted_as, higher_journal, left_by, lower_journal, merged};
+ghost use Rattle.dine_rules.specs.JournalExamples.{quit_by, ready_after};
+ghost use Rattle.dine_rules.specs.Journals.{AreStatesAfter, FailAsShown, IsFrontOf, IsJournal, IsOrderOf};
+ghost use Rattle.dine_rules.specs.Journals.{IsPlacedToEnd, IsWholeOrder, OrdersGrow, outcomes_in, part_of};
 ghost use Rattle.dine_rules.specs.Local.{LocalState, edge_at, neighbour_at, start_of};
 ghost use Rattle.dine_rules.specs.Precedence.{fork_log};
 ghost use Rattle.dine_rules.specs.EatingApart.{NeighboursEatApart};
@@ -22,36 +26,42 @@ ghost use Rattle.dine_rules.specs.declared.letters.Kind4.TheVariants as kind;
 ghost use Rattle.dine_rules.specs.declared.letters.Letter.{Letter};
 ghost use Rattle.dine_rules.specs.declared.letters.Letter.TheVariants as letter;
 
-/// Two lists of events that the world accepts from its start on end in the same world where they have the same events
-/// of each site in the same order, however these lie between those of the other sites. So do two that have placed the
-/// same number of each journal's events.
+/// Take two lists of events that the world accepts from its start. If they have the same events of each site, in the
+/// same order, they lead to the same world, however the events of different sites are mixed. The same holds of two
+/// lists that have placed the same number of events of each journal.
 pub fn order_between_sites_does_not_matter()
-    ensures same { (plan : SeenPlan) (events others : List Event) (world other : WorldState) → Reaches plan events world → Reaches plan others other
+    ensures same { (plan : SeenPlan) (events others : List Event) (world other : WorldState) → Reaches plan events world
+        → Reaches plan others other
         → ((s : ℕ) → part_of s events ≡ part_of s others) → world ≡ other }
-    ensures counted { (plan : SeenPlan) (journals : List (List EventKind)) (events others : List Event) (world other : WorldState)
+    ensures counted { (plan : SeenPlan) (journals : List (List EventKind)) (events others : List Event)
+        (world other : WorldState)
         → Reaches plan events world → Reaches plan others other → IsFrontOf journals events → IsFrontOf journals others
         → ((s : ℕ) → length (part_of s events) ≡ length (part_of s others)) → world ≡ other }
 {}
 
-/// Where some order of the journals is accepted and makes the world complete, events that were placed until no site is
-/// ready are such an order, whichever ready site was taken each time. So where not all are placed, or the world is not
-/// complete, there is no such order.
+/// Suppose that some order of the journals is accepted and makes the world complete. Place events until no site is
+/// ready, and choose any ready site each time: the result is such an order too. So if not all events could be placed,
+/// or the world is not complete, there is no such order.
 pub fn orders_that_exist_are_found()
-    ensures all_placed { (plan : SeenPlan) (journals : List (List EventKind)) (order placed : List Event) (world : WorldState)
+    ensures all_placed { (plan : SeenPlan) (journals : List (List EventKind)) (order placed : List Event)
+        (world : WorldState)
         → IsWholeOrder plan journals order → IsPlacedToEnd plan journals placed world → IsOrderOf journals placed }
-    ensures complete { (plan : SeenPlan) (journals : List (List EventKind)) (order placed : List Event) (world : WorldState)
+    ensures complete { (plan : SeenPlan) (journals : List (List EventKind)) (order placed : List Event)
+        (world : WorldState)
         → IsWholeOrder plan journals order → IsPlacedToEnd plan journals placed world → IsComplete plan world }
 {}
 
-/// An event of a site is enabled after an event of another site exactly where it was before, unless that event puts a
-/// letter on a link to the site.
+/// An event of another site does not change whether an event of a site is enabled, unless it puts a letter on a link to
+/// that site.
 pub fn disabled_events_wait_for_a_letter()
-    ensures { (plan : SeenPlan) (events : List Event) (world new : WorldState) (e other : Event) → IsPlan plan → Reaches plan events world
+    ensures { (plan : SeenPlan) (events : List Event) (world new : WorldState) (e other : Event) → IsPlan plan
+        → Reaches plan events world
         → world_after plan world other ≡ Some new → e.site ≢ other.site
-        → ((i : ℕ) → shape_of other.kind ≡ Puts i → neighbour_at plan other.site i ≢ e.site) → is_enabled plan new e ≡ is_enabled plan world e }
+        → ((i : ℕ) → shape_of other.kind ≡ Puts i → neighbour_at plan other.site i ≢ e.site)
+        → is_enabled plan new e ≡ is_enabled plan world e }
 {}
 
-/// What an event adds to a list of events that the world accepts from its start on, where it is enabled then.
+/// What one more event does to a list of events that the world accepts, if it is enabled at the end of that list.
 pub fn orders_grow_by_each_event()
     ensures { OrdersGrow }
 {}
@@ -59,100 +69,136 @@ pub fn orders_grow_by_each_event()
 /// A journal is empty at the start, and grows by each event of its site, whatever letters come next.
 pub fn journals_grow_by_each_event()
     ensures start { (plan : SeenPlan) (s : ℕ) → IsJournal plan s [] (start_of plan s) }
-    ensures event { (plan : SeenPlan) (s : ℕ) (journal : List EventKind) (state : LocalState) (kind : EventKind) (failed : Bool) (next : ℕ → Option Letter) (step : Step)
+    ensures event { (plan : SeenPlan) (s : ℕ) (journal : List EventKind) (state : LocalState) (kind : EventKind)
+        (failed : Bool) (next : ℕ → Option Letter) (step : Step)
         → IsJournal plan s journal state → step_by failed next kind ≡ Some step → may plan s state step ≡ true
         → IsJournal plan s (journal ++ kind ∷ []) (after plan s state step) }
 {}
 
-/// An order of the sites' journals that the world accepts leads to the world in which each site is in the state that
-/// its journal led it to, where the plan's jobs fail as the journals show.
+/// Let the jobs of the plan fail as the journals show. Then an order of the journals that the world accepts leads to
+/// the world in which each site is in the state to which its journal leads.
 pub fn journals_fix_the_world()
-    ensures { (plan : SeenPlan) (journals : List (List EventKind)) (states world : WorldState) (events : List Event) → IsPlan plan
-        → AreStatesAfter plan journals states → FailAsShown plan journals states → IsOrderOf journals events → Reaches plan events world → world ≡ states }
+    ensures { (plan : SeenPlan) (journals : List (List EventKind)) (states world : WorldState) (events : List Event)
+        → IsPlan plan
+        → AreStatesAfter plan journals states → FailAsShown plan journals states → IsOrderOf journals events
+        → Reaches plan events world → world ≡ states }
 {}
 
-/// Where the events of the journals have moments that rise at each site, and each letter was taken later than it was
-/// put, some order of the journals is accepted and makes the world complete. The first clause is of a plan whose jobs
-/// fail as the journals show; the second is of any plan, where no site has to quit, and of the plan that is shown.
+/// Suppose that the events of the journals have moments that rise at each site, and that each letter was taken later
+/// than it was put. Then some order of the journals is accepted and makes the world complete. The first clause is for a
+/// plan whose jobs fail as the journals show. The second one is for any plan, if no site still has to quit, and gives
+/// an order for the plan that the journals show.
 pub fn timed_journals_have_an_order()
-    ensures own { (plan : SeenPlan) (journals : List (List EventKind)) (states : WorldState) → IsPlan plan → AreStatesAfter plan journals states → FailAsShown plan journals states
+    ensures own { (plan : SeenPlan) (journals : List (List EventKind)) (states : WorldState) → IsPlan plan
+        → AreStatesAfter plan journals states → FailAsShown plan journals states
         → IsComplete plan states → AreTimed plan journals → (events : List Event) × IsWholeOrder plan journals events }
-    ensures shown { (plan : SeenPlan) (journals : List (List EventKind)) (states : WorldState) → IsPlan plan → AreStatesAfter plan journals states
-        → ((s : ℕ) → s < site_count plan → (state_of states s).must_quit ≡ false) → IsComplete plan states → AreTimed plan journals
+    ensures shown { (plan : SeenPlan) (journals : List (List EventKind)) (states : WorldState) → IsPlan plan
+        → AreStatesAfter plan journals states
+        → ((s : ℕ) → s < site_count plan → (state_of states s).must_quit ≡ false) → IsComplete plan states
+        → AreTimed plan journals
         → (events : List Event) × IsWholeOrder (plan_shown plan journals) journals events }
 {}
 
-/// In each order of journals neighbours never eat together: at no point of it have both begun a meal and not ended it.
-/// So it is in the plan's own orders, and in those of the plan that the journals show.
+/// In each order of journals, neighbours never eat together: at no point of it have both begun a meal and not ended it.
+/// That holds of the orders of the plan itself, and of those of the plan that the journals show.
 pub fn neighbours_eat_apart_in_each_order()
-    ensures own { (plan : SeenPlan) (journals : List (List EventKind)) (events : List Event) → IsPlan plan → IsWholeOrder plan journals events → NeighboursEatApart plan events }
-    ensures shown { (plan : SeenPlan) (journals : List (List EventKind)) (events : List Event) → IsPlan plan → IsWholeOrder (plan_shown plan journals) journals events
+    ensures own { (plan : SeenPlan) (journals : List (List EventKind)) (events : List Event) → IsPlan plan
+        → IsWholeOrder plan journals events → NeighboursEatApart plan events }
+    ensures shown { (plan : SeenPlan) (journals : List (List EventKind)) (events : List Event) → IsPlan plan
+        → IsWholeOrder (plan_shown plan journals) journals events
         → NeighboursEatApart plan events }
 {}
 
-/// A plan with other outcomes of its jobs is a plan, with these outcomes, and else the same sites, jobs and edges. What
-/// journals led to they lead to also there, since they show outcomes of their own: the plan's count in a world alone.
+/// A plan with other outcomes of its jobs is a plan. It has these outcomes, and otherwise the same sites, jobs and
+/// edges. Journals lead to the same states by both plans, since journals show their own outcomes: the outcomes of the
+/// plan matter only in a world.
 pub fn journals_stand_for_other_outcomes()
     ensures plan { (plan : SeenPlan) (fails : List (List Bool)) → IsPlan plan → IsPlan (with_outcomes plan fails) }
-    ensures outcomes { (plan : SeenPlan) (fails : List (List Bool)) (own : List Bool) (s k : ℕ) (failed : Bool) → slice_get fails s ≡ Some own → slice_get own k ≡ Some failed
+    ensures outcomes { (plan : SeenPlan) (fails : List (List Bool)) (own : List Bool) (s k : ℕ) (failed : Bool)
+        → slice_get fails s ≡ Some own → slice_get own k ≡ Some failed
         → k < job_count plan s → (job_of (with_outcomes plan fails) s (k + 1)).fails ≡ failed }
     ensures own { (plan : SeenPlan) → with_outcomes plan [] ≡ plan }
-    ensures sites { (plan : SeenPlan) (fails : List (List Bool)) → site_count (with_outcomes plan fails) ≡ site_count plan }
-    ensures names { (plan : SeenPlan) (fails : List (List Bool)) (s : ℕ) → name_of (with_outcomes plan fails) s ≡ name_of plan s }
-    ensures resigning { (plan : SeenPlan) (fails : List (List Bool)) (s : ℕ) → resigns (with_outcomes plan fails) s ≡ resigns plan s }
-    ensures jobs { (plan : SeenPlan) (fails : List (List Bool)) (s : ℕ) → job_count (with_outcomes plan fails) s ≡ job_count plan s }
-    ensures job_names { (plan : SeenPlan) (fails : List (List Bool)) (s k : ℕ) → (job_of (with_outcomes plan fails) s k).name ≡ (job_of plan s k).name }
-    ensures turns { (plan : SeenPlan) (fails : List (List Bool)) (s k : ℕ) → (job_of (with_outcomes plan fails) s k).turns ≡ (job_of plan s k).turns }
-    ensures acts { (plan : SeenPlan) (fails : List (List Bool)) (s k : ℕ) → act_of (with_outcomes plan fails) s k ≡ act_of plan s k }
+    ensures sites { (plan : SeenPlan) (fails : List (List Bool))
+        → site_count (with_outcomes plan fails) ≡ site_count plan }
+    ensures names { (plan : SeenPlan) (fails : List (List Bool)) (s : ℕ)
+        → name_of (with_outcomes plan fails) s ≡ name_of plan s }
+    ensures resigning { (plan : SeenPlan) (fails : List (List Bool)) (s : ℕ)
+        → resigns (with_outcomes plan fails) s ≡ resigns plan s }
+    ensures jobs { (plan : SeenPlan) (fails : List (List Bool)) (s : ℕ)
+        → job_count (with_outcomes plan fails) s ≡ job_count plan s }
+    ensures job_names { (plan : SeenPlan) (fails : List (List Bool)) (s k : ℕ)
+        → (job_of (with_outcomes plan fails) s k).name ≡ (job_of plan s k).name }
+    ensures turns { (plan : SeenPlan) (fails : List (List Bool)) (s k : ℕ)
+        → (job_of (with_outcomes plan fails) s k).turns ≡ (job_of plan s k).turns }
+    ensures acts { (plan : SeenPlan) (fails : List (List Bool)) (s k : ℕ)
+        → act_of (with_outcomes plan fails) s k ≡ act_of plan s k }
     ensures edges { (plan : SeenPlan) (fails : List (List Bool)) → (with_outcomes plan fails).edges ≡ plan.edges }
     ensures values { (plan : SeenPlan) (fails : List (List Bool)) → (with_outcomes plan fails).values ≡ plan.values }
-    ensures journal { (plan : SeenPlan) (fails : List (List Bool)) (s : ℕ) (journal : List EventKind) (state : LocalState)
+    ensures journal { (plan : SeenPlan) (fails : List (List Bool)) (s : ℕ) (journal : List EventKind)
+        (state : LocalState)
         → IsJournal plan s journal state → IsJournal (with_outcomes plan fails) s journal state }
-    ensures states { (plan : SeenPlan) (fails : List (List Bool)) (journals : List (List EventKind)) (states : WorldState)
+    ensures states { (plan : SeenPlan) (fails : List (List Bool)) (journals : List (List EventKind))
+        (states : WorldState)
         → AreStatesAfter plan journals states → AreStatesAfter (with_outcomes plan fails) journals states }
 {}
 
-/// Where no site resigns, a world with other outcomes of its jobs goes as that of the plan: the same events lead to the
-/// same world, and an order of journals that one accepts whole the other accepts whole.
+/// If no site resigns, outcomes do not matter. The same events lead to the same world, with the outcomes of the plan
+/// and with others. An order of journals that makes one world complete makes the other complete.
 pub fn outcomes_matter_only_to_sites_that_resign()
-    ensures worlds { (plan : SeenPlan) (fails : List (List Bool)) (events : List Event) (world : WorldState) → NoSiteResigns plan
+    ensures worlds { (plan : SeenPlan) (fails : List (List Bool)) (events : List Event) (world : WorldState)
+        → NoSiteResigns plan
         → Reaches (with_outcomes plan fails) events world → Reaches plan events world }
-    ensures back { (plan : SeenPlan) (fails : List (List Bool)) (events : List Event) (world : WorldState) → NoSiteResigns plan
+    ensures back { (plan : SeenPlan) (fails : List (List Bool)) (events : List Event) (world : WorldState)
+        → NoSiteResigns plan
         → Reaches plan events world → Reaches (with_outcomes plan fails) events world }
-    ensures orders { (plan : SeenPlan) (fails : List (List Bool)) (journals : List (List EventKind)) (events : List Event) → NoSiteResigns plan
+    ensures orders { (plan : SeenPlan) (fails : List (List Bool)) (journals : List (List EventKind))
+        (events : List Event) → NoSiteResigns plan
         → IsWholeOrder (with_outcomes plan fails) journals events → IsWholeOrder plan journals events }
 {}
 
-/// So the log of each edge's fork in that world is the one that lies in the hand of the site that holds the fork.
+/// In a world as in `journals_fix_the_world`, the log of the fork of an edge is the log in the hand of the site that
+/// holds the fork.
 pub fn journals_and_links_fix_the_logs()
-    ensures { (plan : SeenPlan) (journals : List (List EventKind)) (states world : WorldState) (events : List Event) (s i : ℕ) → IsPlan plan
-        → AreStatesAfter plan journals states → FailAsShown plan journals states → IsOrderOf journals events → Reaches plan events world
+    ensures { (plan : SeenPlan) (journals : List (List EventKind)) (states world : WorldState) (events : List Event)
+        (s i : ℕ) → IsPlan plan
+        → AreStatesAfter plan journals states → FailAsShown plan journals states → IsOrderOf journals events
+        → Reaches plan events world
         → s < site_count plan → i < length (edges_of plan s) → fork_at plan s (state_of states s) i ≡ 1
         → fork_log plan world (edge_at plan s i) ≡ hand_at s (state_of states s) i }
 {}
 
-/// The journals of a pair with one job each. The lower site goes as far as it can alone, and then the higher, and so
-/// on: this order is accepted, and one that starts with the higher site too. Where the higher site takes twice after
-/// the lower's first four events, no event more can be placed. A site's journal gives what it ate and put.
+/// The journals of a pair with one job each. Let the lower site go as far as it can alone, then the higher, and so on:
+/// this order is accepted. One that starts with the higher site is accepted too. If the higher site takes twice after
+/// the first four events of the lower one, no more events can be placed. The journal of a site gives what it ate and
+/// put.
 ///
-/// A journal shows which meals failed: the last one before each Quit. A site that resigns may quit after one that is
-/// not its last, once.
+/// A journal shows which meals failed: the last one before each Quit. A site that resigns may quit once, after a meal
+/// that is not its last.
 pub fn journals_go_as_worked()
-    ensures lowest_first { accepted_as (merged (0 ∷ 0 ∷ 0 ∷ 0 ∷ 1 ∷ 1 ∷ 0 ∷ 0 ∷ 1 ∷ 1 ∷ 1 ∷ 1 ∷ 1 ∷ 0 ∷ 0 ∷ 1 ∷ 0 ∷ 1 ∷ []) lower_journal higher_journal)
+    ensures lowest_first { accepted_as
+        (merged (0 ∷ 0 ∷ 0 ∷ 0 ∷ 1 ∷ 1 ∷ 0 ∷ 0 ∷ 1 ∷ 1 ∷ 1 ∷ 1 ∷ 1 ∷ 0 ∷ 0 ∷ 1 ∷ 0 ∷ 1
+        ∷ []) lower_journal higher_journal)
         ≡ Some (18, Meal 0 1 ∷ Move 1 ∷ Meal 1 1 ∷ []) }
-    ensures higher_first { accepted_as (merged (1 ∷ 0 ∷ 0 ∷ 1 ∷ 0 ∷ 0 ∷ 1 ∷ 0 ∷ 0 ∷ 1 ∷ 1 ∷ 1 ∷ 1 ∷ 0 ∷ 0 ∷ 1 ∷ 0 ∷ 1 ∷ []) lower_journal higher_journal)
+    ensures higher_first { accepted_as
+        (merged (1 ∷ 0 ∷ 0 ∷ 1 ∷ 0 ∷ 0 ∷ 1 ∷ 0 ∷ 0 ∷ 1 ∷ 1 ∷ 1 ∷ 1 ∷ 0 ∷ 0 ∷ 1 ∷ 0 ∷ 1
+        ∷ []) lower_journal higher_journal)
         ≡ Some (18, Meal 0 1 ∷ Move 1 ∷ Meal 1 1 ∷ []) }
     ensures parts { part_of 1 (merged (1 ∷ 0 ∷ 0 ∷ 1 ∷ []) lower_journal higher_journal) ≡ Hungry ∷ Ask 0 ∷ [] }
     ensures ready { ready_after (lower_journal ∷ higher_journal ∷ []) [] ≡ Some (true, true) }
     ensures stuck { ready_after ((Hungry ∷ Begin ∷ End ∷ Done 0 ∷ []) ∷ (Take 0 ∷ Take 0 ∷ []) ∷ [])
-        (merged (0 ∷ 0 ∷ 0 ∷ 0 ∷ 1 ∷ []) (Hungry ∷ Begin ∷ End ∷ Done 0 ∷ []) (Take 0 ∷ Take 0 ∷ [])) ≡ Some (false, false) }
-    ensures left { left_by 0 (letter.Request 0 ∷ letter.Done ∷ letter.Close ∷ []) lower_journal ≡ Some (1, kind.Done ∷ kind.Fork ∷ kind.Close ∷ []) }
-    ensures outcomes { outcomes_in false (Hungry ∷ Begin ∷ End ∷ Hungry ∷ Begin ∷ End ∷ Quit ∷ Done 0 ∷ []) ≡ false ∷ true ∷ [] }
-    ensures quits { quit_by resigning 0 (Hungry ∷ Begin ∷ End ∷ Hungry ∷ Begin ∷ End ∷ Quit ∷ Done 0 ∷ []) ≡ Some (2, true) }
+        (merged (0 ∷ 0 ∷ 0 ∷ 0 ∷ 1 ∷ []) (Hungry ∷ Begin ∷ End ∷ Done 0 ∷ []) (Take 0 ∷ Take 0 ∷ []))
+        ≡ Some (false, false) }
+    ensures left { left_by 0 (letter.Request 0 ∷ letter.Done ∷ letter.Close ∷ []) lower_journal
+        ≡ Some (1, kind.Done ∷ kind.Fork ∷ kind.Close ∷ []) }
+    ensures outcomes { outcomes_in false (Hungry ∷ Begin ∷ End ∷ Hungry ∷ Begin ∷ End ∷ Quit ∷ Done 0 ∷ [])
+        ≡ false ∷ true ∷ [] }
+    ensures quits { quit_by resigning 0 (Hungry ∷ Begin ∷ End ∷ Hungry ∷ Begin ∷ End ∷ Quit ∷ Done 0 ∷ [])
+        ≡ Some (2, true) }
     ensures quits_early { quit_by resigning 0 (Hungry ∷ Begin ∷ End ∷ Quit ∷ []) ≡ Some (1, true) }
     ensures quits_unfed { quit_by resigning 0 (Quit ∷ []) ≡ None }
     ensures quits_twice { quit_by resigning 0 (Hungry ∷ Begin ∷ End ∷ Quit ∷ Quit ∷ []) ≡ None }
     ensures hungry_behind { quit_by resigning 0 (Hungry ∷ Begin ∷ End ∷ Quit ∷ Hungry ∷ []) ≡ None }
-    ensures quits_late { quit_by resigning 0 (Hungry ∷ Begin ∷ End ∷ Hungry ∷ Begin ∷ End ∷ Hungry ∷ Begin ∷ End ∷ Quit ∷ []) ≡ None }
+    ensures quits_late { quit_by resigning 0
+        (Hungry ∷ Begin ∷ End ∷ Hungry ∷ Begin ∷ End ∷ Hungry ∷ Begin ∷ End ∷ Quit ∷ []) ≡ None }
     ensures never_quits { quit_by (pair 3 1) 0 (Hungry ∷ Begin ∷ End ∷ Quit ∷ []) ≡ None }
 {}

@@ -10,16 +10,16 @@ use Rattle.dine_rules.specs.declared.letters.Letter.{Letter}
 use Rattle.dine_rules.specs.Letters.{has_close}
 use Rattle.dine_rules.specs.Local.{LocalState, Traffic, no_traffic, traffic_at, is_eating}
 use Rattle.dine_rules.specs.Steps.{Step, Give, Ask, Done, Close, Break, may, after, step_by, with_put}
-use Rattle.dine_core.specs.NextEvent.{next_event}
-use Rattle.dine_site.specs.Doings.{HasActed, event_of, own_event}
+use Rattle.dine_site_core.specs.NextEvent.{next_event}
+use Rattle.dine_site.specs.Doings.{HasActed, IsInTurn, event_of, own_event}
 use Rattle.dine_rules.specs.Streams.{KeepsStreams}
-use Rattle.dine_core.specs.Core.{SeenCore, Refines}
-use Rattle.dine_core.specs.Standing.{CoreStep, CorePuts}
+use Rattle.dine_site_core.specs.Core.{SeenCore, Refines}
+use Rattle.dine_site_core.specs.Standing.{CoreStep, CorePuts}
 use Rattle.dine_site.specs.Endings.{links_at, nothing_on_links, on_links}
 use Rattle.dine_site.specs.Ports.{SeenPort, SameLinks}
 use Rattle.dine_site.specs.Running.{SeenRun, AtEach, HasState, IsNext, IsRunning, IsPutting}
 use Rattle.dine_site.proofs.lists.Lists.{get-set, set-get}
-use Rattle.dine_site.proofs.one_site.Turns.{JournalsGrow, acted_more}
+use Rattle.dine_site.proofs.one_site.Turns.{JournalsGrow, acted_more, own_turn}
 
 along : {A B C : Type 0} (Q : A → B → C → Type 0) (a a' : A) (b b' : B) (c c' : C) → a ≡ a' → b ≡ b' → c ≡ c' → Q a' b' c' → Q a b c
 along Q a a' b b' c c' p q r h = subst (λ x. Q x b c) (sym p) (subst (λ y. Q a' y c) (sym q) (subst (λ z. Q a' b' z) (sym r) h))
@@ -61,7 +61,7 @@ at-port P Q state i within ports port = at-set P Q state state i (traffic_at sta
 module _ {Identity : Type 0} (plan : SeenPlan) (given : List (SeenPort Identity)) where
   -- the core stands for another state
   pub has-core : (run : SeenRun Identity) (state new : LocalState) (core : SeenCore) (journal : List EventKind) → HasState plan given run state → core.site ≡ run.core.site → Refines plan new core → KeepsStreams plan core.site new
-      → is_eating new.phase ≡ false → HasState plan given (record { core = core; ports = run.ports; bell = run.bell; journal = journal }) new
+      → is_eating new.phase ≡ false → HasState plan given (record { manner = run.manner; core = core; ports = run.ports; bell = run.bell; journal = journal }) new
   has-core run state new core journal has site stands keeps rests = record {
     is_plan = has.is_plan;
     is_site = stands.is_site;
@@ -75,12 +75,12 @@ module _ {Identity : Type 0} (plan : SeenPlan) (given : List (SeenPort Identity)
 
   -- the core did a step
   pub has-step : (run : SeenRun Identity) (state : LocalState) (step : Step) (core : SeenCore) (journal : List EventKind) → HasState plan given run state → CoreStep plan state step run.core core
-      → is_eating (after plan run.core.site state step).phase ≡ false → HasState plan given (record { core = core; ports = run.ports; bell = run.bell; journal = journal }) (after plan run.core.site state step)
+      → is_eating (after plan run.core.site state step).phase ≡ false → HasState plan given (record { manner = run.manner; core = core; ports = run.ports; bell = run.bell; journal = journal }) (after plan run.core.site state step)
   has-step run state step core journal has did rests = has-core run state (after plan run.core.site state step) core journal has did.site did.stands did.keeps rests
 
   -- a port changed, and has its links still
   pub has-port : (run : SeenRun Identity) (state : LocalState) (i : ℕ) (old new : SeenPort Identity) → HasState plan given run state → slice_get run.ports i ≡ Some old
-      → new.tx.link ≡ old.tx.link → new.rx.link ≡ old.rx.link → new.ringer.bell ≡ old.ringer.bell → new.ringer.number ≡ old.ringer.number → HasState plan given (record { core = run.core; ports = set run.ports i new; bell = run.bell; journal = run.journal }) state
+      → new.tx.link ≡ old.tx.link → new.rx.link ≡ old.rx.link → new.ringer.bell ≡ old.ringer.bell → new.ringer.number ≡ old.ringer.number → HasState plan given (record { manner = run.manner; core = run.core; ports = set run.ports i new; bell = run.bell; journal = run.journal }) state
   has-port run state i old new has at tx rx bell number = record {
     is_plan = has.is_plan;
     is_site = has.is_site;
@@ -130,23 +130,23 @@ opens-break i plan s state h =
 
 -- an event more of the journal
 pub did_step : {Identity : Type 0} (grows : JournalsGrow) (plan : SeenPlan) (given : List (SeenPort Identity)) (run : SeenRun Identity) (running : IsRunning plan given run) (kind : EventKind) (step : Step) (core : SeenCore)
-    (failed : Bool) (next : ℕ → Option Letter) → step_by failed next kind ≡ Some step → event_of step ≡ Some kind → next_event plan run.core.site running.state ≡ own_event step → CoreStep plan running.state step run.core core
-    → HasActed plan core.site (run.journal ++ kind ∷ []) (after plan run.core.site running.state step)
+    (failed : Bool) (next : ℕ → Option Letter) → step_by failed next kind ≡ Some step → event_of step ≡ Some kind → IsInTurn run.manner (next_event plan run.core.site running.state) step → CoreStep plan running.state step run.core core
+    → HasActed run.manner plan core.site (run.journal ++ kind ∷ []) (after plan run.core.site running.state step)
 did_step grows plan given run running kind step core failed next is_step is_event turn did =
-    subst (λ (s : ℕ). HasActed plan s (run.journal ++ kind ∷ []) (after plan run.core.site running.state step)) (sym did.site)
-    (acted_more grows plan run.core.site run.journal running.state kind failed next step running.did is_step is_event did.allowed.needs turn)
+    subst (λ (s : ℕ). HasActed run.manner plan s (run.journal ++ kind ∷ []) (after plan run.core.site running.state step)) (sym did.site)
+    (acted_more grows run.manner plan run.core.site run.journal running.state kind failed next step running.did is_step is_event did.allowed.needs turn)
 
 module _ {Identity : Type 0} (plan : SeenPlan) (given : List (SeenPort Identity)) (i : ℕ) (step : Step) (l : Letter) (opens : Opens i step) where
   -- the state once the core put the letter
   pub has-put : (run : SeenRun Identity) (core : SeenCore) (journal : List EventKind) (state : LocalState) → CorePuts i step run.core core l → HasState plan given run state
-      → HasState plan given (record { core = core; ports = run.ports; bell = run.bell; journal = journal }) (with_put i l state)
+      → HasState plan given (record { manner = run.manner; core = core; ports = run.ports; bell = run.bell; journal = journal }) (with_put i l state)
   has-put run core journal state puts has =
       let did = puts plan state has.keeps has.stands in
-      subst (λ (new : LocalState). HasState plan given (record { core = core; ports = run.ports; bell = run.bell; journal = journal }) new) did.0
+      subst (λ (new : LocalState). HasState plan given (record { manner = run.manner; core = core; ports = run.ports; bell = run.bell; journal = journal }) new) did.0
       (has-step plan given run state step core journal has did.1 (ap (λ (new : LocalState). is_eating new.phase) did.0 ∙ has.rests))
 
   pub putting : JournalsGrow → (kind : EventKind) → step_by false (λ j. None) kind ≡ Some step → event_of step ≡ Some kind → (run : SeenRun Identity) (core : SeenCore) (journal : List EventKind) → journal ≡ run.journal ++ kind ∷ [] → CorePuts i step run.core core l → IsNext (own_event step) run.core → IsRunning plan given run
-      → IsPutting i l plan given (record { core = core; ports = run.ports; bell = run.bell; journal = journal })
+      → IsPutting i l plan given (record { manner = run.manner; core = core; ports = run.ports; bell = run.bell; journal = journal })
   putting grows kind is_step is_event run core journal noted puts next running =
       let did = puts plan running.state running.has.keeps running.has.stands in
       let room = opens plan run.core.site running.state did.1.allowed.needs in
@@ -157,6 +157,6 @@ module _ {Identity : Type 0} (plan : SeenPlan) (given : List (SeenPort Identity)
         has = has-put run core journal running.state puts running.has;
         lists = running.lists;
         heard = running.heard;
-        did = subst (λ (kinds : List EventKind). HasActed plan core.site kinds (with_put i l running.state)) (sym noted)
-            (subst (λ (new : LocalState). HasActed plan core.site (run.journal ++ kind ∷ []) new) did.0 (did_step grows plan given run running kind step core false (λ j. None) is_step is_event (next plan running.state running.has.keeps running.has.stands) did.1));
+        did = subst (λ (kinds : List EventKind). HasActed run.manner plan core.site kinds (with_put i l running.state)) (sym noted)
+            (subst (λ (new : LocalState). HasActed run.manner plan core.site (run.journal ++ kind ∷ []) new) did.0 (did_step grows plan given run running kind step core false (λ j. None) is_step is_event (own_turn run.manner _ step (next plan running.state running.has.keeps running.has.stands)) did.1));
       }

@@ -8,10 +8,10 @@ use Rattle.dine_token.specs.Fork.{SeenFork}
 use Rattle.dine_graph.specs.Plan.{SeenPlan}
 use Rattle.dine_rules.specs.Letters.{has_close}
 use Rattle.dine_rules.specs.Local.{LocalState, traffic_at}
-use Rattle.dine_core.specs.declared.site.places.Place.{Place}
-use Rattle.dine_core.specs.Core.{SeenCore, Refines}
-use Rattle.dine_core.specs.Places.{closed, no_place, place_at}
-use Rattle.dine_core.specs.Standing.{AreForksInHand, AreTokensInHand, all_places, has_closed, has_finished}
+use Rattle.dine_site_core.specs.declared.site.places.Place.{Place}
+use Rattle.dine_site_core.specs.Core.{SeenCore, Refines}
+use Rattle.dine_site_core.specs.Places.{closed, no_place, place_at}
+use Rattle.dine_site_core.specs.Standing.{AreForksInHand, AreTokensInHand, all_places, has_closed, has_finished}
 use Rattle.dine_site.specs.declared.site_end.SiteFault.{SiteFault}
 use Rattle.dine_site.specs.declared.site_end.SiteFault.TheVariants as fault
 use Rattle.dine_site.specs.declared.site_end.Stray.{Stray}
@@ -59,7 +59,7 @@ module _ {Identity : Type 0} (plan : SeenPlan) (given : List (SeenPort Identity)
       (there.0, there.1, links_there run.ports i there.0 there.1)
 
   pub site_end : (stray : Option Stray) (cause : Option SiteFault) → MayEnd stray cause plan given run
-      → IsSiteEnd plan run.core.site given (record { site = run.core.site; ate = run.core.ate; forks = forks; tokens = tokens; journal = run.journal; ports = run.ports; bell = run.bell; stray = stray; fault = cause })
+      → IsSiteEnd run.manner plan run.core.site given (record { site = run.core.site; ate = run.core.ate; forks = forks; tokens = tokens; journal = run.journal; ports = run.ports; bell = run.bell; stray = stray; fault = cause })
   site_end stray None h =
       let running = h.0 in
       let finished = h.1 plan running.state running.has.keeps running.has.stands in
@@ -87,7 +87,7 @@ module _ {Identity : Type 0} (plan : SeenPlan) (given : List (SeenPort Identity)
             finished = λ e. finished;
             closed = λ e. finished_is_closed plan run.core.site running.state finished;
             not_started = λ e. absurd (cc);
-            take_told = λ i within r. (let there = port_there running.state running.has i within in absurd (false≢true (sym (running.lists i there.0 there.1).unrefused.take ∙ ap (λ (l : OnLinks). l.take_refused) (sym there.2) ∙ r)));
+            take_reported = λ i within r. (let there = port_there running.state running.has i within in absurd (false≢true (sym (running.lists i there.0 there.1).unrefused.take ∙ ap (λ (l : OnLinks). l.take_refused) (sym there.2) ∙ r)));
             no_stray = λ e. h.2;
             breach = λ link breach e. absurd (cc);
             lost = λ link e. absurd (cc);
@@ -101,7 +101,8 @@ module _ {Identity : Type 0} (plan : SeenPlan) (given : List (SeenPort Identity)
           lost_bell = λ e. absurd (cc);
         };
         started = λ e. absurd (cc);
-        wait_told = λ r. absurd (false≢true (sym running.heard ∙ r));
+        wait_reported = λ r. absurd (false≢true (sym running.heard ∙ r));
+        ring_reported = λ i port at r. absurd (false≢true (sym (running.lists i port at).unrefused.ring ∙ r));
       }
   site_end stray (Some cause) h =
       let stopped = h.0 in
@@ -127,7 +128,7 @@ module _ {Identity : Type 0} (plan : SeenPlan) (given : List (SeenPort Identity)
             finished = λ e. absurd (cc);
             closed = λ e. closed_everywhere plan stopped.state run.core stopped.has.stands h.1;
             not_started = λ e. absurd (stopped.started (same_Some cause fault.NotStarted e));
-            take_told = λ i within r. (let there = port_there stopped.state stopped.has i within in ap (λ (f : SiteFault). Some f) (stopped.take_told i there.0 there.1 (ap (λ (l : OnLinks). l.take_refused) (sym there.2) ∙ r)));
+            take_reported = λ i within r. (let there = port_there stopped.state stopped.has i within in ap (λ (f : SiteFault). Some f) (stopped.take_reported i there.0 there.1 (ap (λ (l : OnLinks). l.take_refused) (sym there.2) ∙ r)));
             no_stray = stopped.no_stray;
             breach = λ link breach e. stopped.breach link breach (same_Some cause (fault.Breach link breach) e);
             lost = λ link e. stopped.lost link (same_Some cause (fault.Lost link) e);
@@ -141,5 +142,9 @@ module _ {Identity : Type 0} (plan : SeenPlan) (given : List (SeenPort Identity)
           lost_bell = λ e. stopped.lost_bell (same_Some cause (fault.Lost (length stopped.state.traffic)) e);
         };
         started = λ e. stopped.started (same_Some cause fault.NotStarted e);
-        wait_told = λ r. ap (λ (f : SiteFault). Some f) (stopped.wait_told r ∙ ap fault.Lost (sym stopped.has.stands.degree ∙ sym stopped.has.places));
+        wait_reported = λ r. ap (λ (f : SiteFault). Some f) (stopped.wait_reported r ∙ ap fault.Lost (sym stopped.has.stands.degree ∙ sym stopped.has.places));
+        ring_reported = λ i port at r. elim (stopped.ring_reported i port at r) [
+          | inl told ↦ inl (ap (λ (f : SiteFault). Some f) (told ∙ ap fault.Lost (sym stopped.has.stands.degree ∙ sym stopped.has.places)))
+          | inr lacks ↦ inr lacks
+        ];
       }

@@ -12,9 +12,10 @@ use Rattle.dine_rules.specs.Streams.{KeepsStreams}
 use Rattle.dine_site.proofs.one_site.Letters.{ClosedFrontsAreInOrder, FrontsAreInOrder, fit_in_order, rang_same}
 use Rattle.dine_site.proofs.one_site.Stops.{just_did}
 use Rattle.dine_site.proofs.one_site.Turns.{acted_nothing}
-use Rattle.dine_core.specs.Core.{forks_in_hand, tokens_in_hand}
-use Rattle.dine_core.specs.Standing.{all_places}
+use Rattle.dine_site_core.specs.Core.{forks_in_hand, tokens_in_hand}
+use Rattle.dine_site_core.specs.Standing.{all_places}
 use Rattle.dine_site.specs.declared.diner.Call.{Call}
+use Rattle.dine_site.specs.declared.manner.Manner.{Manner}
 use Rattle.dine_site.specs.declared.site_end.SiteFault.TheVariants as fault
 use Rattle.dine_site.specs.Diners.{HasEaten}
 use Rattle.dine_link.specs.Bells.{SeenBell}
@@ -38,18 +39,18 @@ nothing_on (port ∷ ports) zero unused = let fresh = All-head IsFreshPort port 
 nothing_on (port ∷ ports) (suc i) unused = nothing_on ports i (All-tail IsFreshPort port ports unused)
 
 -- a site that was not started left its start
-pub left_unstarted : {Identity : Type 0} (fronts : FrontsAreInOrder) (closes : ClosedFrontsAreInOrder) (plan : SeenPlan) (s : ℕ) (given : List (SeenPort Identity)) (site : ℕ) (forks : List SeenFork) (tokens : List ℕ) (journal : List EventKind) (bell : SeenBell) → journal ≡ [] → site ≡ s → KeepsStreams plan s (start_of plan s)
+pub left_unstarted : {Identity : Type 0} (manner : Manner) (fronts : FrontsAreInOrder) (closes : ClosedFrontsAreInOrder) (plan : SeenPlan) (s : ℕ) (given : List (SeenPort Identity)) (site : ℕ) (forks : List SeenFork) (tokens : List ℕ) (journal : List EventKind) (bell : SeenBell) → journal ≡ [] → site ≡ s → KeepsStreams plan s (start_of plan s)
     → forks ≡ forks_in_hand plan s (start_of plan s) (all_places (start_of plan s)) → tokens ≡ tokens_in_hand plan s (start_of plan s) (all_places (start_of plan s)) → All IsFreshPort given
-    → IsLeft plan s given (record { site = site; ate = 0; forks = forks; tokens = tokens; journal = journal; ports = given; bell = bell; stray = None; fault = Some fault.NotStarted })
-left_unstarted {Identity} fronts closes plan s given site forks tokens journal bell nothing is_site keeps hold_forks hold_tokens unused = record {
+    → IsLeft manner plan s given (record { site = site; ate = 0; forks = forks; tokens = tokens; journal = journal; ports = given; bell = bell; stray = None; fault = Some fault.NotStarted })
+left_unstarted {Identity} manner fronts closes plan s given site forks tokens journal bell nothing is_site keeps hold_forks hold_tokens unused = record {
   state = start_of plan s;
   ended = record {
     keeps = keeps;
     rests = refl;
     ate = refl;
     tokens = hold_tokens;
-    did = just_did (acted_nothing plan s journal nothing);
-    did_all = λ none. acted_nothing plan s journal nothing;
+    did = just_did (acted_nothing manner plan s journal nothing);
+    did_all = λ none. acted_nothing manner plan s journal nothing;
     puts = puts;
     takes = takes;
     in_order = λ i within. fit_in_order fronts closes plan s i (start_of plan s) (links_at given i).put_refused (traffic_on (links_at given i)) None [] keeps within (puts i within) (takes i within);
@@ -57,11 +58,11 @@ left_unstarted {Identity} fronts closes plan s given site forks tokens journal b
     unrefused = λ none. absurd (none-some fault.NotStarted (sym none));
     finished = λ none. absurd (none-some fault.NotStarted (sym none));
     closed = λ other. absurd (other refl);
-    not_started = λ told. refl;
-    take_told = λ i within refused. absurd (false≢true (sym (ap (λ (l : OnLinks). l.take_refused) (nothing_on given i unused)) ∙ refused));
+    not_started = λ reported. refl;
+    take_reported = λ i within refused. absurd (false≢true (sym (ap (λ (l : OnLinks). l.take_refused) (nothing_on given i unused)) ∙ refused));
     no_stray = λ none. refl;
-    breach = λ link breach told. absurd cc;
-    lost = λ link told. absurd cc;
+    breach = λ link breach reported. absurd cc;
+    lost = λ link reported. absurd cc;
   };
   site = is_site;
   forks = hold_forks;
@@ -69,7 +70,7 @@ left_unstarted {Identity} fronts closes plan s given site forks tokens journal b
   same_links = λ i old new at_old at_new. (let same : old ≡ new = same_Some old new (sym at_old ∙ at_new) in record { tx = ap (λ (p : SeenPort Identity). p.tx.link) (sym same); rx = ap (λ (p : SeenPort Identity). p.rx.link) (sym same); bell = ap (λ (p : SeenPort Identity). p.ringer.bell) (sym same); number = ap (λ (p : SeenPort Identity). p.ringer.number) (sym same) });
   rang = λ i port at. (let fresh = all_at IsFreshPort given i port unused at in rang_same port (fresh.nothing_rung ∙ sym (ap length fresh.nothing_put)));
   heard = λ none. absurd (none-some fault.NotStarted (sym none));
-  lost_bell = λ told. absurd cc;
+  lost_bell = λ reported. absurd cc;
 } where
   puts : (i : ℕ) → i < length (start_of plan s).traffic → PutsFit (links_at given i).put_refused None (traffic_at (start_of plan s) i).put (links_at given i).put
   puts i within = record {

@@ -1,10 +1,12 @@
 -- How a site goes on: by no step, by one step after others, and by one in which nothing of its meals changes.
-use Rattle.std.proofs.Common.{refl, sym, subst, ◌∙◌}
+use Rattle.std.proofs.Common.{◌≡◌, refl, sym, subst, ◌∙◌}
+use Rattle.dine_link.specs.Bells.{SeenBell}
 use Rattle.dine_link.specs.declared.lane.Lane as lanes
 use Rattle.dine_site.specs.declared.diner.Diner as diners
 use Rattle.dine_site.specs.declared.site_loop.running.Running.{Running}
-use Rattle.dine_site.specs.Running.{IsReady, IsRunning, Leads, MayProceed, Proceeds, SameMeals, Way}
-use Rattle.dine_site.proofs.one_site.Same.{ready_same, eats_same, heeds_same}
+use Rattle.dine_site.specs.Running.{IsReady, IsRunning, Leads, MayProceed, Proceeds, SameMeals, Way, seen_run}
+use Rattle.dine_site.proofs.one_site.Ways.{heard_runs}
+use Rattle.dine_site.proofs.one_site.Same.{ready_same, eats_same, obeys_same}
 
 module _ {Lane Tx Closed Rx Diner : Type 0} (lane : lanes.Ghosts Lane Tx Closed Rx) (diner : diners.Ghosts Diner) where
   pub proceeds_not : (run : Running Lane Diner Tx Closed Rx) → IsReady diner run → Proceeds lane diner IsRunning run run
@@ -12,7 +14,8 @@ module _ {Lane Tx Closed Rx Diner : Type 0} (lane : lanes.Ghosts Lane Tx Closed 
     way = λ plan given running. running;
     ready = ready;
     eats = λ first eaten. eaten;
-    heeds = λ first heeding. heeding;
+    obeys = λ first obeying. obeying;
+    manner = refl;
     resigns = refl;
     site = refl;
     expects = λ plan site is. is;
@@ -24,7 +27,8 @@ module _ {Lane Tx Closed Rx Diner : Type 0} (lane : lanes.Ghosts Lane Tx Closed 
       way = λ plan given running. did.way plan given (was.way plan given running);
       ready = did.ready;
       eats = λ first eaten. did.eats first (was.eats first eaten);
-      heeds = λ first heeding. did.heeds first (was.heeds first heeding);
+      obeys = λ first obeying. did.obeys first (was.obeys first obeying);
+      manner = did.manner ∙ was.manner;
       resigns = did.resigns ∙ was.resigns;
       site = did.site ∙ was.site;
       expects = λ plan site is. did.expects plan site (was.expects plan site is);
@@ -35,7 +39,8 @@ module _ {Lane Tx Closed Rx Diner : Type 0} (lane : lanes.Ghosts Lane Tx Closed 
       way = way;
       ready = ready_same diner old new same ready;
       eats = eats_same diner old new same;
-      heeds = heeds_same diner old new same;
+      obeys = obeys_same diner old new same;
+      manner = same.manner;
       resigns = same.resigns;
       site = same.site;
       expects = λ plan site is. subst (λ (one : Diner). diner.expects one plan site) (sym same.diner) is;
@@ -46,7 +51,8 @@ module _ {Lane Tx Closed Rx Diner : Type 0} (lane : lanes.Ghosts Lane Tx Closed 
       way = λ plan given running. to plan given (did.way plan given running);
       ready = did.ready;
       eats = did.eats;
-      heeds = did.heeds;
+      obeys = did.obeys;
+      manner = did.manner;
       resigns = did.resigns;
       site = did.site;
       expects = did.expects;
@@ -60,3 +66,17 @@ module _ {Lane Tx Closed Rx Diner : Type 0} (lane : lanes.Ghosts Lane Tx Closed 
         ready = did.ready;
         expects = subst (diner.expects b.diner p.0) (sym did.site) (did.expects p.0 a.core.site may.expects);
       }
+
+-- a site goes on when its bell was checked, or reported a number
+pub proceeds_heard : {Lane Tx Closed Rx Diner : Type 0} (lane : lanes.Ghosts Lane Tx Closed Rx) (diner : diners.Ghosts Diner) (old : Running Lane Diner Tx Closed Rx) (bell : SeenBell) → bell.refused ≡ old.bell.refused → bell.degree ≡ old.bell.degree
+    → IsReady diner old → Proceeds lane diner IsRunning old (record old { bell = bell })
+proceeds_heard lane diner old bell unrefused degree ready = record {
+  way = λ plan given running. heard_runs plan given (seen_run lane old) bell unrefused running;
+  ready = record { bell = degree ∙ ready.bell; room = ready.room; failed = ready.failed };
+  eats = λ first eaten. eaten;
+  obeys = λ first obeying. obeying;
+  manner = refl;
+  resigns = refl;
+  site = refl;
+  expects = λ plan site is. is;
+}

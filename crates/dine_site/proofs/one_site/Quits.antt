@@ -11,7 +11,8 @@ use Rattle.dine_rules.specs.StepLists.{LeadTo}
 use Rattle.dine_rules.specs.Steps.{Step, Ask, Begin, Break, Close, Done, End, Give, Hungry, Quit, Take, after, step_by}
 use Rattle.dine_rules.proofs.journals.JournalStates.{own_step}
 use Rattle.dine_rules.proofs.lists.Options.{and_then_parts, option_map_parts}
-use Rattle.dine_site.specs.Diners.{is_quit, tells_quit}
+use Rattle.dine_site.specs.Diners.{is_quit, shows_quit}
+use Rattle.dine_site.specs.declared.manner.Manner.{Manner}
 use Rattle.dine_site.specs.Doings.{HasDone}
 
 swapped : (a b c : Bool) → (b || (a || c)) ≡ ((a || b) || c)
@@ -39,22 +40,22 @@ by_event plan s failed next state (event.Done i) step is = ap (λ (x : Step). (a
 by_event plan s failed next state (event.Close i) step is = ap (λ (x : Step). (after plan s state x).has_quit) (sym (same_Some (Close i) step is))
 
 by_events : (plan : SeenPlan) (s : ℕ) (letters : ℕ → List Letter) (last : Bool) (kinds : List EventKind) (state end : LocalState) → state_after_all plan s letters last state kinds ≡ Some end
-    → end.has_quit ≡ (tells_quit kinds || state.has_quit)
+    → end.has_quit ≡ (shows_quit kinds || state.has_quit)
 by_events plan s letters last [] state end h = ap (λ (x : LocalState). x.has_quit) (sym (same_Some state end h))
 by_events plan s letters last (kind ∷ kinds) state end h =
     let w = and_then_parts (λ (x : LocalState). state_after_all plan s letters last x kinds) (state_after plan s letters (fails_before last kinds) state kind) end h in
     let one = own_step plan s letters (fails_before last kinds) state w.0 kind w.1 in
     let now : w.0.has_quit ≡ (is_quit kind || state.has_quit) = ap (λ (x : LocalState). x.has_quit) (sym one.changes) ∙ by_event plan s (fails_before last kinds) _ state kind one.step one.step_is in
-    by_events plan s letters last kinds w.0 end w.2 ∙ ap (λ (b : Bool). tells_quit kinds || b) now ∙ swapped (is_quit kind) (tells_quit kinds) state.has_quit
+    by_events plan s letters last kinds w.0 end w.2 ∙ ap (λ (b : Bool). shows_quit kinds || b) now ∙ swapped (is_quit kind) (shows_quit kinds) state.has_quit
 
 -- so the journal tells it
-pub quit_told : (plan : SeenPlan) (s : ℕ) (journal : List EventKind) (state : LocalState) → IsJournal plan s journal state → state.has_quit ≡ tells_quit journal
-quit_told plan s journal state did = by_events plan s (λ i. (traffic_at state i).taken) state.must_quit journal (start_of plan s) state did ∙ alone (tells_quit journal)
+pub quit_reported : (plan : SeenPlan) (s : ℕ) (journal : List EventKind) (state : LocalState) → IsJournal plan s journal state → state.has_quit ≡ shows_quit journal
+quit_reported plan s journal state did = by_events plan s (λ i. (traffic_at state i).taken) state.must_quit journal (start_of plan s) state did ∙ alone (shows_quit journal)
 
 -- also where the site broke off then
 kept_breaking : (plan : SeenPlan) (s : ℕ) (places : List ℕ) (state end : LocalState) → LeadTo plan s state (map Break places) end → end.has_quit ≡ state.has_quit
 kept_breaking plan s [] state end lead = ap (λ (x : LocalState). x.has_quit) (sym lead)
 kept_breaking plan s (i ∷ places) state end lead = kept_breaking plan s places (after plan s state (Break i)) end lead.1
 
-pub quit_told_before : (plan : SeenPlan) (s : ℕ) (journal : List EventKind) (state : LocalState) → HasDone plan s journal state → state.has_quit ≡ tells_quit journal
-quit_told_before plan s journal state did = kept_breaking plan s did.places did.before state did.broke_off ∙ quit_told plan s journal did.before did.acted.by_journal
+pub quit_reported_before : {manner : Manner} (plan : SeenPlan) (s : ℕ) (journal : List EventKind) (state : LocalState) → HasDone manner plan s journal state → state.has_quit ≡ shows_quit journal
+quit_reported_before plan s journal state did = kept_breaking plan s did.places did.before state did.broke_off ∙ quit_reported plan s journal did.before did.acted.by_journal

@@ -3,15 +3,15 @@ use Rattle.std.proofs.Common.{◌≡◌, ℕ, ◌||◌, refl, sym, ap, ap₂, �
 use Rattle.std.specs.Prelude.{nat_lt}
 use Rattle.std.specs.Global.{Vec}
 use Rattle.dine_clock.specs.declared.clock.Clock.{Clock}
-use Rattle.dine_core.specs.Core.{SeenCore}
-use Rattle.dine_core.specs.Places.{with_place}
-use Rattle.dine_core.specs.declared.site.places.Place.{Place}
+use Rattle.dine_site_core.specs.Core.{SeenCore}
+use Rattle.dine_site_core.specs.Places.{with_place}
+use Rattle.dine_site_core.specs.declared.site.places.Place.{Place}
 use Rattle.dine_rules.specs.declared.events.EventKind.{EventKind}
 use Rattle.dine_rules.specs.declared.phase.Phase.{Phase}
 use Rattle.dine_site.specs.declared.diner.Diner as diners
 use Rattle.dine_site.specs.declared.site_loop.running.Running.{Running}
-use Rattle.dine_site.specs.Running.{EatsOn, HeedsOn, IsReady, SameMeals}
-use Rattle.dine_site.proofs.one_site.Heeding.{heeding_as}
+use Rattle.dine_site.specs.Running.{EatsOn, ObeysOn, IsReady, SameMeals}
+use Rattle.dine_site.proofs.one_site.Obeying.{obeying_as}
 use Rattle.dine_site.proofs.one_site.Meals.{eaten_same}
 
 module _ {Lane Tx Closed Rx Diner : Type 0} (diner : diners.Ghosts Diner) (old new : Running Lane Diner Tx Closed Rx) (same : SameMeals old new) where
@@ -26,15 +26,16 @@ module _ {Lane Tx Closed Rx Diner : Type 0} (diner : diners.Ghosts Diner) (old n
   eats_same first eaten =
       eaten_same diner.calls diner.marks diner.fits old.core.ate old.failed new.core.ate new.failed first old.diner new.diner eaten same.ate same.failed same.diner
 
-  pub heeds_same : HeedsOn diner old new
-  heeds_same first heeding =
-      heeding_as old.core.resigns (old.core.must_quit || old.core.has_quit) (nat_lt old.core.ate old.core.due) new.core.resigns (new.core.must_quit || new.core.has_quit) (nat_lt new.core.ate new.core.due) first (diner.calls old.diner) (diner.calls new.diner)
-      same.resigns (ap₂ ◌||◌ same.must_quit same.has_quit) (ap₂ nat_lt same.ate same.due) (ap diner.calls same.diner) heeding
+  pub obeys_same : ObeysOn diner old new
+  obeys_same first obeying =
+      obeying_as old.core.resigns (old.core.must_quit || old.core.has_quit) (nat_lt old.core.ate old.core.due) new.core.resigns (new.core.must_quit || new.core.has_quit) (nat_lt new.core.ate new.core.due) first (diner.calls old.diner) (diner.calls new.diner)
+      same.resigns (ap₂ ◌||◌ same.must_quit same.has_quit) (ap₂ nat_lt same.ate same.due) (ap diner.calls same.diner) obeying
 
 module _ {Lane Tx Closed Rx Diner : Type 0} (old new : Running Lane Diner Tx Closed Rx) where
   -- where only a place of the core was written, and the journal, and then nothing of the meals changed
   pub same_but_place : (i : ℕ) (place : Place) (core : SeenCore) (journal : Vec EventKind) (clock : Clock) → core ≡ with_place i place old.core → SameMeals (record old { core = core; journal = journal; clock = clock }) new → SameMeals old new
   same_but_place i place core journal clock is same = record {
+    manner = same.manner;
     site = same.site ∙ ap (λ (x : SeenCore). x.site) is;
     due = same.due ∙ ap (λ (x : SeenCore). x.due) is;
     ate = same.ate ∙ ap (λ (x : SeenCore). x.ate) is;
@@ -50,6 +51,7 @@ module _ {Lane Tx Closed Rx Diner : Type 0} (old new : Running Lane Diner Tx Clo
 -- where only the phase of the core was written, and the journal
 pub same_but_phase : {Lane Tx Closed Rx Diner : Type 0} (old : Running Lane Diner Tx Closed Rx) (phase : Phase) (core : SeenCore) (journal : Vec EventKind) (clock : Clock) → core ≡ record old.core { phase = phase } → SameMeals old (record old { core = core; journal = journal; clock = clock })
 same_but_phase old phase core journal clock is = record {
+  manner = refl;
   site = ap (λ (x : SeenCore). x.site) is;
   due = ap (λ (x : SeenCore). x.due) is;
   ate = ap (λ (x : SeenCore). x.ate) is;

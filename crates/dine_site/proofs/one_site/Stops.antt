@@ -1,5 +1,5 @@
 -- A site stops: each fault leaves it with what a stop says, and breaking off keeps that.
-use Rattle.std.proofs.Common.{◌≡◌, ℕ, ◌<◌, ◌≤◌, ◌^◌, ◌==◌, Bool, true, false, cond, if◌then◌else◌, List, [], ◌∷◌, ◌++◌, length, map, set, get_or, Option, Some, None, refl, sym, ◌∙◌, ap, subst, inl, inr, arith, length-set}
+use Rattle.std.proofs.Common.{◌≡◌, ◌⊎◌, ℕ, ◌<◌, ◌≤◌, ◌^◌, ◌==◌, Bool, true, false, cond, if◌then◌else◌, List, [], ◌∷◌, ◌++◌, length, map, set, get_or, Option, Some, None, refl, sym, ◌∙◌, ap, subst, inl, inr, arith, length-append, length-set}
 use Rattle.std.specs.List.{slice_get}
 use Rattle.std.proofs.lemmas.List.{get_or-set_same, get_or-set_other, map-set, map_push}
 use Rattle.std.proofs.lemmas.Bool.{cases_eq, eq-eqb, false≢true, ne_eqb, true≢false}
@@ -14,6 +14,7 @@ use Rattle.dine_rules.specs.Breach.{first_breach}
 use Rattle.dine_rules.specs.Local.{LocalState, Traffic, no_traffic, traffic_at}
 use Rattle.dine_rules.specs.StepLists.{LeadTo}
 use Rattle.dine_rules.specs.Steps.{Step, Break, may, with_put}
+use Rattle.dine_site.specs.declared.manner.Manner.{Manner}
 use Rattle.dine_site.specs.Doings.{HasActed, HasDone}
 use Rattle.dine_rules.specs.Streams.{KeepsStreams}
 use Rattle.dine_link.specs.Bells.{SeenBell}
@@ -21,12 +22,12 @@ use Rattle.dine_link.specs.Closing.{is_close}
 use Rattle.dine_site.specs.declared.port.Closed.{Closed}
 use Rattle.dine_site.specs.declared.port.Closed.TheVariants.{Heard, Refused, Unheard}
 use Rattle.dine_site.proofs.lists.Lists.{get-set_other, get-set_same}
-use Rattle.dine_core.specs.Core.{SeenCore}
-use Rattle.dine_core.specs.Standing.{CoreStep, CorePuts, TellsBreach}
+use Rattle.dine_site_core.specs.Core.{SeenCore}
+use Rattle.dine_site_core.specs.Standing.{CoreStep, CorePuts, ReportsBreach}
 use Rattle.dine_site.specs.declared.site_end.SiteFault.{SiteFault}
 use Rattle.dine_site.specs.declared.site_end.SiteFault.TheVariants as fault
 use Rattle.dine_site.specs.declared.site_end.Stray.{Stray}
-use Rattle.dine_site.specs.Ports.{SameLinks, SeenPort, SendsClose, refused_on, taken_on, untaken_on}
+use Rattle.dine_site.specs.Ports.{LacksOneRing, SameLinks, SeenPort, SendsClose, closed_unheard_on, refused_on, taken_on, untaken_on}
 use Rattle.dine_site.specs.Endings.{IsBreached, IsLost, OnLinks, breached_at, links_at, nothing_on_links, on_links, refused_at}
 use Rattle.dine_site.specs.SiteEnds.{HasBellRefused}
 use Rattle.dine_site.specs.Running.{AtEach, SeenRun, HasState, RunsAt, StopsAt, IsRunning, IsPutting, IsStopped}
@@ -41,7 +42,7 @@ here i l = ap (λ (b : Bool). cond b (Some l) None) (eq-eqb i i refl)
 elsewhere : (i j : ℕ) (l : Letter) → (j ≡ i → ⊥) → (if i == j then Some l else None) ≡ None
 elsewhere i j l ne = ap (λ (b : Bool). cond b (Some l) None) (ne_eqb i j (λ e. ne (sym e)))
 
--- a breach is told by the letters taken, and by how many Forks and Requests and whether Done are among those put
+-- a breach is known by the letters taken, and by how many Forks and Requests and whether Done are among those put
 module _ (plan : SeenPlan) (s : ℕ) (old new : LocalState) (link : ℕ) (ate : new.ate ≡ old.ate) (taken : (traffic_at new link).taken ≡ (traffic_at old link).taken)
     (forks : forks_in (traffic_at new link).put ≡ forks_in (traffic_at old link).put) (requests : requests_in (traffic_at new link).put ≡ requests_in (traffic_at old link).put)
     (done : has_done (traffic_at new link).put ≡ has_done (traffic_at old link).put) where
@@ -73,7 +74,7 @@ closing_breach plan s state i within link l = elim (cases_eq link i) [
 ]
 
 -- what the journal led to, with no Close of a way out yet
-pub just_did : {plan : SeenPlan} {s : ℕ} {journal : List EventKind} {state : LocalState} → HasActed plan s journal state → HasDone plan s journal state
+pub just_did : {manner : Manner} {plan : SeenPlan} {s : ℕ} {journal : List EventKind} {state : LocalState} → HasActed manner plan s journal state → HasDone manner plan s journal state
 just_did {state = state} did = record { before = state; acted = did; places = []; broke_off = refl }
 
 -- one Close more of the way out
@@ -90,6 +91,10 @@ grown_place state i l = length-set state.traffic i (record (traffic_at state i) 
 no_letter_lost : {places : ℕ} {links : ℕ → OnLinks} (link : ℕ) → link ≡ places → IsLost places links None link
 no_letter_lost link is = record { within = omega (arith, is); refused = λ below. absurd (omega (arith, is, below)); to_place = λ back b. absurd (none-some back b); no_close = λ back b. absurd (none-some back b) }
 
+-- a stop with this cause, in a plan where the site has so many edges, reports the refused ring of the port
+abbrev TellsRing : {Identity : Type 0} → SiteFault → ℕ → SeenPort Identity → Type 0
+TellsRing cause degree port = (cause ≡ fault.Lost degree) ⊎ LacksOneRing port
+
 -- the links of a place whose port changed, and of another
 module _ {Identity : Type 0} (ports : List (SeenPort Identity)) (i : ℕ) (old new : SeenPort Identity) (at : slice_get ports i ≡ Some old) where
   new_links : links_at (set ports i new) i ≡ on_links new
@@ -98,19 +103,33 @@ module _ {Identity : Type 0} (ports : List (SeenPort Identity)) (i : ℕ) (old n
   other_links : (j : ℕ) → (j ≡ i → ⊥) → links_at (set ports i new) j ≡ links_at ports j
   other_links j ne = ap (λ (links : List OnLinks). get_or links j nothing_on_links) (map-set on_links ports i new) ∙ get_or-set_other (map on_links ports) i j (on_links new) nothing_on_links ne
 
-  -- a refused take is told still, where the port that changed tells its own
-  takes_told : (P : ℕ → Type 0) → ((j : ℕ) (port : SeenPort Identity) → slice_get ports j ≡ Some port → port.rx.refused ≡ true → P j) → (new.rx.refused ≡ true → P i)
+  -- a refused take is still reported, if it is reported of the port that changed
+  takes_reported : (P : ℕ → Type 0) → ((j : ℕ) (port : SeenPort Identity) → slice_get ports j ≡ Some port → port.rx.refused ≡ true → P j) → (new.rx.refused ≡ true → P i)
       → (j : ℕ) (port : SeenPort Identity) → slice_get (set ports i new) j ≡ Some port → port.rx.refused ≡ true → P j
-  takes_told P told here j port there refused = elim (cases_eq j i) [
+  takes_reported P reported here j port there refused = elim (cases_eq j i) [
     | inl same ↦
         let is : port ≡ new = same_Some port new (sym there ∙ ap (λ (n : ℕ). slice_get (set ports i new) n) same ∙ get-set_same ports i old new at) in
         subst P (sym same) (here (ap (λ (p : SeenPort Identity). p.rx.refused) (sym is) ∙ refused))
-    | inr ne ↦ told j port (sym (get-set_other ports i j new (λ e. ne (sym e))) ∙ there) refused
+    | inr ne ↦ reported j port (sym (get-set_other ports i j new (λ e. ne (sym e))) ∙ there) refused
+  ]
+
+  -- a refused ring is still reported, if it is reported of the port that changed
+  rings_reported : (P : SeenPort Identity → Type 0) → ((j : ℕ) (port : SeenPort Identity) → slice_get ports j ≡ Some port → port.ringer.refused ≡ true → P port) → (new.ringer.refused ≡ true → P new)
+      → (j : ℕ) (port : SeenPort Identity) → slice_get (set ports i new) j ≡ Some port → port.ringer.refused ≡ true → P port
+  rings_reported P reported here j port there refused = elim (cases_eq j i) [
+    | inl same ↦
+        let is : port ≡ new = same_Some port new (sym there ∙ ap (λ (n : ℕ). slice_get (set ports i new) n) same ∙ get-set_same ports i old new at) in
+        subst P (sym is) (here (ap (λ (p : SeenPort Identity). p.ringer.refused) (sym is) ∙ refused))
+    | inr ne ↦ reported j port (sym (get-set_other ports i j new (λ e. ne (sym e))) ∙ there) refused
   ]
 
 -- while a site runs no take was refused
 quiet_takes : {Identity : Type 0} (state : LocalState) (ports : List (SeenPort Identity)) (P : ℕ → Type 0) → AtEach (λ i. RunsAt) state ports → (i : ℕ) (port : SeenPort Identity) → slice_get ports i ≡ Some port → port.rx.refused ≡ true → P i
 quiet_takes state ports P lists i port at refused = absurd (false≢true (sym (lists i port at).unrefused.take ∙ refused))
+
+-- nor a ring
+quiet_rings : {Identity : Type 0} (state : LocalState) (ports : List (SeenPort Identity)) (P : SeenPort Identity → Type 0) → AtEach (λ i. RunsAt) state ports → (i : ℕ) (port : SeenPort Identity) → slice_get ports i ≡ Some port → port.ringer.refused ≡ true → P port
+quiet_rings state ports P lists i port at refused = absurd (false≢true (sym (lists i port at).unrefused.ring ∙ refused))
 
 -- what a port refused it has refused still
 record StillRefused {Identity : Type 0} (old new : SeenPort Identity) : Type 0 where
@@ -153,7 +172,7 @@ module _ {Identity : Type 0} (ports : List (SeenPort Identity)) (i : ℕ) (old n
 module _ {Identity : Type 0} (plan : SeenPlan) (given : List (SeenPort Identity)) (run : SeenRun Identity) where
   -- the wait for the bell was refused
   pub bell_stops : (bell : SeenBell) → bell.refused ≡ true → IsRunning plan given run
-      → IsStopped None (fault.Lost (length run.core.places)) plan given (record { core = run.core; ports = run.ports; bell = bell; journal = run.journal })
+      → IsStopped None (fault.Lost (length run.core.places)) plan given (record { manner = run.manner; core = run.core; ports = run.ports; bell = bell; journal = run.journal })
   bell_stops bell refused running = record {
     state = running.state;
     has = same_state_of running.has;
@@ -162,12 +181,13 @@ module _ {Identity : Type 0} (plan : SeenPlan) (given : List (SeenPort Identity)
     breach = λ link breach e. absurd (cc);
     lost = λ link e. (let same : length run.core.places ≡ link = cc in no_letter_lost link (omega (arith, same, running.has.stands.degree)));
     lost_bell = λ e. inl refused;
-    take_told = quiet_takes running.state run.ports (λ j. fault.Lost (length run.core.places) ≡ fault.Lost j) running.lists;
-    wait_told = λ e. ap fault.Lost running.has.stands.degree;
+    take_reported = quiet_takes running.state run.ports (λ j. fault.Lost (length run.core.places) ≡ fault.Lost j) running.lists;
+    wait_reported = λ e. ap fault.Lost running.has.stands.degree;
+    ring_reported = quiet_rings running.state run.ports (TellsRing (fault.Lost (length run.core.places)) (length running.state.traffic)) running.lists;
     no_stray = λ e. refl;
     started = λ e. absurd (cc);
   } where
-    same_state_of : HasState plan given run running.state → HasState plan given (record { core = run.core; ports = run.ports; bell = bell; journal = run.journal }) running.state
+    same_state_of : HasState plan given run running.state → HasState plan given (record { manner = run.manner; core = run.core; ports = run.ports; bell = bell; journal = run.journal }) running.state
     same_state_of has = record { is_plan = has.is_plan; is_site = has.is_site; keeps = has.keeps; stands = has.stands; rests = has.rests; count = has.count; places = has.places; same_links = has.same_links }
 
   -- memory was refused
@@ -180,15 +200,16 @@ module _ {Identity : Type 0} (plan : SeenPlan) (given : List (SeenPort Identity)
     breach = λ link breach e. absurd (cc);
     lost = λ link e. absurd (cc);
     lost_bell = λ e. absurd (cc);
-    take_told = quiet_takes running.state run.ports (λ j. fault.Memory ≡ fault.Lost j) running.lists;
-    wait_told = λ e. absurd (false≢true (sym running.heard ∙ e));
+    take_reported = quiet_takes running.state run.ports (λ j. fault.Memory ≡ fault.Lost j) running.lists;
+    wait_reported = λ e. absurd (false≢true (sym running.heard ∙ e));
+    ring_reported = quiet_rings running.state run.ports (TellsRing fault.Memory (length running.state.traffic)) running.lists;
     no_stray = λ e. refl;
     started = λ e. absurd (cc);
   }
 
   -- the link refused to give a letter
   pub take_stops : (i : ℕ) → i < length run.core.places → IsRunning plan given run → (port : SeenPort Identity) → slice_get run.ports i ≡ Some port
-      → IsStopped None (fault.Lost i) plan given (record { core = run.core; ports = set run.ports i (untaken_on port); bell = run.bell; journal = run.journal })
+      → IsStopped None (fault.Lost i) plan given (record { manner = run.manner; core = run.core; ports = set run.ports i (untaken_on port); bell = run.bell; journal = run.journal })
   take_stops i within running port at =
       let inside : i < length running.state.traffic = omega (arith, within, running.has.stands.degree) in
       record {
@@ -207,15 +228,17 @@ module _ {Identity : Type 0} (plan : SeenPlan) (given : List (SeenPort Identity)
               no_close = λ back is. absurd (none-some back is);
             };
         lost_bell = λ e. (let same : i ≡ length running.state.traffic = cc in absurd (omega (arith, same, inside)));
-        take_told = takes_told run.ports i port (untaken_on port) at (λ j. fault.Lost i ≡ fault.Lost j) (quiet_takes running.state run.ports (λ j. fault.Lost i ≡ fault.Lost j) running.lists) (λ e. refl);
-        wait_told = λ e. absurd (false≢true (sym running.heard ∙ e));
+        take_reported = takes_reported run.ports i port (untaken_on port) at (λ j. fault.Lost i ≡ fault.Lost j) (quiet_takes running.state run.ports (λ j. fault.Lost i ≡ fault.Lost j) running.lists) (λ e. refl);
+        wait_reported = λ e. absurd (false≢true (sym running.heard ∙ e));
+        ring_reported = rings_reported run.ports i port (untaken_on port) at (TellsRing (fault.Lost i) (length running.state.traffic)) (quiet_rings running.state run.ports (TellsRing (fault.Lost i) (length running.state.traffic)) running.lists)
+            (λ e. absurd (false≢true (sym (running.lists i port at).unrefused.ring ∙ e)));
         no_stray = λ e. refl;
         started = λ e. absurd (cc);
       }
 
   -- the link refused a letter
   pub put_stops : (i : ℕ) (l : Letter) → is_close l ≡ false → IsPutting i l plan given run → (port : SeenPort Identity) → slice_get run.ports i ≡ Some port
-      → IsStopped (Some (record { link = i; letter = l })) (fault.Lost i) plan given (record { core = run.core; ports = set run.ports i (refused_on port); bell = run.bell; journal = run.journal })
+      → IsStopped (Some (record { link = i; letter = l })) (fault.Lost i) plan given (record { manner = run.manner; core = run.core; ports = set run.ports i (refused_on port); bell = run.bell; journal = run.journal })
   put_stops i l other putting port at =
       let inside : i < length (with_put i l putting.before).traffic = omega (arith, putting.within, grown_place putting.before i l) in
       record {
@@ -236,8 +259,10 @@ module _ {Identity : Type 0} (plan : SeenPlan) (given : List (SeenPort Identity)
               no_close = λ back is. ap (λ (b : Stray). is_close b.letter) (the_stray back is) ∙ other;
             };
         lost_bell = λ e. (let same : i ≡ length (with_put i l putting.before).traffic = cc in absurd (omega (arith, same, inside)));
-        take_told = takes_told run.ports i port (refused_on port) at (λ j. fault.Lost i ≡ fault.Lost j) (quiet_takes putting.before run.ports (λ j. fault.Lost i ≡ fault.Lost j) putting.lists) (λ e. refl);
-        wait_told = λ e. absurd (false≢true (sym putting.heard ∙ e));
+        take_reported = takes_reported run.ports i port (refused_on port) at (λ j. fault.Lost i ≡ fault.Lost j) (quiet_takes putting.before run.ports (λ j. fault.Lost i ≡ fault.Lost j) putting.lists) (λ e. refl);
+        wait_reported = λ e. absurd (false≢true (sym putting.heard ∙ e));
+        ring_reported = rings_reported run.ports i port (refused_on port) at (TellsRing (fault.Lost i) (length (with_put i l putting.before).traffic)) (quiet_rings putting.before run.ports (TellsRing (fault.Lost i) (length (with_put i l putting.before).traffic)) putting.lists)
+            (λ e. absurd (false≢true (sym (putting.lists i port at).unrefused.ring ∙ e)));
         no_stray = λ e. absurd (true≢false e);
         started = λ e. absurd (cc);
       } where
@@ -246,7 +271,7 @@ module _ {Identity : Type 0} (plan : SeenPlan) (given : List (SeenPort Identity)
 
   -- the link refused Close
   pub close_stops : (i : ℕ) → IsPutting i letter.Close plan given run → (port : SeenPort Identity) → slice_get run.ports i ≡ Some port
-      → IsStopped None (fault.Lost i) plan given (record { core = run.core; ports = set run.ports i (refused_on port); bell = run.bell; journal = run.journal })
+      → IsStopped None (fault.Lost i) plan given (record { manner = run.manner; core = run.core; ports = set run.ports i (refused_on port); bell = run.bell; journal = run.journal })
   close_stops i putting port at =
       let inside : i < length (with_put i letter.Close putting.before).traffic = omega (arith, putting.within, grown_place putting.before i letter.Close) in
       record {
@@ -265,8 +290,10 @@ module _ {Identity : Type 0} (plan : SeenPlan) (given : List (SeenPort Identity)
               no_close = λ back is. absurd (none-some back is);
             };
         lost_bell = λ e. (let same : i ≡ length (with_put i letter.Close putting.before).traffic = cc in absurd (omega (arith, same, inside)));
-        take_told = takes_told run.ports i port (refused_on port) at (λ j. fault.Lost i ≡ fault.Lost j) (quiet_takes putting.before run.ports (λ j. fault.Lost i ≡ fault.Lost j) putting.lists) (λ e. refl);
-        wait_told = λ e. absurd (false≢true (sym putting.heard ∙ e));
+        take_reported = takes_reported run.ports i port (refused_on port) at (λ j. fault.Lost i ≡ fault.Lost j) (quiet_takes putting.before run.ports (λ j. fault.Lost i ≡ fault.Lost j) putting.lists) (λ e. refl);
+        wait_reported = λ e. absurd (false≢true (sym putting.heard ∙ e));
+        ring_reported = rings_reported run.ports i port (refused_on port) at (TellsRing (fault.Lost i) (length (with_put i letter.Close putting.before).traffic)) (quiet_rings putting.before run.ports (TellsRing (fault.Lost i) (length (with_put i letter.Close putting.before).traffic)) putting.lists)
+            (λ e. absurd (false≢true (sym (putting.lists i port at).unrefused.ring ∙ e)));
         no_stray = λ e. refl;
         started = λ e. absurd (cc);
       }
@@ -274,7 +301,7 @@ module _ {Identity : Type 0} (plan : SeenPlan) (given : List (SeenPort Identity)
   -- a letter was put, and the bell refused the ring
   module _ (i : ℕ) (l : Letter) (putting : IsPutting i l plan given run) (port new : SeenPort Identity) (at : slice_get run.ports i ≡ Some port)
       (links : SameLinks port new) (stops : StopsAt None None (record (traffic_at putting.before i) { put = (traffic_at putting.before i).put ++ l ∷ [] }) new) (refused : new.ringer.refused ≡ true) (took : new.rx.refused ≡ port.rx.refused) where
-    pub unheard_stops : IsStopped None (fault.Lost (length run.core.places)) plan given (record { core = run.core; ports = set run.ports i new; bell = run.bell; journal = run.journal })
+    pub unheard_stops : IsStopped None (fault.Lost (length run.core.places)) plan given (record { manner = run.manner; core = run.core; ports = set run.ports i new; bell = run.bell; journal = run.journal })
     unheard_stops = record {
       state = with_put i l putting.before;
       has = has-port plan given run (with_put i l putting.before) i port new putting.has at links.tx links.rx links.bell links.number;
@@ -283,18 +310,20 @@ module _ {Identity : Type 0} (plan : SeenPlan) (given : List (SeenPort Identity)
       breach = λ link breach e. absurd (cc);
       lost = λ link e. (let same : length run.core.places ≡ link = cc in no_letter_lost link (omega (arith, same, putting.has.stands.degree)));
       lost_bell = λ e. inr (i, new, get-set_same run.ports i port new at, refused);
-      take_told = takes_told run.ports i port new at (λ j. fault.Lost (length run.core.places) ≡ fault.Lost j) (quiet_takes putting.before run.ports (λ j. fault.Lost (length run.core.places) ≡ fault.Lost j) putting.lists)
+      take_reported = takes_reported run.ports i port new at (λ j. fault.Lost (length run.core.places) ≡ fault.Lost j) (quiet_takes putting.before run.ports (λ j. fault.Lost (length run.core.places) ≡ fault.Lost j) putting.lists)
           (λ e. absurd (false≢true (sym (putting.lists i port at).unrefused.take ∙ sym took ∙ e)));
-      wait_told = λ e. absurd (false≢true (sym putting.heard ∙ e));
+      wait_reported = λ e. absurd (false≢true (sym putting.heard ∙ e));
+      ring_reported = rings_reported run.ports i port new at (TellsRing (fault.Lost (length run.core.places)) (length (with_put i l putting.before).traffic)) (quiet_rings putting.before run.ports (TellsRing (fault.Lost (length run.core.places)) (length (with_put i l putting.before).traffic)) putting.lists)
+          (λ e. inl (ap fault.Lost putting.has.stands.degree));
       no_stray = λ e. refl;
       started = λ e. absurd (cc);
     }
 
   -- a letter came that was not in turn
-  pub breach_stops : (m i : ℕ) (l : Letter) (told : Breach) → i < length run.core.places → TellsBreach run.core i l (Some told) → IsRunning plan given run
+  pub breach_stops : (m i : ℕ) (l : Letter) (reported : Breach) → i < length run.core.places → ReportsBreach run.core i l (Some reported) → IsRunning plan given run
       → (port : SeenPort Identity) → slice_get run.ports i ≡ Some port
-      → IsStopped (Some (record { link = i; letter = l })) (fault.Breach i told) plan given (record { core = run.core; ports = set run.ports i (taken_on m l port); bell = run.bell; journal = run.journal })
-  breach_stops m i l told within tells running port at =
+      → IsStopped (Some (record { link = i; letter = l })) (fault.Breach i reported) plan given (record { manner = run.manner; core = run.core; ports = set run.ports i (taken_on m l port); bell = run.bell; journal = run.journal })
+  breach_stops m i l reported within tells running port at =
       let inside : i < length running.state.traffic = omega (arith, running.has.stands.degree) in
       record {
         state = running.state;
@@ -306,8 +335,8 @@ module _ {Identity : Type 0} (plan : SeenPlan) (given : List (SeenPort Identity)
         did = just_did running.did;
         breach = λ link breach e.
             let same : i ≡ link = cc in
-            let cause : told ≡ breach = cc in
-            let first : first_breach plan run.core.site running.state i l ≡ Some told = sym (tells plan running.state running.has.keeps running.has.stands) in
+            let cause : reported ≡ breach = cc in
+            let first : first_breach plan run.core.site running.state i l ≡ Some reported = sym (tells plan running.state running.has.keeps running.has.stands) in
             record {
               letter = l;
               handed_back = ap (λ (n : ℕ). Some (record { link = n; letter = l })) same;
@@ -316,9 +345,11 @@ module _ {Identity : Type 0} (plan : SeenPlan) (given : List (SeenPort Identity)
             };
         lost = λ link e. absurd (cc);
         lost_bell = λ e. absurd (cc);
-        take_told = takes_told run.ports i port (taken_on m l port) at (λ j. fault.Breach i told ≡ fault.Lost j) (quiet_takes running.state run.ports (λ j. fault.Breach i told ≡ fault.Lost j) running.lists)
+        take_reported = takes_reported run.ports i port (taken_on m l port) at (λ j. fault.Breach i reported ≡ fault.Lost j) (quiet_takes running.state run.ports (λ j. fault.Breach i reported ≡ fault.Lost j) running.lists)
             (λ e. absurd (false≢true (sym (running.lists i port at).unrefused.take ∙ e)));
-        wait_told = λ e. absurd (false≢true (sym running.heard ∙ e));
+        wait_reported = λ e. absurd (false≢true (sym running.heard ∙ e));
+        ring_reported = rings_reported run.ports i port (taken_on m l port) at (TellsRing (fault.Breach i reported) (length running.state.traffic)) (quiet_rings running.state run.ports (TellsRing (fault.Breach i reported) (length running.state.traffic)) running.lists)
+            (λ e. absurd (false≢true (sym (running.lists i port at).unrefused.ring ∙ e)));
         no_stray = λ e. absurd (true≢false e);
         started = λ e. absurd (cc);
       }
@@ -334,8 +365,8 @@ module _ {Identity : Type 0} (plan : SeenPlan) (given : List (SeenPort Identity)
     room = opens-break i plan run.core.site stopped.state did.allowed.needs
 
     -- the letter of a breach has that breach still
-    told : (link : ℕ) (breach : Breach) → cause ≡ fault.Breach link breach → IsBreached plan core.site (with_put i letter.Close stopped.state) stray link breach
-    told link breach e =
+    reported : (link : ℕ) (breach : Breach) → cause ≡ fault.Breach link breach → IsBreached plan core.site (with_put i letter.Close stopped.state) stray link breach
+    reported link breach e =
         let before = stopped.breach link breach e in
         record {
           letter = before.letter;
@@ -346,8 +377,8 @@ module _ {Identity : Type 0} (plan : SeenPlan) (given : List (SeenPort Identity)
         }
 
     -- it put one Close more on its way out
-    broke_more : HasDone plan core.site run.journal (with_put i letter.Close stopped.state)
-    broke_more = subst (λ (s : ℕ). HasDone plan s run.journal (with_put i letter.Close stopped.state)) (sym did.site)
+    broke_more : HasDone run.manner plan core.site run.journal (with_put i letter.Close stopped.state)
+    broke_more = subst (λ (s : ℕ). HasDone run.manner plan s run.journal (with_put i letter.Close stopped.state)) (sym did.site)
         (record {
           before = stopped.did.before;
           acted = stopped.did.acted;
@@ -362,21 +393,23 @@ module _ {Identity : Type 0} (plan : SeenPlan) (given : List (SeenPort Identity)
     StopsHere = StopsAt (refused_at i (Some cause) stray) (breached_at i (Some cause) stray) (record (traffic_at stopped.state i) { put = (traffic_at stopped.state i).put ++ letter.Close ∷ [] })
 
     -- whatever came of the Close
-    breaks : (new : SeenPort Identity) → SameLinks port new → StillRefused port new → StopsHere new → IsStopped stray cause plan given (record { core = core; ports = set run.ports i new; bell = run.bell; journal = run.journal })
-    breaks new links keeps stops =
+    breaks : (new : SeenPort Identity) → SameLinks port new → StillRefused port new → StopsHere new → (new.ringer.refused ≡ true → TellsRing cause (length stopped.state.traffic) new) → IsStopped stray cause plan given (record { manner = run.manner; core = core; ports = set run.ports i new; bell = run.bell; journal = run.journal })
+    breaks new links keeps stops rings =
         let same : length (with_put i letter.Close stopped.state).traffic ≡ length stopped.state.traffic = grown_place stopped.state i letter.Close in
         record {
           state = with_put i letter.Close stopped.state;
-          has = has-port plan given (record { core = core; ports = run.ports; bell = run.bell; journal = run.journal }) (with_put i letter.Close stopped.state) i port new
+          has = has-port plan given (record { manner = run.manner; core = core; ports = run.ports; bell = run.bell; journal = run.journal }) (with_put i letter.Close stopped.state) i port new
               (has-put plan given i (Break i) letter.Close (opens-break i) run core run.journal stopped.state puts stopped.has) at links.tx links.rx links.bell links.number;
           lists = at-set (λ j. StopsAt (refused_at j (Some cause) stray) (breached_at j (Some cause) stray)) (λ j. StopsAt (refused_at j (Some cause) stray) (breached_at j (Some cause) stray))
               stopped.state (with_put i letter.Close stopped.state) i _ refl room.0 run.ports new stopped.lists stops (λ j t p ne h. h);
           did = broke_more;
-          breach = told;
+          breach = reported;
           lost = λ link e. subst (λ (n : ℕ). IsLost n (links_at (set run.ports i new)) stray link) (sym same) (lost_still run.ports i port new at keeps stray link (stopped.lost link e));
           lost_bell = λ e. bell_still run.ports i port new at keeps run.bell (stopped.lost_bell (e ∙ ap fault.Lost same));
-          take_told = takes_told run.ports i port new at (λ j. cause ≡ fault.Lost j) stopped.take_told (λ e. stopped.take_told i port at (sym keeps.take ∙ e));
-          wait_told = λ e. stopped.wait_told e ∙ ap fault.Lost (sym same);
+          take_reported = takes_reported run.ports i port new at (λ j. cause ≡ fault.Lost j) stopped.take_reported (λ e. stopped.take_reported i port at (sym keeps.take ∙ e));
+          wait_reported = λ e. stopped.wait_reported e ∙ ap fault.Lost (sym same);
+          ring_reported = λ j p there e. subst (λ (n : ℕ). TellsRing cause n p) (sym same)
+              (rings_reported run.ports i port new at (TellsRing cause (length stopped.state.traffic)) stopped.ring_reported rings j p there e);
           no_stray = stopped.no_stray;
           started = stopped.started;
         }
@@ -384,17 +417,32 @@ module _ {Identity : Type 0} (plan : SeenPlan) (given : List (SeenPort Identity)
     stops_here : StopsAt (refused_at i (Some cause) stray) (breached_at i (Some cause) stray) (traffic_at stopped.state i) port
     stops_here = stopped.lists i port at
 
+    -- a ring refused before that of Close was reported: until Close the end is live
+    unclosed_ring : (new : SeenPort Identity) → port.ringer.refused ≡ true → TellsRing cause (length stopped.state.traffic) new
+    unclosed_ring new refused = elim (stopped.ring_reported i port at refused) [
+      | inl told ↦ inl told
+      | inr lacks ↦ absurd (false≢true (sym lacks.shut ∙ break_live))
+    ]
+
+    -- the ring of Close was refused: each letter before it was rung, or a ring refused before is reported
+    unheard_ring : (m : ℕ) (was : Bool) → port.ringer.refused ≡ was → TellsRing cause (length stopped.state.traffic) (closed_unheard_on m port)
+    unheard_ring m true was = unclosed_ring (closed_unheard_on m port) was
+    unheard_ring m false was = inr (record { shut = refl; at_most_one = omega (arith, stops_here.rang.each was, length-append port.tx.letters (letter.Close ∷ [])) })
+
     pub break_sends : (m : ℕ) (new : SeenPort Identity) (result : Closed) → SendsClose m port new result
-        → IsStopped stray cause plan given (record { core = core; ports = set run.ports i new; bell = run.bell; journal = run.journal })
+        → IsStopped stray cause plan given (record { manner = run.manner; core = core; ports = set run.ports i new; bell = run.bell; journal = run.journal })
     break_sends m new Heard is = breaks new (record { tx = ap (λ (p : SeenPort Identity). p.tx.link) is; rx = ap (λ (p : SeenPort Identity). p.rx.link) is; bell = ap (λ (p : SeenPort Identity). p.ringer.bell) is; number = ap (λ (p : SeenPort Identity). p.ringer.number) is })
         (record { put = λ r. ap (λ (p : SeenPort Identity). p.tx.refused) is ∙ r; take = ap (λ (p : SeenPort Identity). p.rx.refused) is; ring = λ r. ap (λ (p : SeenPort Identity). p.ringer.refused) is ∙ r })
         (subst StopsHere (sym is) (stops-closed (refused_at i (Some cause) stray) (breached_at i (Some cause) stray) (traffic_at stopped.state i) port stops_here room.1 m))
+        (λ e. unclosed_ring new (ap (λ (p : SeenPort Identity). p.ringer.refused) (sym is) ∙ e))
     break_sends m new Refused is = breaks new (record { tx = ap (λ (p : SeenPort Identity). p.tx.link) is; rx = ap (λ (p : SeenPort Identity). p.rx.link) is; bell = ap (λ (p : SeenPort Identity). p.ringer.bell) is; number = ap (λ (p : SeenPort Identity). p.ringer.number) is })
         (record { put = λ r. ap (λ (p : SeenPort Identity). p.tx.refused) is; take = ap (λ (p : SeenPort Identity). p.rx.refused) is; ring = λ r. ap (λ (p : SeenPort Identity). p.ringer.refused) is ∙ r })
         (subst StopsHere (sym is) (stops-close_refused (refused_at i (Some cause) stray) (breached_at i (Some cause) stray) (traffic_at stopped.state i) port stops_here room.1))
+        (λ e. unclosed_ring new (ap (λ (p : SeenPort Identity). p.ringer.refused) (sym is) ∙ e))
     break_sends m new Unheard is = breaks new (record { tx = ap (λ (p : SeenPort Identity). p.tx.link) is; rx = ap (λ (p : SeenPort Identity). p.rx.link) is; bell = ap (λ (p : SeenPort Identity). p.ringer.bell) is; number = ap (λ (p : SeenPort Identity). p.ringer.number) is })
         (record { put = λ r. ap (λ (p : SeenPort Identity). p.tx.refused) is ∙ r; take = ap (λ (p : SeenPort Identity). p.rx.refused) is; ring = λ r. ap (λ (p : SeenPort Identity). p.ringer.refused) is })
         (subst StopsHere (sym is) (stops-close_unheard (refused_at i (Some cause) stray) (breached_at i (Some cause) stray) (traffic_at stopped.state i) port stops_here room.1 m))
+        (λ e. subst (TellsRing cause (length stopped.state.traffic)) (sym is) (unheard_ring m port.ringer.refused refl))
 
     -- what the link has is no more than the core put
     pub break_room : ((plan : SeenPlan) (s : ℕ) (state : LocalState) (j : ℕ) → IsPlan plan → s < site_count plan → KeepsStreams plan s state → j < length state.traffic → length (traffic_at state j).put ≤ 2003)

@@ -1,5 +1,5 @@
 -- What a site did: it grows by each event, done in its turn.
-use Rattle.std.proofs.Common.{◌≡◌, ℕ, Bool, true, false, not, cond, List, [], ◌∷◌, ◌++◌, map, Option, Some, refl, sym, ◌∙◌, ap, ap₂, subst}
+use Rattle.std.proofs.Common.{◌≡◌, ℕ, Bool, true, false, not, cond, List, [], ◌∷◌, ◌++◌, map, Option, Some, refl, sym, ◌∙◌, ap, ap₂, subst, inl}
 use Rattle.std.specs.List.{find}
 use Rattle.std.proofs.lemmas.Bool.{and_left, and_right}
 use Rattle.std.specs.Option.{option_or}
@@ -12,11 +12,13 @@ use Rattle.dine_rules.specs.declared.letters.Letter.{Letter}
 use Rattle.dine_rules.specs.Journals.{IsJournal}
 use Rattle.dine_rules.specs.Local.{LocalState, is_eating, start_of}
 use Rattle.dine_rules.specs.StepLists.{LeadTo}
-use Rattle.dine_rules.specs.Steps.{Step, may, after, step_by}
+use Rattle.dine_rules.specs.Steps.{Step, Give, Ask, Hungry, Begin, End, Quit, Done, Close, Break, Take, may, after, step_by}
 use Rattle.dine_rules.specs.World.{placeless_kinds}
-use Rattle.dine_core.specs.NextEvent.{may_by_itself, next_event}
-use Rattle.dine_core.specs.Standing.{all_places}
-use Rattle.dine_site.specs.Doings.{AreInTurn, HasActed, event_of, own_event}
+use Rattle.dine_site_core.specs.NextEvent.{may_by_itself, next_event}
+use Rattle.dine_site_core.specs.Standing.{all_places}
+use Rattle.dine_site.specs.declared.manner.Manner.{Manner}
+use Rattle.dine_site.specs.declared.manner.Manner.TheVariants.{Eager, Polite}
+use Rattle.dine_site.specs.Doings.{AreInTurn, HasActed, IsInTurn, event_of, own_event}
 
 -- what a law says: a journal grows by each event that its site may do
 abbrev pub JournalsGrow : Type 0
@@ -29,25 +31,39 @@ pub led_more : (plan : SeenPlan) (s : ℕ) (steps : List Step) (start state : Lo
 led_more plan s [] start state step same needs = (ap (λ (x : LocalState). may plan s x step) same ∙ needs, ap (λ (x : LocalState). after plan s x step) same)
 led_more plan s (first ∷ steps) start state step led needs = (led.0, led_more plan s steps (after plan s start first) state step led.1 needs)
 
-turns_more : (plan : SeenPlan) (s : ℕ) (steps : List Step) (start state : LocalState) (step : Step) → LeadTo plan s start steps state → AreInTurn plan s start steps → next_event plan s state ≡ own_event step
-    → AreInTurn plan s start (steps ++ step ∷ [])
-turns_more plan s [] start state step same turns turn = (ap (λ (x : LocalState). next_event plan s x) same ∙ turn, tt)
-turns_more plan s (first ∷ steps) start state step led turns turn = (turns.0, turns_more plan s steps (after plan s start first) state step led.1 turns.1 turn)
+turns_more : (manner : Manner) (plan : SeenPlan) (s : ℕ) (steps : List Step) (start state : LocalState) (step : Step) → LeadTo plan s start steps state → AreInTurn manner plan s start steps → IsInTurn manner (next_event plan s state) step
+    → AreInTurn manner plan s start (steps ++ step ∷ [])
+turns_more manner plan s [] start state step same turns turn = (subst (λ (x : LocalState). IsInTurn manner (next_event plan s x) step) (sym same) turn, tt)
+turns_more manner plan s (first ∷ steps) start state step led turns turn = (turns.0, turns_more manner plan s steps (after plan s start first) state step led.1 turns.1 turn)
 
 -- one event more
-pub acted_more : JournalsGrow → (plan : SeenPlan) (s : ℕ) (journal : List EventKind) (state : LocalState) (kind : EventKind) (failed : Bool) (next : ℕ → Option Letter) (step : Step) → HasActed plan s journal state
-    → step_by failed next kind ≡ Some step → event_of step ≡ Some kind → may plan s state step ≡ true → next_event plan s state ≡ own_event step → HasActed plan s (journal ++ kind ∷ []) (after plan s state step)
-acted_more grows plan s journal state kind failed next step acted is_step is_event needs turn = record {
+pub acted_more : JournalsGrow → (manner : Manner) (plan : SeenPlan) (s : ℕ) (journal : List EventKind) (state : LocalState) (kind : EventKind) (failed : Bool) (next : ℕ → Option Letter) (step : Step) → HasActed manner plan s journal state
+    → step_by failed next kind ≡ Some step → event_of step ≡ Some kind → may plan s state step ≡ true → IsInTurn manner (next_event plan s state) step → HasActed manner plan s (journal ++ kind ∷ []) (after plan s state step)
+acted_more grows manner plan s journal state kind failed next step acted is_step is_event needs turn = record {
   by_journal = grows plan s journal state kind failed next step acted.by_journal is_step needs;
   steps = acted.steps ++ step ∷ [];
   events = map_push event_of acted.steps step ∙ ap₂ (λ (before : List (Option EventKind)) (last : Option EventKind). before ++ last ∷ []) acted.events is_event ∙ sym (map_push Some journal kind);
   led = led_more plan s acted.steps (start_of plan s) state step acted.led needs;
-  in_turn = turns_more plan s acted.steps (start_of plan s) state step acted.led acted.in_turn turn;
+  in_turn = turns_more manner plan s acted.steps (start_of plan s) state step acted.led acted.in_turn turn;
 }
 
+-- a step comes in its turn if it is the first event that needs no letter, and a Take if there is no such event
+pub own_turn : (manner : Manner) (next : Option EventKind) (step : Step) → next ≡ own_event step → IsInTurn manner next step
+own_turn manner next (Give i) is = is
+own_turn manner next (Ask i) is = is
+own_turn manner next Hungry is = is
+own_turn manner next Begin is = is
+own_turn manner next (End failed) is = is
+own_turn manner next Quit is = is
+own_turn manner next (Done i) is = is
+own_turn manner next (Close i) is = is
+own_turn manner next (Break i) is = is
+own_turn Eager next (Take i l) is = is
+own_turn Polite next (Take i l) is = inl is
+
 -- none yet
-pub acted_nothing : (plan : SeenPlan) (s : ℕ) (journal : List EventKind) → journal ≡ [] → HasActed plan s journal (start_of plan s)
-acted_nothing plan s journal none = record {
+pub acted_nothing : (manner : Manner) (plan : SeenPlan) (s : ℕ) (journal : List EventKind) → journal ≡ [] → HasActed manner plan s journal (start_of plan s)
+acted_nothing manner plan s journal none = record {
   by_journal = subst (λ (kinds : List EventKind). IsJournal plan s kinds (start_of plan s)) (sym none) refl;
   steps = [];
   events = sym (ap (map Some) none);

@@ -14,11 +14,12 @@ use Rattle.dine_rules.specs.Streams.{KeepsStreams}
 use Rattle.dine_link.specs.Bells.{SeenBell}
 use Rattle.dine_link.specs.Closing.{is_close}
 use Rattle.dine_token.specs.Fork.{SeenFork}
-use Rattle.dine_core.specs.Core.{SeenCore, forks_in_hand}
-use Rattle.dine_core.specs.Standing.{CoreStep, CoreSteps, ForEachState, IsFreshFor, all_places}
+use Rattle.dine_site_core.specs.Core.{SeenCore, forks_in_hand}
+use Rattle.dine_site_core.specs.Standing.{CoreStep, CoreSteps, ForEachState, IsFreshFor, all_places}
 use Rattle.dine_site.specs.Ports.{SeenPort, SameLinks, IsFreshPort, put_on, closed_on, taken_on}
 use Rattle.dine_site.specs.Doings.{HasActed}
-use Rattle.dine_site.specs.Running.{SeenRun, RunsAt, IsNext, IsRunning, IsPutting}
+use Rattle.dine_site.specs.declared.manner.Manner.{Manner}
+use Rattle.dine_site.specs.Running.{SeenRun, RunsAt, IsNext, IsRunning, IsPutting, MayTakeNow}
 use Rattle.dine_site.proofs.lists.Lists.{all_at}
 use Rattle.dine_site.proofs.one_site.Letters.{runs-put, runs-closed, runs-taken, live_where_open}
 use Rattle.dine_site.proofs.one_site.Turns.{JournalsGrow, acted_more, acted_nothing, end_is_next}
@@ -33,7 +34,7 @@ module _ {Identity : Type 0} (plan : SeenPlan) (given : List (SeenPort Identity)
       omega (arith, putting.within, putting.has.stands.degree, putting.has.places, same)
 
   module _ (i : ℕ) (l : Letter) (putting : IsPutting i l plan given run) (port : SeenPort Identity) (at : slice_get run.ports i ≡ Some port) where
-    pub put_runs : (m : ℕ) → is_close l ≡ false → IsRunning plan given (record { core = run.core; ports = set run.ports i (put_on m l port); bell = run.bell; journal = run.journal })
+    pub put_runs : (m : ℕ) → is_close l ≡ false → IsRunning plan given (record { manner = run.manner; core = run.core; ports = set run.ports i (put_on m l port); bell = run.bell; journal = run.journal })
     put_runs m other = record {
       state = with_put i l putting.before;
       has = has-port plan given run (with_put i l putting.before) i port (put_on m l port) putting.has at refl refl refl refl;
@@ -58,7 +59,7 @@ module _ {Identity : Type 0} (plan : SeenPlan) (given : List (SeenPort Identity)
         omega (arith, bound, grown, ap (λ (xs : List Letter). length xs) (putting.lists i port at).puts)
 
   pub close_runs : (m i : ℕ) → IsPutting i letter.Close plan given run → (port : SeenPort Identity) → slice_get run.ports i ≡ Some port
-      → IsRunning plan given (record { core = run.core; ports = set run.ports i (closed_on m port); bell = run.bell; journal = run.journal })
+      → IsRunning plan given (record { manner = run.manner; core = run.core; ports = set run.ports i (closed_on m port); bell = run.bell; journal = run.journal })
   close_runs m i putting port at = record {
     state = with_put i letter.Close putting.before;
     has = has-port plan given run (with_put i letter.Close putting.before) i port (closed_on m port) putting.has at refl refl refl refl;
@@ -73,16 +74,16 @@ module _ {Identity : Type 0} (plan : SeenPlan) (given : List (SeenPort Identity)
   pub place_within : (running : IsRunning plan given run) (i : ℕ) → i < length run.core.places → i < length running.state.traffic
   place_within running i h = omega (arith, running.has.stands.degree)
 
-  pub take_runs : JournalsGrow → (m i : ℕ) (l : Letter) (core : SeenCore) (journal : List EventKind) → journal ≡ run.journal ++ event.Take i ∷ [] → i < length run.core.places → CoreSteps (Take i l) run.core core → IsNext None run.core → IsRunning plan given run → (port : SeenPort Identity) → slice_get run.ports i ≡ Some port
-      → IsRunning plan given (record { core = core; ports = set run.ports i (taken_on m l port); bell = run.bell; journal = journal })
+  pub take_runs : JournalsGrow → (m i : ℕ) (l : Letter) (core : SeenCore) (journal : List EventKind) → journal ≡ run.journal ++ event.Take i ∷ [] → i < length run.core.places → CoreSteps (Take i l) run.core core → MayTakeNow run.manner run.core → IsRunning plan given run → (port : SeenPort Identity) → slice_get run.ports i ≡ Some port
+      → IsRunning plan given (record { manner = run.manner; core = core; ports = set run.ports i (taken_on m l port); bell = run.bell; journal = journal })
   take_runs grows m i l core journal noted within steps next running port at = record {
     state = with_taken i l running.state;
-    has = has-port plan given (record { core = core; ports = run.ports; bell = run.bell; journal = journal }) (with_taken i l running.state) i port (taken_on m l port)
+    has = has-port plan given (record { manner = run.manner; core = core; ports = run.ports; bell = run.bell; journal = journal }) (with_taken i l running.state) i port (taken_on m l port)
         (has-step plan given run running.state (Take i l) core journal running.has (steps plan running.state running.has.keeps running.has.stands) running.has.rests) at refl refl refl refl;
     lists = at-set (λ j. RunsAt) (λ j. RunsAt) running.state (with_taken i l running.state) i _ refl (place_within running i within) run.ports (taken_on m l port) running.lists
         (runs-taken (traffic_at running.state i) port (running.lists i port at) m l) (λ j t p ne h. h);
     heard = running.heard;
-    did = subst (λ (kinds : List EventKind). HasActed plan core.site kinds (with_taken i l running.state)) (sym noted)
+    did = subst (λ (kinds : List EventKind). HasActed run.manner plan core.site kinds (with_taken i l running.state)) (sym noted)
         (did_step grows plan given run running (event.Take i) (Take i l) core false (λ j. Some l) refl refl (next plan running.state running.has.keeps running.has.stands) (steps plan running.state running.has.keeps running.has.stands));
   }
 
@@ -92,8 +93,8 @@ module _ {Identity : Type 0} (plan : SeenPlan) (given : List (SeenPort Identity)
       let bound = few plan run.core.site running.state i running.has.is_plan running.has.is_site running.has.keeps (place_within running i within) in
       omega (arith, bound, ap (λ (xs : List Letter). length xs) (running.lists i port at).takes)
 
-  -- the bell told a number
-  pub told_runs : (bell : SeenBell) → bell.refused ≡ false → IsRunning plan given run → IsRunning plan given (record { core = run.core; ports = run.ports; bell = bell; journal = run.journal })
+  -- the bell reported a number
+  pub told_runs : (bell : SeenBell) → bell.refused ≡ false → IsRunning plan given run → IsRunning plan given (record { manner = run.manner; core = run.core; ports = run.ports; bell = bell; journal = run.journal })
   told_runs bell unheard running = record {
     state = running.state;
     has = record {
@@ -114,7 +115,7 @@ module _ {Identity : Type 0} (plan : SeenPlan) (given : List (SeenPort Identity)
   -- ---- no letter goes
 
   -- only the bell was heard
-  pub heard_runs : (bell : SeenBell) → bell.refused ≡ run.bell.refused → IsRunning plan given run → IsRunning plan given (record { core = run.core; ports = run.ports; bell = bell; journal = run.journal })
+  pub heard_runs : (bell : SeenBell) → bell.refused ≡ run.bell.refused → IsRunning plan given run → IsRunning plan given (record { manner = run.manner; core = run.core; ports = run.ports; bell = bell; journal = run.journal })
   heard_runs bell same running = record {
     state = running.state;
     has = record {
@@ -132,30 +133,30 @@ module _ {Identity : Type 0} (plan : SeenPlan) (given : List (SeenPort Identity)
     did = running.did;
   }
 
-  pub hungry_runs : JournalsGrow → (core : SeenCore) (journal : List EventKind) → journal ≡ run.journal ++ event.Hungry ∷ [] → CoreSteps Hungry run.core core → IsNext (Some event.Hungry) run.core → IsRunning plan given run → IsRunning plan given (record { core = core; ports = run.ports; bell = run.bell; journal = journal })
+  pub hungry_runs : JournalsGrow → (core : SeenCore) (journal : List EventKind) → journal ≡ run.journal ++ event.Hungry ∷ [] → CoreSteps Hungry run.core core → IsNext (Some event.Hungry) run.core → IsRunning plan given run → IsRunning plan given (record { manner = run.manner; core = core; ports = run.ports; bell = run.bell; journal = journal })
   hungry_runs grows core journal noted steps next running = record {
     state = after plan run.core.site running.state Hungry;
     has = has-step plan given run running.state Hungry core journal running.has (steps plan running.state running.has.keeps running.has.stands) refl;
     lists = running.lists;
     heard = running.heard;
-    did = subst (λ (kinds : List EventKind). HasActed plan core.site kinds (after plan run.core.site running.state Hungry)) (sym noted)
+    did = subst (λ (kinds : List EventKind). HasActed run.manner plan core.site kinds (after plan run.core.site running.state Hungry)) (sym noted)
         (did_step grows plan given run running event.Hungry Hungry core false (λ j. None) refl refl (next plan running.state running.has.keeps running.has.stands) (steps plan running.state running.has.keeps running.has.stands));
   }
 
-  pub quit_runs : JournalsGrow → (core : SeenCore) (journal : List EventKind) → journal ≡ run.journal ++ event.Quit ∷ [] → CoreSteps Quit run.core core → IsNext (Some event.Quit) run.core → IsRunning plan given run → IsRunning plan given (record { core = core; ports = run.ports; bell = run.bell; journal = journal })
+  pub quit_runs : JournalsGrow → (core : SeenCore) (journal : List EventKind) → journal ≡ run.journal ++ event.Quit ∷ [] → CoreSteps Quit run.core core → IsNext (Some event.Quit) run.core → IsRunning plan given run → IsRunning plan given (record { manner = run.manner; core = core; ports = run.ports; bell = run.bell; journal = journal })
   quit_runs grows core journal noted steps next running = record {
     state = after plan run.core.site running.state Quit;
     has = has-step plan given run running.state Quit core journal running.has (steps plan running.state running.has.keeps running.has.stands) running.has.rests;
     lists = running.lists;
     heard = running.heard;
-    did = subst (λ (kinds : List EventKind). HasActed plan core.site kinds (after plan run.core.site running.state Quit)) (sym noted)
+    did = subst (λ (kinds : List EventKind). HasActed run.manner plan core.site kinds (after plan run.core.site running.state Quit)) (sym noted)
         (did_step grows plan given run running event.Quit Quit core false (λ j. None) refl refl (next plan running.state running.has.keeps running.has.stands) (steps plan running.state running.has.keeps running.has.stands));
   }
 
   pub eat_runs : JournalsGrow → (failed : Bool) (eating core : SeenCore) (forks : List SeenFork) (first journal : List EventKind) → first ≡ run.journal ++ event.Begin ∷ [] → journal ≡ first ++ event.End ∷ [] → CoreSteps Begin run.core eating
       → ForEachState run.core (λ plan state. forks ≡ forks_in_hand plan run.core.site (after plan run.core.site state Begin) (all_places state))
       → ForEachState eating (λ plan state. forks ≡ forks_in_hand plan eating.site state (all_places state) → CoreStep plan state (End failed) eating core)
-      → IsNext (Some event.Begin) run.core → IsRunning plan given run → IsRunning plan given (record { core = core; ports = run.ports; bell = run.bell; journal = journal })
+      → IsNext (Some event.Begin) run.core → IsRunning plan given run → IsRunning plan given (record { manner = run.manner; core = core; ports = run.ports; bell = run.bell; journal = journal })
   eat_runs grows failed eating core forks first journal began_noted ended_noted begins in_hand ends next running =
       let state = after plan run.core.site running.state Begin in
       let began = begins plan running.state running.has.keeps running.has.stands in
@@ -166,21 +167,21 @@ module _ {Identity : Type 0} (plan : SeenPlan) (given : List (SeenPort Identity)
         has = has-core plan given run running.state (after plan eating.site state (End failed)) core journal running.has (ended.site ∙ began.site) ended.stands ended.keeps refl;
         lists = running.lists;
         heard = running.heard;
-        did = subst (λ (s : ℕ). HasActed plan s journal (after plan eating.site state (End failed))) (sym ended.site)
-            (subst (λ (kinds : List EventKind). HasActed plan eating.site kinds (after plan eating.site state (End failed))) (sym ended_noted)
-            (acted_more grows plan eating.site first state event.End failed (λ j. None) (End failed)
-            (subst (λ (s : ℕ). HasActed plan s first state) (sym began.site)
-            (subst (λ (kinds : List EventKind). HasActed plan run.core.site kinds state) (sym began_noted)
-            (acted_more grows plan run.core.site run.journal running.state event.Begin false (λ j. None) Begin running.did refl refl began.allowed.needs (next plan running.state running.has.keeps running.has.stands))))
+        did = subst (λ (s : ℕ). HasActed run.manner plan s journal (after plan eating.site state (End failed))) (sym ended.site)
+            (subst (λ (kinds : List EventKind). HasActed run.manner plan eating.site kinds (after plan eating.site state (End failed))) (sym ended_noted)
+            (acted_more grows run.manner plan eating.site first state event.End failed (λ j. None) (End failed)
+            (subst (λ (s : ℕ). HasActed run.manner plan s first state) (sym began.site)
+            (subst (λ (kinds : List EventKind). HasActed run.manner plan run.core.site kinds state) (sym began_noted)
+            (acted_more grows run.manner plan run.core.site run.journal running.state event.Begin false (λ j. None) Begin running.did refl refl began.allowed.needs (next plan running.state running.has.keeps running.has.stands))))
             refl refl ended.allowed.needs (end_is_next plan eating.site state refl)));
       }
 
 -- ---- the start
 
-pub start_runs : {Identity : Type 0} (plan : SeenPlan) (core : SeenCore) (ports : List (SeenPort Identity))
+pub start_runs : {Identity : Type 0} (manner : Manner) (plan : SeenPlan) (core : SeenCore) (ports : List (SeenPort Identity))
     → ((plan : SeenPlan) (s : ℕ) → IsPlan plan → s < site_count plan → KeepsStreams plan s (start_of plan s))
-    → IsFreshFor plan core → length ports ≡ length core.places → All IsFreshPort ports → (bell : SeenBell) → bell.refused ≡ false → (journal : List EventKind) → journal ≡ [] → IsRunning plan ports (record { core = core; ports = ports; bell = bell; journal = journal })
-start_runs {Identity} plan core ports starts fresh count unused bell unheard journal none_yet = record {
+    → IsFreshFor plan core → length ports ≡ length core.places → All IsFreshPort ports → (bell : SeenBell) → bell.refused ≡ false → (journal : List EventKind) → journal ≡ [] → IsRunning plan ports (record { manner = manner; core = core; ports = ports; bell = bell; journal = journal })
+start_runs {Identity} manner plan core ports starts fresh count unused bell unheard journal none_yet = record {
   state = start_of plan core.site;
   has = record {
     is_plan = fresh.is_plan;
@@ -194,7 +195,7 @@ start_runs {Identity} plan core ports starts fresh count unused bell unheard jou
   };
   lists = λ i port at. unused_runs i port (all_at IsFreshPort ports i port unused at);
   heard = unheard;
-  did = acted_nothing plan core.site journal none_yet;
+  did = acted_nothing manner plan core.site journal none_yet;
 } where
   same : (i : ℕ) (old new : SeenPort Identity) → ◌≡◌ {A = Option (SeenPort Identity)} (Some old) (Some new) → SameLinks old new
   same i old new e = record { tx = cc; rx = cc; bell = cc; number = cc }

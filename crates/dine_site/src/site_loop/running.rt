@@ -1,24 +1,31 @@
-// A site on its way.
-ghost use Rattle.std.specs.Prelude.{◌≡◌, ◌<◌, ◌≤◌, ◌+◌, ◌^◌, List, OnOk, length, true, false, None, Some, vec_capacity, vec_len, slice_get, slice_set, IfSome, MatchResult};
+// A site while it runs: what it does from event to event.
+ghost use Rattle.std.specs.Prelude.{◌≡◌, ◌<◌, ◌≤◌, ◌+◌, ◌++◌, ◌∷◌, [], ◌^◌, List, OnOk, length, true, false};
+ghost use Rattle.std.specs.Prelude.{IfSome, MatchOption, MatchResult, None, Some};
+ghost use Rattle.std.specs.Prelude.{slice_get, slice_set, vec_capacity, vec_len};
 ghost use Rattle.dine_graph.specs.Plan.{SeenPlan};
 ghost use Rattle.dine_rules.specs.Letters.{has_close};
 ghost use Rattle.dine_rules.specs.Local.{traffic_at};
-ghost use Rattle.dine_core.specs.NextEvent.{can_by_itself};
-ghost use Rattle.dine_core.specs.Standing.{ForEachState};
-ghost use Rattle.dine_core.specs.Wants.{wants_of};
+ghost use Rattle.dine_site_core.specs.NextEvent.{can_by_itself};
+ghost use Rattle.dine_site_core.specs.Standing.{ForEachState};
+ghost use Rattle.dine_site_core.specs.CoreWants.{wants_of};
 ghost use Rattle.dine_link.specs.Closing.{is_close};
+ghost use Rattle.dine_link.specs.Bells.{after_report};
 ghost use Rattle.dine_link.specs.Waking.{seen_wants};
 ghost use Rattle.dine_site.specs.Ports.{ChangesAt, SendsClose, SeenPort, seen_ports};
 ghost use Rattle.dine_site.specs.SiteEnds.{IsSiteEnd, seen_site_end};
-ghost use Rattle.dine_site.specs.Running.{ClosedBelow, ForSome, GoesOn, GoesToEnd, HasStopped, IsNext, IsPutting, IsReady, IsRunning, IsTimedBut, IsTimedRun, Leads, MayEnd, MayProceed, Proceeds, SameMeals, StaysStopped, seen_run};
+ghost use Rattle.dine_site.specs.Running.{ChecksOn, ClosedBelow, ForSome, GoesOn, GoesToEnd, HasStopped, IsNext};
+ghost use Rattle.dine_site.specs.Running.{IsPutting, IsReady, IsRunning, IsTimedBut, IsTimedRun, Leads};
+ghost use Rattle.dine_site.specs.Running.{MayEnd, MayProceed, MayTakeNow, Proceeds, SameMeals, StaysStopped};
+ghost use Rattle.dine_site.specs.Running.{checked_by, seen_run};
 
 use crate::diner::Diner;
+use crate::manner::Manner;
 use crate::port::{Closed, Port, Sent};
 use crate::site_end::{SiteEnd, SiteFault, Stray};
 use dine_clock::{Clock, Stamp};
-use dine_core::SiteCore;
 use dine_link::{Bell, Lane, Lost, Wants};
 use dine_rules::{EventKind, Letter, laws};
+use dine_site_core::SiteCore;
 use std::sync::Wait;
 
 // The first fault, with the letter that was handed back.
@@ -28,8 +35,9 @@ pub struct Stop {
     pub stray: Option<Stray>,
 }
 
-// A site with its link ends, its bell, its diner, how many jobs of its meals failed, and what it did.
+// A site with its manner, its link ends, its bell, its diner, how many jobs of its meals failed, and what it did.
 pub struct Running<L: Lane, D: Diner> {
+    manner: Manner,
     core: SiteCore,
     ports: Vec<Port<L>>,
     bell: Bell,
@@ -41,6 +49,7 @@ pub struct Running<L: Lane, D: Diner> {
 
 impl<L: Lane, D: Diner> Running<L, D> {
     pub fn new(
+        manner: Manner,
         core: SiteCore,
         ports: Vec<Port<L>>,
         bell: Bell,
@@ -48,9 +57,19 @@ impl<L: Lane, D: Diner> Running<L, D> {
         journal: Vec<EventKind>,
         clock: Clock,
     ) -> Running<L, D>
-        ensures { result ≡ record { core = core; ports = ports; bell = bell; diner = diner; failed = 0; journal = journal; clock = clock } }
+        ensures { result ≡ record {
+          manner = manner;
+          core = core;
+          ports = ports;
+          bell = bell;
+          diner = diner;
+          failed = 0;
+          journal = journal;
+          clock = clock;
+        } }
     {
         Running {
+            manner,
             core,
             ports,
             bell,
@@ -66,6 +85,7 @@ impl<L: Lane, D: Diner> Running<L, D> {
         requires ready { MayProceed L.Lane D.Diner self.old }
         ensures proceeds { Proceeds L.Lane D.Diner (GoesToEnd result) self.old self.new }
         ensures timed { OnOk result (IsTimedRun L.Lane self.old → IsTimedRun L.Lane self.new) }
+        ensures checks { ChecksOn self.old self.new }
     {
         for _ in rt.forever() {
             self.do_events(rt)?;
@@ -83,6 +103,7 @@ impl<L: Lane, D: Diner> Running<L, D> {
         ensures proceeds { Proceeds L.Lane D.Diner (GoesOn result) self.old self.new }
         ensures quiet { OnOk result (IsNext None self.new.core) }
         ensures timed { OnOk result (IsTimedRun L.Lane self.old → IsTimedRun L.Lane self.new) }
+        ensures checks { ChecksOn self.old self.new }
     {
         for _ in rt.forever() {
             match self.core.next_event() {
@@ -100,12 +121,13 @@ impl<L: Lane, D: Diner> Running<L, D> {
         requires next { IsNext (Some kind) self.old.core }
         ensures proceeds { Proceeds L.Lane D.Diner (GoesOn result) self.old self.new }
         ensures timed { OnOk result (IsTimedRun L.Lane self.old → IsTimedRun L.Lane self.new) }
+        ensures checks { ChecksOn self.old self.new }
     {
         self.make_room(if kind == EventKind::Begin { 2 } else { 1 })?;
         self.perform(rt, kind)
     }
 
-    // Gets room for so many entries of the journal.
+    // Allocates capacity for this number of further entries of the journal.
     fn make_room(&mut self, entries: usize) -> Result<(), Stop>
         ensures way { Leads L.Lane IsRunning (GoesOn result) self.old self.new }
         ensures running { OnOk result (seen_run L.Lane self.new ≡ seen_run L.Lane self.old) }
@@ -115,6 +137,7 @@ impl<L: Lane, D: Diner> Running<L, D> {
         ensures bell { self.new.bell ≡ self.old.bell }
         ensures same { SameMeals self.old self.new }
         ensures timed { IsTimedRun L.Lane self.old → IsTimedRun L.Lane self.new }
+        ensures checks { ChecksOn self.old self.new }
     {
         match self.journal.reserve(entries) {
             Ok(()) => Ok(()),
@@ -125,15 +148,17 @@ impl<L: Lane, D: Diner> Running<L, D> {
         }
     }
 
-    // Does an event other than Take, with room for it in the journal.
+    // Does an event other than Take, for which the journal has capacity.
     fn perform<R: Wait>(&mut self, rt: &R, kind: EventKind) -> Result<(), Stop>
         requires ready { MayProceed L.Lane D.Diner self.old }
         requires may { can_by_itself self.old.core kind ≡ true }
         requires next { IsNext (Some kind) self.old.core }
         requires room { vec_len self.old.journal < vec_capacity self.old.journal }
-        requires room_for_end { kind ≡ EventKind.Begin → vec_len self.old.journal + 2 ≤ vec_capacity self.old.journal }
+        requires room_for_end { kind ≡ EventKind.Begin
+            → vec_len self.old.journal + 2 ≤ vec_capacity self.old.journal }
         ensures proceeds { Proceeds L.Lane D.Diner (GoesOn result) self.old self.new }
         ensures timed { OnOk result (IsTimedRun L.Lane self.old → IsTimedRun L.Lane self.new) }
+        ensures checks { ChecksOn self.old self.new }
     {
         laws::journals_grow_by_each_event();
         match kind {
@@ -161,10 +186,7 @@ impl<L: Lane, D: Diner> Running<L, D> {
                 self.clock = self.clock.after(&EventKind::Close(i), &Stamp::first());
                 self.close(rt, i)
             }
-            EventKind::Begin => {
-                self.eat();
-                Ok(())
-            }
+            EventKind::Begin => self.begin(rt),
             EventKind::Hungry => {
                 self.core.hungry();
                 self.journal.push_reserved(EventKind::Hungry);
@@ -181,7 +203,42 @@ impl<L: Lane, D: Diner> Running<L, D> {
         }
     }
 
-    // Eats one meal, with room for its begin and its end in the journal. The core is told whether its job failed.
+    // Eats one meal, for whose begin and end the journal has capacity. A polite site whose bell has a ring left takes a
+    // letter instead.
+    fn begin<R: Wait>(&mut self, rt: &R) -> Result<(), Stop>
+        requires ready { MayProceed L.Lane D.Diner self.old }
+        requires may { can_by_itself self.old.core EventKind.Begin ≡ true }
+        requires next { IsNext (Some EventKind.Begin) self.old.core }
+        requires room { vec_len self.old.journal + 2 ≤ vec_capacity self.old.journal }
+        ensures proceeds { Proceeds L.Lane D.Diner (GoesOn result) self.old self.new }
+        ensures timed { OnOk result (IsTimedRun L.Lane self.old → IsTimedRun L.Lane self.new) }
+        ensures checks { ChecksOn self.old self.new }
+    {
+        match self.check_bell(rt) {
+            Some(i) => self.take_where_rung(rt, i),
+            None => {
+                self.eat();
+                Ok(())
+            }
+        }
+    }
+
+    // Returns the place of a ring that is left, if the site is polite and there is one.
+    fn check_bell<R: Wait>(&mut self, rt: &R) -> Option<u32>
+        ensures rest { self.new ≡ record self.old { bell = self.new.bell } }
+        ensures place { IfSome result (λ i. i < self.old.bell.degree) }
+        ensures polite { IfSome result (λ _. self.old.manner ≡ Manner.Polite) }
+        ensures bell { MatchOption result
+            (self.new.bell ≡ checked_by self.old.manner (length self.old.clock.events) self.old.bell)
+            (λ i. self.new.bell ≡ after_report i self.old.bell) }
+    {
+        match self.manner {
+            Manner::Eager => None,
+            Manner::Polite => self.bell.check(rt, &self.clock),
+        }
+    }
+
+    // Eats one meal, for whose begin and end the journal has capacity. The core learns whether its job failed.
     fn eat(&mut self)
         requires ready { MayProceed L.Lane D.Diner self.old }
         requires may { can_by_itself self.old.core EventKind.Begin ≡ true }
@@ -189,6 +246,9 @@ impl<L: Lane, D: Diner> Running<L, D> {
         requires room { vec_len self.old.journal + 2 ≤ vec_capacity self.old.journal }
         ensures proceeds { Proceeds L.Lane D.Diner IsRunning self.old self.new }
         ensures timed { IsTimedRun L.Lane self.old → IsTimedRun L.Lane self.new }
+        ensures bell { self.new.bell ≡ self.old.bell }
+        ensures journal { self.new.journal.items ≡ self.old.journal.items ++ EventKind.Begin ∷ EventKind.End ∷ [] }
+        ensures noted { length self.new.clock.events ≡ length self.old.clock.events + 2 }
     {
         laws::journals_grow_by_each_event();
         let meal = self.core.begin();
@@ -208,6 +268,7 @@ impl<L: Lane, D: Diner> Running<L, D> {
         ensures way { Leads L.Lane (IsPutting i letter) (GoesOn result) self.old self.new }
         ensures same { SameMeals self.old self.new }
         ensures timed { OnOk result (IsTimedBut L.Lane i self.old → IsTimedRun L.Lane self.new) }
+        ensures checks { ChecksOn self.old self.new }
     {
         laws::few_letters_are_put();
         let stamp = self.clock.last();
@@ -227,6 +288,7 @@ impl<L: Lane, D: Diner> Running<L, D> {
         ensures way { Leads L.Lane (IsPutting i Letter.Close) (GoesOn result) self.old self.new }
         ensures same { SameMeals self.old self.new }
         ensures timed { OnOk result (IsTimedBut L.Lane i self.old → IsTimedRun L.Lane self.new) }
+        ensures checks { ChecksOn self.old self.new }
     {
         laws::few_letters_are_put();
         let stamp = self.clock.last();
@@ -240,7 +302,7 @@ impl<L: Lane, D: Diner> Running<L, D> {
         }
     }
 
-    // A bell was refused.
+    // Returns the fault of a ring or a wait that was refused.
     fn lost_bell(&self) -> Stop
         ensures { result ≡ record { fault = SiteFault.Lost (length self.now.core.places); stray = None } }
     {
@@ -250,7 +312,7 @@ impl<L: Lane, D: Diner> Running<L, D> {
         }
     }
 
-    // The letters that the site waits for: no other gives it an event of its own (`dine_core::waking`).
+    // Returns the letters that the site waits for: no other allows it an event of its own (`dine_site_core::waking`).
     fn wants(&self) -> Wants
         ensures { seen_wants result ≡ Some (wants_of self.now.core) }
     {
@@ -265,13 +327,29 @@ impl<L: Lane, D: Diner> Running<L, D> {
         ensures way { Leads L.Lane IsRunning (GoesOn result) self.old self.new }
         ensures same { SameMeals self.old self.new }
         ensures timed { OnOk result (IsTimedRun L.Lane self.old → IsTimedRun L.Lane self.new) }
+        ensures checks { ChecksOn self.old self.new }
     {
         let wants = self.wants();
         match self.bell.wait_for(rt, wants) {
-            Ok(i) if self.core.has_taken_close(i) => Ok(()),
-            Ok(i) => self.take(rt, i),
+            Ok(i) => self.take_where_rung(rt, i),
             Err(Lost) => Err(self.lost_bell()),
         }
+    }
+
+    // Takes a letter at the place that rang, and none if Close was taken there.
+    fn take_where_rung<R: Wait>(&mut self, rt: &R, i: u32) -> Result<(), Stop>
+        requires running { ForSome L.Lane IsRunning self.old }
+        requires place { i < length self.old.core.places }
+        requires turn { MayTakeNow self.old.manner self.old.core }
+        ensures way { Leads L.Lane IsRunning (GoesOn result) self.old self.new }
+        ensures same { SameMeals self.old self.new }
+        ensures timed { OnOk result (IsTimedRun L.Lane self.old → IsTimedRun L.Lane self.new) }
+        ensures checks { ChecksOn self.old self.new }
+    {
+        if self.core.has_taken_close(i) {
+            return Ok(());
+        }
+        self.take(rt, i)
     }
 
     // Takes a letter at a place where Close was not taken.
@@ -279,25 +357,27 @@ impl<L: Lane, D: Diner> Running<L, D> {
         requires running { ForSome L.Lane IsRunning self.old }
         requires place { i < length self.old.core.places }
         requires not_closed { ForEachState self.old.core (λ plan state. has_close (traffic_at state i).taken ≡ false) }
-        requires quiet { IsNext None self.old.core }
+        requires turn { MayTakeNow self.old.manner self.old.core }
         ensures way { Leads L.Lane IsRunning (GoesOn result) self.old self.new }
         ensures same { SameMeals self.old self.new }
         ensures timed { OnOk result (IsTimedRun L.Lane self.old → IsTimedRun L.Lane self.new) }
+        ensures checks { ChecksOn self.old self.new }
     {
         self.make_room(1)?;
         self.take_noted(rt, i)
     }
 
-    // The same, with room for it in the journal.
+    // The same, if the journal has capacity for it.
     fn take_noted<R: Wait>(&mut self, rt: &R, i: u32) -> Result<(), Stop>
         requires running { ForSome L.Lane IsRunning self.old }
         requires place { i < length self.old.core.places }
         requires not_closed { ForEachState self.old.core (λ plan state. has_close (traffic_at state i).taken ≡ false) }
-        requires quiet { IsNext None self.old.core }
+        requires turn { MayTakeNow self.old.manner self.old.core }
         requires room { vec_len self.old.journal < vec_capacity self.old.journal }
         ensures way { Leads L.Lane IsRunning (GoesOn result) self.old self.new }
         ensures same { SameMeals self.old self.new }
         ensures timed { OnOk result (IsTimedRun L.Lane self.old → IsTimedRun L.Lane self.new) }
+        ensures checks { ChecksOn self.old self.new }
     {
         laws::few_letters_are_taken();
         laws::journals_grow_by_each_event();
@@ -320,19 +400,20 @@ impl<L: Lane, D: Diner> Running<L, D> {
         }
     }
 
-    // Puts Close at each place where the site has put none, in order. Faults that it meets are not told.
+    // Puts Close at each place where the site has put none, in order. Faults that it meets are not reported.
     pub fn break_off<R: Wait>(&mut self, rt: &R)
         requires stopped { HasStopped L.Lane self.old }
         ensures way { StaysStopped L.Lane self.old self.new }
         ensures closed { ClosedBelow (length self.new.core.places) self.new.core }
         ensures same { SameMeals self.old self.new }
+        ensures checks { ChecksOn self.old self.new }
     {
         for i in 0..self.core.degree() {
             self.break_at(rt, i);
         }
     }
 
-    // Puts Close at a place, where the site has put none, and rings.
+    // Puts Close at a place, if the site has put none there, and rings.
     fn break_at<R: Wait>(&mut self, rt: &R, i: u32)
         requires stopped { HasStopped L.Lane self.old }
         requires place { i < length self.old.core.places }
@@ -341,6 +422,7 @@ impl<L: Lane, D: Diner> Running<L, D> {
         ensures closed { ClosedBelow (i + 1) self.new.core }
         ensures places { length self.new.core.places ≡ length self.old.core.places }
         ensures same { SameMeals self.old self.new }
+        ensures checks { ChecksOn self.old self.new }
     {
         laws::few_letters_are_put();
         let Some(_) = self.core.break_off(i) else {
@@ -349,21 +431,24 @@ impl<L: Lane, D: Diner> Running<L, D> {
         let _ = close_at(rt, &mut self.ports, i as usize, Stamp::first());
     }
 
-    // What the site leaves.
+    // Returns what the site leaves.
     pub fn end(self, stray: Option<Stray>, fault: Option<SiteFault>) -> SiteEnd<L, D>
         requires may_end { ForSome L.Lane (MayEnd stray fault) self }
-        ensures end { (plan : SeenPlan) (given : List (SeenPort L.Identity)) → MayEnd stray fault plan given (seen_run L.Lane self)
-            → IsSiteEnd plan self.core.site given (seen_site_end L.Lane result) }
+        ensures end { (plan : SeenPlan) (given : List (SeenPort L.Identity))
+            → MayEnd stray fault plan given (seen_run L.Lane self)
+            → IsSiteEnd self.manner plan self.core.site given (seen_site_end L.Lane result) }
         ensures ate { result.ate ≡ self.core.ate }
         ensures failed { result.failed ≡ self.failed }
         ensures journal { result.journal.items ≡ self.journal.items }
         ensures clock { result.clock.events ≡ self.clock.events }
         ensures left { result.ports.items ≡ self.ports.items }
+        ensures bell { result.bell ≡ self.bell }
         ensures diner { result.diner ≡ self.diner }
-        ensures told { result.fault ≡ fault }
+        ensures reported { result.fault ≡ fault }
     {
         laws::letters_cut_short_are_in_order();
         let Running {
+            manner: _,
             core,
             ports,
             bell,
@@ -392,13 +477,15 @@ impl<L: Lane, D: Diner> Running<L, D> {
     }
 }
 
-// Puts Close at place i, where the end is live, and rings. Where the link refuses it, the end stays live.
+// Puts Close at place i, whose end is live, and rings. If the link refuses it, the end stays live.
 fn close_at<R: Wait, L: Lane>(rt: &R, ports: &mut Vec<Port<L>>, i: usize, stamp: Stamp) -> Closed
     requires place { i < vec_len ports.old }
     requires live { IfSome (slice_get (seen_ports L.Lane ports.old.items) i) (λ port. port.is_live ≡ true) }
-    requires room { IfSome (slice_get (seen_ports L.Lane ports.old.items) i) (λ port. length port.tx.letters < 2 ^ 61) }
+    requires few_letters { IfSome (slice_get (seen_ports L.Lane ports.old.items) i)
+        (λ port. length port.tx.letters < 2 ^ 61) }
     ensures count { vec_len ports.new ≡ vec_len ports.old }
-    ensures closed { ChangesAt i (λ old new. SendsClose stamp.at old new result) (seen_ports L.Lane ports.old.items) (seen_ports L.Lane ports.new.items) }
+    ensures closed { ChangesAt i (λ old new. SendsClose stamp.at old new result)
+        (seen_ports L.Lane ports.old.items) (seen_ports L.Lane ports.new.items) }
 {
     // The last port stands in for this one until it comes back: an end has to be owned to be closed.
     let (port, closed) = ports.swap_remove(i).close(rt, stamp);

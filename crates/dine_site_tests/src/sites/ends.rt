@@ -26,7 +26,7 @@ pub struct Ends<L: Lane> {
 pub fn one_ringer(rt: &impl Abort, alloc: Global) -> (Ringer, Bell)
     ensures silent { (result.0.rings ≡ 0) × (result.0.refused ≡ false) }
     ensures degree { result.1.degree ≡ 1 }
-    ensures unheard { result.1.refused ≡ false }
+    ensures unrefused { result.1.refused ≡ false }
 {
     let Ok((mut ringers, bell)) = Bell::open(alloc, 1) else {
         panic!(rt; "no memory for a bell");
@@ -37,7 +37,7 @@ pub fn one_ringer(rt: &impl Abort, alloc: Global) -> (Ringer, Bell)
     }
 }
 
-// A link of an edge from that end, in which nothing lies.
+// Returns an empty link of an edge from that end.
 pub fn link_from<L: Lane>(rt: &impl Abort, alloc: Global, edge: u32, from: u32) -> (L::Tx, L::Rx)
     ensures put { IsUnused (L.seen_tx result.0) }
     ensures taken { IsUnused (L.seen_rx result.1) }
@@ -84,9 +84,11 @@ pub enum Put {
     Fork(u32),
     // The fork that the fourth site of the star is sent.
     Sent(u32),
+    // The fork of a pair that the higher site is sent, with this number of jobs.
+    SentUp(u32),
 }
 
-// Up to two letters, and whether Close comes behind them.
+// Up to two letters, and whether Close follows them.
 #[derive(Clone, Copy)]
 pub struct Letters {
     pub first: Option<Put>,
@@ -104,6 +106,12 @@ fn sent_fork(rt: &impl Abort, alloc: Global, edge: u32) -> Fork {
     Held::take(fork).give(3)
 }
 
+fn fork_sent_up(rt: &impl Abort, alloc: Global, jobs: u32) -> Fork {
+    assert!(rt; 1 <= jobs && jobs <= 2);
+    let fork = Fork::open(alloc, 0, 0, 1, 1, jobs, 0).expect(rt, "memory");
+    Held::take(fork).give(1)
+}
+
 fn letter_of(rt: &impl Abort, alloc: Global, put: Put) -> Letter
     ensures { is_close result ≡ false }
 {
@@ -112,11 +120,12 @@ fn letter_of(rt: &impl Abort, alloc: Global, put: Put) -> Letter
         Put::Done => Letter::Done,
         Put::Fork(edge) => Letter::Fork(fork_between(rt, alloc, edge)),
         Put::Sent(edge) => Letter::Fork(sent_fork(rt, alloc, edge)),
+        Put::SentUp(jobs) => Letter::Fork(fork_sent_up(rt, alloc, jobs)),
     }
 }
 
 fn puts<L: Lane, R: Wait + Abort>(rt: &R, alloc: Global, tx: &mut L::Tx, letter: Put)
-    requires room { length (L.seen_tx tx.old).letters < 2 ^ 61 }
+    requires few_letters { length (L.seen_tx tx.old).letters < 2 ^ 61 }
     ensures more { length (L.seen_tx tx.new).letters ≤ length (L.seen_tx tx.old).letters + 1 }
 {
     let letter = letter_of(rt, alloc, letter);
@@ -165,7 +174,7 @@ pub fn ring_for<R: Wait + Abort>(rt: &R, ringer: Ringer, letters: Letters) -> Ri
 
 // The next letter in the link.
 fn next<L: Lane, R: Wait + Abort>(rt: &R, rx: &mut L::Rx) -> Letter
-    requires room { length (L.seen_rx rx.old).letters < 2 ^ 61 }
+    requires few_letters { length (L.seen_rx rx.old).letters < 2 ^ 61 }
     ensures more { length (L.seen_rx rx.new).letters ≤ length (L.seen_rx rx.old).letters + 1 }
 {
     assert!(rt; !L::is_closed(rx));
@@ -176,14 +185,14 @@ fn next<L: Lane, R: Wait + Abort>(rt: &R, rx: &mut L::Rx) -> Letter
 }
 
 fn next_is<L: Lane, R: Wait + Abort>(rt: &R, rx: &mut L::Rx, kind: Kind4)
-    requires room { length (L.seen_rx rx.old).letters < 2 ^ 61 }
+    requires few_letters { length (L.seen_rx rx.old).letters < 2 ^ 61 }
     ensures more { length (L.seen_rx rx.new).letters ≤ length (L.seen_rx rx.old).letters + 1 }
 {
     let letter = next::<L, R>(rt, rx);
     same(rt, &letter.kind(), &kind);
 }
 
-// In the link there is this letter, a second one where there is one, and Close.
+// Checks that the link has this letter, then the second one if there is one, and then Close.
 pub fn finds<L: Lane, R: Wait + Abort>(rt: &R, rx: L::Rx, first: Kind4, second: Option<Kind4>)
     requires { IsUnused (L.seen_rx rx) }
 {
@@ -192,6 +201,18 @@ pub fn finds<L: Lane, R: Wait + Abort>(rt: &R, rx: L::Rx, first: Kind4, second: 
     if let Some(second) = second {
         next_is::<L, R>(rt, &mut rx, second);
     }
+    next_is::<L, R>(rt, &mut rx, Kind4::Close);
+}
+
+// In the link there are these three letters, and Close.
+pub fn finds_three<L: Lane, R: Wait + Abort>(rt: &R, rx: L::Rx, kinds: [Kind4; 3])
+    requires { IsUnused (L.seen_rx rx) }
+{
+    let mut rx = rx;
+    let [first, second, third] = kinds;
+    next_is::<L, R>(rt, &mut rx, first);
+    next_is::<L, R>(rt, &mut rx, second);
+    next_is::<L, R>(rt, &mut rx, third);
     next_is::<L, R>(rt, &mut rx, Kind4::Close);
 }
 

@@ -1,18 +1,18 @@
-// What a site leaves, in plain values. The end of a site is dear to have at hand: one function looks at it and lets it
-// go.
-use super::diners::Fixed;
+// What a site leaves, in plain values. Each proof step beside the end of a site is expensive, so only one function has
+// it.
 use crate::asserts::same;
 use dine_core::EventKind;
 use dine_link::{Lane, TxEnd};
 use dine_rules::Kind4;
 use dine_run::{Call, Port, SiteEnd, SiteFault};
+use dine_test_diners::Taster;
 use dine_token::{Entry, Fork, Token};
 use std::process::Abort;
 
 #[derive(Clone, Copy)]
 pub struct Left<'a> {
     pub site: u32,
-    // How many meals it ate, and how many of these failed; and what its diner was called for.
+    // The number of its meals, and of those that failed; and the calls of its diner.
     pub meals: (u32, u32),
     pub calls: &'a [Call],
     // The edges of its forks, and the log that each of them has.
@@ -20,7 +20,7 @@ pub struct Left<'a> {
     pub log: &'a [Entry],
     // The edges of its tokens.
     pub tokens: &'a [u32],
-    // At how many places it may still put letters, and at how many it put Close.
+    // The number of places at which it may still put letters, and of those at which it put Close.
     pub ports: (u32, u32),
     pub journal: &'a [EventKind],
     // The place and the kind of a letter that was handed back.
@@ -28,7 +28,7 @@ pub struct Left<'a> {
     pub fault: Option<SiteFault>,
 }
 
-// The fork has exactly this log.
+// Checks that the fork has exactly this log.
 pub fn has_log(rt: &impl Abort, fork: &Fork, log: &[Entry]) {
     assert!(rt; fork.len() as usize == log.len());
     for i in 0..fork.len() {
@@ -62,8 +62,8 @@ fn has_ports<L: Lane>(rt: &impl Abort, ports: &[Port<L>], wanted: (u32, u32)) {
     same(rt, &(live, shut), &wanted);
 }
 
-// The site left this.
-pub fn is_left<L: Lane>(rt: &impl Abort, end: SiteEnd<L, Fixed>, left: &Left) {
+// Checks that the site left this.
+pub fn is_left<L: Lane>(rt: &impl Abort, end: SiteEnd<L, Taster>, left: &Left) {
     same(rt, &end.site, &left.site);
     same(rt, &(end.ate, end.failed), &left.meals);
     same(rt, &end.diner.log.calls(), &left.calls);

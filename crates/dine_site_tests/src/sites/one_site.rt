@@ -1,15 +1,14 @@
-// One site that nothing refuses but a dead end, alone and over links that were filled before it starts.
+// One site, alone and over links that were filled before it starts. Only a dead end refuses it anything.
 ghost use Rattle.std.specs.Prelude.{◌≡◌, false};
 ghost use Rattle.dine_link.specs.Links.{IsUnused};
 
 use super::diners::Marked;
 use super::*;
-use crate::journals::HIGHER;
 use dine_rules::Letter;
 use dine_run::JobFault;
-use dine_test_plans::ALONE;
+use dine_test_plans::{ALONE, HIGHER_JOURNAL};
 
-// What a site without edges does that has two jobs.
+// The journal of a site without edges that has two jobs.
 const TWO_MEALS: [EventKind; 6] = [
     EventKind::Hungry,
     EventKind::Begin,
@@ -19,11 +18,11 @@ const TWO_MEALS: [EventKind; 6] = [
     EventKind::End,
 ];
 
-// The site without edges eats both meals; the job of the second one may fail.
-fn eats_alone<R: Wait + Abort>(rt: &R, alloc: Global, fails_at: u32, failed: u32) {
+// Runs the site without edges, which eats both meals. With `fails_each` 2 the second job fails.
+fn eats_alone<R: Wait + Abort>(rt: &R, alloc: Global, fails_each: u32, failed: u32) {
     let plan = read_plan(alloc, ALONE).expect(rt, "a plan");
     let (_ringers, bell) = bell_of(rt, alloc, 0);
-    let ok = fails_at != 2;
+    let ok = fails_each != 2;
     let left = Left {
         site: 0,
         meals: (2, failed),
@@ -36,7 +35,7 @@ fn eats_alone<R: Wait + Abort>(rt: &R, alloc: Global, fails_at: u32, failed: u32
         stray: None,
         fault: None,
     };
-    runs_in::<ChannelLane, R>(rt, alloc, &plan, Vec::new(alloc), bell, fails_at, &left)
+    runs_in::<ChannelLane, R>(rt, alloc, &plan, Vec::new(alloc), bell, fails_each, &left)
 }
 
 #[test]
@@ -95,8 +94,8 @@ fn site_of_an_early_close_puts_done_fork_close(rt: HostRuntime) {
     puts_done_fork_close::<RingLane, HostRuntime>(&rt, rt.alloc())
 }
 
-// The higher site, over the link that the lower one left after the early Close, does all, with the fork that came with
-// its log.
+// The higher site runs over the link that the lower one left after the early Close. It does all, with the fork and the
+// log that arrived.
 fn higher_eats<L: Lane, R: Wait + Abort>(rt: &R, alloc: Global) {
     let (rx, bell) = early_closed::<L, R>(rt, alloc);
     let (tx, far_rx) = link_from::<L>(rt, alloc, 0, 1);
@@ -119,7 +118,7 @@ fn higher_eats<L: Lane, R: Wait + Abort>(rt: &R, alloc: Global) {
         ],
         tokens: &[],
         ports: (0, 1),
-        journal: HIGHER.as_slice(),
+        journal: HIGHER_JOURNAL.as_slice(),
         stray: None,
         fault: None,
     };
@@ -133,7 +132,7 @@ fn higher_site_eats_with_the_fork_that_it_was_given(rt: HostRuntime) {
     higher_eats::<RingLane, HostRuntime>(&rt, rt.alloc())
 }
 
-// A channel tells that nobody takes from it, and a ring does not.
+// A channel reports that its other end is gone, and a ring does not.
 #[test]
 fn refused_put_is_a_fault(rt: HostRuntime) {
     let (near, far) = ends_of::<ChannelLane>(&rt, rt.alloc(), 0);
@@ -172,7 +171,7 @@ fn bell_that_nobody_rings_is_a_fault(rt: HostRuntime) {
 }
 
 #[test]
-fn answers_of_a_marked_diner_fit_its_marks(rt: HostRuntime) {
+fn results_of_a_marked_diner_fit_its_marks(rt: HostRuntime) {
     let alloc = rt.alloc();
     let plan = read_plan(alloc, ALONE).expect(&rt, "a plan");
     let (_ringers, bell) = bell_of(&rt, alloc, 0);
@@ -196,8 +195,8 @@ fn answers_of_a_marked_diner_fit_its_marks(rt: HostRuntime) {
 }
 
 #[test]
-fn job_that_failed_has_its_words(rt: HostRuntime) {
+fn job_that_failed_has_its_text(rt: HostRuntime) {
     let fault = JobFault;
-    let words = format!(in rt.alloc(); "{fault}").expect(&rt, "memory");
-    same(&rt, &words.as_str(), &"the job failed");
+    let text = format!(in rt.alloc(); "{fault}").expect(&rt, "memory");
+    same(&rt, &text.as_str(), &"the job failed");
 }

@@ -13,7 +13,7 @@ const ONE_SIDED: &str = "version = 1\n\
     [[site]]\nname = \"a\"\njobs = [{ name = \"x\" }]\n[[site]]\nname = \"b\"\njobs = []\n\
     [[edge]]\nends = [\"a\", \"b\"]\n";
 
-// What the lower site of one job does before its Close is refused.
+// The journal of the lower site with one job up to its Close, which is refused.
 const DONE_AND_CLOSE: [EventKind; 6] = [
     EventKind::Hungry,
     EventKind::Begin,

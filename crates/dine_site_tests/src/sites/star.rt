@@ -1,4 +1,4 @@
-// A site with three edges, whose letters all lie there before it starts.
+// A site with three edges, whose letters are all in its links before it starts.
 ghost use Rattle.std.specs.Prelude.{◌≡◌, false, All, vec_len};
 ghost use Rattle.dine_link.specs.Links.{IsUnused};
 ghost use Rattle.dine_link.specs.Channels as channels;
@@ -111,7 +111,7 @@ fn whole<R: Wait + Abort>(rt: &R, alloc: Global, edge: u32) -> ChannelRx
     link_with(rt, alloc, edge, letters)
 }
 
-// What the fourth site does, where it meets no breach.
+// The journal of the fourth site if there is no breach.
 const ALL: [EventKind; 21] = [
     EventKind::Hungry,
     EventKind::Ask(0),
@@ -159,7 +159,7 @@ fn letters_of_three_links_are_taken_as_the_bell_rang(rt: HostRuntime) {
     meets_three(&rt, alloc, ins, &[2, 2, 0, 1, 0, 1, 2, 0, 1], &left)
 }
 
-// What the fourth site does before it takes a letter, and where it took one at its second place.
+// The journal of the fourth site up to its first letter, and after one at its second place.
 const ASKED: [EventKind; 4] = [
     EventKind::Hungry,
     EventKind::Ask(0),
@@ -184,7 +184,7 @@ fn breaks<R: Wait + Abort>(
     order: &[u32],
     journal: &[EventKind],
     forks: &[u32],
-    told: (Breach, Kind4),
+    reported: (Breach, Kind4),
 ) {
     let left = Left {
         site: 3,
@@ -195,8 +195,8 @@ fn breaks<R: Wait + Abort>(
         tokens: &[],
         ports: (0, 3),
         journal,
-        stray: Some((1, told.1)),
-        fault: Some(SiteFault::Breach(1, told.0)),
+        stray: Some((1, reported.1)),
+        fault: Some(SiteFault::Breach(1, reported.0)),
     };
     let b = link_with(rt, alloc, 1, letters);
     let (_tx_a, a) = link_from::<ChannelLane>(rt, alloc, 0, 0);
@@ -210,7 +210,7 @@ fn second_breaks<R: Wait + Abort>(
     alloc: Global,
     puts: (Put, Put),
     forks: &[u32],
-    told: (Breach, Kind4),
+    reported: (Breach, Kind4),
 ) {
     let letters = Letters {
         first: Some(puts.0),
@@ -224,13 +224,13 @@ fn second_breaks<R: Wait + Abort>(
         &[1, 1],
         ASKED_AND_TOOK.as_slice(),
         forks,
-        told,
+        reported,
     )
 }
 
-// Each breach but that of a letter behind Close: a place where Close was taken is passed over.
+// Each breach, except that of a letter after Close: a place at which Close was taken is skipped.
 #[test]
-fn breaches_are_told_of_their_place(rt: HostRuntime) {
+fn breaches_are_reported_with_their_place(rt: HostRuntime) {
     let alloc = rt.alloc();
     let early = (Put::Done, Put::Request(1));
     second_breaks(
@@ -257,6 +257,6 @@ fn breaches_are_told_of_their_place(rt: HostRuntime) {
         second: None,
         closes: true,
     };
-    let told = (Breach::ClosedEarly, Kind4::Close);
-    breaks(&rt, alloc, close, &[1], ASKED.as_slice(), &[], told)
+    let reported = (Breach::ClosedEarly, Kind4::Close);
+    breaks(&rt, alloc, close, &[1], ASKED.as_slice(), &[], reported)
 }

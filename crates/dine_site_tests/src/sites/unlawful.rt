@@ -19,18 +19,18 @@ fn breaks_over<L: Lane, R: Wait + Abort>(
     finds::<L, R>(rt, rx, found.0, found.1)
 }
 
-// The same over channels and over rings, of a site that told this breach of a letter of this kind.
+// The same over channels and over rings, for a site that reports this breach by a letter of this kind.
 fn breaks<R: Wait + Abort>(
     rt: &R,
     alloc: Global,
     letters: (Option<Put>, Option<Put>),
-    told: (Breach, Kind4),
+    reported: (Breach, Kind4),
     left: Left,
     found: (Kind4, Option<Kind4>),
 ) {
     let left = Left {
-        stray: Some((0, told.1)),
-        fault: Some(SiteFault::Breach(0, told.0)),
+        stray: Some((0, reported.1)),
+        fault: Some(SiteFault::Breach(0, reported.0)),
         ..left
     };
     let letters = Letters {
@@ -50,12 +50,12 @@ const DONE: (Kind4, Option<Kind4>) = (Kind4::Done, None);
 
 #[test]
 fn second_request_is_out_of_turn(rt: HostRuntime) {
-    let told = (Breach::RequestOutOfTurn, Kind4::Request);
+    let reported = (Breach::RequestOutOfTurn, Kind4::Request);
     breaks(
         &rt,
         rt.alloc(),
         (REQUEST, REQUEST),
-        told,
+        reported,
         LOWER_GAVE,
         DONE_AND_FORK,
     )
@@ -63,12 +63,12 @@ fn second_request_is_out_of_turn(rt: HostRuntime) {
 
 #[test]
 fn second_fork_is_out_of_turn(rt: HostRuntime) {
-    let told = (Breach::ForkOutOfTurn, Kind4::Fork);
+    let reported = (Breach::ForkOutOfTurn, Kind4::Fork);
     breaks(
         &rt,
         rt.alloc(),
         (Some(Put::Fork(0)), None),
-        told,
+        reported,
         LOWER_ATE,
         DONE,
     )
@@ -76,13 +76,13 @@ fn second_fork_is_out_of_turn(rt: HostRuntime) {
 
 #[test]
 fn fork_of_another_edge_is_strange(rt: HostRuntime) {
-    let told = (Breach::StrangeFork, Kind4::Fork);
+    let reported = (Breach::StrangeFork, Kind4::Fork);
     let found = (Kind4::Request, None);
     breaks(
         &rt,
         rt.alloc(),
         (Some(Put::Fork(7)), None),
-        told,
+        reported,
         HIGHER_ASKED,
         found,
     )
@@ -90,12 +90,12 @@ fn fork_of_another_edge_is_strange(rt: HostRuntime) {
 
 #[test]
 fn done_before_its_meals_is_out_of_turn(rt: HostRuntime) {
-    let told = (Breach::DoneOutOfTurn, Kind4::Done);
+    let reported = (Breach::DoneOutOfTurn, Kind4::Done);
     breaks(
         &rt,
         rt.alloc(),
         (Some(Put::Done), None),
-        told,
+        reported,
         LOWER_ATE,
         DONE,
     )
@@ -103,8 +103,8 @@ fn done_before_its_meals_is_out_of_turn(rt: HostRuntime) {
 
 #[test]
 fn close_at_once_is_early(rt: HostRuntime) {
-    let told = (Breach::ClosedEarly, Kind4::Close);
-    breaks(&rt, rt.alloc(), (None, None), told, LOWER_ATE, DONE)
+    let reported = (Breach::ClosedEarly, Kind4::Close);
+    breaks(&rt, rt.alloc(), (None, None), reported, LOWER_ATE, DONE)
 }
 
 // The same ends of a channel, which refuse as many puts and takes as these say.

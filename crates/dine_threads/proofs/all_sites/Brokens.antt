@@ -20,7 +20,7 @@ use Rattle.dine_rules.specs.JoinedEnds.{AccountsForFork, AreEndsOfEdge, AreForks
 use Rattle.dine_rules.specs.Letters.{forks_among, forks_in, has_close}
 use Rattle.dine_rules.specs.Local.{LocalState, Traffic, edge_at, neighbour_at, start_of, traffic_at}
 use Rattle.dine_rules.specs.Steps.{hand_fork, hand_fork_at}
-use Rattle.dine_rules.specs.Values.{TellsValues, value_by}
+use Rattle.dine_rules.specs.Values.{KeepsValuesOfLogs, value_by}
 use Rattle.dine_rules.specs.Streams.{IsPutInOrder, KeepsStreams, is_close_last}
 use Rattle.dine_rules.specs.World.{place_of}
 use Rattle.dine_rules.proofs.links.Across.{across, edge_at-place_of, place_of-edge_at}
@@ -28,29 +28,30 @@ use Rattle.dine_rules.proofs.lists.Counting.{forks_in-append, prefix_forks}
 use Rattle.dine_rules.proofs.lists.Forks.{forks_among-append, forks_among-before, forks_among-prefix}
 use Rattle.dine_rules.proofs.one_place.Placed.{placed}
 use Rattle.dine_rules.proofs.lists.Turns.{open_before, slice_get-behind}
-use Rattle.dine_core.specs.Core.{forks_in_hand}
-use Rattle.dine_core.specs.Standing.{all_places}
+use Rattle.dine_site_core.specs.Core.{forks_in_hand}
+use Rattle.dine_site_core.specs.Standing.{all_places}
 use Rattle.dine_link.specs.Links.{SeenLink, link_of}
 use Rattle.dine_threads.specs.declared.gathered.SiteOut.{SiteOut}
-use Rattle.dine_threads.specs.declared.seats.Seat.{Seat}
+use Rattle.dine_threads.specs.declared.starts.SiteStart.{SiteStart}
+use Rattle.dine_site.specs.declared.manner.Manner.{Manner}
 use Rattle.dine_site.specs.declared.site_end.SiteEnd.{SiteEnd}
 use Rattle.dine_site.specs.declared.site_end.SiteFault.{SiteFault}
 use Rattle.dine_site.specs.declared.site_end.SiteFault.TheVariants as fault
 use Rattle.dine_threads.specs.declared.slots.Spot.{Spot}
-use Rattle.dine_threads.specs.Brokens.{AllClosedEarly, AreStatesLeft, fork_at_end, fork_in_hand, held_at_end, high_links, links_of, low_links, told_in}
-use Rattle.dine_threads.specs.private.Collecting.{AreLinksLeft, forks_left, found, laid, out_of, rows_left}
+use Rattle.dine_threads.specs.Brokens.{AllClosedEarly, AreStatesLeft, fork_at_end, fork_in_hand, held_at_end, high_links, links_of, low_links, report_in}
+use Rattle.dine_threads.specs.private.Collecting.{AreLinksLeft, forks_left, found, in_slots, out_of, rows_left}
 use Rattle.dine_threads.specs.Gathered.{AreLinksOf, IsTakenInOrder, link_from_high, link_from_low, no_link, traffic_of}
 use Rattle.dine_threads.specs.Headline.{AllJoined}
 use Rattle.dine_site.specs.Ports.{PutsFit, SeenPort, seen_port, seen_ports}
 use Rattle.dine_site.specs.Endings.{Ending, HasEnded, OnLinks, breached_at, letter_at, links_at, on_links, refused_at, traffic_on}
 use Rattle.dine_threads.specs.private.Spots.{low_spot, high_spot}
 use Rattle.dine_threads.specs.private.Wirings.{AreWired, port_at}
-use Rattle.dine_threads.proofs.all_sites.Collected.{length-laid}
+use Rattle.dine_threads.proofs.all_sites.Collected.{length-in_slots}
 use Rattle.dine_site.proofs.one_site.AtPlaces.{links_there}
 use Rattle.dine_threads.proofs.all_sites.Gatherings.{AreAllLeft, end_for, end_of, forks_each, forks_of_all, left_at, row_of}
 use Rattle.dine_threads.proofs.all_sites.Headlines.{in_all, in_hand}
 use Rattle.dine_site.proofs.lists.Lists.{get-set_other}
-use Rattle.dine_threads.proofs.all_sites.Laid.{IsIn, laid_puts}
+use Rattle.dine_threads.proofs.all_sites.InSlots.{IsIn, in_slots_puts}
 use Rattle.dine_threads.proofs.lists.Writes.{same_spot}
 use Rattle.dine_link.specs.declared.lane.Lane.{Ghosts}
 use Rattle.dine_site.specs.declared.diner.Diner as diners
@@ -63,10 +64,10 @@ there_or_none None = inl refl
 there_or_none (Some x) = inr (x, refl)
 
 -- a slot stays as it was where no fork has its number
-laid_leaves : (e : ℕ) (forks : List SeenFork) (slots : List (Option SeenFork)) → All (λ (fork : SeenFork). fork.edge ≢ e) forks → slice_get (laid forks slots) e ≡ slice_get slots e
-laid_leaves e [] slots apart = refl
-laid_leaves e (fork ∷ forks) slots apart =
-    laid_leaves e forks (set slots fork.edge (Some fork)) (All-tail (λ (x : SeenFork). x.edge ≢ e) fork forks apart)
+in_slots_leaves : (e : ℕ) (forks : List SeenFork) (slots : List (Option SeenFork)) → All (λ (fork : SeenFork). fork.edge ≢ e) forks → slice_get (in_slots forks slots) e ≡ slice_get slots e
+in_slots_leaves e [] slots apart = refl
+in_slots_leaves e (fork ∷ forks) slots apart =
+    in_slots_leaves e forks (set slots fork.edge (Some fork)) (All-tail (λ (x : SeenFork). x.edge ≢ e) fork forks apart)
     ∙ get-set_other slots fork.edge e (Some fork) (All-head (λ (x : SeenFork). x.edge ≢ e) fork forks apart)
 
 -- at first each slot is empty
@@ -81,14 +82,14 @@ module _ (h : ℕ → Option SeenFork) where
   IsGiven fork = h fork.edge ≡ Some fork
 
   -- in the slot of an edge stands its fork, where there is one
-  slot_given : (forks : List SeenFork) (n e : ℕ) → All IsGiven forks → ((f : SeenFork) → h e ≡ Some f → IsIn f forks × (f.edge ≡ e)) → e < n → slice_get (laid forks (replicate n None)) e ≡ Some (h e)
+  slot_given : (forks : List SeenFork) (n e : ℕ) → All IsGiven forks → ((f : SeenFork) → h e ≡ Some f → IsIn f forks × (f.edge ≡ e)) → e < n → slice_get (in_slots forks (replicate n None)) e ≡ Some (h e)
   slot_given forks n e given there within = elim (there_or_none (h e)) [
     | inl none ↦
-        laid_leaves e forks (replicate n None) (λ k d inside same. none-some _ (sym none ∙ ap h (sym same) ∙ given k d inside))
+        in_slots_leaves e forks (replicate n None) (λ k d inside same. none-some _ (sym none ∙ ap h (sym same) ∙ given k d inside))
         ∙ empty_slot n e within ∙ ap (λ (o : Option SeenFork). Some o) (sym none)
     | inr some ↦
         let is_in = there some.0 some.1 in
-        laid_puts e some.0 forks (replicate n None) is_in.0.at (λ k d inside same. same_Some _ some.0 (sym (given k d inside) ∙ ap h same ∙ some.1)) is_in.0.is is_in.1
+        in_slots_puts e some.0 forks (replicate n None) is_in.0.at (λ k d inside same. same_Some _ some.0 (sym (given k d inside) ∙ ap h same ∙ some.1)) is_in.0.is is_in.1
         (omega (arith, within, length-replicate {A = Option SeenFork} n None))
         ∙ ap (λ (o : Option SeenFork). Some o) (sym some.1)
   ]
@@ -183,8 +184,8 @@ only_early false breach is = absurd (none-some breach is)
 
 -- a site that took no Close yet tells of a Close only that it came early
 close_early : (plan : SeenPlan) (s : ℕ) (state : LocalState) (i : ℕ) (breach : Breach) → has_close (traffic_at state i).taken ≡ false → first_breach plan s state i Close ≡ Some breach → breach ≡ ClosedEarly
-close_early plan s state i breach still_open told =
-    only_early _ breach (sym (cond-false (has_close (traffic_at state i).taken) (Some AfterClose) (breach_before_close plan s state i Close) still_open) ∙ told)
+close_early plan s state i breach still_open reported =
+    only_early _ breach (sym (cond-false (has_close (traffic_at state i).taken) (Some AfterClose) (breach_before_close plan s state i Close) still_open) ∙ reported)
 
 -- the law that a letter which comes next and is refused is a Close that came early
 abbrev pub RefusesEarlyClosesOnly : Type 0
@@ -227,10 +228,10 @@ same_on_links out out_too come come_too goes comes =
 
 -- ---- all sites
 
-module _ {Lane Tx Closed Rx D : Type 0} (lane : Ghosts Lane Tx Closed Rx) (plan : SeenPlan) where
+module _ {Lane Tx Closed Rx D : Type 0} (lane : Ghosts Lane Tx Closed Rx) (manner : Manner) (plan : SeenPlan) where
   -- A site has its forks and its links by this state, and tells what fits it.
   pub record IsLeftBy (s : ℕ) (state : LocalState) (end : SiteEnd Lane D Tx Closed Rx) : Type 0 where
-    pub ended : HasEnded plan s state (links_at (seen_ports lane end.ports.items)) (told_in (out_of end))
+    pub ended : HasEnded manner plan s state (links_at (seen_ports lane end.ports.items)) (report_in (out_of end))
     pub forks : end.forks.items ≡ forks_in_hand plan s state (all_places state)
     pub degree : length end.ports.items ≡ length (edges_of plan s)
 
@@ -249,8 +250,8 @@ module _ {Lane Tx Closed Rx D : Type 0} (lane : Ghosts Lane Tx Closed Rx) (plan 
     takes_by = sym (ap (λ (l : OnLinks). l.taken) links_are) ∙ left.ended.takes i place_within
 
 -- an end fits links that are the same at each place of the site
-ended_along : (plan : SeenPlan) (s : ℕ) (state : LocalState) (f g : ℕ → OnLinks) (end : Ending) → ((i : ℕ) → i < length state.traffic → f i ≡ g i) → HasEnded plan s state f end → HasEnded plan s state g end
-ended_along plan s state f g end same ended = record {
+ended_along : (manner : Manner) (plan : SeenPlan) (s : ℕ) (state : LocalState) (f g : ℕ → OnLinks) (end : Ending) → ((i : ℕ) → i < length state.traffic → f i ≡ g i) → HasEnded manner plan s state f end → HasEnded manner plan s state g end
+ended_along manner plan s state f g end same ended = record {
   keeps = ended.keeps;
   rests = ended.rests;
   ate = ended.ate;
@@ -265,10 +266,10 @@ ended_along plan s state f g end same ended = record {
   finished = ended.finished;
   closed = ended.closed;
   not_started = ended.not_started;
-  take_told = λ i within refused. ended.take_told i within (ap (λ (l : OnLinks). l.take_refused) (same i within) ∙ refused);
+  take_reported = λ i within refused. ended.take_reported i within (ap (λ (l : OnLinks). l.take_refused) (same i within) ∙ refused);
   no_stray = ended.no_stray;
   breach = ended.breach;
-  lost = λ link told. (let was = ended.lost link told in record {
+  lost = λ link reported. (let was = ended.lost link reported in record {
     within = was.within;
     refused = λ below. elim (was.refused below) [
       | inl put ↦ inl (ap (λ (l : OnLinks). l.put_refused) (sym (same link below)) ∙ put)
@@ -280,24 +281,24 @@ ended_along plan s state f g end same ended = record {
 }
 
 module _ {Lane Tx Closed Rx D : Type 0} {lane : Ghosts Lane Tx Closed Rx}
-    {eater : diners.Ghosts D} {plan : SeenPlan}
-    {seats : List (Seat Lane D Tx Closed Rx)} {ends : List (SiteEnd Lane D Tx Closed Rx)} (all : AreAllLeft lane eater plan seats ends)
+    {eater : diners.Ghosts D} {manner : Manner} {plan : SeenPlan}
+    {starts : List (SiteStart Lane D Tx Closed Rx)} {ends : List (SiteEnd Lane D Tx Closed Rx)} (all : AreAllLeft lane eater manner plan starts ends)
     (links : List SeenLink) (are_left : AreLinksLeft plan (rows_left lane ends) links) (are_wired : AreWired plan (rows_left lane ends)) (in_order : All IsTakenInOrder links) where
   -- the state in which a site ended
-  pub state_left : (s : ℕ) → (state : LocalState) × ((end : SiteEnd Lane D Tx Closed Rx) → slice_get ends s ≡ Some end → IsLeftBy lane plan s state end)
+  pub state_left : (s : ℕ) → (state : LocalState) × ((end : SiteEnd Lane D Tx Closed Rx) → slice_get ends s ≡ Some end → IsLeftBy lane manner plan s state end)
   state_left s = elim (there_or_none (slice_get ends s)) [
     | inl none ↦ (start_of plan s, λ end at. absurd (none-some end (sym none ∙ at)))
     | inr some ↦
         let here = left_at all s some.0 some.1 in
         let left = here.left in
-        let by : IsLeftBy lane plan s left.state some.0 = record { ended = left.ended; forks = left.forks; degree = here.degree } in
-        (left.state, λ end at. subst (IsLeftBy lane plan s left.state) (same_Some some.0 end (sym some.1 ∙ at)) by)
+        let by : IsLeftBy lane manner plan s left.state some.0 = record { ended = left.ended; forks = left.forks; degree = here.degree } in
+        (left.state, λ end at. subst (IsLeftBy lane manner plan s left.state) (same_Some some.0 end (sym some.1 ∙ at)) by)
   ]
 
   abbrev pub states : ℕ → LocalState
   states s = (state_left s).0
 
-  left_by : (s : ℕ) (end : SiteEnd Lane D Tx Closed Rx) → slice_get ends s ≡ Some end → IsLeftBy lane plan s (states s) end
+  left_by : (s : ℕ) (end : SiteEnd Lane D Tx Closed Rx) → slice_get ends s ≡ Some end → IsLeftBy lane manner plan s (states s) end
   left_by s = (state_left s).1
 
   -- the port of a site at a place
@@ -392,8 +393,8 @@ module _ {Lane Tx Closed Rx D : Type 0} {lane : Ghosts Lane Tx Closed Rx}
       let traffic = traffic_at (states spot.site) spot.at in
       let stray = option_to_list (breached_at spot.at end.0.fault end.0.stray) in
       record {
-        put = puts_forks port.tx.refused (refused_at spot.at end.0.fault end.0.stray) traffic.put port.tx.letters (puts_by lane plan spot.site (states spot.site) end.0 left spot.at port stands);
-        taken = omega (arith, ap forks_in (takes_by lane plan spot.site (states spot.site) end.0 left spot.at port stands), forks_in-append traffic.taken stray);
+        put = puts_forks port.tx.refused (refused_at spot.at end.0.fault end.0.stray) traffic.put port.tx.letters (puts_by lane manner plan spot.site (states spot.site) end.0 left spot.at port stands);
+        taken = omega (arith, ap forks_in (takes_by lane manner plan spot.site (states spot.site) end.0 left spot.at port stands), forks_in-append traffic.taken stray);
       }
 
   -- at most one end of an edge holds its fork
@@ -474,12 +475,12 @@ module _ {Lane Tx Closed Rx D : Type 0} {lane : Ghosts Lane Tx Closed Rx}
       ]
 
   -- each site ended in its state
-  ended_left : (s : ℕ) (out : SiteOut D) → slice_get (map out_of ends) s ≡ Some out → HasEnded plan s (states s) (links_of plan links s) (told_in out)
+  ended_left : (s : ℕ) (out : SiteOut D) → slice_get (map out_of ends) s ≡ Some out → HasEnded manner plan s (states s) (links_of plan links s) (report_in out)
   ended_left s out at =
       let end = end_for all s out at in
       let left = left_by s end.0 end.1 in
-      subst (λ (o : SiteOut D). HasEnded plan s (states s) (links_of plan links s) (told_in o)) end.2
-      (ended_along plan s (states s) (links_at (seen_ports lane end.0.ports.items)) (links_of plan links s) (told_in (out_of end.0)) (λ i within.
+      subst (λ (o : SiteOut D). HasEnded manner plan s (states s) (links_of plan links s) (report_in o)) end.2
+      (ended_along manner plan s (states s) (links_at (seen_ports lane end.0.ports.items)) (links_of plan links s) (report_in (out_of end.0)) (λ i within.
       let ports = ports_at s i (omega (arith, within, left.ended.keeps.every_place)) in
       links_there (seen_ports lane end.0.ports.items) i ports.near (stands_at (record { site = s; at = i }) ports.near end.0 end.1 ports.at_near) ∙ sym ports.has) left.ended)
 
@@ -504,10 +505,10 @@ module _ {Lane Tx Closed Rx D : Type 0} {lane : Ghosts Lane Tx Closed Rx}
   module _ (early : RefusesEarlyClosesOnly) where
     -- each breach that a site tells is of a Close that came early
     pub all_closed_early : AllClosedEarly (map out_of ends)
-    all_closed_early s out i breach at told =
+    all_closed_early s out i breach at reported =
         let end = end_for all s out at in
         let left = left_by s end.0 end.1 in
-        let fault_is : end.0.fault ≡ Some (fault.Breach i breach) = ap (λ (o : SiteOut D). o.fault) end.2 ∙ told in
+        let fault_is : end.0.fault ≡ Some (fault.Breach i breach) = ap (λ (o : SiteOut D). o.fault) end.2 ∙ reported in
         let breached = left.ended.breach i breach fault_is in
         let inside : i < length (edges_of plan s) = let within = breached.within in omega (arith, within, left.ended.keeps.every_place) in
         let over = across plan s i all.is_plan inside in
@@ -522,14 +523,14 @@ module _ {Lane Tx Closed Rx D : Type 0} {lane : Ghosts Lane Tx Closed Rx}
         told_early early plan s i there.site there.at (states s) (states there.site) ports.near.tx.refused ports.far.tx.refused (refused_at there.at far_end.0.fault far_end.0.stray) (option_to_list (breached_at there.at far_end.0.fault far_end.0.stray))
         ports.near.tx.letters ports.near.rx.letters ports.far.tx.letters ports.far.rx.letters breached.letter breach all.is_plan
         (record { within = inside; within_there = over.within; same_edge = over.same_edge; across = refl; back = over.back }) left.ended.keeps far.ended.keeps
-        (subst (λ r. PutsFit ports.near.tx.refused r (traffic_at (states s) i).put ports.near.tx.letters) (ap (λ (f : Option SiteFault). refused_at i f end.0.stray) fault_is) (puts_by lane plan s (states s) end.0 left i ports.near stands))
-        (puts_by lane plan there.site (states there.site) far_end.0 far there.at ports.far stands_there)
-        (takes_by lane plan s (states s) end.0 left i ports.near stands ∙ ap (λ o. (traffic_at (states s) i).taken ++ option_to_list o) stray)
-        (takes_by lane plan there.site (states there.site) far_end.0 far there.at ports.far stands_there) ports.comes.prefix ports.goes.prefix ports.comes.nothing_after_close breached.first
+        (subst (λ r. PutsFit ports.near.tx.refused r (traffic_at (states s) i).put ports.near.tx.letters) (ap (λ (f : Option SiteFault). refused_at i f end.0.stray) fault_is) (puts_by lane manner plan s (states s) end.0 left i ports.near stands))
+        (puts_by lane manner plan there.site (states there.site) far_end.0 far there.at ports.far stands_there)
+        (takes_by lane manner plan s (states s) end.0 left i ports.near stands ∙ ap (λ o. (traffic_at (states s) i).taken ++ option_to_list o) stray)
+        (takes_by lane manner plan there.site (states there.site) far_end.0 far there.at ports.far stands_there) ports.comes.prefix ports.goes.prefix ports.comes.nothing_after_close breached.first
 
   module _ (fork_law : (plan : SeenPlan) (s i : ℕ) (state : LocalState) → KeepsStreams plan s state → i < length (edges_of plan s) → AccountsForFork plan s (edge_at plan s i) state.ate (traffic_at state i))
-      (low_values : (plan : SeenPlan) (edge low_ate high_ate : ℕ) (low high : Traffic) → IsPlan plan → edge < edge_count plan → AccountsForFork plan (lo_of plan edge) edge low_ate low → AccountsForFork plan (hi_of plan edge) edge high_ate high → AreForksLinked low high → TellsValues plan (lo_of plan edge) edge low_ate low)
-      (high_values : (plan : SeenPlan) (edge low_ate high_ate : ℕ) (low high : Traffic) → IsPlan plan → edge < edge_count plan → AccountsForFork plan (lo_of plan edge) edge low_ate low → AccountsForFork plan (hi_of plan edge) edge high_ate high → AreForksLinked low high → TellsValues plan (hi_of plan edge) edge high_ate high) where
+      (low_values : (plan : SeenPlan) (edge low_ate high_ate : ℕ) (low high : Traffic) → IsPlan plan → edge < edge_count plan → AccountsForFork plan (lo_of plan edge) edge low_ate low → AccountsForFork plan (hi_of plan edge) edge high_ate high → AreForksLinked low high → KeepsValuesOfLogs plan (lo_of plan edge) edge low_ate low)
+      (high_values : (plan : SeenPlan) (edge low_ate high_ate : ℕ) (low high : Traffic) → IsPlan plan → edge < edge_count plan → AccountsForFork plan (lo_of plan edge) edge low_ate low → AccountsForFork plan (hi_of plan edge) edge high_ate high → AreForksLinked low high → KeepsValuesOfLogs plan (hi_of plan edge) edge high_ate high) where
     accounts : (s edge : ℕ) → s < site_count plan → edge < edge_count plan → is_end plan s edge ≡ true → AccountsForFork plan s edge (states s).ate (traffic_at (states s) (place_of plan s edge))
     accounts s edge is_site within is =
         let place = edge_at-place_of plan s edge within is in
@@ -541,10 +542,10 @@ module _ {Lane Tx Closed Rx D : Type 0} {lane : Ghosts Lane Tx Closed Rx}
     came near far rx tx is_near is_far at_near at_far prefix k fork at =
         let here = end_of all near.site is_near in
         let there = end_of all far.site is_far in
-        let taken = takes_by lane plan near.site (states near.site) here.0 (left_by near.site here.0 here.1) near.at rx (stands_at near rx here.0 here.1 at_near) in
+        let taken = takes_by lane manner plan near.site (states near.site) here.0 (left_by near.site here.0 here.1) near.at rx (stands_at near rx here.0 here.1 at_near) in
         let stray = option_to_list (breached_at near.at here.0.fault here.0.stray) in
         puts_first tx.tx.refused (refused_at far.at there.0.fault there.0.stray) (traffic_at (states far.site) far.at).put tx.tx.letters
-        (puts_by lane plan far.site (states far.site) there.0 (left_by far.site there.0 there.1) far.at tx (stands_at far tx there.0 there.1 at_far)) k fork
+        (puts_by lane manner plan far.site (states far.site) there.0 (left_by far.site there.0 there.1) far.at tx (stands_at far tx there.0 there.1 at_far)) k fork
         (forks_among-prefix rx.rx.letters tx.tx.letters prefix k fork
         (ap (λ (letters : List Letter). slice_get (forks_among letters) k) taken ∙ forks_among-before (traffic_at (states near.site) near.at).taken stray k fork at))
 
@@ -584,15 +585,15 @@ module _ {Lane Tx Closed Rx D : Type 0} {lane : Ghosts Lane Tx Closed Rx}
         ]
 
     -- the forks that are found, and all that the sites left, by these states
-    pub states_left : AreStatesLeft plan (map out_of ends) links (found (laid (forks_left ends) (replicate (edge_count plan) None)))
+    pub states_left : AreStatesLeft manner plan (map out_of ends) links (found (in_slots (forks_left ends) (replicate (edge_count plan) None)))
     states_left = record {
       states = states;
       ended = ended_left;
       at_most_one = at_most_one;
       values = values_left;
       found =
-          let slots = laid (forks_left ends) (replicate (edge_count plan) None) in
-          let count : length slots ≡ edge_count plan = length-laid (forks_left ends) (replicate (edge_count plan) None) ∙ length-replicate (edge_count plan) None in
+          let slots = in_slots (forks_left ends) (replicate (edge_count plan) None) in
+          let count : length slots ≡ edge_count plan = length-in_slots (forks_left ends) (replicate (edge_count plan) None) ∙ length-replicate (edge_count plan) None in
           found_given (fork_in_hand plan states) slots 0 (λ k within.
           let inside : k < edge_count plan = omega (arith, within, count) in
           slot_given (fork_in_hand plan states) (forks_left ends) (edge_count plan) k all_given (in_some_hand k inside) inside ∙ ap (λ j. Some (fork_in_hand plan states j)) (sym (zero-add k)))

@@ -10,12 +10,12 @@ use Rattle.dine_link.specs.Lanes.{seen_end}
 use Rattle.dine_link.specs.Links.{SeenLink, link_of}
 use Rattle.dine_site.specs.declared.port.Port.{Port}
 use Rattle.dine_site.specs.declared.site_end.SiteEnd.{SiteEnd}
-use Rattle.dine_threads.specs.declared.slots.Both.{Both}
+use Rattle.dine_threads.specs.declared.slots.EdgePair.{EdgePair}
 use Rattle.dine_threads.specs.declared.slots.Spot.{Spot}
-use Rattle.dine_threads.specs.private.Collecting.{AreJoined, AreLinksLeft, AreWholeEnds, laid, links_left, rows_left}
+use Rattle.dine_threads.specs.private.Collecting.{AreJoined, AreLinksLeft, AreWholeEnds, in_slots, links_left, rows_left}
 use Rattle.dine_threads.specs.Gathered.{no_link}
 use Rattle.dine_site.specs.Ports.{SeenPort, seen_port}
-use Rattle.dine_threads.specs.private.Spots.{AreBothAt, AreFull, IsFullRow, high_spot, low_spot, row_at, slot_at}
+use Rattle.dine_threads.specs.private.Spots.{ArePairsAt, AreFull, IsFullRow, high_spot, low_spot, row_at, slot_at}
 use Rattle.dine_threads.specs.private.Wirings.{AreWired, port_at}
 use Rattle.dine_threads.proofs.all_sites.Edges.{slice_get-push}
 use Rattle.dine_site.proofs.lists.Seen.{there_is}
@@ -50,14 +50,14 @@ all_parts P xs ys all = (
   subst (All P) (drop_at xs ys (length xs) refl) (All-drop P (length xs) (xs ++ ys) all),
 )
 
--- forks that are laid one after another
-pub laid-append : (first others : List SeenFork) (slots : List (Option SeenFork)) → laid (first ++ others) slots ≡ laid others (laid first slots)
-laid-append [] others slots = refl
-laid-append (fork ∷ first) others slots = laid-append first others (set slots fork.edge (Some fork))
+-- forks that are moved into their slots one after another
+pub in_slots-append : (first others : List SeenFork) (slots : List (Option SeenFork)) → in_slots (first ++ others) slots ≡ in_slots others (in_slots first slots)
+in_slots-append [] others slots = refl
+in_slots-append (fork ∷ first) others slots = in_slots-append first others (set slots fork.edge (Some fork))
 
-pub length-laid : (forks : List SeenFork) (slots : List (Option SeenFork)) → length (laid forks slots) ≡ length slots
-length-laid [] slots = refl
-length-laid (fork ∷ forks) slots = length-laid forks (set slots fork.edge (Some fork)) ∙ length-set slots fork.edge (Some fork)
+pub length-in_slots : (forks : List SeenFork) (slots : List (Option SeenFork)) → length (in_slots forks slots) ≡ length slots
+length-in_slots [] slots = refl
+length-in_slots (fork ∷ forks) slots = length-in_slots forks (set slots fork.edge (Some fork)) ∙ length-set slots fork.edge (Some fork)
 
 -- what stands in a row where each slot is full
 pub somes_full : {A : Type 0} (xs : List A) (i : ℕ) → i < length xs → IsSome (get_or (map Some xs) i None)
@@ -106,33 +106,33 @@ module _ {Lane Tx Closed Rx D : Type 0} (ends : List (SiteEnd Lane D Tx Closed R
 
 module _ {Lane Tx Closed Rx : Type 0} (lane : Ghosts Lane Tx Closed Rx) where
   -- the links of the pairs, and those of one pair
-  length-links_left : (pairs : List (Both (Port Lane Tx Closed Rx))) → length (links_left lane pairs) ≡ 2 * length pairs
+  length-links_left : (pairs : List (EdgePair (Port Lane Tx Closed Rx))) → length (links_left lane pairs) ≡ 2 * length pairs
   length-links_left [] = refl
   length-links_left (pair ∷ pairs) = let rest = length-links_left pairs in omega (arith, rest)
 
-  low_link : (pairs : List (Both (Port Lane Tx Closed Rx))) (k : ℕ) (both : Both (Port Lane Tx Closed Rx)) → slice_get pairs k ≡ Some both
+  low_link : (pairs : List (EdgePair (Port Lane Tx Closed Rx))) (k : ℕ) (both : EdgePair (Port Lane Tx Closed Rx)) → slice_get pairs k ≡ Some both
       → get_or (links_left lane pairs) (2 * k) no_link ≡ link_of (seen_end lane.seen_tx lane.seen_closed both.low.tx) (lane.seen_rx both.high.rx)
   low_link [] k both at = absurd (none-some both at)
-  low_link (pair ∷ pairs) zero both at = ap (λ (b : Both (Port Lane Tx Closed Rx)). link_of (seen_end lane.seen_tx lane.seen_closed b.low.tx) (lane.seen_rx b.high.rx)) (same_Some pair both at)
+  low_link (pair ∷ pairs) zero both at = ap (λ (b : EdgePair (Port Lane Tx Closed Rx)). link_of (seen_end lane.seen_tx lane.seen_closed b.low.tx) (lane.seen_rx b.high.rx)) (same_Some pair both at)
   low_link (pair ∷ pairs) (suc k) both at =
       let next : 2 * suc k ≡ suc (suc (2 * k)) = omega arith in
       ap (λ n. get_or (links_left lane (pair ∷ pairs)) n no_link) next ∙ low_link pairs k both at
 
-  high_link : (pairs : List (Both (Port Lane Tx Closed Rx))) (k : ℕ) (both : Both (Port Lane Tx Closed Rx)) → slice_get pairs k ≡ Some both
+  high_link : (pairs : List (EdgePair (Port Lane Tx Closed Rx))) (k : ℕ) (both : EdgePair (Port Lane Tx Closed Rx)) → slice_get pairs k ≡ Some both
       → get_or (links_left lane pairs) (2 * k + 1) no_link ≡ link_of (seen_end lane.seen_tx lane.seen_closed both.high.tx) (lane.seen_rx both.low.rx)
   high_link [] k both at = absurd (none-some both at)
-  high_link (pair ∷ pairs) zero both at = ap (λ (b : Both (Port Lane Tx Closed Rx)). link_of (seen_end lane.seen_tx lane.seen_closed b.high.tx) (lane.seen_rx b.low.rx)) (same_Some pair both at)
+  high_link (pair ∷ pairs) zero both at = ap (λ (b : EdgePair (Port Lane Tx Closed Rx)). link_of (seen_end lane.seen_tx lane.seen_closed b.high.tx) (lane.seen_rx b.low.rx)) (same_Some pair both at)
   high_link (pair ∷ pairs) (suc k) both at =
       let next : 2 * suc k + 1 ≡ suc (suc (2 * k + 1)) = omega arith in
       ap (λ n. get_or (links_left lane (pair ∷ pairs)) n no_link) next ∙ high_link pairs k both at
 
   module _ {D : Type 0} (plan : SeenPlan) (ends : List (SiteEnd Lane D Tx Closed Rx)) (rows : List (Vec (Option (Port Lane Tx Closed Rx))))
       (moved : map (λ (row : Vec (Option (Port Lane Tx Closed Rx))). row.items) rows ≡ map (λ (end : SiteEnd Lane D Tx Closed Rx). map Some end.ports.items) ends)
-      (pairs : List (Both (Port Lane Tx Closed Rx))) (count : length pairs ≡ edge_count plan) (each : AreBothAt plan rows pairs) where
-    low_seen : (edge : ℕ) (both : Both (Port Lane Tx Closed Rx)) → slice_get pairs edge ≡ Some both → port_at (rows_left lane ends) (low_spot plan edge) ≡ Some (seen_port lane both.low)
+      (pairs : List (EdgePair (Port Lane Tx Closed Rx))) (count : length pairs ≡ edge_count plan) (each : ArePairsAt plan rows pairs) where
+    low_seen : (edge : ℕ) (both : EdgePair (Port Lane Tx Closed Rx)) → slice_get pairs edge ≡ Some both → port_at (rows_left lane ends) (low_spot plan edge) ≡ Some (seen_port lane both.low)
     low_seen edge both at = slot_seen ends rows moved lane (low_spot plan edge) both.low (each edge both at).low
 
-    high_seen : (edge : ℕ) (both : Both (Port Lane Tx Closed Rx)) → slice_get pairs edge ≡ Some both → port_at (rows_left lane ends) (high_spot plan edge) ≡ Some (seen_port lane both.high)
+    high_seen : (edge : ℕ) (both : EdgePair (Port Lane Tx Closed Rx)) → slice_get pairs edge ≡ Some both → port_at (rows_left lane ends) (high_spot plan edge) ≡ Some (seen_port lane both.high)
     high_seen edge both at = slot_seen ends rows moved lane (high_spot plan edge) both.high (each edge both at).high
 
     -- each takes from the link that the other put in

@@ -1,4 +1,4 @@
--- What the sites left, each of its seat, and what is gathered of it edge by edge.
+-- What the sites left, each of its start, and what is gathered of it edge by edge.
 use Rattle.std.proofs.Common.{◌≡◌, ◌⊎◌, ℕ, zero, suc, ◌+◌, ◌*◌, ◌<◌, ◌==◌, ◌&&◌, ◌++◌, Bool, true, false, List, [], ◌∷◌, All, length, map, get_or, slice_get, Option, Some, None, is_some, option_map, option_to_list, if◌then◌else◌, refl, sym, ◌∙◌, ap, subst, inl, inr, arith}
 use Rattle.std.specs.declared.thread.PromisedHandle.{PromisedHandle}
 use Rattle.std.specs.List.{AllZip, position, range_with_len}
@@ -22,28 +22,30 @@ use Rattle.dine_rules.specs.Steps.{hand_fork_at}
 use Rattle.dine_rules.proofs.one_place.Placed.{placed}
 use Rattle.dine_rules.proofs.one_site.SiteSteps.{list_all-range}
 use Rattle.dine_rules.proofs.lists.Turns.{ends_in_close}
-use Rattle.dine_core.specs.Core.{forks_in_hand}
+use Rattle.dine_site_core.specs.Core.{forks_in_hand}
 use Rattle.dine_link.specs.Links.{SeenLink, link_of}
 use Rattle.dine_threads.specs.declared.gathered.SiteOut.{SiteOut}
-use Rattle.dine_threads.specs.declared.seats.EndOf.{EndOf}
-use Rattle.dine_threads.specs.declared.seats.Seat.{Seat}
+use Rattle.dine_threads.specs.declared.starts.EndOf.{EndOf}
+use Rattle.dine_threads.specs.declared.starts.SiteStart.{SiteStart}
 use Rattle.dine_site.specs.declared.site_end.SiteEnd.{SiteEnd}
 use Rattle.dine_site.specs.declared.site_end.SiteFault.{SiteFault}
 use Rattle.dine_threads.specs.declared.slots.Spot.{Spot}
 use Rattle.dine_threads.specs.declared.threads.Setup.{Setup}
 use Rattle.dine_threads.specs.private.Collecting.{AreForksOf, AreLinksLeft, AreWholeEnds, IsTakenToClose, forks_left, out_of, rows_left}
-use Rattle.dine_site.specs.Diners.{HasEaten, HeedsFailures}
+use Rattle.dine_site.specs.Diners.{HasEaten, ObeysFailures}
 use Rattle.dine_threads.specs.Gathered.{AreFinishedOuts, AreLinksOf, AreOutsOf, IsClosedWhole, IsFinishedOut, IsLowestFault, IsOutOf, link_from_low, link_from_high, no_link}
 use Rattle.dine_site.specs.Ports.{SeenPort, SameLinks, seen_port, seen_ports}
-use Rattle.dine_threads.specs.private.Seats.{AreSeatsOf, IsReady, LeavesSeat, seat_of}
+use Rattle.dine_threads.specs.private.SiteStarts.{AreStartsOf, IsReady, IsEndOf, given_to}
 use Rattle.dine_site.specs.Endings.{OnLinks, breached_at, hands_back}
+use Rattle.dine_site.specs.declared.manner.Manner.{Manner}
+use Rattle.dine_site.specs.Doings.{empty_checks_of}
 use Rattle.dine_site.specs.SiteEnds.{IsLeft, seen_site_end}
 use Rattle.dine_site.specs.Times.{IsTimed, none_late}
-use Rattle.dine_threads.specs.private.Setups.{IsSetUp, rows_of_seats}
+use Rattle.dine_threads.specs.private.Setups.{IsSetUp, rows_of_starts}
 use Rattle.dine_threads.specs.private.Spots.{low_spot, high_spot}
 use Rattle.dine_threads.specs.private.Wirings.{AreWired, port_at}
 use Rattle.dine_site.proofs.one_site.AtPlaces.{links_there}
-use Rattle.dine_site.proofs.one_site.Quits.{quit_told}
+use Rattle.dine_site.proofs.one_site.Quits.{quit_reported}
 use Rattle.dine_site.proofs.lists.Lists.{all_at}
 use Rattle.dine_site.proofs.lists.Seen.{there_is}
 use Rattle.dine_threads.proofs.lists.Zips.{AllZip-at}
@@ -107,65 +109,68 @@ module _ {Lane Tx Closed Rx D : Type 0} where
   forks_of_all P [] each = λ k d none. absurd (omega (arith, none))
   forks_of_all P (end ∷ ends) each = All-append P end.forks.items (forks_left ends) (each 0 end refl) (forks_of_all P ends (λ s e at. each (suc s) e at))
 
--- Every site left what its seat gives, and the seats are those of the plan.
+-- Every site left what its start gives, and the starts are those of the plan.
 pub record AreAllLeft {Lane Tx Closed Rx D : Type 0} (lane : Ghosts Lane Tx Closed Rx)
-    (eater : diners.Ghosts D) (plan : SeenPlan)
-    (seats : List (Seat Lane D Tx Closed Rx)) (ends : List (SiteEnd Lane D Tx Closed Rx)) : Type 0 where
+    (eater : diners.Ghosts D) (manner : Manner) (plan : SeenPlan)
+    (starts : List (SiteStart Lane D Tx Closed Rx)) (ends : List (SiteEnd Lane D Tx Closed Rx)) : Type 0 where
   pub is_plan : IsPlan plan
-  pub count : length seats ≡ site_count plan
-  pub fresh : AreSeatsOf plan seats
-  pub ready : All (IsReady lane eater) seats
-  pub left : AllZip (LeavesSeat lane eater) seats ends
+  pub count : length starts ≡ site_count plan
+  pub fresh : AreStartsOf manner plan starts
+  pub ready : All (IsReady lane eater) starts
+  pub left : AllZip (IsEndOf lane eater) starts ends
 
 -- so it is where all that was set up was started and joined
 pub left_of_children : {Lane Tx Closed Rx D : Type 0} {lane : Ghosts Lane Tx Closed Rx}
-    {eater : diners.Ghosts D} {plan : SeenPlan} {given : List D}
+    {eater : diners.Ghosts D} {manner : Manner} {plan : SeenPlan} {given : List D}
     (setup : Setup Lane D Tx Closed Rx) (children : List (PromisedHandle (SiteEnd Lane D Tx Closed Rx) (EndOf Lane D Tx Closed Rx))) (ends : List (SiteEnd Lane D Tx Closed Rx))
-    → IsPlan plan → IsSetUp lane eater plan given setup → map seat_of children ≡ setup.seats.items → AllZip (LeavesSeat lane eater) (map seat_of children) ends
-    → AreAllLeft lane eater plan setup.seats.items ends
+    → IsPlan plan → IsSetUp lane eater manner plan given setup → map given_to children ≡ setup.starts.items → AllZip (IsEndOf lane eater) (map given_to children) ends
+    → AreAllLeft lane eater manner plan setup.starts.items ends
 left_of_children {lane = lane} {eater = eater} setup children ends is_plan set_up started left = record {
   is_plan = is_plan;
-  count = omega (arith, set_up.count, setup.seats.ok.0);
+  count = omega (arith, set_up.count, setup.starts.ok.0);
   fresh = set_up.fresh;
   ready = set_up.ready;
-  left = subst (λ seats. AllZip (LeavesSeat lane eater) seats ends) started left;
+  left = subst (λ starts. AllZip (IsEndOf lane eater) starts ends) started left;
 }
 
 module _ {Lane Tx Closed Rx D : Type 0} {lane : Ghosts Lane Tx Closed Rx}
-    {eater : diners.Ghosts D} {plan : SeenPlan}
-    {seats : List (Seat Lane D Tx Closed Rx)} {ends : List (SiteEnd Lane D Tx Closed Rx)} (all : AreAllLeft lane eater plan seats ends) where
-  -- what a site left, and the seat that it had
+    {eater : diners.Ghosts D} {manner : Manner} {plan : SeenPlan}
+    {starts : List (SiteStart Lane D Tx Closed Rx)} {ends : List (SiteEnd Lane D Tx Closed Rx)} (all : AreAllLeft lane eater manner plan starts ends) where
+  -- what a site left, and the start that it had
   pub record LeftAt (s : ℕ) (end : SiteEnd Lane D Tx Closed Rx) : Type 0 where
-    pub seat : Seat Lane D Tx Closed Rx
-    pub at : slice_get seats s ≡ Some seat
-    pub left : IsLeft plan s (seen_ports lane seat.ports.items) (seen_site_end lane end)
-    pub eaten : HasEaten eater.calls eater.marks eater.fits end.ate end.failed seat.diner end.diner
+    pub start : SiteStart Lane D Tx Closed Rx
+    pub at : slice_get starts s ≡ Some start
+    pub left : IsLeft manner plan s (seen_ports lane start.ports.items) (seen_site_end lane end)
+    pub eaten : HasEaten eater.calls eater.marks eater.fits end.ate end.failed start.diner end.diner
     pub timed : end.fault ≡ None → IsTimed none_late end.clock.events end.journal.items (seen_ports lane end.ports.items)
-    pub heeds : HeedsFailures (resigns plan s) end.journal.items (eater.calls seat.diner) (eater.calls end.diner)
+    pub obeys : ObeysFailures (resigns plan s) end.journal.items (eater.calls start.diner) (eater.calls end.diner)
+    pub checks : end.bell.found_empty ≡ empty_checks_of manner end.journal.items
     pub degree : length end.ports.items ≡ length (edges_of plan s)
 
   pub left_at : (s : ℕ) (end : SiteEnd Lane D Tx Closed Rx) → slice_get ends s ≡ Some end → LeftAt s end
   left_at s end at =
-      let pair = AllZip-at (LeavesSeat lane eater) seats ends s end all.left at in
-      let seat = pair.0 in
-      let here = all.fresh s seat pair.1 in
-      let ready_here = all_at (IsReady lane eater) seats s seat all.ready pair.1 in
-      let left : IsLeft plan s (seen_ports lane seat.ports.items) (seen_site_end lane end) =
-      subst (λ n. IsLeft plan n (seen_ports lane seat.ports.items) (seen_site_end lane end)) here.1 (pair.2.left plan here.0) in
+      let pair = AllZip-at (IsEndOf lane eater) starts ends s end all.left at in
+      let start = pair.0 in
+      let here = all.fresh s start pair.1 in
+      let ready_here = all_at (IsReady lane eater) starts s start all.ready pair.1 in
+      let left : IsLeft manner plan s (seen_ports lane start.ports.items) (seen_site_end lane end) =
+      subst (λ m. IsLeft m plan s (seen_ports lane start.ports.items) (seen_site_end lane end)) here.2
+      (subst (λ n. IsLeft start.manner plan n (seen_ports lane start.ports.items) (seen_site_end lane end)) here.1 (pair.2.left plan here.0)) in
       record {
-        seat = seat;
+        start = start;
         at = pair.1;
         left = left;
         eaten = pair.2.eaten;
         timed = pair.2.timed;
-        heeds = subst (λ (does : Bool). HeedsFailures does end.journal.items (eater.calls seat.diner) (eater.calls end.diner)) (here.0.stands.resigns ∙ ap (resigns plan) here.1) pair.2.heeds;
+        checks = pair.2.checks ∙ ap (λ m. empty_checks_of m end.journal.items) here.2;
+        obeys = subst (λ (does : Bool). ObeysFailures does end.journal.items (eater.calls start.diner) (eater.calls end.diner)) (here.0.stands.resigns ∙ ap (resigns plan) here.1) pair.2.obeys;
         degree =
-            sym (length-map end.ports.items (seen_port lane)) ∙ left.count ∙ length-map seat.ports.items (seen_port lane)
-            ∙ ready_here.ports ∙ here.0.stands.degree ∙ length-map (edges_of plan seat.packed.site) (λ edge. no_traffic) ∙ ap (λ n. length (edges_of plan n)) here.1;
+            sym (length-map end.ports.items (seen_port lane)) ∙ left.count ∙ length-map start.ports.items (seen_port lane)
+            ∙ ready_here.ports ∙ here.0.stands.degree ∙ length-map (edges_of plan start.packed.site) (λ edge. no_traffic) ∙ ap (λ n. length (edges_of plan n)) here.1;
       }
 
   pub ends_count : length ends ≡ site_count plan
-  ends_count = AllZip-long (LeavesSeat lane eater) seats ends all.left ∙ all.count
+  ends_count = AllZip-long (IsEndOf lane eater) starts ends all.left ∙ all.count
 
   -- each site of the plan left something
   pub end_of : (s : ℕ) → s < site_count plan → (end : SiteEnd Lane D Tx Closed Rx) × (slice_get ends s ≡ Some end)
@@ -182,19 +187,19 @@ module _ {Lane Tx Closed Rx D : Type 0} {lane : Ghosts Lane Tx Closed Rx}
   }
 
   -- the port that a site left at a place where it had one, with the same links
-  port_left : (spot : Spot) (old : SeenPort lane.Identity) → spot.site < site_count plan → port_at (rows_of_seats lane seats) spot ≡ Some old
+  port_left : (spot : Spot) (old : SeenPort lane.Identity) → spot.site < site_count plan → port_at (rows_of_starts lane starts) spot ≡ Some old
       → (new : SeenPort lane.Identity) × (port_at (rows_left lane ends) spot ≡ Some new) × SameLinks old new
   port_left spot old is_site at =
       let end = end_of spot.site is_site in
       let left = left_at spot.site end.0 end.1 in
-      let given = ap (λ row. slice_get row spot.at) (row_of (λ (seat : Seat Lane D Tx Closed Rx). seen_ports lane seat.ports.items) seats spot.site left.seat left.at) in
+      let given = ap (λ row. slice_get row spot.at) (row_of (λ (start : SiteStart Lane D Tx Closed Rx). seen_ports lane start.ports.items) starts spot.site left.start left.at) in
       let now = ap (λ row. slice_get row spot.at) (row_of (λ (e : SiteEnd Lane D Tx Closed Rx). seen_ports lane e.ports.items) ends spot.site end.0 end.1) in
-      let within = slice_get_within (seen_ports lane left.seat.ports.items) spot.at old (sym given ∙ at) in
+      let within = slice_get_within (seen_ports lane left.start.ports.items) spot.at old (sym given ∙ at) in
       let new = there_is (seen_ports lane end.0.ports.items) spot.at (omega (arith, within, left.left.count)) in
       (new.0, now ∙ new.1, left.left.same_links spot.at old new.0 (sym given ∙ at) new.1)
 
   -- the links of each edge are wired as they were
-  pub still_wired : AreWired plan (rows_of_seats lane seats) → AreWired plan (rows_left lane ends)
+  pub still_wired : AreWired plan (rows_of_starts lane starts) → AreWired plan (rows_left lane ends)
   still_wired was edge within =
       let wired = was edge within in
       let ordered = all.is_plan.ordered edge within in
@@ -324,23 +329,24 @@ module _ {Lane Tx Closed Rx D : Type 0} {lane : Ghosts Lane Tx Closed Rx}
           no_stray = left.ended.no_stray (ap hands_back none);
           has_no_job_left = elim (or_cases (left.state.ate == job_count plan s) left.state.has_quit (and_parts _ _ (and_parts _ _ (left.ended.finished none)).0).1) [
             | inl all_eaten ↦ inl (left.ended.ate ∙ eqb-true left.state.ate (job_count plan s) all_eaten)
-            | inr quit ↦ inr ((left.ended.keeps.has_dropped quit).0, sym (quit_told plan s end.0.journal.items left.state (left.ended.did_all none).by_journal) ∙ quit)
+            | inr quit ↦ inr ((left.ended.keeps.has_dropped quit).0, sym (quit_reported plan s end.0.journal.items left.state (left.ended.did_all none).by_journal) ∙ quit)
           ];
         })
 
   -- every site has its diner, called for the meals that it ate
-  pub outs_of_diners : (given : List D) → map (λ (seat : Seat Lane D Tx Closed Rx). seat.diner) seats ≡ given → AreOutsOf eater plan given (map out_of ends)
+  pub outs_of_diners : (given : List D) → map (λ (start : SiteStart Lane D Tx Closed Rx). start.diner) starts ≡ given → AreOutsOf eater manner plan given (map out_of ends)
   outs_of_diners given diners = record {
     count = length-map ends out_of ∙ ends_count;
     each = λ s diner out at_diner at_out.
         let end = end_for s out at_out in
         let here = left_at s end.0 end.1 in
-        let same : here.seat.diner ≡ diner = same_Some here.seat.diner diner (sym (slice_get-map (λ (seat : Seat Lane D Tx Closed Rx). seat.diner) seats s ∙ ap (option_map (λ (seat : Seat Lane D Tx Closed Rx). seat.diner)) here.at) ∙ ap (λ ds. slice_get ds s) diners ∙ at_diner) in
-        subst (IsOutOf eater plan s diner) end.2 (record {
+        let same : here.start.diner ≡ diner = same_Some here.start.diner diner (sym (slice_get-map (λ (start : SiteStart Lane D Tx Closed Rx). start.diner) starts s ∙ ap (option_map (λ (start : SiteStart Lane D Tx Closed Rx). start.diner)) here.at) ∙ ap (λ ds. slice_get ds s) diners ∙ at_diner) in
+        subst (IsOutOf eater manner plan s diner) end.2 (record {
           site = here.left.site;
           ate = omega (arith, here.left.ended.ate, here.left.ended.keeps.ate_within);
           eaten = subst (λ d. HasEaten eater.calls eater.marks eater.fits end.0.ate end.0.failed d end.0.diner) same here.eaten;
-          heeds = subst (λ d. HeedsFailures (resigns plan s) end.0.journal.items (eater.calls d) (eater.calls end.0.diner)) same here.heeds;
+          obeys = subst (λ d. ObeysFailures (resigns plan s) end.0.journal.items (eater.calls d) (eater.calls end.0.diner)) same here.obeys;
+          checks = here.checks;
         });
   }
 

@@ -16,20 +16,21 @@ use Rattle.dine_rules.specs.declared.phase.Phase.TheVariants.{Thinking, Hungry, 
 use Rattle.dine_rules.specs.Journals.{journal_of}
 use Rattle.dine_rules.specs.Local.{LocalState, Traffic, edge_at, is_thinking, no_traffic, traffic_at}
 use Rattle.dine_rules.specs.Steps.{fork_by, fork_with, hand_fork_at}
-use Rattle.dine_rules.specs.Values.{TellsValues, hand_value, value_by}
+use Rattle.dine_rules.specs.Values.{KeepsValuesOfLogs, hand_value, value_by}
 use Rattle.dine_rules.specs.Letters.{forks_among}
 use Rattle.dine_rules.specs.declared.letters.Letter.{Letter}
 use Rattle.dine_rules.specs.Streams.{KeepsStreams}
 use Rattle.dine_rules.specs.World.{place_of}
 use Rattle.dine_rules.proofs.links.Across.{edge_at-place_of, place_of-edge_at}
 use Rattle.dine_rules.proofs.one_place.Placed.{placed}
-use Rattle.dine_core.specs.Core.{forks_in_hand, tokens_in_hand}
+use Rattle.dine_site_core.specs.Core.{forks_in_hand, tokens_in_hand}
 use Rattle.dine_link.specs.Links.{SeenLink}
 use Rattle.dine_threads.specs.declared.gathered.SiteOut.{SiteOut}
-use Rattle.dine_threads.specs.declared.seats.Seat.{Seat}
+use Rattle.dine_threads.specs.declared.starts.SiteStart.{SiteStart}
+use Rattle.dine_site.specs.declared.manner.Manner.{Manner}
 use Rattle.dine_site.specs.declared.site_end.SiteEnd.{SiteEnd}
 use Rattle.dine_threads.specs.declared.slots.Spot.{Spot}
-use Rattle.dine_threads.specs.private.Collecting.{AreLinksLeft, forks_left, found, laid, out_of, rows_left}
+use Rattle.dine_threads.specs.private.Collecting.{AreLinksLeft, forks_left, found, in_slots, out_of, rows_left}
 use Rattle.dine_threads.specs.Gathered.{IsClosedWhole, low_traffic, high_traffic, traffic_of, no_link}
 use Rattle.dine_threads.specs.Headline.{AllJoined, AreTokensOf, IsHeadline, ate_of, log_in_hand}
 use Rattle.dine_site.specs.Doings.{HasActed}
@@ -37,10 +38,10 @@ use Rattle.dine_threads.specs.Journals.{HaveActed, state_left}
 use Rattle.dine_site.specs.Ports.{SeenPort, seen_port, seen_ports}
 use Rattle.dine_threads.specs.private.Spots.{low_spot, high_spot}
 use Rattle.dine_threads.specs.private.Wirings.{AreWired, port_at}
-use Rattle.dine_threads.proofs.all_sites.Collected.{length-laid}
+use Rattle.dine_threads.proofs.all_sites.Collected.{length-in_slots}
 use Rattle.dine_threads.proofs.all_sites.Gatherings.{AreAllLeft, end_for, end_of, ends_count, forks_each, forks_of_all, left_at, put_at, row_of, taken_at}
 use Rattle.dine_site.proofs.one_site.Letters.{same_traffic}
-use Rattle.dine_threads.proofs.all_sites.Laid.{IsFilled, IsIn, IsOnly, found_edges, found_get, in_first, in_here, in_second, in_where, laid_puts}
+use Rattle.dine_threads.proofs.all_sites.InSlots.{IsFilled, IsIn, IsOnly, found_edges, found_get, in_first, in_here, in_second, in_where, in_slots_puts}
 use Rattle.dine_site.proofs.lists.Seen.{there_is}
 use Rattle.dine_threads.proofs.lists.Writes.{same_spot}
 use Rattle.dine_link.specs.declared.lane.Lane.{Ghosts}
@@ -112,8 +113,8 @@ tokens_passing plan s state q (e ∷ es) a each =
     ∙ ap (λ b. if b then e ∷ filter q es else filter q es) passes
 
 module _ {Lane Tx Closed Rx D : Type 0} {lane : Ghosts Lane Tx Closed Rx}
-    {eater : diners.Ghosts D} {plan : SeenPlan}
-    {seats : List (Seat Lane D Tx Closed Rx)} {ends : List (SiteEnd Lane D Tx Closed Rx)} (all : AreAllLeft lane eater plan seats ends)
+    {eater : diners.Ghosts D} {manner : Manner} {plan : SeenPlan}
+    {starts : List (SiteStart Lane D Tx Closed Rx)} {ends : List (SiteEnd Lane D Tx Closed Rx)} (all : AreAllLeft lane eater manner plan starts ends)
     (no_fault : (s : ℕ) (end : SiteEnd Lane D Tx Closed Rx) → slice_get ends s ≡ Some end → end.fault ≡ None)
     (links : List SeenLink) (are_left : AreLinksLeft plan (rows_left lane ends) links) (are_wired : AreWired plan (rows_left lane ends)) where
   abbrev pub port_traffic : SeenPort lane.Identity → Traffic
@@ -183,14 +184,14 @@ module _ {Lane Tx Closed Rx D : Type 0} {lane : Ghosts Lane Tx Closed Rx}
       did_at s end at i inside ∙ sym (get_or-map (traffic_of plan links s) (edges_of plan s) i 0 no_traffic inside)))
 
   -- so the journal of each site leads to what its links tell, each event in its turn
-  pub all_acted : HaveActed plan ates links (map (λ (out : SiteOut D). out.journal.items) (map out_of ends))
+  pub all_acted : HaveActed plan ates links manner (map (λ (out : SiteOut D). out.journal.items) (map out_of ends))
   all_acted s is_site =
       let end = end_of all s is_site in
       let did = (left_at all s end.0 end.1).left.ended.did_all (no_fault s end.0 end.1) in
       let journal : journal_of (map (λ (out : SiteOut D). out.journal.items) (map out_of ends)) s ≡ end.0.journal.items =
       get_or_from_slice_get _ s end.0.journal.items [] (slice_get-map (λ (out : SiteOut D). out.journal.items) (map out_of ends) s ∙ ap (option_map (λ (out : SiteOut D). out.journal.items)) (slice_get-map out_of ends s ∙ ap (option_map out_of) end.1)) in
-      subst (λ (kinds : List EventKind). HasActed plan s kinds (state_left plan ates links s)) (sym journal)
-      (subst (HasActed plan s end.0.journal.items) (state_is s end.0 end.1) did)
+      subst (λ (kinds : List EventKind). HasActed manner plan s kinds (state_left plan ates links s)) (sym journal)
+      (subst (HasActed manner plan s end.0.journal.items) (state_is s end.0 end.1) did)
 
   -- there is one journal for each site
   pub journals_count : length (map (λ (out : SiteOut D). out.journal.items) (map out_of ends)) ≡ site_count plan
@@ -204,8 +205,8 @@ module _ {Lane Tx Closed Rx D : Type 0} {lane : Ghosts Lane Tx Closed Rx}
       (token_law : (plan : SeenPlan) (s i : ℕ) (state : LocalState) → IsPlan plan → KeepsStreams plan s state → i < length (edges_of plan s) → AccountsForToken plan s (edge_at plan s i) (traffic_at state i))
       (joined_fork : (plan : SeenPlan) (edge low_ate high_ate : ℕ) (low high : Traffic) → IsPlan plan → edge < edge_count plan → AccountsForFork plan (lo_of plan edge) edge low_ate low → AccountsForFork plan (hi_of plan edge) edge high_ate high → AreWhollyTaken low high → HaveOneWholeFork plan edge low_ate high_ate low high)
       (joined_token : (plan : SeenPlan) (edge : ℕ) (low high : Traffic) → IsPlan plan → edge < edge_count plan → AccountsForToken plan (lo_of plan edge) edge low → AccountsForToken plan (hi_of plan edge) edge high → AreWhollyTaken low high → tokens_held plan (lo_of plan edge) edge low + tokens_held plan (hi_of plan edge) edge high ≡ 1)
-      (low_values : (plan : SeenPlan) (edge low_ate high_ate : ℕ) (low high : Traffic) → IsPlan plan → edge < edge_count plan → AccountsForFork plan (lo_of plan edge) edge low_ate low → AccountsForFork plan (hi_of plan edge) edge high_ate high → AreForksLinked low high → TellsValues plan (lo_of plan edge) edge low_ate low)
-      (high_values : (plan : SeenPlan) (edge low_ate high_ate : ℕ) (low high : Traffic) → IsPlan plan → edge < edge_count plan → AccountsForFork plan (lo_of plan edge) edge low_ate low → AccountsForFork plan (hi_of plan edge) edge high_ate high → AreForksLinked low high → TellsValues plan (hi_of plan edge) edge high_ate high)
+      (low_values : (plan : SeenPlan) (edge low_ate high_ate : ℕ) (low high : Traffic) → IsPlan plan → edge < edge_count plan → AccountsForFork plan (lo_of plan edge) edge low_ate low → AccountsForFork plan (hi_of plan edge) edge high_ate high → AreForksLinked low high → KeepsValuesOfLogs plan (lo_of plan edge) edge low_ate low)
+      (high_values : (plan : SeenPlan) (edge low_ate high_ate : ℕ) (low high : Traffic) → IsPlan plan → edge < edge_count plan → AccountsForFork plan (lo_of plan edge) edge low_ate low → AccountsForFork plan (hi_of plan edge) edge high_ate high → AreForksLinked low high → KeepsValuesOfLogs plan (hi_of plan edge) edge high_ate high)
       (closed : All IsClosedWhole links) where
     -- each end of an edge accounts for its fork and its token, by the links' lists
     accounts_fork : (s edge : ℕ) → s < site_count plan → edge < edge_count plan → is_end plan s edge ≡ true → AccountsForFork plan s edge (ate_of plan ates links s) (traffic_of plan links s edge)
@@ -341,15 +342,15 @@ module _ {Lane Tx Closed Rx D : Type 0} {lane : Ghosts Lane Tx Closed Rx}
     ]
 
     abbrev pub slots : List (Option SeenFork)
-    slots = laid (forks_left ends) (replicate (edge_count plan) None)
+    slots = in_slots (forks_left ends) (replicate (edge_count plan) None)
 
     slots_count : length slots ≡ edge_count plan
-    slots_count = length-laid (forks_left ends) (replicate (edge_count plan) None) ∙ length-replicate (edge_count plan) None
+    slots_count = length-in_slots (forks_left ends) (replicate (edge_count plan) None) ∙ length-replicate (edge_count plan) None
 
     slot_of : (edge : ℕ) → edge < edge_count plan → slice_get slots edge ≡ Some (Some (the_fork edge))
     slot_of edge within =
         let held = is_held edge within in
-        laid_puts edge (the_fork edge) (forks_left ends) (replicate (edge_count plan) None) held.at (only_one edge) held.is refl (omega (arith, within, length-replicate {A = Option SeenFork} (edge_count plan) None))
+        in_slots_puts edge (the_fork edge) (forks_left ends) (replicate (edge_count plan) None) held.at (only_one edge) held.is refl (omega (arith, within, length-replicate {A = Option SeenFork} (edge_count plan) None))
 
     filled : (k : ℕ) → k < length slots → IsFilled slots 0 k
     filled k within = record { fork = the_fork k; at = slot_of k (omega (arith, within, slots_count)); edge = sym (zero-add k) }

@@ -12,6 +12,7 @@ use Rattle.dine_graph.specs.Plan.{SeenPlan, IsPlan, site_count, edge_count, lo_o
 use Rattle.dine_link.specs.Links.{SeenLink}
 use Rattle.dine_rules.specs.JoinedEnds.{IsWholeLog}
 use Rattle.dine_rules.specs.Values.{added_up, has_no_set, value_by}
+use Rattle.dine_site.specs.declared.manner.Manner.{Manner}
 use Rattle.dine_threads.specs.declared.tables.EdgeRow.{EdgeRow}
 use Rattle.dine_threads.specs.declared.gathered.SiteOut.{SiteOut}
 use Rattle.dine_threads.specs.Gathered.{AreOutsOf}
@@ -33,9 +34,9 @@ module _ {D : Type 0} (plan : SeenPlan) (forks : List SeenFork) (outs : List (Si
   ates = map (λ (out : SiteOut D). out.ate) outs
 
   -- what `run` gathers is of its plan
-  pub headline_gathered : (links : List SeenLink) (eater : diners.Ghosts D) (diners : List D)
-      → length diners ≡ site_count plan → IsHeadline plan ates links forks → AreOutsOf eater plan diners outs → IsGatheredOf plan forks outs
-  headline_gathered links eater diners many headline are = record {
+  pub headline_gathered : (links : List SeenLink) (manner : Manner) (eater : diners.Ghosts D) (diners : List D)
+      → length diners ≡ site_count plan → IsHeadline plan ates links forks → AreOutsOf eater manner plan diners outs → IsGatheredOf plan forks outs
+  headline_gathered links manner eater diners many headline are = record {
     one_fork_an_edge = headline.one_fork_an_edge;
     ends = λ edge fork at. ap (λ (f : SeenFork). f.ends) (headline.each_fork edge fork at).in_hand;
     due = λ edge fork at. ap (λ (f : SeenFork). f.due) (headline.each_fork edge fork at).in_hand;

@@ -8,12 +8,13 @@ use Rattle.dine_rules.specs.Local.{edge_at, neighbour_at}
 use Rattle.dine_rules.specs.World.{place_of}
 use Rattle.dine_rules.proofs.links.Across.{across}
 use Rattle.dine_link.specs.Links.{SeenLink}
+use Rattle.dine_site.specs.declared.manner.Manner.{Manner}
 use Rattle.dine_site.specs.declared.site_end.SiteEnd.{SiteEnd}
 use Rattle.dine_site.specs.Ports.{seen_ports}
 use Rattle.dine_rules.specs.Timed.{AreTimed, Rise, is_put_at, is_take_at, moments_of}
 use Rattle.dine_site.specs.Times.{AreLater, IsTimed, none_late}
 use Rattle.dine_threads.specs.declared.gathered.SiteOut.{SiteOut}
-use Rattle.dine_threads.specs.declared.seats.Seat.{Seat}
+use Rattle.dine_threads.specs.declared.starts.SiteStart.{SiteStart}
 use Rattle.dine_threads.specs.private.Collecting.{AreLinksLeft, out_of, rows_left}
 use Rattle.dine_threads.specs.private.Wirings.{AreWired}
 use Rattle.dine_threads.specs.Gathered.{IsTakenInOrder}
@@ -29,8 +30,8 @@ later_than_more (x ∷ later) (y ∷ xs) ys many h zero put taken p t = h zero p
 later_than_more (x ∷ later) (y ∷ xs) ys many h (suc n) put taken p t = later_than_more later xs ys (omega arith) (λ k. h (suc k)) n put taken p t
 
 module _ {Lane Tx Closed Rx D : Type 0} {lane : Ghosts Lane Tx Closed Rx}
-    {eater : diners.Ghosts D} {plan : SeenPlan}
-    {seats : List (Seat Lane D Tx Closed Rx)} {ends : List (SiteEnd Lane D Tx Closed Rx)} (all : AreAllLeft lane eater plan seats ends)
+    {eater : diners.Ghosts D} {manner : Manner} {plan : SeenPlan}
+    {starts : List (SiteStart Lane D Tx Closed Rx)} {ends : List (SiteEnd Lane D Tx Closed Rx)} (all : AreAllLeft lane eater manner plan starts ends)
     (links : List SeenLink) (are_left : AreLinksLeft plan (rows_left lane ends) links) (are_wired : AreWired plan (rows_left lane ends)) (in_order : All IsTakenInOrder links) where
   -- So the events of all journals have moments that fit, where no site tells a fault.
   module _ (no_fault : (s : ℕ) (end : SiteEnd Lane D Tx Closed Rx) → slice_get ends s ≡ Some end → end.fault ≡ None) where

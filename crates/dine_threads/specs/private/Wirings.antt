@@ -3,13 +3,13 @@ use Rattle.std.specs.Prelude.{◌≡◌, ℕ, ◌<◌, List, [], slice_get, slic
 use Rattle.dine_graph.specs.Plan.{SeenPlan, edge_count, lo_of, hi_of}
 use Rattle.dine_rules.specs.World.{place_of}
 use Rattle.dine_link.specs.Bells.{SeenBell, SeenRinger, new_ringer}
-use Rattle.dine_threads.specs.declared.slots.Both.{Both}
+use Rattle.dine_threads.specs.declared.slots.EdgePair.{EdgePair}
 use Rattle.dine_threads.specs.declared.slots.Spot.{Spot}
 use Rattle.dine_site.specs.Ports.{SeenPort}
 use Rattle.dine_threads.specs.private.Spots.{low_spot, high_spot}
 
 -- The ringers of the bells at the two ends of the edge, each with the place of the edge there as its number.
-pub record AreRingersAt (plan : SeenPlan) (bells : List SeenBell) (edge : ℕ) (both : Both SeenRinger) : Type 0 where
+pub record AreRingersAt (plan : SeenPlan) (bells : List SeenBell) (edge : ℕ) (both : EdgePair SeenRinger) : Type 0 where
   pub low_bell : SeenBell
   pub high_bell : SeenBell
   pub has_low : slice_get bells (lo_of plan edge) ≡ Some low_bell
@@ -18,12 +18,12 @@ pub record AreRingersAt (plan : SeenPlan) (bells : List SeenBell) (edge : ℕ) (
   pub high : both.high ≡ new_ringer high_bell.identity (place_of plan (hi_of plan edge) edge)
 
 module _ {Identity : Type 0} where
-  -- the port at a place, by the ports of all sites, one row a site
+  -- the port at a place, by the ports of all sites, one row for each site
   abbrev pub port_at : List (List (SeenPort Identity)) → Spot → Option (SeenPort Identity)
   port_at rows spot = slice_get (slice_index_or rows spot.site []) spot.at
 
-  -- A port stands at each end of the edge. Each takes from the link that the other puts in, and the links have the
-  -- names of the edge and of the site that puts.
+  -- There is a port at each end of the edge. Each takes from the link that the other puts in, and the links have the
+  -- numbers of the edge and of the site that puts.
   pub record IsWired (plan : SeenPlan) (rows : List (List (SeenPort Identity))) (edge : ℕ) : Type 0 where
     pub low : SeenPort Identity
     pub high : SeenPort Identity
@@ -45,7 +45,7 @@ module _ {Identity : Type 0} where
     pub at_high : port_at rows (high_spot plan edge) ≡ Some high
     pub ringers : AreRingersAt plan bells edge (record { low = high.ringer; high = low.ringer })
 
-  -- so it is for each edge
+  -- `IsRung` holds of each edge
   abbrev pub AreRung : SeenPlan → List SeenBell → List (List (SeenPort Identity)) → Type 0
   AreRung plan bells rows = (edge : ℕ) → edge < edge_count plan → IsRung plan bells rows edge
 

@@ -1,4 +1,4 @@
--- How a meal is kept.
+-- What the fields of a Meal obey.
 use Rattle.std.specs.Prelude.{◌<◌, ◌^◌, All, vec_len}
 use Rattle.dine_token.specs.declared.meal.Meal.TheInside.{Inside}
 use Rattle.dine_token.specs.Fork.{IsDirty}

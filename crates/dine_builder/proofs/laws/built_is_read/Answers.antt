@@ -1,4 +1,4 @@
-use Rattle.dine_builder.proofs.ToldLemmas.{built_plan}
+use Rattle.dine_builder.proofs.DraftPlanLemmas.{built_plan}
 use Rattle.dine_builder.proofs.laws.built_is_read.Goals as goal
 
 pub returns-clause-plans : goal.returns-clause-plans

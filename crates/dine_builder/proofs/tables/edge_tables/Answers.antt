@@ -1,6 +1,6 @@
 use Rattle.std.proofs.Common.{map, ap, ◌∙◌}
 use Rattle.toml.specs.View.{view}
-use Rattle.dine_builder.specs.DraftDocument.{edge_table, names_told}
+use Rattle.dine_builder.specs.DraftDocument.{edge_table, names_of_sites}
 use Rattle.dine_builder.specs.private.DraftFields.{seen_draft_site}
 use Rattle.dine_reader.proofs.ListLemmas.{each_more}
 use Rattle.dine_builder.proofs.tables.edge_tables.Goals as goal
@@ -8,4 +8,4 @@ use Rattle.dine_builder.proofs.tables.edge_tables.Goals as goal
 pub loop-edge-preserved : goal.loop-edge-preserved
 loop-edge-preserved c =
     ap (map view) c.in_ok-push.ensures.items
-    ∙ each_more view (edge_table (names_told (map seen_draft_site c.args.sites.now))) c.loop-edge.tables.items c.in_ok-edge_table.field-0 c.args.edges.now c.loop-edge.edge-index _ c.loop-edge-test.true c.loop-edge.invariant c.in_ok-edge_table.ensures
+    ∙ each_more view (edge_table (names_of_sites (map seen_draft_site c.args.sites.now))) c.loop-edge.tables.items c.in_ok-edge_table.field-0 c.args.edges.now c.loop-edge.edge-index _ c.loop-edge-test.true c.loop-edge.invariant c.in_ok-edge_table.ensures

@@ -6,7 +6,7 @@ use Rattle.dine_link.specs.declared.bell_rule.Part.TheVariants.{Waits}
 use Rattle.dine_link.specs.Bells.{new_ringer}
 use Rattle.dine_link.proofs.bell.make_ringers.Given as goal
 
--- the ringers so far, with room for all
+-- the ringers so far, with capacity for all
 abbrev pub invariant-loop-number : goal.invariant-loop-number
 invariant-loop-number l = record {
   seated : IsSeatAt (sends_on l.sender) l.pass;

@@ -5,7 +5,7 @@ use Rattle.dine_reader.specs.RefusalTests.{stands_before, same_ends}
 use Rattle.dine_reader.proofs.ListLemmas.{list_any-map, first_twice_here, first_twice_none}
 use Rattle.dine_reader.proofs.edges.first_edge_twice.Goals as goal
 
--- whether a pair stands before
+-- whether a pair is one of those before it
 before : (pairs : List (ℕ × ℕ)) (i : ℕ) → i < length pairs → stands_before same_ends None (map Some pairs) i ≡ list_any (λ other. same_ends (Some (get_or pairs i (0, 0))) (Some other)) (take i pairs)
 unfolding stands_before
 before pairs i within =

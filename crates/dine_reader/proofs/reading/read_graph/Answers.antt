@@ -1,8 +1,9 @@
-use Rattle.std.proofs.Common.{◌≡◌, ℕ, List, map, Some, None, refl, sym, ap, ◌∙◌, arith}
+use Rattle.std.proofs.Common.{◌≡◌, ℕ, List, map, length, Some, None, refl, sym, ap, ◌∙◌, arith}
 use Rattle.std.proofs.lemmas.Bool.{ltb-false}
 use Rattle.std.proofs.lemmas.List.{length-map}
 use Rattle.toml.specs.Data.{Data}
 use Rattle.toml.specs.View.{view}
+use Rattle.dine_reader.specs.Document.{name_in}
 use Rattle.dine_reader.specs.PlanOf.{ends_in}
 use Rattle.dine_reader.specs.RefusalTests.{first_some, end_refusals, joined_by}
 use Rattle.dine_reader.proofs.GraphLemmas.{are_sites, are_ends, are_pairs, are_acts, join_known, is_plan, first_of_graph}
@@ -26,6 +27,13 @@ pairs_in-requires c =
     let few = ltb-false 64 _ sites.few in
     let long = length-map c.args.sites.now view in
     omega arith
+
+pub first_pair_fault-requires : goal.first_pair_fault-requires
+first_pair_fault-requires c =
+    let tables = map view c.args.edges.now in
+    let ends = ends_in (map name_in (map view c.args.sites.now)) in
+    let same = ap length (c.as_slice.ensures.value ∙ c.in_ok-pairs.ensures) in
+    omega (arith, same, length-map tables ends, length-map c.args.edges.now view, c.requires.edges)
 
 pub returns-in-Some-first_pair_fault-clause-refused : goal.returns-in-Some-first_pair_fault-clause-refused
 returns-in-Some-first_pair_fault-clause-refused c _ =

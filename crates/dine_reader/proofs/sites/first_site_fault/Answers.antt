@@ -1,9 +1,18 @@
-use Rattle.std.proofs.Common.{length, refl}
+use Rattle.std.proofs.Common.{[], length, arith, refl, sym, ◌∙◌}
+use Rattle.std.specs.Str.{bytes_eq}
 use Rattle.std.proofs.lemmas.Bool.{lt-ltb, le-ltb}
 use Rattle.std.proofs.lemmas.List.{length-map}
 use Rattle.toml.specs.View.{view}
 use Rattle.dine_reader.specs.RefusalTests.{site_refusals}
+use Rattle.dine_reader.proofs.DocumentLemmas.{names_seen, length-names_seen}
+use Rattle.dine_reader.proofs.ListLemmas.{first_twice_within}
 use Rattle.dine_reader.proofs.sites.first_site_fault.Goals as goal
+
+pub overflow_cast-result-in-Some-2 : goal.overflow_cast-result-in-Some-2
+overflow_cast-result-in-Some-2 c =
+    let sites = c.args.sites.now in
+    let within = first_twice_within bytes_eq [] (names_seen sites) c.in-Some-2.site (sym c.in_ok-site.ensures ∙ c.in-Some-2.is) in
+    omega (arith, within, length-names_seen sites, c.requires)
 
 pub returns-in-Some : goal.returns-in-Some
 unfolding site_refusals

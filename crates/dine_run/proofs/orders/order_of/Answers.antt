@@ -11,7 +11,7 @@ use Rattle.dine_threads.specs.declared.gathered.SiteOut.{SiteOut}
 use Rattle.dine_threads.specs.Journals.{HaveOrder}
 use Rattle.dine_run.proofs.orders.order_of.Goals as goal
 
--- where there is an order, nothing but memory is a fault
+-- if there is an order, a failed allocation is the only fault
 only_memory : (plan : SeenPlan) (journals : List (List EventKind)) (fault : OrderFault) → HaveOrder plan journals → OrderFaultIs (plan_shown plan journals) journals fault → fault ≢ Memory → ⊥
 only_memory plan journals CountDiffers order h other = h (order.count ∙ sym (sites_shown plan journals))
 only_memory plan journals (Stuck site placed) order h other = h.2 order.events order.is_order

@@ -6,7 +6,8 @@ use Rattle.dine_rules.specs.declared.events.EventKind.{EventKind}
 use Rattle.dine_rules.specs.declared.events.EventKind.TheVariants as event
 use Rattle.dine_rules.specs.Local.{LocalState}
 use Rattle.dine_rules.specs.Steps.{Step, Give, Ask, Hungry, Begin, End, Quit, Done, Close, Break, Take, after}
-use Rattle.dine_site.specs.Doings.{AreInTurn, brought_in, is_brought, own_event}
+use Rattle.dine_site.specs.declared.manner.Manner.TheVariants.{Eager}
+use Rattle.dine_site.specs.Doings.{AreInTurn, IsInTurn, brought_in, is_brought, own_event}
 use Rattle.dine_site.proofs.laws.letters_and_outcomes_fix_the_steps.Goals as goal
 
 -- whether something comes in a step, by its event
@@ -80,13 +81,26 @@ same_first step other steps others same brought =
           }
     ]
 
-fixed : (plan : SeenPlan) (s : ℕ) (steps others : List Step) (state : LocalState) → AreInTurn plan s state steps → AreInTurn plan s state others → length steps ≡ length others → brought_in steps ≡ brought_in others → steps ≡ others
+-- the turn of an eager site: each step is the first event that needs no letter, or takes one if there is no such event
+eager_turn : (next : Option EventKind) (step : Step) → IsInTurn Eager next step → next ≡ own_event step
+eager_turn next (Give i) turn = turn
+eager_turn next (Ask i) turn = turn
+eager_turn next Hungry turn = turn
+eager_turn next Begin turn = turn
+eager_turn next (End failed) turn = turn
+eager_turn next Quit turn = turn
+eager_turn next (Done i) turn = turn
+eager_turn next (Close i) turn = turn
+eager_turn next (Break i) turn = turn
+eager_turn next (Take i l) turn = turn
+
+fixed : (plan : SeenPlan) (s : ℕ) (steps others : List Step) (state : LocalState) → AreInTurn Eager plan s state steps → AreInTurn Eager plan s state others → length steps ≡ length others → brought_in steps ≡ brought_in others → steps ≡ others
 fixed plan s [] [] state turns other_turns long brought = refl
 fixed plan s [] (other ∷ others) state turns other_turns long brought = absurd (omega (arith, long))
 fixed plan s (step ∷ steps) [] state turns other_turns long brought = absurd (omega (arith, long))
 fixed plan s (step ∷ steps) (other ∷ others) state turns other_turns long brought =
-    let same = same_first step other steps others (sym turns.0 ∙ other_turns.0) brought in
-    let there : AreInTurn plan s (after plan s state step) others = subst (λ (x : Step). AreInTurn plan s (after plan s state x) others) (sym same.first) other_turns.1 in
+    let same = same_first step other steps others (sym (eager_turn _ step turns.0) ∙ eager_turn _ other other_turns.0) brought in
+    let there : AreInTurn Eager plan s (after plan s state step) others = subst (λ (x : Step). AreInTurn Eager plan s (after plan s state x) others) (sym same.first) other_turns.1 in
     let rest = fixed plan s steps others (after plan s state step) turns.1 there (omega (arith, long)) same.rest in
     ap (λ (x : Step). x ∷ steps) same.first ∙ ap (λ (xs : List Step). other ∷ xs) rest
 

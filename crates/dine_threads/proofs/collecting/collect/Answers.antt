@@ -2,8 +2,8 @@ use Rattle.std.proofs.Common.{◌≡◌, List, None, Option, length, ap, ◌∙�
 use Rattle.std.proofs.lemmas.List.{length-replicate}
 use Rattle.dine_graph.specs.Plan.{edge_count}
 use Rattle.dine_token.specs.Fork.{SeenFork}
-use Rattle.dine_threads.specs.private.Collecting.{forks_left, found, laid}
-use Rattle.dine_threads.proofs.all_sites.Collected.{length-laid, links_of_pairs, pairs_joined, rows_full}
+use Rattle.dine_threads.specs.private.Collecting.{forks_left, found, in_slots}
+use Rattle.dine_threads.proofs.all_sites.Collected.{length-in_slots, links_of_pairs, pairs_joined, rows_full}
 use Rattle.dine_threads.proofs.collecting.collect.Goals as goal
 
 pub pair_up-requires-clause-full : goal.pair_up-requires-clause-full
@@ -16,9 +16,9 @@ reconcile_all-requires-clause-joined g c κs within =
 
 pub pick_forks-requires-clause-room : goal.pick_forks-requires-clause-room
 pick_forks-requires-clause-room g c =
-    let laid_len = length-laid (forks_left (vec_items c.args.ends)) (vec_items c.args.room.slots) in
+    let slots_len = length-in_slots (forks_left (vec_items c.args.ends)) (vec_items c.args.room.slots) in
     let count = ap length c.requires.room.slots ∙ length-replicate (edge_count c.args.plan.now) None in
-    omega (arith, c.requires.room.forks, c.take_apart.new.slots.ok.0, ap length c.take_apart.ensures.slots, laid_len, count)
+    omega (arith, c.requires.room.forks, c.take_apart.new.slots.ok.0, ap length c.take_apart.ensures.slots, slots_len, count)
 
 pub returns-clause-links : goal.returns-clause-links
 returns-clause-links g c =
@@ -27,7 +27,7 @@ returns-clause-links g c =
 
 pub returns-clause-forks : goal.returns-clause-forks
 returns-clause-forks g c =
-    c.pick_forks.ensures ∙ ap found c.take_apart.ensures.slots ∙ ap (λ (slots : List (Option SeenFork)). found (laid (forks_left (vec_items c.args.ends)) slots)) c.requires.room.slots
+    c.pick_forks.ensures ∙ ap found c.take_apart.ensures.slots ∙ ap (λ (slots : List (Option SeenFork)). found (in_slots (forks_left (vec_items c.args.ends)) slots)) c.requires.room.slots
 
 pub returns-clause-sites : goal.returns-clause-sites
 returns-clause-sites g c = c.take_apart.ensures.sites

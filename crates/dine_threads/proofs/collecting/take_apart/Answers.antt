@@ -6,9 +6,9 @@ use Rattle.dine_token.specs.Fork.{SeenFork}
 use Rattle.dine_graph.specs.Plan.{edge_count}
 use Rattle.dine_site.specs.declared.port.Port.{Port}
 use Rattle.dine_site.specs.declared.site_end.SiteEnd.{SiteEnd}
-use Rattle.dine_threads.specs.private.Collecting.{AreForksOf, forks_left, laid, out_of}
+use Rattle.dine_threads.specs.private.Collecting.{AreForksOf, forks_left, in_slots, out_of}
 use Rattle.dine_threads.proofs.lists.Zips.{mapped_split}
-use Rattle.dine_threads.proofs.all_sites.Collected.{all_parts, laid-append, length-laid, moved_as, none_left}
+use Rattle.dine_threads.proofs.all_sites.Collected.{all_parts, in_slots-append, length-in_slots, moved_as, none_left}
 use Rattle.dine_threads.proofs.collecting.take_apart.Goals as goal
 
 pub loop-end-init : goal.loop-end-init
@@ -31,7 +31,7 @@ loop-end-init g c =
       forks = subst (AreForksOf c.args.plan.now) (sym (ap forks_left ends)) c.requires.whole.forks;
       sites = ap (λ l. l ++ map out_of (into_iter_items c.into_iter-end-iterator.result)) no_site ∙ ap (map out_of) ends;
       rows = ap (λ l. map (λ (row : Vec (Option (Port _ _ _ _))). row.items) l ++ map left (into_iter_items c.into_iter-end-iterator.result)) no_row ∙ ap (map left) ends;
-      slots = ap (λ l. laid (forks_left l) (vec_items c.args.slots.now)) ends;
+      slots = ap (λ l. in_slots (forks_left l) (vec_items c.args.slots.now)) ends;
     }
 
 pub take_out-requires-clause-room : goal.take_out-requires-clause-room
@@ -68,15 +68,15 @@ loop-end-preserved g c =
       no_thing = λ k row at_row. was.no_thing (suc k) row (ap (λ xs. slice_get xs (suc k)) next.0 ∙ at_row);
       site_room = omega (arith, was.site_room, steps.1, c.push_reserved.ensures.len, c.push_reserved.ensures.capacity);
       row_room = omega (arith, was.row_room, steps.1, c.push_reserved-in-loop-end.ensures.len, c.push_reserved-in-loop-end.ensures.capacity);
-      count = omega (arith, was.count, ap length c.take_out.ensures.slots, length-laid end.forks.items old, c.take_out.new.slots.ok.0, c.loop-end.slots.ok.0);
+      count = omega (arith, was.count, ap length c.take_out.ensures.slots, length-in_slots end.forks.items old, c.take_out.new.slots.ok.0, c.loop-end.slots.ok.0);
       forks = (all_parts (λ (fork : SeenFork). fork.edge < edge_count c.args.plan.now) end.forks.items (forks_left rest) forks).1;
       sites = moved_as (vec_items c.loop-end.sites) (vec_items c.push_reserved.new.self) c.take_out.result (out_of end) (map out_of (into_iter_items c.loop-end.end-iterator)) (map out_of rest) (map out_of (vec_items c.args.ends)) c.push_reserved.ensures.items c.take_out.ensures.out (ap (map out_of) steps.0) was.sites;
       rows =
           mapped_split (λ (row : Vec (Option (Port _ _ _ _))). row.items) (vec_items c.loop-end.rows) (vec_items c.push_reserved-in-loop-end.new.self) c.take_out.new.row (left end) (map left (into_iter_items c.loop-end.end-iterator)) (map left rest) (map left (vec_items c.args.ends)) c.push_reserved-in-loop-end.ensures.items (ap (map left) steps.0) c.take_out.ensures.row was.rows;
       slots =
-          ap (laid (forks_left rest)) c.take_out.ensures.slots
-          ∙ sym (laid-append end.forks.items (forks_left rest) old)
-          ∙ sym (ap (λ l. laid (forks_left l) old) steps.0)
+          ap (in_slots (forks_left rest)) c.take_out.ensures.slots
+          ∙ sym (in_slots-append end.forks.items (forks_left rest) old)
+          ∙ sym (ap (λ l. in_slots (forks_left l) old) steps.0)
           ∙ was.slots;
     }
 
@@ -89,5 +89,5 @@ returns g c =
     record {
       sites = none_left (vec_items c.loop-end.sites) (map out_of (into_iter_items rest)) (map out_of (vec_items c.args.ends)) (ap (map out_of) none) was.sites;
       rows = none_left (map (λ (row : Vec (Option (Port _ _ _ _))). row.items) (vec_items c.loop-end.rows)) (map left (into_iter_items rest)) (map left (vec_items c.args.ends)) (ap (map left) none) was.rows;
-      slots = sym (ap (λ l. laid (forks_left l) (vec_items c.loop-end.slots)) none) ∙ was.slots;
+      slots = sym (ap (λ l. in_slots (forks_left l) (vec_items c.loop-end.slots)) none) ∙ was.slots;
     }

@@ -4,7 +4,7 @@ use Rattle.std.specs.Vec.Iter.{into_iter_items, into_iter_len}
 use Rattle.dine_graph.specs.Plan.{edge_count}
 use Rattle.dine_site.specs.declared.port.Port.{Port}
 use Rattle.dine_site.specs.declared.site_end.SiteEnd.{SiteEnd}
-use Rattle.dine_threads.specs.private.Collecting.{AreForksOf, forks_left, laid, out_of}
+use Rattle.dine_threads.specs.private.Collecting.{AreForksOf, forks_left, in_slots, out_of}
 use Rattle.dine_threads.proofs.collecting.take_apart.Given as goal
 
 abbrev pub invariant-loop-end : goal.invariant-loop-end
@@ -18,5 +18,5 @@ invariant-loop-end g l = record {
   forks : AreForksOf l.plan (forks_left (into_iter_items l.end-iterator));
   sites : vec_items l.sites ++ map out_of (into_iter_items l.end-iterator) ≡ map out_of (vec_items l.fn.ends);
   rows : map (λ (row : Vec (Option (Port _ _ _ _))). row.items) (vec_items l.rows) ++ map (λ (end : SiteEnd _ _ _ _ _). map Some end.ports.items) (into_iter_items l.end-iterator) ≡ map (λ (end : SiteEnd _ _ _ _ _). map Some end.ports.items) (vec_items l.fn.ends);
-  slots : laid (forks_left (into_iter_items l.end-iterator)) (vec_items l.slots) ≡ laid (forks_left (vec_items l.fn.ends)) (vec_items l.fn.slots);
+  slots : in_slots (forks_left (into_iter_items l.end-iterator)) (vec_items l.slots) ≡ in_slots (forks_left (vec_items l.fn.ends)) (vec_items l.fn.slots);
 }

@@ -1,4 +1,5 @@
-use Rattle.std.proofs.Common.{refl}
+use Rattle.std.proofs.Common.{ℕ, List, ap}
+use Rattle.dine_threads.specs.private.Collecting.{out_of}
 use Rattle.dine_threads.proofs.collecting.take_out.Goals as goal
 
 pub fill_row-requires-clause-room : goal.fill_row-requires-clause-room
@@ -7,8 +8,8 @@ fill_row-requires-clause-room g c = c.requires.room
 pub fill_row-requires-clause-none : goal.fill_row-requires-clause-none
 fill_row-requires-clause-none g c = c.requires.none
 
-pub lay_forks-requires : goal.lay_forks-requires
-lay_forks-requires g c = c.requires.forks
+pub place_forks-requires : goal.place_forks-requires
+place_forks-requires g c = c.requires.forks
 
 pub returns : goal.returns
-returns g c = record { out = refl; row = c.fill_row.ensures; slots = c.lay_forks.ensures }
+returns g c = record { out = ap (λ (events : List ℕ). record (out_of c.args.end) { checks = record { at = events; sealed = tt } }) c.into_empty_checks.ensures; row = c.fill_row.ensures; slots = c.place_forks.ensures }

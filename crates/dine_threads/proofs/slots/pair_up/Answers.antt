@@ -3,8 +3,8 @@ use Rattle.std.proofs.lemmas.Option.{slice_get_within}
 use Rattle.dine_graph.specs.Plan.{edge_count, edges_of, lo_of, hi_of}
 use Rattle.dine_rules.specs.JoinedEnds.{AreEndsOfEdge}
 use Rattle.dine_rules.specs.Local.{edge_at}
-use Rattle.dine_threads.specs.private.Spots.{slot_at, low_spot, high_spot, IsBothAt}
-use Rattle.dine_threads.specs.declared.slots.Both.{Both}
+use Rattle.dine_threads.specs.private.Spots.{slot_at, low_spot, high_spot, IsPairAt}
+use Rattle.dine_threads.specs.declared.slots.EdgePair.{EdgePair}
 use Rattle.dine_threads.specs.declared.slots.Spot.{Spot}
 use Rattle.dine_threads.proofs.all_sites.Edges.{at_low, at_high, found_spot, high_full, later_differs, low_full, slice_get-push}
 use Rattle.dine_threads.proofs.lists.Writes.{spots_apart}
@@ -85,8 +85,8 @@ loop-edge-preserved g c =
     ∙ c.take_slot.ensures.others spot (subst (λ s. spot ≢ s) (sym low) (spots_apart plan spot (low_spot plan n) e n stands (at_low plan n (ends n within) (at n within)) differ)) in
     let differ : high_spot plan n ≢ low_spot plan n = λ same. (let order = is_plan.ordered n within in let sites = ap (λ (s : Spot). s.site) same in omega (arith, order, sites)) in
     let kept = c.take_slot.ensures.others (high_spot plan n) (subst (λ s. high_spot plan n ≢ s) (sym low) differ) in
-    let new : Both _ = record { low = c.unwrap-low.result; high = c.unwrap-high.result } in
-    let here : IsBothAt plan c.args.rows.now.items n new = record {
+    let new : EdgePair _ = record { low = c.unwrap-low.result; high = c.unwrap-high.result } in
+    let here : IsPairAt plan c.args.rows.now.items n new = record {
       low = sym (was.low n (omega arith) within) ∙ sym (c.take_slot.ensures.value ∙ ap (slot_at before) low) ∙ c.unwrap-low.ensures;
       high = sym (was.high n (omega arith) within) ∙ sym (c.take_slot-in-loop-edge.ensures.value ∙ ap (slot_at half) high ∙ kept) ∙ c.unwrap-high.ensures;
     } in
@@ -98,6 +98,6 @@ loop-edge-preserved g c =
       paired = λ e both stands.
           elim (slice_get-push (vec_items c.loop-edge.pairs) new both e (subst (λ xs. slice_get xs e ≡ Some both) c.push_reserved.ensures.items stands)) [
             | inl earlier ↦ was.paired e both earlier
-            | inr last ↦ (let number : n ≡ e = omega (arith, last.0, was.len, c.loop-edge.pairs.ok.0) in subst (λ b. IsBothAt plan c.args.rows.now.items e b) last.1 (subst (λ k. IsBothAt plan c.args.rows.now.items k new) number here))
+            | inr last ↦ (let number : n ≡ e = omega (arith, last.0, was.len, c.loop-edge.pairs.ok.0) in subst (λ b. IsPairAt plan c.args.rows.now.items e b) last.1 (subst (λ k. IsPairAt plan c.args.rows.now.items k new) number here))
           ];
     }

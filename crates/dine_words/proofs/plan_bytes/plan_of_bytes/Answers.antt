@@ -1,4 +1,4 @@
-use Rattle.std.proofs.Common.{◌≡◌, ◌∙◌, List, ℕ, Some, true, cond, sym, subst, ap}
+use Rattle.std.proofs.Common.{◌≡◌, ◌∙◌, List, ℕ, Some, Result, Ok, Err, OnOk, IfOk, IfErr, true, cond, sym, subst, ap}
 use Rattle.std.specs.Str.{is_utf8}
 use Rattle.std.proofs.lemmas.Bool.{cond-true, cond-false, false_from_ne_true}
 use Rattle.std.proofs.lemmas.Str.{is_utf8-from_IsUtf8, IsUtf8-from_is_utf8}
@@ -11,21 +11,33 @@ use Rattle.dine_words.proofs.plan_bytes.plan_of_bytes.Goals as goal
 text_fault : (bytes : List ℕ) → is_utf8 bytes ≡ true → cond (is_utf8 bytes) (first_fault bytes) (Some NotToml) ≡ first_fault bytes
 text_fault bytes text = cond-true (is_utf8 bytes) (first_fault bytes) (Some NotToml) text
 
-pub returns-in-Ok-read_plan-clause-plan : goal.returns-in-Ok-read_plan-clause-plan
-returns-in-Ok-read_plan-clause-plan c =
+ok_then : {A E U : Type 0} (P Q : A → Type 0) (r : Result A E) → ((x : A) → U → P x → Q x) → OnOk r U → IfOk r P → IfOk r Q
+ok_then P Q (Ok x) f u p = f x u p
+ok_then P Q (Err e) f u p = tt
+
+err_then : {A E : Type 0} (P Q : E → Type 0) (r : Result A E) → ((e : E) → P e → Q e) → IfErr r P → IfErr r Q
+err_then P Q (Ok x) f p = tt
+err_then P Q (Err e) f p = f e p
+
+pub returns-in-Ok-clause-plan : goal.returns-in-Ok-clause-plan
+returns-in-Ok-clause-plan c =
     let bytes = c.args.bytes.now in
     let same = c.in-Ok.ensures.cases.0 in
     let text = is_utf8-from_IsUtf8 bytes c.in-Ok.ensures.cases.1 in
-    let P = λ (b : List ℕ). IsPlanOf b c.in-Ok-read_plan.plan in
-    record {
-      unrefused = text_fault bytes text ∙ ap first_fault (sym same) ∙ c.in-Ok-read_plan.ensures.unrefused;
-      plan_of_text = subst P same c.in-Ok-read_plan.ensures.plan;
-    }
+    ok_then _ _ c.read_plan.result
+    (λ plan none is. let P = λ (b : List ℕ). IsPlanOf b plan in record {
+      unrefused = text_fault bytes text ∙ ap first_fault (sym same) ∙ none;
+      plan_of_text = subst P same is;
+    })
+    c.read_plan.ensures.unrefused c.read_plan.ensures.plan
 
-pub returns-in-Err-read_plan-clause-refused : goal.returns-in-Err-read_plan-clause-refused
-returns-in-Err-read_plan-clause-refused c other =
+pub returns-in-Ok-clause-refused : goal.returns-in-Ok-clause-refused
+returns-in-Ok-clause-refused c =
     let bytes = c.args.bytes.now in
-    text_fault bytes (is_utf8-from_IsUtf8 bytes c.in-Ok.ensures.cases.1) ∙ ap first_fault (sym c.in-Ok.ensures.cases.0) ∙ c.in-Err-read_plan.ensures.refused other
+    let text = is_utf8-from_IsUtf8 bytes c.in-Ok.ensures.cases.1 in
+    err_then _ _ c.read_plan.result
+    (λ fault first other. text_fault bytes text ∙ ap first_fault (sym c.in-Ok.ensures.cases.0) ∙ first other)
+    c.read_plan.ensures.refused
 
 pub returns-in-Err-clause-refused : goal.returns-in-Err-clause-refused
 returns-in-Err-clause-refused c _ =

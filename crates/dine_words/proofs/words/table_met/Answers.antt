@@ -1,4 +1,4 @@
--- The name of the table is the first value that the parse met.
+-- The name of the table is the first value that `clap` found.
 use Rattle.std.proofs.Common.{◌∙◌, ap, sym, Some, Option, List, ℕ, codes, option_map, Bor}
 use Rattle.std.specs.Option.{option_map_or}
 use Rattle.clap.specs.Words.{found_of}

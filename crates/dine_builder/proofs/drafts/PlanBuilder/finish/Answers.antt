@@ -7,7 +7,7 @@ use Rattle.dine_builder.specs.DraftDocument.{document_of}
 use Rattle.dine_reader.specs.PlanOf.{plan_of_document}
 use Rattle.dine_builder.specs.private.DraftFields.{seen_draft_site}
 use Rattle.dine_builder.proofs.MetLemmas.{is_of_draft}
-use Rattle.dine_builder.proofs.ToldLemmas.{plan_of_told}
+use Rattle.dine_builder.proofs.DraftPlanLemmas.{plan_of_draft_is}
 use Rattle.dine_builder.proofs.drafts.PlanBuilder.finish.Goals as goal
 
 ok_then : {A E : Type 0} (N : Type 0) (P Q : A → Type 0) (r : Result A E) → (N → (x : A) → P x → Q x) → OnOk r N → IfOk r P → IfOk r Q
@@ -18,7 +18,7 @@ err_then : {A E : Type 0} (P Q : E → Type 0) (r : Result A E) → ((e : E) →
 err_then P Q (Ok x) f h = tt
 err_then P Q (Err e) f h = f e h
 
--- the tables say what was told
+-- the tables say the same as the draft
 seen : (c : goal.Joined-this) → view (Table c.in_ok-document.document) ≡ table (document_of c.args.self.now)
 seen c =
     let sites = ap (map seen_draft_site) c.as_slice.ensures.value in
@@ -27,7 +27,7 @@ seen c =
 
 pub returns-clause-plan : goal.returns-clause-plan
 returns-clause-plan c =
-    ok_then _ _ _ c.read_tables.result (λ fine p is. is ∙ ap plan_of_document (seen c) ∙ plan_of_told c.args.self.now (rw (seen c) at fine)) c.read_tables.ensures.unrefused c.read_tables.ensures.plan
+    ok_then _ _ _ c.read_tables.result (λ fine p is. is ∙ ap plan_of_document (seen c) ∙ plan_of_draft_is c.args.self.now (rw (seen c) at fine)) c.read_tables.ensures.unrefused c.read_tables.ensures.plan
 
 pub returns-clause-cause : goal.returns-clause-cause
 returns-clause-cause c =

@@ -3,8 +3,8 @@ use Rattle.dine_builder.specs.Draft.{SeenDraftSite, with_resigning}
 use Rattle.dine_builder.proofs.DraftLemmas.{site_changed}
 use Rattle.dine_builder.proofs.drafts.PlanBuilder.resign.Goals as goal
 
-pub returns-clause-told : goal.returns-clause-told
-returns-clause-told c =
+pub returns-clause-changed : goal.returns-clause-changed
+returns-clause-changed c =
     let kept = c.self.inside in
     let within : c.args.site < length kept.sites.items = omega (arith, c.if-site-len.false, c.len.ensures, kept.sites.ok.0) in
     let resigning : SeenDraftSite → SeenDraftSite = λ site. record site { resigns = true } in

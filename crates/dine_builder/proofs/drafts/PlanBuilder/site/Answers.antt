@@ -11,11 +11,11 @@ returns c =
     let count : length (map seen_draft_site kept.sites.items) ≡ length kept.sites.items = length-map kept.sites.items seen_draft_site in
     let counted : length (map seen_draft_site kept.sites.items) ≡ length c.args.self.now.sites = ap (λ (d : Draft). length d.sites) c.self.view_is in
     let site : DraftSite = record { name = c.in_ok-name.name; jobs = c.in_ok-jobs.jobs; resigns = false } in
-    let told : SeenDraftSite = record { name = c.args.name.now; jobs = plain_jobs c.args.jobs; resigns = false } in
-    let seen : seen_draft_site site ≡ told = rw (c.in_ok-name.ensures.ok, c.in_ok-jobs.ensures, c.min.ensures) refl in
+    let draft : SeenDraftSite = record { name = c.args.name.now; jobs = plain_jobs c.args.jobs; resigns = false } in
+    let seen : seen_draft_site site ≡ draft = rw (c.in_ok-name.ensures.ok, c.in_ok-jobs.ensures, c.min.ensures) refl in
     record {
       number = omega (arith, c.len-number.ensures, kept.sites.ok.0, count, counted);
-      told =
+      changed =
           ap (λ sites. record { sites = sites; edges = kept.edges.items }) (ap (map seen_draft_site) c.in_ok-push.ensures.items ∙ map_push seen_draft_site kept.sites.items site ∙ ap (λ s. map seen_draft_site kept.sites.items ++ s ∷ []) seen)
           ∙ ap (with_site c.args.name.now c.args.jobs) c.self.view_is;
       refused = tt;

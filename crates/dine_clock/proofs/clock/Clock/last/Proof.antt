@@ -32,7 +32,7 @@ use Rattle.dine_clock.proofs.clock.Clock.last.Statement as stated
 use Rattle.dine_clock.proofs.clock.Clock.last.Code as code
 use Rattle.dine_clock.specs.contracts.stamp.Stamp as moment
 use Rattle.dine_clock.specs.contracts.clock.Clock as clock
-use Rattle.dine_clock.specs.Moments.{last_moment}
+use Rattle.dine_clock.proofs.Values.{moment_of_the_last}
 
 abbrev stayed : Stays (f.ended).signature.params (f.ended).kept
 stayed = (stay_none_ref (0 ∷ []) tt (plain (λ _. clock.the_row)) yes, tt)
@@ -56,8 +56,8 @@ module _ {M : Type 1} {𝓤 : Ura M} (𝓛 : Logic 𝓤) (mem : Memory → SProp
         qed 𝓛 (raw (alive 𝓛 f.signature κs qs) ∷ ‵ passed ∷ []) ∵ enter ! C Λ code.function (before ∷ []) _ $
         alloc_all ! (λ l. pass_all ! refl ((tt, tt), tt) $ sets ! (agg ! (no_more !)) refl (tt, tt) $
         returns ! (look_at ! 0 refl) $ free_all ! refl $
-        suffices ! _ (ends_at 𝓛 f.ended stayed (f.clauses 𝓛 mem run) bound (vstruct vnil) (record { at = last_moment a.0.now.events }) (tt, tt) (tt, tt)) $
-        says ! refl $ pure_i ! (moment.the_row.own_val (record { at = last_moment a.0.now.events }) (vstruct vnil ∷ [])) ((λ vss. (tt, tt)), tt) ((tt, (refl, tt)), tt) $
+        suffices ! _ (ends_at 𝓛 f.ended stayed (f.clauses 𝓛 mem run) bound (vstruct vnil) (record { at = moment_of_the_last a.0.now.events }) (tt, tt) (tt, tt)) $
+        says ! refl $ pure_i ! (moment.the_row.own_val (record { at = moment_of_the_last a.0.now.events }) (vstruct vnil ∷ [])) ((λ vss. (tt, tt)), tt) ((tt, (refl, tt)), tt) $
         move ! (1 ∷ 2 ∷ 0 ∷ []) $ done !)
 
   walks : Walks 𝓛 f.ended stayed (WpFn 𝓤 H C Λ code.function) (f.clauses 𝓛 mem run)

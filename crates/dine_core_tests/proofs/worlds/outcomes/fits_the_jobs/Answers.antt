@@ -2,7 +2,7 @@ use Rattle.std.proofs.Common.{◌≡◌, ℕ, ◌<◌, Bool, List, Vec, Global, 
 use Rattle.std.proofs.lemmas.Bool.{cases_eq}
 use Rattle.std.proofs.lemmas.List.{get_or-map, length-map}
 use Rattle.dine_graph.specs.Plan.{job_count}
-use Rattle.dine_world.specs.Worlds.{lists_of}
+use Rattle.dine_core.specs.Worlds.{lists_of}
 use Rattle.dine_core_tests.proofs.worlds.outcomes.fits_the_jobs.Goals as goal
 
 pub loop-site-init : goal.loop-site-init

@@ -1,6 +1,6 @@
 use Rattle.std.proofs.Common.{◌≡◌, ℕ, ◌<◌, Bool, List, length, slice_index_or}
 use Rattle.dine_graph.specs.Plan.{job_count}
-use Rattle.dine_world.specs.Worlds.{lists_of}
+use Rattle.dine_core.specs.Worlds.{lists_of}
 use Rattle.dine_core_tests.proofs.worlds.outcomes.fits_the_jobs.Given as goal
 
 -- the lists of the sites so far have a value for each job

@@ -5,10 +5,13 @@ use Rattle.dine_link.specs.Stamps.{letters_in}
 use Rattle.dine_link.proofs.channel.ChannelLaneLane.close_at.Goals as goal
 
 pub invariant_of-result-clause-ended : goal.invariant_of-result-clause-ended
-invariant_of-result-clause-ended g c = rw (ap (λ end. end.letters) c.in-Ok.ensures) (ended-added (letters_in (view c.args.tx.putting.pass).put))
+invariant_of-result-clause-ended g c = rw (ap (λ end. end.letters) c.in-Ok.ensures.put) (ended-added (letters_in (view c.args.tx.putting.pass).put))
 
 pub invariant_of-result-clause-close_last : goal.invariant_of-result-clause-close_last
-invariant_of-result-clause-close_last g c = rw (ap (λ end. end.letters) c.in-Ok.ensures) (close_last-added (letters_in (view c.args.tx.putting.pass).put) c.args.tx.unclosed)
+invariant_of-result-clause-close_last g c = rw (ap (λ end. end.letters) c.in-Ok.ensures.put) (close_last-added (letters_in (view c.args.tx.putting.pass).put) c.args.tx.unclosed)
 
-pub returns : goal.returns
-returns g c = search rules
+pub returns-clause-closed : goal.returns-clause-closed
+returns-clause-closed g c = search rules
+
+pub returns-clause-refused : goal.returns-clause-refused
+returns-clause-refused g c = search rules

@@ -10,11 +10,11 @@ use Rattle.dine_link.proofs.channel.ChannelLaneLane.take_at.Goals as goal
 pub receive-requires-clause-rule : goal.receive-requires-clause-rule
 receive-requires-clause-rule g c = (takes _ _ c.args.rx.now.takes, λ items views h at. tt)
 
-pub invariant_of-rx-2-clause-told : goal.invariant_of-rx-2-clause-told
-invariant_of-rx-2-clause-told g c = rw (ap (λ view. letters_in view.taken) c.in-Some.ensures.rule ∙ letters_then (view c.args.rx.now.pass).taken c.in-Some.got) (c.is_close-rx.ensures ∙ sym (has_close-added (letters_in (view c.args.rx.now.pass).taken) c.in-Some.got.letter c.requires.open))
+pub invariant_of-rx-2-clause-noted : goal.invariant_of-rx-2-clause-noted
+invariant_of-rx-2-clause-noted g c = rw (ap (λ view. letters_in view.taken) c.in-Some.ensures.rule ∙ letters_then (view c.args.rx.now.pass).taken c.in-Some.got) (c.is_close-rx.ensures ∙ sym (has_close-added (letters_in (view c.args.rx.now.pass).taken) c.in-Some.got.letter c.requires.open))
 
-pub returns-in_default : goal.returns-in_default
-returns-in_default g c = search rules
+pub returns-clause-taken : goal.returns-clause-taken
+returns-clause-taken g c = rw c.in-Some.ensures.rule (end_then (record { identity = receives_on c.args.rx.now.receiver; edge = c.args.rx.now.edge; from = c.args.rx.now.from }) c.args.rx.now.refused (view c.args.rx.now.pass).taken c.in-Some.got)
 
-pub returns : goal.returns
-returns g c = rw c.in-Some.ensures.rule (end_then (record { identity = receives_on c.args.rx.now.receiver; edge = c.args.rx.now.edge; from = c.args.rx.now.from }) c.args.rx.now.refused (view c.args.rx.now.pass).taken c.in-Some.got)
+pub returns-in_default-clause-refused : goal.returns-in_default-clause-refused
+returns-in_default-clause-refused g c = search rules

@@ -21,19 +21,19 @@ returns-clause-whole c = λ closed.
     let e = subst P c.absorb.ensures.rule c.learn_as.ensures.rule.1 in
     let queue : List Stamped = c.learn_as.ensures.rule.0 in
     let f : letters_in (view c.args.self.pass).put ≡ letters_in (view c.args.rx.pass).taken ++ letters_in queue = ap letters_in e ∙ map-append (λ (one : Stamped). one.letter) (view c.args.rx.pass).taken queue in
-    rw (c.and_refused.ensures, c.keep-end.ensures, c.learn_as.ensures.channel.2, c.absorb.ensures.rule) (whole (letters_in (view c.args.self.pass).put) (letters_in (view c.args.rx.pass).taken) (letters_in queue) f closed c.requires.close_last)
+    rw (c.and_refused.ensures, c.from_ends-end.ensures, c.learn_as.ensures.channel.2, c.absorb.ensures.rule) (whole (letters_in (view c.args.self.pass).put) (letters_in (view c.args.rx.pass).taken) (letters_in queue) f closed c.requires.close_last)
 
 pub returns-clause-moments : goal.returns-clause-moments
 returns-clause-moments c =
     let P : Known → Type 0 = λ view. view.put ≡ view.taken ++ c.learn_as.ensures.rule.0 in
     let e = subst P c.absorb.ensures.rule c.learn_as.ensures.rule.1 in
-    rw (c.and_refused.ensures, c.keep-end.ensures, c.learn_as.ensures.channel.2, c.absorb.ensures.rule) (moments_prefix (view c.args.rx.pass).taken (view c.args.self.pass).put (c.learn_as.ensures.rule.0, sym e))
+    rw (c.and_refused.ensures, c.from_ends-end.ensures, c.learn_as.ensures.channel.2, c.absorb.ensures.rule) (moments_prefix (view c.args.rx.pass).taken (view c.args.self.pass).put (c.learn_as.ensures.rule.0, sym e))
 
-pub keep-end-requires-clause-put : goal.keep-end-requires-clause-put
-keep-end-requires-clause-put c = rw (c.learn_as.ensures.channel.2, c.absorb.ensures.rule) (c.args.self.counted ∙ sym (letters_count (view c.args.self.pass).put))
+pub from_ends-end-requires-clause-put : goal.from_ends-end-requires-clause-put
+from_ends-end-requires-clause-put c = rw (c.learn_as.ensures.channel.2, c.absorb.ensures.rule) (c.args.self.counted ∙ sym (letters_count (view c.args.self.pass).put))
 
-pub keep-end-requires-clause-taken : goal.keep-end-requires-clause-taken
-keep-end-requires-clause-taken c = rw (c.learn_as.ensures.channel.2, c.absorb.ensures.rule) (c.args.rx.counted ∙ sym (letters_count (view c.args.rx.pass).taken))
+pub from_ends-end-requires-clause-taken : goal.from_ends-end-requires-clause-taken
+from_ends-end-requires-clause-taken c = rw (c.learn_as.ensures.channel.2, c.absorb.ensures.rule) (c.args.rx.counted ∙ sym (letters_count (view c.args.rx.pass).taken))
 
 pub returns-clause-lists : goal.returns-clause-lists
 returns-clause-lists c = search rules

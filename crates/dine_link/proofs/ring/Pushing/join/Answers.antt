@@ -12,10 +12,10 @@ returns-clause-whole c = λ closed.
     let items : List Stamped = known_items c.slots_beside.new.self in
     let e : sent c.args.self.producer ≡ received c.args.rx.consumer ++ items = cc (c.slots_beside.ensures.fifo, c.slots_beside.ensures.producer.1, c.slots_beside.ensures.looked.1) in
     let f : letters_in (sent c.args.self.producer) ≡ letters_in (received c.args.rx.consumer) ++ letters_in items = ap letters_in e ∙ map-append (λ (one : Stamped). one.letter) (received c.args.rx.consumer) items in
-    rw (c.keep.ensures, c.slots_beside.ensures.looked.1, c.slots_beside.ensures.producer.1) (whole (letters_in (sent c.args.self.producer)) (letters_in (received c.args.rx.consumer)) (letters_in items) f closed c.requires.close_last)
+    rw (c.from_ends.ensures, c.slots_beside.ensures.looked.1, c.slots_beside.ensures.producer.1) (whole (letters_in (sent c.args.self.producer)) (letters_in (received c.args.rx.consumer)) (letters_in items) f closed c.requires.close_last)
 
 pub returns-clause-moments : goal.returns-clause-moments
 returns-clause-moments c =
     let items : List Stamped = known_items c.slots_beside.new.self in
     let e : sent c.args.self.producer ≡ received c.args.rx.consumer ++ items = cc (c.slots_beside.ensures.fifo, c.slots_beside.ensures.producer.1, c.slots_beside.ensures.looked.1) in
-    rw (c.keep.ensures, c.slots_beside.ensures.looked.1, c.slots_beside.ensures.producer.1) (moments_prefix (received c.args.rx.consumer) (sent c.args.self.producer) (items, sym e))
+    rw (c.from_ends.ensures, c.slots_beside.ensures.looked.1, c.slots_beside.ensures.producer.1) (moments_prefix (received c.args.rx.consumer) (sent c.args.self.producer) (items, sym e))

@@ -5,8 +5,8 @@ use Rattle.dine_link.proofs.Stamping.{letters_then}
 use Rattle.dine_link.specs.Stamps.{letters_in}
 use Rattle.dine_link.proofs.ring.RingLaneLane.take_at.Goals as goal
 
-pub invariant_of-rx-clause-told : goal.invariant_of-rx-clause-told
-invariant_of-rx-clause-told g c = rw (ap letters_in c.in-Ok.ensures.ok.0 ∙ letters_then (received c.loop.rx.consumer) c.in-Ok.got, ap (λ end. end.letters) c.loop.invariant) (c.is_close-rx.ensures ∙ sym (has_close-added (letters_in (received c.args.rx.now.consumer)) c.in-Ok.got.letter c.requires.open))
+pub invariant_of-rx-clause-noted : goal.invariant_of-rx-clause-noted
+invariant_of-rx-clause-noted g c = rw (ap letters_in c.in-Ok.ensures.ok.0 ∙ letters_then (received c.loop.rx.consumer) c.in-Ok.got, ap (λ end. end.letters) c.loop.invariant) (c.is_close-rx.ensures ∙ sym (has_close-added (letters_in (received c.args.rx.now.consumer)) c.in-Ok.got.letter c.requires.open))
 
 pub invariant_of-rx-in_default : goal.invariant_of-rx-in_default
 invariant_of-rx-in_default g c = search rules

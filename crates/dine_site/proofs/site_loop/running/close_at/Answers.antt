@@ -27,11 +27,11 @@ close-port-requires-clause-live g c κs ls =
     let there = slice_get_read xs (length xs) i c.swap_remove.result refl within c.swap_remove.ensures.value in
     of_there (λ (port : SeenPort g.L.Lane.Identity). port.is_live ≡ true) (slice_get (map see xs) i) (see c.swap_remove.result) (slice_get-map see xs i ∙ ap (option_map see) there) c.requires.live
 
-pub close-port-requires-clause-room : goal.close-port-requires-clause-room
-close-port-requires-clause-room g c κs ls =
+pub close-port-requires-clause-few_letters : goal.close-port-requires-clause-few_letters
+close-port-requires-clause-few_letters g c κs ls =
     let xs = c.args.ports.now.items in
     let i = c.args.i in
     let see = seen_port g.L.Lane in
     let within : i < length xs = omega (arith, c.requires.place, c.args.ports.now.ok.0) in
     let there = slice_get_read xs (length xs) i c.swap_remove.result refl within c.swap_remove.ensures.value in
-    of_there (λ (port : SeenPort g.L.Lane.Identity). length port.tx.letters < 2 ^ 61) (slice_get (map see xs) i) (see c.swap_remove.result) (slice_get-map see xs i ∙ ap (option_map see) there) c.requires.room
+    of_there (λ (port : SeenPort g.L.Lane.Identity). length port.tx.letters < 2 ^ 61) (slice_get (map see xs) i) (see c.swap_remove.result) (slice_get-map see xs i ∙ ap (option_map see) there) c.requires.few_letters

@@ -2,7 +2,7 @@ use Rattle.std.proofs.Common.{◌≡◌, ℕ, ◌+◌, ◌-◌, ◌<◌, List, l
 use Rattle.std.proofs.lemmas.Option.{get_or_from_slice_get}
 use Rattle.dine_token.specs.declared.log_period.Period.{Period}
 use Rattle.dine_token.specs.Periods.{periods_of, entries_of}
-use Rattle.dine_token.proofs.Told.{IsPlaced, placed-at}
+use Rattle.dine_token.proofs.LawfulPeriods.{IsPlaced, placed-at}
 use Rattle.dine_token.proofs.Forks.{length-periods, placed_fork}
 use Rattle.dine_token.proofs.fork.Fork.entries_before.Goals as goal
 

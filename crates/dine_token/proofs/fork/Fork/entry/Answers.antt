@@ -3,7 +3,7 @@ use Rattle.dine_token.specs.declared.log_entry.Entry.{Entry}
 use Rattle.dine_token.specs.declared.log_entry.Entry.TheVariants.{Meal}
 use Rattle.dine_token.specs.declared.log_period.Period.{Period}
 use Rattle.dine_token.specs.Periods.{periods_of, entries_of}
-use Rattle.dine_token.proofs.Forks.{length-fork, told_fork}
+use Rattle.dine_token.proofs.Forks.{length-fork, fork_has_periods}
 use Rattle.dine_token.proofs.Places.{size_first, size_more, entry_first, entry_move, entry_meal}
 use Rattle.dine_token.proofs.fork.Fork.entry.Goals as goal
 
@@ -28,29 +28,29 @@ overflow_add-result-else-inside-eq0 c =
 
 pub returns-then-place-eq0 : goal.returns-then-place-eq0
 returns-then-place-eq0 c =
-    let told = told_fork c.args.self.now c.period_with-place.ensures.proper in
+    let parts = fork_has_periods c.args.self.now c.period_with-place.ensures.proper in
     let ps = periods_of c.args.self.now.ends.0 c.args.self.now.log in
     let there = c.period_with-place.ensures in
-    ap (λ (l : List Entry). slice_get l c.args.i) (sym told.whole)
+    ap (λ (l : List Entry). slice_get l c.args.i) (sym parts.whole)
     ∙ at_first ps c.period_with-place.result c.period-period.result c.args.i c.entries_before.result c.if-place-eq0.true there.within c.period-period.ensures.period c.entries_before.ensures there.end
 
 pub returns-then-inside-eq0 : goal.returns-then-inside-eq0
 returns-then-inside-eq0 c =
-    let told = told_fork c.args.self.now c.period_with-place.ensures.proper in
+    let parts = fork_has_periods c.args.self.now c.period_with-place.ensures.proper in
     let ps = periods_of c.args.self.now.ends.0 c.args.self.now.log in
     let there = c.period_with-place.ensures in
-    ap (λ (l : List Entry). slice_get l c.args.i) (sym told.whole)
+    ap (λ (l : List Entry). slice_get l c.args.i) (sym parts.whole)
     ∙ entry_move ps c.period_with-place.result c.period-period.result c.args.i (omega (arith, c.if-place-eq0.false)) there.within c.period-period.ensures.period
     (omega (arith, c.if-inside-eq0.true, there.start, c.entries_before.ensures))
 
 pub returns-else-inside-eq0 : goal.returns-else-inside-eq0
 returns-else-inside-eq0 c =
-    let told = told_fork c.args.self.now c.period_with-place.ensures.proper in
+    let parts = fork_has_periods c.args.self.now c.period_with-place.ensures.proper in
     let ps = periods_of c.args.self.now.ends.0 c.args.self.now.log in
     let there = c.period_with-place.ensures in
     let place = c.period_with-place.result in
     let some : 0 < place = omega (arith, c.if-place-eq0.false) in
     let size = size_more ps place c.period-period.result some there.within c.period-period.ensures.period in
-    ap (λ (l : List Entry). slice_get l c.args.i) (sym told.whole)
+    ap (λ (l : List Entry). slice_get l c.args.i) (sym parts.whole)
     ∙ entry_meal ps place c.period-period.result c.args.i (c.args.i - c.entries_before.result - 1) some there.within c.period-period.ensures.period
     (omega (arith, c.if-inside-eq0.false, there.start, c.entries_before.ensures)) (omega (arith, c.if-inside-eq0.false, there.start, there.end, c.entries_before.ensures, size))

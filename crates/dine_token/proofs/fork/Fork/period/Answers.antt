@@ -3,7 +3,7 @@ use Rattle.std.proofs.Common.{◌≡◌, ◌+◌, ◌<◌, ◌≤◌, List, leng
 use Rattle.std.specs.List.{All}
 use Rattle.std.proofs.lemmas.List.Elements.{All-get_or}
 use Rattle.std.proofs.lemmas.Option.{slice_get-get_or}
-use Rattle.dine_token.specs.declared.fork.Kept.{Kept}
+use Rattle.dine_token.specs.declared.fork.Contents.{Contents}
 use Rattle.dine_token.specs.declared.log_period.Period.{Period}
 use Rattle.dine_token.specs.Fork.{SeenFork}
 use Rattle.dine_token.specs.Periods.{periods_of}
@@ -15,7 +15,7 @@ use Rattle.dine_token.proofs.fork.Fork.period.Goals as goal
 pub returns-clause-bound : goal.returns-clause-bound
 returns-clause-bound c =
     let items = c.deref.result.now.periods.items in
-    let same : items ≡ c.self.inside.kept.value.periods.items = ap (λ (k : Kept). k.periods.items) c.deref.ensures in
+    let same : items ≡ c.self.inside.contents.value.periods.items = ap (λ (k : Contents). k.periods.items) c.deref.ensures in
     let asked : c.args.i < length (periods_of c.args.self.now.ends.0 c.args.self.now.log) = c.requires in
     let size : length items ≡ length (periods_of c.args.self.now.ends.0 c.args.self.now.log) = ap length same ∙ ap length c.self.invariant.periods ∙ ap (λ (f : SeenFork). length (periods_of f.ends.0 f.log)) c.self.view_is in
     let P : Period → Type 0 = λ p. p.first + p.count ≤ 1001 in
@@ -26,14 +26,14 @@ returns-clause-bound c =
 pub returns-clause-used : goal.returns-clause-used
 returns-clause-used c some more =
     let items = c.deref.result.now.periods.items in
-    let same : items ≡ c.self.inside.kept.value.periods.items = ap (λ (k : Kept). k.periods.items) c.deref.ensures in
+    let same : items ≡ c.self.inside.contents.value.periods.items = ap (λ (k : Contents). k.periods.items) c.deref.ensures in
     let asked : c.args.i + 1 < length (periods_of c.args.self.now.ends.0 c.args.self.now.log) = more in
     let size : length items ≡ length (periods_of c.args.self.now.ends.0 c.args.self.now.log) = ap length same ∙ ap length c.self.invariant.periods ∙ ap (λ (f : SeenFork). length (periods_of f.ends.0 f.log)) c.self.view_is in
     let got : slice_get items c.args.i ≡ Some c.index.result.now = slice_get-get_or items c.args.i c.index.result.now (omega (arith, asked, size)) ∙ ap (λ (p : Period). Some p) (sym c.index.ensures) in
     let fork = seen c.self.inside in
-    let kept = c.self.inside.kept.value.periods.items in
+    let contents = c.self.inside.contents.value.periods.items in
     let there = subst (λ (l : List Period). slice_get l c.args.i ≡ Some c.index.result.now) same got in
-    used_between fork.ends fork.due kept c.args.i c.index.result.now c.self.invariant.proper.lawful there some (omega (arith, asked, size, ap length same))
+    used_between fork.ends fork.due contents c.args.i c.index.result.now c.self.invariant.proper.lawful there some (omega (arith, asked, size, ap length same))
 
 pub returns-clause-period : goal.returns-clause-period
 returns-clause-period c = grind (arith, elements)

@@ -7,7 +7,7 @@ use Rattle.dine_token.specs.Fork.{SeenFork, IsDirty, MayEat, eaten}
 use Rattle.dine_token.proofs.Logs.{is_dirty-push_meal}
 use Rattle.dine_token.proofs.meal.Meal.begin.Goals as goal
 
--- behind the forks that have the meal stand the others as they came
+-- behind the forks that have the meal are the others as they were
 get_or-map_over : (f : SeenFork → SeenFork) (xs ys : List SeenFork) (i : ℕ) (d : SeenFork) → i < length xs → ys ≡ map f (take i xs) ++ drop i xs → get_or ys i d ≡ get_or xs i d
 get_or-map_over f xs ys i d within is =
     let size : length (map f (take i xs)) ≡ i = length-map (take i xs) f ∙ length-take-le i xs (omega arith) in
@@ -30,10 +30,10 @@ loop-hand-preserved c =
 
 -- once all have the meal
 all_served : (f : SeenFork → SeenFork) (xs ys : List SeenFork) (i len : ℕ) → ys ≡ map f (take i xs) ++ drop i xs → length xs ≤ i → length ys ≡ length xs → length xs ≤ len → take len (ys ++ drop (length ys) xs) ≡ map f xs
-all_served f xs ys i len is over size room =
+all_served f xs ys i len is over size capacity =
     let done : ys ≡ map f xs = is ∙ ap (λ (l : List SeenFork). map f l ++ drop i xs) (take_all i xs over) ∙ ap (λ (l : List SeenFork). map f xs ++ l) (drop_all i xs over) ∙ append-nil (map f xs) in
     ap (λ (l : List SeenFork). take len (ys ++ l)) (drop_all (length ys) xs (omega (arith, size))) ∙ ap (λ (l : List SeenFork). take len l) (append-nil ys)
-    ∙ take_all len ys (omega (arith, size, room)) ∙ done
+    ∙ take_all len ys (omega (arith, size, capacity)) ∙ done
 
 pub returns-clause-forks : goal.returns-clause-forks
 returns-clause-forks c =

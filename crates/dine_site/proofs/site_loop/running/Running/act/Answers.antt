@@ -1,6 +1,6 @@
 use Rattle.std.proofs.Common.{◌≡◌, Result, Err, Some, true, sym, subst, rules}
-use Rattle.dine_core.specs.Core.{SeenCore}
-use Rattle.dine_core.specs.NextEvent.{can_by_itself}
+use Rattle.dine_site_core.specs.Core.{SeenCore}
+use Rattle.dine_site_core.specs.NextEvent.{can_by_itself}
 use Rattle.std.specs.Prelude.{OnOk}
 use Rattle.dine_site.specs.declared.site_loop.running.Stop.{Stop}
 use Rattle.dine_site.specs.Running.{GoesOn, IsNext, IsRunning, IsTimedRun, Proceeds}
@@ -16,6 +16,7 @@ returns-in_err-make_room g c =
       proceeds = subst (λ (result : Result _ _). Proceeds g.L.Lane g.D.Diner (GoesOn result) c.args.self.now c.make_room.new.self) (sym is)
           (proceeds_same g.L.Lane g.D.Diner (GoesOn (Err stop)) c.args.self.now c.make_room.new.self c.make_room.ensures.same c.requires.ready.ready c.in_err-make_room.ensures.way);
       timed = subst (λ (result : Result (Unit {0}) Stop). OnOk result (IsTimedRun g.L.Lane c.args.self.now → IsTimedRun g.L.Lane c.make_room.new.self)) (sym is) tt;
+      checks = c.make_room.ensures.checks;
     }
 
 pub perform-requires-clause-ready : goal.perform-requires-clause-ready
@@ -33,6 +34,7 @@ returns g c = record {
   proceeds = proceeds_then g.L.Lane g.D.Diner (GoesOn c.perform.result) (proceeds_same g.L.Lane g.D.Diner IsRunning c.args.self.now c.make_room.new.self c.make_room.ensures.same c.requires.ready.ready c.in_ok-make_room.ensures.way)
       c.perform.ensures.proceeds;
   timed = on_ok c.perform.result (λ goes timed. goes (c.make_room.ensures.timed timed)) c.perform.ensures.timed;
+  checks = λ first are. c.perform.ensures.checks first (c.make_room.ensures.checks first are);
 }
 
 pub perform-requires-clause-room_for_end : goal.perform-requires-clause-room_for_end

@@ -7,8 +7,8 @@ use Rattle.dine_site.specs.Ports.{SeenPort, seen_port}
 use Rattle.dine_site.specs.Running.{SeenRun, ClosedBelow, IsStopped, seen_run}
 use Rattle.dine_site.proofs.lists.Seen.{there_is, if_there, of_there}
 use Rattle.dine_rules.specs.Steps.{Break}
-use Rattle.dine_core.specs.Core.{SeenCore}
-use Rattle.dine_core.specs.Standing.{CorePuts}
+use Rattle.dine_site_core.specs.Core.{SeenCore}
+use Rattle.dine_site_core.specs.Standing.{CorePuts}
 use Rattle.dine_site.proofs.one_site.Stops.{break_live, break_room, break_sends}
 use Rattle.dine_site.proofs.one_site.Ends.{closed_more}
 use Rattle.dine_site.proofs.site_loop.running.Running.break_at.Goals as goal
@@ -20,8 +20,8 @@ close_at-requires-clause-live g c κs ls =
     let puts : CorePuts c.args.i (Break c.args.i) c.args.self.now.core c.break_off.new.self letter.Close = subst (λ (l : Letter). CorePuts c.args.i (Break c.args.i) c.args.self.now.core c.break_off.new.self l) c.in-Some.ensures.letter c.in-Some.ensures.step in
     if_there (λ (port : SeenPort g.L.Lane.Identity). port.is_live ≡ true) (slice_get run.ports c.args.i) (break_live p.2.0 p.2.1 run p.0 p.1 p.2.2 c.args.i c.break_off.new.self puts)
 
-pub close_at-requires-clause-room : goal.close_at-requires-clause-room
-close_at-requires-clause-room g c κs ls =
+pub close_at-requires-clause-few_letters : goal.close_at-requires-clause-few_letters
+close_at-requires-clause-few_letters g c κs ls =
     let p = c.requires.stopped in
     let run : SeenRun g.L.Lane.Identity = seen_run g.L.Lane c.args.self.now in
     let puts : CorePuts c.args.i (Break c.args.i) c.args.self.now.core c.break_off.new.self letter.Close = subst (λ (l : Letter). CorePuts c.args.i (Break c.args.i) c.args.self.now.core c.break_off.new.self l) c.in-Some.ensures.letter c.in-Some.ensures.step in
@@ -35,7 +35,7 @@ returns-clause-way g c stray cause plan given stopped =
     let within : c.args.i < length run.ports = omega (arith, c.requires.place, stopped.has.places) in
     let there = there_is run.ports c.args.i within in
     let sent = of_there _ (slice_get run.ports c.args.i) there.0 there.1 c.close_at.ensures.closed in
-    subst (λ (ps : List (SeenPort g.L.Lane.Identity)). IsStopped stray cause plan given (record { core = c.break_off.new.self; ports = ps; bell = run.bell; journal = run.journal })) (sym sent.2)
+    subst (λ (ps : List (SeenPort g.L.Lane.Identity)). IsStopped stray cause plan given (record { manner = run.manner; core = c.break_off.new.self; ports = ps; bell = run.bell; journal = run.journal })) (sym sent.2)
     (break_sends plan given run stray cause stopped c.args.i c.break_off.new.self puts there.0 there.1 c.first.result.at sent.0 c.close_at.result sent.1)
 
 pub returns-clause-closed : goal.returns-clause-closed
@@ -51,6 +51,7 @@ pub returns-clause-same : goal.returns-clause-same
 returns-clause-same g c =
     let is = c.in-Some.ensures.core in
     record {
+      manner = refl;
       site = ap (λ (core : SeenCore). core.site) is;
       due = ap (λ (core : SeenCore). core.due) is;
       ate = ap (λ (core : SeenCore). core.ate) is;

@@ -1,5 +1,5 @@
 use Rattle.std.proofs.Common.{◌≡◌, length}
-use Rattle.dine_site.specs.Running.{ClosedBelow, StaysStopped, SameMeals}
+use Rattle.dine_site.specs.Running.{ChecksOn, ClosedBelow, StaysStopped, SameMeals}
 use Rattle.dine_site.proofs.site_loop.running.Running.break_off.Given as goal
 
 abbrev pub invariant-loop-i : goal.invariant-loop-i
@@ -8,4 +8,5 @@ invariant-loop-i g l = record {
   places : length l.self.core.places ≡ length l.initial.self.core.places;
   way : StaysStopped g.L.Lane l.initial.self l.self;
   same : SameMeals l.initial.self l.self;
+  checks : ChecksOn l.initial.self l.self;
 }

@@ -21,8 +21,8 @@ close_at-requires-clause-live g c κs ls =
     let run : SeenRun g.L.Lane.Identity = seen_run g.L.Lane c.args.self.now in
     if_there (λ (port : SeenPort g.L.Lane.Identity). port.is_live ≡ true) (slice_get run.ports c.args.i) (put_live p.0 p.1 run c.args.i letter.Close p.2)
 
-pub close_at-requires-clause-room : goal.close_at-requires-clause-room
-close_at-requires-clause-room g c κs ls =
+pub close_at-requires-clause-few_letters : goal.close_at-requires-clause-few_letters
+close_at-requires-clause-few_letters g c κs ls =
     let p = c.requires.putting in
     let run : SeenRun g.L.Lane.Identity = seen_run g.L.Lane c.args.self.now in
     if_there (λ (port : SeenPort g.L.Lane.Identity). length port.tx.letters < 2 ^ 61) (slice_get run.ports c.args.i)
@@ -34,7 +34,7 @@ returns-in-Heard-clause-way g c plan given putting =
     let there = there_is run.ports c.args.i (putting_within plan given run c.args.i letter.Close putting) in
     let sent = of_there _ (slice_get run.ports c.args.i) there.0 there.1 c.in-Heard.ensures.closed in
     let ports : seen_ports g.L.Lane c.close_at.new.ports.items ≡ set run.ports c.args.i (closed_on c.last-stamp.result.at there.0) = sent.2 ∙ ap (set run.ports c.args.i) sent.1 in
-    subst (λ (ps : List (SeenPort g.L.Lane.Identity)). IsRunning plan given (record { core = run.core; ports = ps; bell = run.bell; journal = run.journal })) (sym ports) (close_runs plan given run c.last-stamp.result.at c.args.i putting there.0 there.1)
+    subst (λ (ps : List (SeenPort g.L.Lane.Identity)). IsRunning plan given (record { manner = run.manner; core = run.core; ports = ps; bell = run.bell; journal = run.journal })) (sym ports) (close_runs plan given run c.last-stamp.result.at c.args.i putting there.0 there.1)
 
 pub returns-in-Refused-clause-way : goal.returns-in-Refused-clause-way
 returns-in-Refused-clause-way g c plan given putting =
@@ -42,7 +42,7 @@ returns-in-Refused-clause-way g c plan given putting =
     let there = there_is run.ports c.args.i (putting_within plan given run c.args.i letter.Close putting) in
     let sent = of_there _ (slice_get run.ports c.args.i) there.0 there.1 c.in-Refused.ensures.closed in
     let ports : seen_ports g.L.Lane c.close_at.new.ports.items ≡ set run.ports c.args.i (refused_on there.0) = sent.2 ∙ ap (set run.ports c.args.i) sent.1 in
-    subst (λ (ps : List (SeenPort g.L.Lane.Identity)). IsStopped None (fault.Lost c.args.i) plan given (record { core = run.core; ports = ps; bell = run.bell; journal = run.journal })) (sym ports) (close_stops plan given run c.args.i putting there.0 there.1)
+    subst (λ (ps : List (SeenPort g.L.Lane.Identity)). IsStopped None (fault.Lost c.args.i) plan given (record { manner = run.manner; core = run.core; ports = ps; bell = run.bell; journal = run.journal })) (sym ports) (close_stops plan given run c.args.i putting there.0 there.1)
 
 pub returns-in-Unheard-clause-way : goal.returns-in-Unheard-clause-way
 returns-in-Unheard-clause-way g c plan given putting =
@@ -52,9 +52,9 @@ returns-in-Unheard-clause-way g c plan given putting =
     let ports : seen_ports g.L.Lane c.close_at.new.ports.items ≡ set run.ports c.args.i (closed_unheard_on c.last-stamp.result.at there.0) = sent.2 ∙ ap (set run.ports c.args.i) sent.1 in
     let stops = unheard_stops plan given run c.args.i letter.Close putting there.0 (closed_unheard_on c.last-stamp.result.at there.0) there.1 (record { tx = refl; rx = refl; bell = refl; number = refl })
     (stops-closed_unheard (traffic_at putting.before c.args.i) there.0 (putting.lists c.args.i there.0 there.1) c.last-stamp.result.at) refl refl in
-    let new : SeenRun g.L.Lane.Identity = record { core = run.core; ports = seen_ports g.L.Lane c.close_at.new.ports.items; bell = run.bell; journal = run.journal } in
+    let new : SeenRun g.L.Lane.Identity = record { manner = run.manner; core = run.core; ports = seen_ports g.L.Lane c.close_at.new.ports.items; bell = run.bell; journal = run.journal } in
     let stopped : IsStopped None (fault.Lost (length c.args.self.now.core.places)) plan given new =
-    subst (λ (ps : List (SeenPort g.L.Lane.Identity)). IsStopped None (fault.Lost (length c.args.self.now.core.places)) plan given (record { core = run.core; ports = ps; bell = run.bell; journal = run.journal })) (sym ports) stops in
+    subst (λ (ps : List (SeenPort g.L.Lane.Identity)). IsStopped None (fault.Lost (length c.args.self.now.core.places)) plan given (record { manner = run.manner; core = run.core; ports = ps; bell = run.bell; journal = run.journal })) (sym ports) stops in
     subst (λ (stop : Stop). IsStopped stop.stray stop.fault plan given new) (sym c.lost_bell.ensures) stopped
 
 pub returns-in-Heard-clause-timed : goal.returns-in-Heard-clause-timed

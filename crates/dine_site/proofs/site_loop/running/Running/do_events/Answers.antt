@@ -1,7 +1,7 @@
 use Rattle.std.proofs.Common.{◌≡◌, Result, Err, None, length, sym, subst, rules}
 use Rattle.std.specs.Prelude.{OnOk}
 use Rattle.std.specs.List.{range_with_len}
-use Rattle.dine_core.specs.NextEvent.{can_by_itself, own_kinds}
+use Rattle.dine_site_core.specs.NextEvent.{can_by_itself, own_kinds}
 use Rattle.dine_site.specs.declared.site_loop.running.Stop.{Stop}
 use Rattle.dine_site.specs.Running.{GoesOn, IsNext, IsRunning, IsTimedRun, Proceeds}
 use Rattle.dine_site.proofs.lists.Lists.{found_passes}
@@ -17,7 +17,7 @@ pub act-requires-clause-next : goal.act-requires-clause-next
 act-requires-clause-next g c κs ls plan state keeps stands = sym (c.in-Some-next_event.ensures.by_lists plan state keeps stands)
 
 pub loop-init : goal.loop-init
-loop-init g c = record { proceeds = proceeds_not g.L.Lane g.D.Diner c.args.self.now c.requires.ready.ready; timed = λ timed. timed }
+loop-init g c = record { proceeds = proceeds_not g.L.Lane g.D.Diner c.args.self.now c.requires.ready.ready; timed = λ timed. timed; checks = λ first are. are }
 
 pub act-requires-clause-ready : goal.act-requires-clause-ready
 act-requires-clause-ready g c κs ls = may_then g.L.Lane g.D.Diner c.requires.ready c.loop.invariant.proceeds
@@ -31,6 +31,7 @@ returns-in_err-act-in-Some-next_event g c =
           (proceeds_then g.L.Lane g.D.Diner (GoesOn (Err stop)) c.loop.invariant.proceeds c.in_err-act-in-Some-next_event.ensures.proceeds);
       quiet = subst (λ (result : Result (Unit {0}) Stop). OnOk result (IsNext None c.act.new.self.core)) (sym is) tt;
       timed = subst (λ (result : Result (Unit {0}) Stop). OnOk result (IsTimedRun g.L.Lane c.args.self.now → IsTimedRun g.L.Lane c.act.new.self)) (sym is) tt;
+      checks = λ first are. c.act.ensures.checks first (c.loop.invariant.checks first are);
     }
 
 pub returns-in-None-next_event : goal.returns-in-None-next_event
@@ -38,10 +39,12 @@ returns-in-None-next_event g c = record {
   proceeds = c.loop.invariant.proceeds;
   quiet = λ plan state keeps stands. sym (c.in-None-next_event.ensures.by_lists plan state keeps stands);
   timed = c.loop.invariant.timed;
+  checks = c.loop.invariant.checks;
 }
 
 pub loop-preserved : goal.loop-preserved
 loop-preserved g c = record {
   proceeds = proceeds_then g.L.Lane g.D.Diner IsRunning c.loop.invariant.proceeds c.in_ok-act-in-Some-next_event.ensures.proceeds;
   timed = λ timed. c.in_ok-act-in-Some-next_event.ensures.timed (c.loop.invariant.timed timed);
+  checks = λ first are. c.act.ensures.checks first (c.loop.invariant.checks first are);
 }

@@ -1,8 +1,9 @@
-use Rattle.dine_site.specs.Running.{IsRunning, IsTimedRun, Proceeds}
+use Rattle.dine_site.specs.Running.{ChecksOn, IsRunning, IsTimedRun, Proceeds}
 use Rattle.dine_site.proofs.site_loop.running.Running.do_events.Given as goal
 
 abbrev pub invariant-loop : goal.invariant-loop
 invariant-loop g l = record {
   proceeds : Proceeds g.L.Lane g.D.Diner IsRunning l.initial.self l.self;
   timed : IsTimedRun g.L.Lane l.initial.self → IsTimedRun g.L.Lane l.self;
+  checks : ChecksOn l.initial.self l.self;
 }

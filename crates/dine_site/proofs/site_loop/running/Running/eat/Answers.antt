@@ -1,21 +1,29 @@
 use mir.Val.{bool_byte}
-use Rattle.std.proofs.Common.{◌≡◌, Bool, true, false, not, ◌&&◌, ◌||◌, ◌+◌, ℕ, refl, sym, ◌∙◌, ap, subst, arith, rules}
+use Rattle.std.proofs.Common.{◌≡◌, Bool, true, false, not, ◌&&◌, ◌||◌, ◌+◌, ◌++◌, ◌∷◌, [], List, ℕ, length, refl, sym, ◌∙◌, ap, subst, arith, rules, length-append}
+use Rattle.std.proofs.lemmas.List.{append_assoc}
+use Rattle.dine_rules.specs.declared.events.EventKind.{EventKind}
 use Rattle.dine_rules.specs.declared.events.EventKind.TheVariants as event
 use Rattle.dine_site.specs.Ports.{seen_ports}
 use Rattle.std.proofs.lemmas.Bool.{and_parts}
 use Rattle.std.specs.Prelude.{nat_lt}
 use Rattle.dine_clock.specs.Moments.{last_moment}
 use Rattle.dine_site.proofs.one_site.Times.{alone}
-use Rattle.dine_site.specs.Running.{SeenRun, IsHeeding, seen_run}
+use Rattle.dine_site.specs.Running.{SeenRun, IsObeying, seen_run}
 use Rattle.std.proofs.lemmas.Option.{slice_get_within, get_or_from_slice_get}
 use Rattle.dine_token.specs.Log.{meals_of}
-use Rattle.dine_core.specs.Core.{SeenCore}
-use Rattle.dine_core.specs.Places.{FitsMeal, begun, drops_jobs, ended}
+use Rattle.dine_site_core.specs.Core.{SeenCore}
+use Rattle.dine_site_core.specs.Places.{FitsMeal, begun, drops_jobs, ended}
 use Rattle.dine_site.proofs.one_site.WholeMeals.{whole_meal}
-use Rattle.dine_site.proofs.one_site.Heeding.{heeds_meal, hungry_goes_on}
+use Rattle.dine_site.proofs.one_site.Obeying.{obeys_meal, hungry_goes_on}
 use Rattle.dine_site.proofs.one_site.Meals.{eaten_more, failed_by}
 use Rattle.dine_site.proofs.one_site.Ways.{eat_runs}
 use Rattle.dine_site.proofs.site_loop.running.Running.eat.Goals as goal
+
+two_more : (events first second : List (EventKind × ℕ)) (e f : EventKind × ℕ) → first ≡ events ++ e ∷ [] → second ≡ first ++ f ∷ [] → length second ≡ length events + 2
+two_more events first second e f one two =
+    let there : length first ≡ length events + 1 = ap (λ (es : List (EventKind × ℕ)). length es) one ∙ length-append events (e ∷ []) in
+    let then_one : length second ≡ length first + 1 = ap (λ (es : List (EventKind × ℕ)). length es) two ∙ length-append first (f ∷ []) in
+    omega (arith, there, then_one)
 
 byte_of : (ok : Bool) → bool_byte (not ok) ≡ failed_by ok
 byte_of true = refl
@@ -43,10 +51,11 @@ returns g c =
         eats = λ first eaten.
             eaten_more g.D.Diner.calls g.D.Diner.marks g.D.Diner.fits core.ate old.failed c.k.result c.end.new.self.ate _ first old.diner c.eat.new.self _ eaten
             k (later ∙ ate) (ap (λ (n : ℕ). old.failed + n) (c.from.ensures ∙ byte_of c.is_ok-ok.result ∙ ap failed_by c.is_ok-ok.ensures.value)) c.eat.ensures.calls c.eat.ensures.fits c.eat.ensures.marks;
-        heeds = λ first heeding.
-            subst (λ (x : SeenCore). IsHeeding x.resigns (x.must_quit || x.has_quit) (nat_lt x.ate x.due) first calls) (sym is)
-            (heeds_meal core.resigns core.must_quit core.has_quit (nat_lt core.ate core.due) (drops_jobs failed begun_is) has_left first (g.D.Diner.calls old.diner) calls _ heeding goes_on.0 goes_on.1 c.eat.ensures.calls
+        obeys = λ first obeying.
+            subst (λ (x : SeenCore). IsObeying x.resigns (x.must_quit || x.has_quit) (nat_lt x.ate x.due) first calls) (sym is)
+            (obeys_meal core.resigns core.must_quit core.has_quit (nat_lt core.ate core.due) (drops_jobs failed begun_is) has_left first (g.D.Diner.calls old.diner) calls _ obeying goes_on.0 goes_on.1 c.eat.ensures.calls
             (ap (λ (ok : Bool). not ok && core.resigns && has_left) c.is_ok-ok.ensures.value));
+        manner = refl;
         resigns = ap (λ (core : SeenCore). core.resigns) is;
         site = ap (λ (core : SeenCore). core.site) is;
         expects = c.eat.ensures.stays;
@@ -55,6 +64,9 @@ returns g c =
           let ports = seen_ports g.L.Lane c.args.self.now.ports.items in
           let first = alone c.args.self.now.clock.events c.args.self.now.journal.items ports event.Begin (last_moment c.args.self.now.clock.events + c.first.result.at + 1) (omega arith) timed c.push_reserved.new.self.items c.push_reserved.ensures.items c.after-self.result.events c.after-self.ensures refl in
           alone c.after-self.result.events c.push_reserved.new.self.items ports event.End (last_moment c.after-self.result.events + c.first-2.result.at + 1) (omega arith) first c.push_reserved-2.new.self.items c.push_reserved-2.ensures.items c.after-self-2.result.events c.after-self-2.ensures refl;
+      bell = refl;
+      journal = c.push_reserved-2.ensures.items ∙ ap (λ (kinds : List EventKind). kinds ++ event.End ∷ []) c.push_reserved.ensures.items ∙ append_assoc old.journal.items (event.Begin ∷ []) (event.End ∷ []);
+      noted = two_more old.clock.events c.after-self.result.events c.after-self-2.result.events _ _ c.after-self.ensures c.after-self-2.ensures;
     }
 
 pub eat-requires-clause-own : goal.eat-requires-clause-own

@@ -10,5 +10,5 @@ returns-clause-end g c plan given may =
     let forks = c.into_parts-parts.result.forks.items in
     let tokens = c.into_parts-parts.result.tokens.items in
     let ended = site_end plan given run forks tokens c.into_parts-parts.ensures.forks_by_lists c.into_parts-parts.ensures.tokens_by_lists c.letters_cut_short_are_in_order.ensures.front c.letters_cut_short_are_in_order.ensures.closed c.args.stray c.args.fault may in
-    let sited = subst (λ (n : ℕ). IsSiteEnd plan run.core.site given (record { site = n; ate = run.core.ate; forks = forks; tokens = tokens; journal = run.journal; ports = run.ports; bell = run.bell; stray = c.args.stray; fault = c.args.fault })) (sym c.site-site.ensures) ended in
-    subst (λ (n : ℕ). IsSiteEnd plan run.core.site given (record { site = c.site-site.result; ate = n; forks = forks; tokens = tokens; journal = run.journal; ports = run.ports; bell = run.bell; stray = c.args.stray; fault = c.args.fault })) (sym c.ate-ate.ensures) sited
+    let sited = subst (λ (n : ℕ). IsSiteEnd run.manner plan run.core.site given (record { site = n; ate = run.core.ate; forks = forks; tokens = tokens; journal = run.journal; ports = run.ports; bell = run.bell; stray = c.args.stray; fault = c.args.fault })) (sym c.site-site.ensures) ended in
+    subst (λ (n : ℕ). IsSiteEnd run.manner plan run.core.site given (record { site = c.site-site.result; ate = n; forks = forks; tokens = tokens; journal = run.journal; ports = run.ports; bell = run.bell; stray = c.args.stray; fault = c.args.fault })) (sym c.ate-ate.ensures) sited

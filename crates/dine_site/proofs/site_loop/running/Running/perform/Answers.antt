@@ -1,20 +1,21 @@
 use Rattle.std.proofs.Common.{◌≡◌, ◌+◌, ◌||◌, true, Some, None, Ok, refl, subst, sym, ap, arith}
 use Rattle.std.proofs.lemmas.Bool.{and_parts, or_left}
 use Rattle.std.specs.Prelude.{nat_lt}
-use Rattle.dine_core.specs.Core.{SeenCore}
-use Rattle.dine_core.specs.NextEvent.{can_by_itself}
-use Rattle.dine_core.specs.declared.site.places.ForkSlot.TheVariants.{Away}
+use Rattle.dine_site_core.specs.Core.{SeenCore}
+use Rattle.dine_site_core.specs.NextEvent.{can_by_itself}
+use Rattle.dine_site_core.specs.declared.site.places.ForkSlot.TheVariants.{Away}
 use Rattle.dine_rules.specs.declared.phase.Phase.TheVariants as phase
 use Rattle.dine_site.specs.declared.site_loop.running.Running.{Running}
-use Rattle.dine_core.specs.Places.{can_quit, place_at}
+use Rattle.dine_site_core.specs.Places.{can_quit, place_at}
 use Rattle.dine_rules.specs.Local.{is_thinking}
 use Rattle.dine_rules.specs.declared.events.EventKind.{EventKind}
 use Rattle.dine_rules.specs.declared.events.EventKind.TheVariants as event
 use Rattle.dine_rules.specs.declared.letters.Letter.{Letter}
 use Rattle.dine_rules.specs.declared.letters.Letter.TheVariants as letter
-use Rattle.dine_site.specs.Running.{SeenRun, GoesOn, IsHeeding, IsNext, seen_run}
-use Rattle.dine_core.specs.Standing.{CorePuts}
+use Rattle.dine_site.specs.Running.{SeenRun, GoesOn, IsObeying, IsNext, seen_run}
+use Rattle.dine_site_core.specs.Standing.{CorePuts}
 use Rattle.dine_rules.specs.Steps.{Give, Ask, Done, Close}
+use Rattle.dine_site.proofs.one_site.Checks.{checks_more}
 use Rattle.dine_site.proofs.one_site.AtPlaces.{opens-give, opens-ask, opens-done, opens-close, putting}
 use Rattle.dine_site.proofs.one_site.Meals.{eaten_same}
 use Rattle.dine_clock.specs.Moments.{last_moment}
@@ -23,7 +24,7 @@ use Rattle.dine_site.proofs.one_site.Times.{alone, begins_put, on_ok}
 use Rattle.dine_site.proofs.one_site.Same.{same_but_place, same_but_phase}
 use Rattle.dine_site.proofs.one_site.Proceeding.{proceeds_same}
 use Rattle.dine_site.proofs.one_site.Ways.{hungry_runs, quit_runs}
-use Rattle.dine_site.proofs.one_site.Heeding.{heeding_as}
+use Rattle.dine_site.proofs.one_site.Obeying.{obeying_as}
 use Rattle.dine_site.proofs.site_loop.running.Running.perform.Goals as goal
 
 pub put-requires-clause-putting : goal.put-requires-clause-putting
@@ -40,6 +41,7 @@ returns-in-Give g c =
     record {
       proceeds = proceeds_same g.L.Lane g.D.Diner (GoesOn c.put.result) c.args.self.now c.put.new.self same c.requires.ready.ready (λ plan given running. c.put.ensures.way plan given (putting plan given c.in-Give.i (Give c.in-Give.i) c.give-letter.result (opens-give c.in-Give.i) c.journals_grow_by_each_event.ensures.event (event.Give c.in-Give.i) refl refl run c.give-letter.new.self c.push_reserved.new.self.items c.push_reserved.ensures.items c.give-letter.ensures.step (subst (λ (kind : EventKind). IsNext (Some kind) c.args.self.now.core) c.in-Give.is c.requires.next) running));
       timed = on_ok c.put.result (λ goes timed. goes (begins_put c.args.self.now.clock.events c.args.self.now.journal.items (seen_ports g.L.Lane c.args.self.now.ports.items) (event.Give c.in-Give.i) (last_moment c.args.self.now.clock.events + c.first.result.at + 1) (omega arith) timed c.push_reserved.new.self.items c.push_reserved.ensures.items c.after-self.result.events c.after-self.ensures c.in-Give.i refl)) c.put.ensures.timed;
+      checks = λ first are. c.put.ensures.checks first (checks_more first c.args.self.now.manner c.args.self.now.bell.found_empty c.args.self.now.clock.events c.args.self.now.journal.items (event.Give c.in-Give.i) (last_moment c.args.self.now.clock.events + c.first.result.at + 1) refl c.after-self.result.events c.after-self.ensures c.push_reserved.new.self.items c.push_reserved.ensures.items are);
     }
 
 pub put-requires-in-Ask-clause-putting : goal.put-requires-in-Ask-clause-putting
@@ -56,6 +58,7 @@ returns-in-Ask g c =
     record {
       proceeds = proceeds_same g.L.Lane g.D.Diner (GoesOn c.put-in-Ask.result) c.args.self.now c.put-in-Ask.new.self same c.requires.ready.ready (λ plan given running. c.put-in-Ask.ensures.way plan given (putting plan given c.in-Ask.i (Ask c.in-Ask.i) c.ask-letter.result (opens-ask c.in-Ask.i) c.journals_grow_by_each_event.ensures.event (event.Ask c.in-Ask.i) refl refl run c.ask-letter.new.self c.push_reserved-in-Ask.new.self.items c.push_reserved-in-Ask.ensures.items c.ask-letter.ensures.step (subst (λ (kind : EventKind). IsNext (Some kind) c.args.self.now.core) c.in-Ask.is c.requires.next) running));
       timed = on_ok c.put-in-Ask.result (λ goes timed. goes (begins_put c.args.self.now.clock.events c.args.self.now.journal.items (seen_ports g.L.Lane c.args.self.now.ports.items) (event.Ask c.in-Ask.i) (last_moment c.args.self.now.clock.events + c.first-in-Ask.result.at + 1) (omega arith) timed c.push_reserved-in-Ask.new.self.items c.push_reserved-in-Ask.ensures.items c.after-self-in-Ask.result.events c.after-self-in-Ask.ensures c.in-Ask.i refl)) c.put-in-Ask.ensures.timed;
+      checks = λ first are. c.put-in-Ask.ensures.checks first (checks_more first c.args.self.now.manner c.args.self.now.bell.found_empty c.args.self.now.clock.events c.args.self.now.journal.items (event.Ask c.in-Ask.i) (last_moment c.args.self.now.clock.events + c.first-in-Ask.result.at + 1) refl c.after-self-in-Ask.result.events c.after-self-in-Ask.ensures c.push_reserved-in-Ask.new.self.items c.push_reserved-in-Ask.ensures.items are);
     }
 
 pub put-requires-in-Done-clause-putting : goal.put-requires-in-Done-clause-putting
@@ -72,6 +75,7 @@ returns-in-Done g c =
     record {
       proceeds = proceeds_same g.L.Lane g.D.Diner (GoesOn c.put-in-Done.result) c.args.self.now c.put-in-Done.new.self same c.requires.ready.ready (λ plan given running. c.put-in-Done.ensures.way plan given (putting plan given c.in-Done.i (Done c.in-Done.i) c.done-letter.result (opens-done c.in-Done.i) c.journals_grow_by_each_event.ensures.event (event.Done c.in-Done.i) refl refl run c.done-letter.new.self c.push_reserved-in-Done.new.self.items c.push_reserved-in-Done.ensures.items c.done-letter.ensures.step (subst (λ (kind : EventKind). IsNext (Some kind) c.args.self.now.core) c.in-Done.is c.requires.next) running));
       timed = on_ok c.put-in-Done.result (λ goes timed. goes (begins_put c.args.self.now.clock.events c.args.self.now.journal.items (seen_ports g.L.Lane c.args.self.now.ports.items) (event.Done c.in-Done.i) (last_moment c.args.self.now.clock.events + c.first-in-Done.result.at + 1) (omega arith) timed c.push_reserved-in-Done.new.self.items c.push_reserved-in-Done.ensures.items c.after-self-in-Done.result.events c.after-self-in-Done.ensures c.in-Done.i refl)) c.put-in-Done.ensures.timed;
+      checks = λ first are. c.put-in-Done.ensures.checks first (checks_more first c.args.self.now.manner c.args.self.now.bell.found_empty c.args.self.now.clock.events c.args.self.now.journal.items (event.Done c.in-Done.i) (last_moment c.args.self.now.clock.events + c.first-in-Done.result.at + 1) refl c.after-self-in-Done.result.events c.after-self-in-Done.ensures c.push_reserved-in-Done.new.self.items c.push_reserved-in-Done.ensures.items are);
     }
 
 pub close-requires-in-Close-clause-putting : goal.close-requires-in-Close-clause-putting
@@ -90,6 +94,7 @@ returns-in-Close g c =
     record {
       proceeds = proceeds_same g.L.Lane g.D.Diner (GoesOn c.close-in-Close.result) c.args.self.now c.close-in-Close.new.self same c.requires.ready.ready (λ plan given running. c.close-in-Close.ensures.way plan given (putting plan given c.in-Close.i (Close c.in-Close.i) letter.Close (opens-close c.in-Close.i) c.journals_grow_by_each_event.ensures.event (event.Close c.in-Close.i) refl refl run c.close.new.self c.push_reserved-in-Close.new.self.items c.push_reserved-in-Close.ensures.items puts (subst (λ (kind : EventKind). IsNext (Some kind) c.args.self.now.core) c.in-Close.is c.requires.next) running));
       timed = on_ok c.close-in-Close.result (λ goes timed. goes (begins_put c.args.self.now.clock.events c.args.self.now.journal.items (seen_ports g.L.Lane c.args.self.now.ports.items) (event.Close c.in-Close.i) (last_moment c.args.self.now.clock.events + c.first-in-Close.result.at + 1) (omega arith) timed c.push_reserved-in-Close.new.self.items c.push_reserved-in-Close.ensures.items c.after-self-in-Close.result.events c.after-self-in-Close.ensures c.in-Close.i refl)) c.close-in-Close.ensures.timed;
+      checks = λ first are. c.close-in-Close.ensures.checks first (checks_more first c.args.self.now.manner c.args.self.now.bell.found_empty c.args.self.now.clock.events c.args.self.now.journal.items (event.Close c.in-Close.i) (last_moment c.args.self.now.clock.events + c.first-in-Close.result.at + 1) refl c.after-self-in-Close.result.events c.after-self-in-Close.ensures c.push_reserved-in-Close.new.self.items c.push_reserved-in-Close.ensures.items are);
     }
 
 pub returns-in-Hungry : goal.returns-in-Hungry
@@ -100,6 +105,7 @@ returns-in-Hungry g c =
     record {
       proceeds = proceeds_same g.L.Lane g.D.Diner (GoesOn (Ok tt)) c.args.self.now new same c.requires.ready.ready (λ plan given running. hungry_runs plan given run c.journals_grow_by_each_event.ensures.event c.hungry.new.self c.push_reserved-in-Hungry.new.self.items c.push_reserved-in-Hungry.ensures.items c.hungry.ensures.step (subst (λ (kind : EventKind). IsNext (Some kind) c.args.self.now.core) c.in-Hungry.is c.requires.next) running);
       timed = λ timed. alone c.args.self.now.clock.events c.args.self.now.journal.items (seen_ports g.L.Lane c.args.self.now.ports.items) event.Hungry (last_moment c.args.self.now.clock.events + c.first-in-Hungry.result.at + 1) (omega arith) timed c.push_reserved-in-Hungry.new.self.items c.push_reserved-in-Hungry.ensures.items c.after-self-in-Hungry.result.events c.after-self-in-Hungry.ensures refl;
+      checks = λ first are. checks_more first c.args.self.now.manner c.args.self.now.bell.found_empty c.args.self.now.clock.events c.args.self.now.journal.items event.Hungry (last_moment c.args.self.now.clock.events + c.first-in-Hungry.result.at + 1) refl c.after-self-in-Hungry.result.events c.after-self-in-Hungry.ensures c.push_reserved-in-Hungry.new.self.items c.push_reserved-in-Hungry.ensures.items are;
     }
 
 pub returns-in-Quit : goal.returns-in-Quit
@@ -117,22 +123,24 @@ returns-in-Quit g c =
         way = λ plan given running. quit_runs plan given run c.journals_grow_by_each_event.ensures.event c.quit.new.self c.push_reserved-in-Quit.new.self.items c.push_reserved-in-Quit.ensures.items c.quit.ensures.step (subst (λ (kind : EventKind). IsNext (Some kind) core) c.in-Quit.is c.requires.next) running;
         ready = record { bell = ready.bell; room = omega (arith, ready.room, ate, ap (λ (core : SeenCore). core.due) is); failed = omega (arith, ready.failed, ate) };
         eats = λ first eaten. eaten_same g.D.Diner.calls g.D.Diner.marks g.D.Diner.fits core.ate old.failed c.quit.new.self.ate old.failed first old.diner old.diner eaten ate refl refl;
-        heeds = λ first heeding.
-            subst (λ (x : SeenCore). IsHeeding x.resigns (x.must_quit || x.has_quit) (nat_lt x.ate x.due) first calls) (sym is)
-            (heeding_as core.resigns (core.must_quit || core.has_quit) (nat_lt core.ate core.due) core.resigns true (nat_lt core.ate core.due) first calls calls refl
-            (sym (or_left core.must_quit core.has_quit (and_parts (is_thinking core.phase) core.must_quit can).1)) refl refl heeding);
+        obeys = λ first obeying.
+            subst (λ (x : SeenCore). IsObeying x.resigns (x.must_quit || x.has_quit) (nat_lt x.ate x.due) first calls) (sym is)
+            (obeying_as core.resigns (core.must_quit || core.has_quit) (nat_lt core.ate core.due) core.resigns true (nat_lt core.ate core.due) first calls calls refl
+            (sym (or_left core.must_quit core.has_quit (and_parts (is_thinking core.phase) core.must_quit can).1)) refl refl obeying);
+        manner = refl;
         resigns = ap (λ (core : SeenCore). core.resigns) is;
         site = ap (λ (core : SeenCore). core.site) is;
         expects = λ plan site is. is;
       };
       timed = λ timed. alone c.args.self.now.clock.events c.args.self.now.journal.items (seen_ports g.L.Lane c.args.self.now.ports.items) event.Quit (last_moment c.args.self.now.clock.events + c.first-in-Quit.result.at + 1) (omega arith) timed c.push_reserved-in-Quit.new.self.items c.push_reserved-in-Quit.ensures.items c.after-self-in-Quit.result.events c.after-self-in-Quit.ensures refl;
+      checks = λ first are. checks_more first c.args.self.now.manner c.args.self.now.bell.found_empty c.args.self.now.clock.events c.args.self.now.journal.items event.Quit (last_moment c.args.self.now.clock.events + c.first-in-Quit.result.at + 1) refl c.after-self-in-Quit.result.events c.after-self-in-Quit.ensures c.push_reserved-in-Quit.new.self.items c.push_reserved-in-Quit.ensures.items are;
     }
 
 pub returns-in-Begin : goal.returns-in-Begin
-returns-in-Begin g c = c.eat.ensures
+returns-in-Begin g c = c.begin.ensures
 
-pub eat-requires-clause-ready : goal.eat-requires-clause-ready
-eat-requires-clause-ready g c κs ls = c.requires.ready
+pub begin-requires-clause-ready : goal.begin-requires-clause-ready
+begin-requires-clause-ready g c κs ls = c.requires.ready
 
-pub eat-requires-clause-next : goal.eat-requires-clause-next
-eat-requires-clause-next g c κs ls = subst (λ (kind : EventKind). IsNext (Some kind) c.args.self.now.core) c.in-Begin.is c.requires.next
+pub begin-requires-clause-next : goal.begin-requires-clause-next
+begin-requires-clause-next g c κs ls = subst (λ (kind : EventKind). IsNext (Some kind) c.args.self.now.core) c.in-Begin.is c.requires.next

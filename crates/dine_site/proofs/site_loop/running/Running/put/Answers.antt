@@ -23,8 +23,8 @@ put-requires-clause-live g c κs ls =
     let at = seen_at f items c.args.i c.index_mut.result.now within c.index_mut.ensures.value in
     put_live p.0 p.1 (seen_run g.L.Lane c.args.self.now) c.args.i c.args.letter p.2 (f c.index_mut.result.now) at
 
-pub put-requires-clause-room : goal.put-requires-clause-room
-put-requires-clause-room g c κs ls =
+pub put-requires-clause-few_letters : goal.put-requires-clause-few_letters
+put-requires-clause-few_letters g c κs ls =
     let f = seen_port g.L.Lane in
     let items = c.args.self.now.ports.items in
     let p = c.requires.putting in
@@ -41,7 +41,7 @@ returns-in-Heard-clause-way g c plan given putting =
     let at = seen_at f items c.args.i c.index_mut.result.now within c.index_mut.ensures.value in
     let ports = seen_set f items c.args.i c.put.new.self (put_on c.last-stamp.result.at c.args.letter (f c.index_mut.result.now)) c.in-Heard.ensures in
     let runs = put_runs plan given run c.args.i c.args.letter putting (f c.index_mut.result.now) at c.last-stamp.result.at c.requires.letter in
-    subst (λ (ps : List (SeenPort g.L.Lane.Identity)). IsRunning plan given (record { core = run.core; ports = ps; bell = run.bell; journal = run.journal })) (sym ports) runs
+    subst (λ (ps : List (SeenPort g.L.Lane.Identity)). IsRunning plan given (record { manner = run.manner; core = run.core; ports = ps; bell = run.bell; journal = run.journal })) (sym ports) runs
 
 pub returns-in-Refused-clause-way : goal.returns-in-Refused-clause-way
 returns-in-Refused-clause-way g c plan given putting =
@@ -52,9 +52,9 @@ returns-in-Refused-clause-way g c plan given putting =
     let at = seen_at f items c.args.i c.index_mut.result.now within c.index_mut.ensures.value in
     let ports = seen_set f items c.args.i c.put.new.self (refused_on (f c.index_mut.result.now)) c.in-Refused.ensures.1 in
     let stops = put_stops plan given run c.args.i c.args.letter c.requires.letter putting (f c.index_mut.result.now) at in
-    let new : SeenRun g.L.Lane.Identity = record { core = run.core; ports = seen_ports g.L.Lane (set items c.args.i c.put.new.self); bell = run.bell; journal = run.journal } in
+    let new : SeenRun g.L.Lane.Identity = record { manner = run.manner; core = run.core; ports = seen_ports g.L.Lane (set items c.args.i c.put.new.self); bell = run.bell; journal = run.journal } in
     let there : IsStopped (Some (record { link = c.args.i; letter = c.args.letter })) (fault.Lost c.args.i) plan given new =
-    subst (λ (ps : List (SeenPort g.L.Lane.Identity)). IsStopped (Some (record { link = c.args.i; letter = c.args.letter })) (fault.Lost c.args.i) plan given (record { core = run.core; ports = ps; bell = run.bell; journal = run.journal })) (sym ports) stops in
+    subst (λ (ps : List (SeenPort g.L.Lane.Identity)). IsStopped (Some (record { link = c.args.i; letter = c.args.letter })) (fault.Lost c.args.i) plan given (record { manner = run.manner; core = run.core; ports = ps; bell = run.bell; journal = run.journal })) (sym ports) stops in
     subst (λ (l : Letter). IsStopped (Some (record { link = c.args.i; letter = l })) (fault.Lost c.args.i) plan given new) (sym c.in-Refused.ensures.0) there
 
 pub returns-in-Unheard-clause-way : goal.returns-in-Unheard-clause-way
@@ -68,9 +68,9 @@ returns-in-Unheard-clause-way g c plan given putting =
     let ports = seen_set f items c.args.i c.put.new.self (put_unheard_on c.last-stamp.result.at c.args.letter old) c.in-Unheard.ensures in
     let stops = unheard_stops plan given run c.args.i c.args.letter putting old (put_unheard_on c.last-stamp.result.at c.args.letter old) at (record { tx = refl; rx = refl; bell = refl; number = refl })
     (stops-unheard (traffic_at putting.before c.args.i) old (putting.lists c.args.i old at) c.last-stamp.result.at c.args.letter putting.open_place) refl refl in
-    let new : SeenRun g.L.Lane.Identity = record { core = run.core; ports = seen_ports g.L.Lane (set items c.args.i c.put.new.self); bell = run.bell; journal = run.journal } in
+    let new : SeenRun g.L.Lane.Identity = record { manner = run.manner; core = run.core; ports = seen_ports g.L.Lane (set items c.args.i c.put.new.self); bell = run.bell; journal = run.journal } in
     let there : IsStopped None (fault.Lost (length c.args.self.now.core.places)) plan given new =
-    subst (λ (ps : List (SeenPort g.L.Lane.Identity)). IsStopped None (fault.Lost (length c.args.self.now.core.places)) plan given (record { core = run.core; ports = ps; bell = run.bell; journal = run.journal })) (sym ports) stops in
+    subst (λ (ps : List (SeenPort g.L.Lane.Identity)). IsStopped None (fault.Lost (length c.args.self.now.core.places)) plan given (record { manner = run.manner; core = run.core; ports = ps; bell = run.bell; journal = run.journal })) (sym ports) stops in
     subst (λ (stop : Stop). IsStopped stop.stray stop.fault plan given new) (sym c.lost_bell.ensures) there
 
 pub returns-in-Heard-clause-timed : goal.returns-in-Heard-clause-timed

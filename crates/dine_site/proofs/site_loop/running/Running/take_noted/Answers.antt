@@ -11,7 +11,8 @@ use Rattle.dine_site.specs.Ports.{SeenPort, seen_port, seen_ports, taken_on, unt
 use Rattle.dine_site.specs.Running.{SeenRun, IsRunning, IsStopped, seen_run}
 use Rattle.dine_rules.specs.Letters.{has_close}
 use Rattle.dine_site.proofs.lists.Seen.{seen_at, seen_set}
-use Rattle.dine_core.specs.Core.{SeenCore}
+use Rattle.dine_site_core.specs.Core.{SeenCore}
+use Rattle.dine_site.proofs.one_site.Checks.{checks_more}
 use Rattle.dine_site.proofs.one_site.Stops.{breach_stops, take_stops}
 use Rattle.dine_site.proofs.one_site.Ways.{take_runs, take_room}
 use Rattle.dine_site.proofs.site_loop.running.Running.take_noted.Goals as goal
@@ -26,8 +27,8 @@ take-requires-clause-open g c κs ls =
     let at = seen_at f items c.args.i c.index_mut.result.now within c.index_mut.ensures.value in
     ap (λ (xs : List Letter). has_close xs) (p.2.lists c.args.i (f c.index_mut.result.now) at).takes ∙ c.requires.not_closed p.0 p.2.state p.2.has.keeps p.2.has.stands
 
-pub take-requires-clause-room : goal.take-requires-clause-room
-take-requires-clause-room g c κs ls =
+pub take-requires-clause-few_letters : goal.take-requires-clause-few_letters
+take-requires-clause-few_letters g c κs ls =
     let f = seen_port g.L.Lane in
     let items = c.args.self.now.ports.items in
     let run : SeenRun g.L.Lane.Identity = seen_run g.L.Lane c.args.self.now in
@@ -44,8 +45,8 @@ returns-in-Ok-take-clause-way g c plan given running =
     let within : c.args.i < length items = omega (arith, c.requires.place, running.has.places, length-map items f) in
     let at = seen_at f items c.args.i c.index_mut.result.now within c.index_mut.ensures.value in
     let ports = seen_set f items c.args.i c.take.new.self (taken_on c.in-Ok.stamp.at c.in-Ok.letter (f c.index_mut.result.now)) c.in-Ok.ensures in
-    let runs = take_runs plan given run c.journals_grow_by_each_event.ensures.event c.in-Ok.stamp.at c.args.i c.in-Ok.letter c.take-in-Ok.new.self c.push_reserved.new.self.items c.push_reserved.ensures.items c.requires.place c.in-Ok-take.ensures.step c.requires.quiet running (f c.index_mut.result.now) at in
-    subst (λ (ps : List (SeenPort g.L.Lane.Identity)). IsRunning plan given (record { core = c.take-in-Ok.new.self; ports = ps; bell = run.bell; journal = c.push_reserved.new.self.items })) (sym ports) runs
+    let runs = take_runs plan given run c.journals_grow_by_each_event.ensures.event c.in-Ok.stamp.at c.args.i c.in-Ok.letter c.take-in-Ok.new.self c.push_reserved.new.self.items c.push_reserved.ensures.items c.requires.place c.in-Ok-take.ensures.step c.requires.turn running (f c.index_mut.result.now) at in
+    subst (λ (ps : List (SeenPort g.L.Lane.Identity)). IsRunning plan given (record { manner = run.manner; core = c.take-in-Ok.new.self; ports = ps; bell = run.bell; journal = c.push_reserved.new.self.items })) (sym ports) runs
 
 pub returns-in-Err-take-clause-way : goal.returns-in-Err-take-clause-way
 returns-in-Err-take-clause-way g c plan given running =
@@ -55,11 +56,11 @@ returns-in-Err-take-clause-way g c plan given running =
     let within : c.args.i < length items = omega (arith, c.requires.place, running.has.places, length-map items f) in
     let at = seen_at f items c.args.i c.index_mut.result.now within c.index_mut.ensures.value in
     let ports = seen_set f items c.args.i c.take.new.self (taken_on c.in-Ok.stamp.at c.in-Ok.letter (f c.index_mut.result.now)) c.in-Ok.ensures in
-    let told = c.in-Err-take.ensures in
-    let stops = breach_stops plan given run c.in-Ok.stamp.at c.args.i c.in-Ok.letter c.in-Err-take.breach c.requires.place told.taken running (f c.index_mut.result.now) at in
-    let new = subst (λ (ps : List (SeenPort g.L.Lane.Identity)). IsStopped (Some (record { link = c.args.i; letter = c.in-Ok.letter })) (fault.Breach c.args.i c.in-Err-take.breach) plan given (record { core = run.core; ports = ps; bell = run.bell; journal = run.journal })) (sym ports) stops in
-    let core = subst (λ (k : SeenCore). IsStopped (Some (record { link = c.args.i; letter = c.in-Ok.letter })) (fault.Breach c.args.i c.in-Err-take.breach) plan given (record { core = k; ports = seen_ports g.L.Lane (set items c.args.i c.take.new.self); bell = run.bell; journal = run.journal })) (sym told.core.0) new in
-    subst (λ (l : Letter). IsStopped (Some (record { link = c.args.i; letter = l })) (fault.Breach c.args.i c.in-Err-take.breach) plan given (record { core = c.take-in-Ok.new.self; ports = seen_ports g.L.Lane (set items c.args.i c.take.new.self); bell = run.bell; journal = run.journal })) (sym told.core.1) core
+    let reported = c.in-Err-take.ensures in
+    let stops = breach_stops plan given run c.in-Ok.stamp.at c.args.i c.in-Ok.letter c.in-Err-take.breach c.requires.place reported.taken running (f c.index_mut.result.now) at in
+    let new = subst (λ (ps : List (SeenPort g.L.Lane.Identity)). IsStopped (Some (record { link = c.args.i; letter = c.in-Ok.letter })) (fault.Breach c.args.i c.in-Err-take.breach) plan given (record { manner = run.manner; core = run.core; ports = ps; bell = run.bell; journal = run.journal })) (sym ports) stops in
+    let core = subst (λ (k : SeenCore). IsStopped (Some (record { link = c.args.i; letter = c.in-Ok.letter })) (fault.Breach c.args.i c.in-Err-take.breach) plan given (record { manner = run.manner; core = k; ports = seen_ports g.L.Lane (set items c.args.i c.take.new.self); bell = run.bell; journal = run.journal })) (sym reported.core.0) new in
+    subst (λ (l : Letter). IsStopped (Some (record { link = c.args.i; letter = l })) (fault.Breach c.args.i c.in-Err-take.breach) plan given (record { manner = run.manner; core = c.take-in-Ok.new.self; ports = seen_ports g.L.Lane (set items c.args.i c.take.new.self); bell = run.bell; journal = run.journal })) (sym reported.core.1) core
 
 pub returns-in-Err-clause-way : goal.returns-in-Err-clause-way
 returns-in-Err-clause-way g c plan given running =
@@ -69,7 +70,7 @@ returns-in-Err-clause-way g c plan given running =
     let within : c.args.i < length items = omega (arith, c.requires.place, running.has.places, length-map items f) in
     let at = seen_at f items c.args.i c.index_mut.result.now within c.index_mut.ensures.value in
     let ports = seen_set f items c.args.i c.take.new.self (untaken_on (f c.index_mut.result.now)) c.in-Err.ensures in
-    subst (λ (ps : List (SeenPort g.L.Lane.Identity)). IsStopped None (fault.Lost c.args.i) plan given (record { core = run.core; ports = ps; bell = run.bell; journal = run.journal })) (sym ports)
+    subst (λ (ps : List (SeenPort g.L.Lane.Identity)). IsStopped None (fault.Lost c.args.i) plan given (record { manner = run.manner; core = run.core; ports = ps; bell = run.bell; journal = run.journal })) (sym ports)
     (take_stops plan given run c.args.i c.requires.place running (f c.index_mut.result.now) at)
 
 pub returns-in-Ok-take-clause-timed : goal.returns-in-Ok-take-clause-timed
@@ -83,3 +84,9 @@ returns-in-Ok-take-clause-timed g c = λ timed.
     subst (IsTimed none_late c.after-self.result.events c.push_reserved.new.self.items) (sym ports)
     (takes_one c.args.self.now.clock.events c.args.self.now.journal.items run.ports (event.Take c.args.i) (last_moment c.args.self.now.clock.events + c.in-Ok.stamp.at + 1) (omega arith) timed
     c.push_reserved.new.self.items c.push_reserved.ensures.items c.after-self.result.events c.after-self.ensures c.args.i c.in-Ok.stamp.at c.in-Ok.letter (f c.index_mut.result.now) refl (omega arith) at)
+
+pub returns-in-Ok-take-clause-checks : goal.returns-in-Ok-take-clause-checks
+returns-in-Ok-take-clause-checks g c first are =
+    let old = c.args.self.now in
+    checks_more first old.manner old.bell.found_empty old.clock.events old.journal.items (event.Take c.args.i) (last_moment old.clock.events + c.in-Ok.stamp.at + 1) refl
+    c.after-self.result.events c.after-self.ensures c.push_reserved.new.self.items c.push_reserved.ensures.items are

@@ -6,7 +6,7 @@ use Rattle.dine_site.proofs.one_site.Proceeding.{may_then, proceeds_not, proceed
 use Rattle.dine_site.proofs.site_loop.running.Running.work.Goals as goal
 
 pub loop-init : goal.loop-init
-loop-init g c = record { proceeds = proceeds_not g.L.Lane g.D.Diner c.args.self.now c.requires.ready.ready; timed = λ timed. timed }
+loop-init g c = record { proceeds = proceeds_not g.L.Lane g.D.Diner c.args.self.now c.requires.ready.ready; timed = λ timed. timed; checks = λ first are. are }
 
 pub do_events-requires-clause-ready : goal.do_events-requires-clause-ready
 do_events-requires-clause-ready g c κs ls = may_then g.L.Lane g.D.Diner c.requires.ready c.loop.invariant.proceeds
@@ -19,6 +19,7 @@ returns-in_err-do_events g c =
       proceeds = subst (λ (result : Result _ _). Proceeds g.L.Lane g.D.Diner (GoesToEnd result) c.args.self.now c.do_events.new.self) (sym is)
           (proceeds_then g.L.Lane g.D.Diner (GoesToEnd (Err stop)) c.loop.invariant.proceeds c.in_err-do_events.ensures.proceeds);
       timed = subst (λ (result : Result (Unit {0}) Stop). OnOk result (IsTimedRun g.L.Lane c.args.self.now → IsTimedRun g.L.Lane c.do_events.new.self)) (sym is) tt;
+      checks = λ first are. c.do_events.ensures.checks first (c.loop.invariant.checks first are);
     }
 
 pub returns-then-is_finished : goal.returns-then-is_finished
@@ -26,6 +27,7 @@ returns-then-is_finished g c = record {
   proceeds = proceeds_to g.L.Lane g.D.Diner (GoesToEnd (Ok tt)) (λ plan given running. (running, λ plan state keeps stands. sym (c.is_finished.ensures.by_lists plan state keeps stands) ∙ c.if-is_finished.true))
       (proceeds_then g.L.Lane g.D.Diner IsRunning c.loop.invariant.proceeds c.in_ok-do_events.ensures.proceeds);
   timed = λ timed. c.in_ok-do_events.ensures.timed (c.loop.invariant.timed timed);
+  checks = λ first are. c.do_events.ensures.checks first (c.loop.invariant.checks first are);
 }
 
 pub hear-requires-clause-running : goal.hear-requires-clause-running
@@ -49,6 +51,7 @@ returns-in_err-hear g c =
           (proceeds_then g.L.Lane g.D.Diner (GoesToEnd (Err stop)) (proceeds_then g.L.Lane g.D.Diner IsRunning c.loop.invariant.proceeds did)
           (proceeds_same g.L.Lane g.D.Diner (GoesToEnd (Err stop)) c.do_events.new.self c.hear.new.self c.hear.ensures.same did.ready c.in_err-hear.ensures.way));
       timed = subst (λ (result : Result (Unit {0}) Stop). OnOk result (IsTimedRun g.L.Lane c.args.self.now → IsTimedRun g.L.Lane c.hear.new.self)) (sym is) tt;
+      checks = λ first are. c.hear.ensures.checks first (c.do_events.ensures.checks first (c.loop.invariant.checks first are));
     }
 
 pub loop-preserved : goal.loop-preserved
@@ -58,4 +61,5 @@ loop-preserved g c =
       proceeds = proceeds_then g.L.Lane g.D.Diner IsRunning (proceeds_then g.L.Lane g.D.Diner IsRunning c.loop.invariant.proceeds did)
           (proceeds_same g.L.Lane g.D.Diner IsRunning c.do_events.new.self c.hear.new.self c.hear.ensures.same did.ready c.in_ok-hear.ensures.way);
       timed = λ timed. c.in_ok-hear.ensures.timed (c.in_ok-do_events.ensures.timed (c.loop.invariant.timed timed));
+      checks = λ first are. c.hear.ensures.checks first (c.do_events.ensures.checks first (c.loop.invariant.checks first are));
     }

@@ -1,0 +1,32 @@
+-- Sites that ended their steps, by the cores behind their hands: each core is a site at rest.
+use Rattle.std.proofs.Common.{◌≡◌, ℕ, ◌<◌, List, [], ◌∷◌, ◌++◌, length, map, reverse, get_or, set, refl, sym, ◌∙◌, ap, arith}
+use Rattle.std.proofs.Math.ListN.{get_or-map}
+use Rattle.std.proofs.lemmas.List.{get_or_default, length-map, map-set, map_push, append_assoc, reverse-append}
+use Rattle.dine_core.specs.declared.world.sites.WorldSite.{WorldSite}
+use Rattle.dine_site_core.specs.Core.{SeenCore}
+use Rattle.dine_site_core.specs.Places.{gave}
+use Rattle.dine_core.specs.private.Forks.{absent_core, at_rest, core_ended, emptied_at, meal_ended, site_at}
+
+-- the core at index s, and place i of it
+module _ (cores : List SeenCore) (s i : ℕ) (past : SeenCore) (within : s < length (map at_rest cores)) where
+  rest_read : at_rest (get_or cores s past) ≡ site_at (map at_rest cores) s
+  rest_read =
+      let is_core : s < length cores = omega (arith, within, length-map cores at_rest) in
+      ap at_rest (get_or_default cores s past absent_core is_core) ∙ sym (get_or-map at_rest cores s absent_core)
+
+  pub emptied_read : map at_rest (set cores s (gave i (get_or cores s past))) ≡ emptied_at s i (map at_rest cores)
+  emptied_read = map-set at_rest cores s (gave i (get_or cores s past)) ∙ ap (λ (x : WorldSite). set (map at_rest cores) s (record x { core = gave i x.core })) rest_read
+
+-- the cores of all sites, ended, are the sites after their meals
+pub all_ended : (sites : List WorldSite) → map at_rest (map core_ended sites) ≡ map meal_ended sites
+all_ended [] = refl
+all_ended (world_site ∷ sites) = ap (λ (rest : List WorldSite). meal_ended world_site ∷ rest) (all_ended sites)
+
+-- The last site is taken, and its core goes to the end of the cores, which are in the reversed order.
+pub last_ended : (sites front : List WorldSite) (last : WorldSite) (cores : List SeenCore) → sites ≡ front ++ last ∷ []
+    → map core_ended front ++ reverse (cores ++ core_ended last ∷ []) ≡ map core_ended sites ++ reverse cores
+last_ended sites front last cores is =
+    ap (λ (xs : List SeenCore). map core_ended front ++ xs) (reverse-append cores (core_ended last ∷ []))
+    ∙ sym (append_assoc (map core_ended front) (core_ended last ∷ []) (reverse cores))
+    ∙ ap (λ (xs : List SeenCore). xs ++ reverse cores) (sym (map_push core_ended front last))
+    ∙ ap (λ (xs : List WorldSite). map core_ended xs ++ reverse cores) (sym is)

@@ -1,0 +1,20 @@
+use Rattle.std.proofs.Common.{sym, ◌∙◌, ap, is_some, map}
+use Rattle.dine_core.specs.private.Forks.{at_rest}
+use Rattle.dine_core.proofs.all_sites.ForksOut.{edge_there, next_is, one_more_as}
+use Rattle.dine_core.proofs.world.forks.collect.Goals as goal
+
+pub take_out-requires : goal.take_out-requires
+take_out-requires c = edge_there (map at_rest c.args.hands.now) c.args.links.now c.args.edges.now c.requires.all c.loop-edge.edge c.loop-edge.forks.items (map at_rest c.loop-edge.hands) c.loop-edge.links c.loop-edge.invariant.0
+    c.loop-edge-test.true c.loop-edge.edge c.loop-edge-test.true
+
+pub unwrap-fork-requires : goal.unwrap-fork-requires
+unwrap-fork-requires c =
+    ap is_some (next_is (map at_rest c.args.hands.now) c.args.links.now c.args.edges.now c.requires.all c.loop-edge.edge c.loop-edge.forks.items (map at_rest c.loop-edge.hands) c.loop-edge.links c.loop-edge.invariant.0
+    c.loop-edge-test.true c.take_out.result c.take_out.ensures.fork)
+
+pub loop-edge-preserved : goal.loop-edge-preserved
+loop-edge-preserved c = (
+  one_more_as (map at_rest c.args.hands.now) c.args.links.now c.args.edges.now c.requires.all c.loop-edge.edge c.loop-edge.forks.items (map at_rest c.loop-edge.hands) c.loop-edge.links c.loop-edge.invariant.0 c.loop-edge-test.true
+      c.unwrap-fork.result c.push_reserved.new.self.items (map at_rest c.take_out.new.hands) c.take_out.new.links (sym c.unwrap-fork.ensures ∙ c.take_out.ensures.fork) c.push_reserved.ensures.items c.take_out.ensures.hands c.take_out.ensures.links,
+  c.push_reserved.ensures.capacity ∙ c.loop-edge.invariant.1,
+)

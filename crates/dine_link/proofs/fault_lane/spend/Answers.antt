@@ -1,9 +1,0 @@
-use borrow.Author.Tests.{tests}
-use Rattle.std.proofs.Common.{rules}
-use Rattle.dine_link.proofs.fault_lane.spend.Goals as goal
-
-pub returns-in-Some-eq0-clause-told : goal.returns-in-Some-eq0-clause-told
-returns-in-Some-eq0-clause-told c = search (tests, rules)
-
-pub returns-in-Some-clause-counted : goal.returns-in-Some-clause-counted
-returns-in-Some-clause-counted c = search (tests, rules)

@@ -1,0 +1,58 @@
+// The two calls of a bell that report a ring if one is left, and never sleep.
+use crate::asserts::same;
+use dine_clock::Clock;
+use dine_link::testing::finds_asleep;
+use dine_link::{Bell, Lost, Ringer};
+use std::alloc::Global;
+use std::process::Abort;
+use std::sync::Wait;
+
+#[derive(Clone, Copy)]
+enum Call {
+    TryWait,
+    Check,
+}
+
+fn ask<R: Wait>(rt: &R, bell: &mut Bell, by: Call) -> Option<u32> {
+    match by {
+        Call::TryWait => bell.try_wait(rt),
+        Call::Check => bell.check(rt, &Clock::start()),
+    }
+}
+
+// The ringers at these places ring, one after another.
+fn ring_each<R: Abort + Wait>(rt: &R, ringers: &mut Vec<Ringer>, places: &[usize]) {
+    for place in places {
+        let ringer = ringers.get_mut(*place).expect(rt, "a ringer");
+        same(rt, &ringer.ring(rt), &Ok(()));
+    }
+}
+
+// Checks that each ring is reported once, by the call or by a wait. If no ring is left the call returns, though nobody
+// rings meanwhile.
+fn reports_each_ring_once<R: Abort + Wait>(rt: &R, alloc: Global, by: Call) {
+    let (mut ringers, mut bell) = Bell::open(alloc, 2).expect(rt, "memory for the bell");
+    same(rt, &ask(rt, &mut bell, by), &None);
+    ring_each(rt, &mut ringers, &[1, 0]);
+    for wanted in [Some(1), Some(0), None, None] {
+        same(rt, &ask(rt, &mut bell, by), &wanted);
+    }
+    let ringer = ringers.get_mut(0).expect(rt, "a ringer");
+    assert!(rt; !finds_asleep(rt, ringer));
+    ring_each(rt, &mut ringers, &[1, 0]);
+    same(rt, &ask(rt, &mut bell, by), &Some(1));
+    same(rt, &bell.wait(rt), &Ok(0));
+    ringers.clear();
+    same(rt, &ask(rt, &mut bell, by), &None);
+    same(rt, &bell.wait(rt), &Err(Lost));
+}
+
+#[test]
+fn try_wait_reports_each_ring_once_and_never_sleeps(rt: HostRuntime) {
+    reports_each_ring_once(&rt, rt.alloc(), Call::TryWait);
+}
+
+#[test]
+fn check_reports_each_ring_once_and_never_sleeps(rt: HostRuntime) {
+    reports_each_ring_once(&rt, rt.alloc(), Call::Check);
+}

@@ -1,0 +1,3 @@
+pub mod lists
+pub mod one_site
+pub mod own_events

@@ -1,0 +1,8 @@
+pub mod Core
+pub mod Places
+pub mod Said
+pub mod LinkNumbers
+pub mod Standing
+pub mod NextEvent
+pub mod CoreWants
+pub mod private

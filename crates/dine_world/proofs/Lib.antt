@@ -1,2 +1,0 @@
-pub mod all_sites
-pub mod enabled_events

@@ -1,4 +1,0 @@
-pub mod WorldSites
-pub mod Worlds
-pub mod Whereabouts
-pub mod private
