@@ -2,6 +2,7 @@
 pub mod Letters
 pub mod Turns
 pub mod AtPlaces
+pub mod Closes
 pub mod Meals
 pub mod Obeying
 pub mod Same

@@ -1,6 +1,8 @@
 -- The two link ends of a site at a place, as contracts see them, whatever lane they are of. Rings are counted, and not
 -- ordered among the letters.
 use Rattle.std.specs.Prelude.{◌≡◌, ◌⊎◌, ℕ, ◌+◌, ◌≤◌, Bool, true, false, List, [], ◌∷◌, ◌++◌, length, map, slice_get, slice_set, Option, IfSome, option_to_list}
+use Rattle.std.specs.List.{list_any}
+use Rattle.dine_rules.specs.declared.events.EventKind.{EventKind}
 use Rattle.dine_rules.specs.declared.letters.Letter.{Letter}
 use Rattle.dine_rules.specs.declared.letters.Letter.TheVariants.{Close}
 use Rattle.dine_site.specs.declared.port.Port.{Port}
@@ -14,6 +16,7 @@ use Rattle.dine_link.specs.Lanes.{seen_end}
 use Rattle.dine_link.specs.Bells.{SeenRinger, after_refused_ring, after_ring}
 use Rattle.dine_link.specs.Links.{SeenEnd, after_refusal, with_letter_at}
 use Rattle.dine_link.specs.declared.lane.Lane.{Ghosts}
+use Rattle.dine_site.specs.Doings.{is_close_at}
 
 -- A port: the end that the site puts in, whether more can be put in it, the end that it takes from, and the ringer of
 -- the neighbour's bell.
@@ -122,9 +125,11 @@ pub record HasRung {Identity : Type 0} (port : SeenPort Identity) : Type 0 where
   pub each : port.ringer.refused ≡ false → port.ringer.rings ≡ length port.tx.letters
   pub all_but_two : length port.tx.letters ≤ port.ringer.rings + 2
 
--- The end for puts is shut. There is at most one letter more than rings.
-pub record LacksOneRing {Identity : Type 0} (port : SeenPort Identity) : Type 0 where
+-- The end for puts of place i is shut, and no event of the journal is Close there: the site broke off. There is at most
+-- one letter more than rings.
+pub record BrokeOffUnheard {Identity : Type 0} (i : ℕ) (journal : List EventKind) (port : SeenPort Identity) : Type 0 where
   pub shut : port.is_live ≡ false
+  pub no_event : list_any (is_close_at i) journal ≡ false
   pub at_most_one : length port.tx.letters ≤ port.ringer.rings + 1
 
 -- What a core put at a place is what was put on the link, with two exceptions: a letter that the link refused, and a

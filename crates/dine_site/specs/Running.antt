@@ -25,7 +25,7 @@ use Rattle.dine_site.specs.Diners.{HasEaten}
 use Rattle.dine_site.specs.declared.manner.Manner.{Manner}
 use Rattle.dine_site.specs.declared.manner.Manner.TheVariants.{Eager, Polite}
 use Rattle.dine_site.specs.Doings.{HasActed, HasDone, MayTakeBefore, empty_checks_of}
-use Rattle.dine_site.specs.Ports.{HasRung, IsUnrefused, LacksOneRing, SeenPort, SameLinks, PutsFit, seen_ports}
+use Rattle.dine_site.specs.Ports.{BrokeOffUnheard, HasRung, IsUnrefused, SeenPort, SameLinks, PutsFit, seen_ports}
 use Rattle.dine_clock.specs.Moments.{last_moment}
 use Rattle.dine_site.specs.Times.{IsTimed, late_at, none_late}
 use Rattle.dine_site.specs.Endings.{IsBreached, IsLost, breached_at, hands_back, links_at, refused_at}
@@ -105,7 +105,7 @@ pub record IsStopped {Identity : Type 0} (stray : Option Stray) (cause : SiteFau
   pub lost_bell : cause ≡ fault.Lost (length state.traffic) → HasBellRefused run.ports run.bell
   pub take_reported : (i : ℕ) (port : SeenPort Identity) → slice_get run.ports i ≡ Some port → port.rx.refused ≡ true → cause ≡ fault.Lost i
   pub wait_reported : run.bell.refused ≡ true → cause ≡ fault.Lost (length state.traffic)
-  pub ring_reported : (i : ℕ) (port : SeenPort Identity) → slice_get run.ports i ≡ Some port → port.ringer.refused ≡ true → (cause ≡ fault.Lost (length state.traffic)) ⊎ LacksOneRing port
+  pub ring_reported : (i : ℕ) (port : SeenPort Identity) → slice_get run.ports i ≡ Some port → port.ringer.refused ≡ true → (cause ≡ fault.Lost (length state.traffic)) ⊎ BrokeOffUnheard i run.journal port
   pub no_stray : hands_back (Some cause) ≡ false → stray ≡ None
   pub started : cause ≢ fault.NotStarted
 

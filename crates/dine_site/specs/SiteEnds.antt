@@ -13,7 +13,7 @@ use Rattle.dine_site.specs.declared.site_end.SiteFault.TheVariants as fault
 use Rattle.dine_site.specs.declared.site_end.Stray.{Stray}
 use Rattle.dine_site.specs.declared.manner.Manner.{Manner}
 use Rattle.dine_site.specs.Endings.{Ending, HasEnded, links_at}
-use Rattle.dine_site.specs.Ports.{HasRung, LacksOneRing, SeenPort, SameLinks, seen_ports}
+use Rattle.dine_site.specs.Ports.{BrokeOffUnheard, HasRung, SeenPort, SameLinks, seen_ports}
 use Rattle.dine_site.specs.declared.site_end.SiteEnd.{SiteEnd}
 use Rattle.dine_link.specs.declared.lane.Lane.{Ghosts}
 
@@ -67,10 +67,10 @@ pub record IsLeft {Identity : Type 0} (manner : Manner) (plan : SeenPlan) (s : �
   pub lost_bell : end.fault ≡ Some (fault.Lost (length state.traffic)) → HasBellRefused end.ports end.bell
 
 -- What a site leaves that was started. If a wait for its bell was refused, it reports the bell as lost. If a ring of
--- one of its ringers was refused, it does so too, or that end is shut and at most one letter of it has no ring
--- (`LacksOneRing`).
+-- one of its ringers was refused, it does so too, or that is the ring of the Close with which it broke off at this place
+-- after another fault (`BrokeOffUnheard`).
 pub record IsSiteEnd {Identity : Type 0} (manner : Manner) (plan : SeenPlan) (s : ℕ) (given : List (SeenPort Identity)) (end : SeenSiteEnd Identity) : Type 0 where
   pub left : IsLeft manner plan s given end
   pub started : end.fault ≢ Some fault.NotStarted
   pub wait_reported : end.bell.refused ≡ true → end.fault ≡ Some (fault.Lost (length end.ports))
-  pub ring_reported : (i : ℕ) (port : SeenPort Identity) → slice_get end.ports i ≡ Some port → port.ringer.refused ≡ true → (end.fault ≡ Some (fault.Lost (length end.ports))) ⊎ LacksOneRing port
+  pub ring_reported : (i : ℕ) (port : SeenPort Identity) → slice_get end.ports i ≡ Some port → port.ringer.refused ≡ true → (end.fault ≡ Some (fault.Lost (length end.ports))) ⊎ BrokeOffUnheard i end.journal port

@@ -144,7 +144,7 @@ module _ {Identity : Type 0} (plan : SeenPlan) (given : List (SeenPort Identity)
         started = λ e. stopped.started (same_Some cause fault.NotStarted e);
         wait_reported = λ r. ap (λ (f : SiteFault). Some f) (stopped.wait_reported r ∙ ap fault.Lost (sym stopped.has.stands.degree ∙ sym stopped.has.places));
         ring_reported = λ i port at r. elim (stopped.ring_reported i port at r) [
-          | inl told ↦ inl (ap (λ (f : SiteFault). Some f) (told ∙ ap fault.Lost (sym stopped.has.stands.degree ∙ sym stopped.has.places)))
-          | inr lacks ↦ inr lacks
+          | inl reported ↦ inl (ap (λ (f : SiteFault). Some f) (reported ∙ ap fault.Lost (sym stopped.has.stands.degree ∙ sym stopped.has.places)))
+          | inr broke_off ↦ inr broke_off
         ];
       }

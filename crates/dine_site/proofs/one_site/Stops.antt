@@ -27,12 +27,13 @@ use Rattle.dine_site_core.specs.Standing.{CoreStep, CorePuts, ReportsBreach}
 use Rattle.dine_site.specs.declared.site_end.SiteFault.{SiteFault}
 use Rattle.dine_site.specs.declared.site_end.SiteFault.TheVariants as fault
 use Rattle.dine_site.specs.declared.site_end.Stray.{Stray}
-use Rattle.dine_site.specs.Ports.{LacksOneRing, SameLinks, SeenPort, SendsClose, closed_unheard_on, refused_on, taken_on, untaken_on}
+use Rattle.dine_site.specs.Ports.{BrokeOffUnheard, SameLinks, SeenPort, SendsClose, closed_unheard_on, refused_on, taken_on, untaken_on}
 use Rattle.dine_site.specs.Endings.{IsBreached, IsLost, OnLinks, breached_at, links_at, nothing_on_links, on_links, refused_at}
 use Rattle.dine_site.specs.SiteEnds.{HasBellRefused}
 use Rattle.dine_site.specs.Running.{AtEach, SeenRun, HasState, RunsAt, StopsAt, IsRunning, IsPutting, IsStopped}
 use Rattle.dine_site.proofs.one_site.Letters.{puts_fit-shorter, stops-as_it_was, stops-refused, stops-unclosed, stops-untaken, stops-breached, stops-closed, stops-close_refused, stops-close_unheard, forks_in-closed, requests_in-closed, has_done-closed}
 use Rattle.dine_site.proofs.one_site.Turns.{led_more}
+use Rattle.dine_site.proofs.one_site.Closes.{no_close_event}
 use Rattle.dine_site.proofs.one_site.AtPlaces.{at-set, at-port, has-port, has-put, links_there, opens-break}
 
 -- what the letter of a stray is, at its place and at another
@@ -91,9 +92,9 @@ grown_place state i l = length-set state.traffic i (record (traffic_at state i) 
 no_letter_lost : {places : ℕ} {links : ℕ → OnLinks} (link : ℕ) → link ≡ places → IsLost places links None link
 no_letter_lost link is = record { within = omega (arith, is); refused = λ below. absurd (omega (arith, is, below)); to_place = λ back b. absurd (none-some back b); no_close = λ back b. absurd (none-some back b) }
 
--- a stop with this cause, in a plan where the site has so many edges, reports the refused ring of the port
-abbrev TellsRing : {Identity : Type 0} → SiteFault → ℕ → SeenPort Identity → Type 0
-TellsRing cause degree port = (cause ≡ fault.Lost degree) ⊎ LacksOneRing port
+-- a stop with this cause and this journal, of a site of this degree, reports the refused ring of the port at place i
+abbrev ReportsRing : {Identity : Type 0} → SiteFault → ℕ → List EventKind → ℕ → SeenPort Identity → Type 0
+ReportsRing cause degree journal i port = (cause ≡ fault.Lost degree) ⊎ BrokeOffUnheard i journal port
 
 -- the links of a place whose port changed, and of another
 module _ {Identity : Type 0} (ports : List (SeenPort Identity)) (i : ℕ) (old new : SeenPort Identity) (at : slice_get ports i ≡ Some old) where
@@ -103,32 +104,30 @@ module _ {Identity : Type 0} (ports : List (SeenPort Identity)) (i : ℕ) (old n
   other_links : (j : ℕ) → (j ≡ i → ⊥) → links_at (set ports i new) j ≡ links_at ports j
   other_links j ne = ap (λ (links : List OnLinks). get_or links j nothing_on_links) (map-set on_links ports i new) ∙ get_or-set_other (map on_links ports) i j (on_links new) nothing_on_links ne
 
-  -- a refused take is still reported, if it is reported of the port that changed
-  takes_reported : (P : ℕ → Type 0) → ((j : ℕ) (port : SeenPort Identity) → slice_get ports j ≡ Some port → port.rx.refused ≡ true → P j) → (new.rx.refused ≡ true → P i)
-      → (j : ℕ) (port : SeenPort Identity) → slice_get (set ports i new) j ≡ Some port → port.rx.refused ≡ true → P j
-  takes_reported P reported here j port there refused = elim (cases_eq j i) [
+  -- a refusal is still reported, if it is reported of the port that changed
+  still_reported : (refused : SeenPort Identity → Bool) (P : ℕ → SeenPort Identity → Type 0) → ((j : ℕ) (port : SeenPort Identity) → slice_get ports j ≡ Some port → refused port ≡ true → P j port) → (refused new ≡ true → P i new)
+      → (j : ℕ) (port : SeenPort Identity) → slice_get (set ports i new) j ≡ Some port → refused port ≡ true → P j port
+  still_reported refused P reported here j port there r = elim (cases_eq j i) [
     | inl same ↦
         let is : port ≡ new = same_Some port new (sym there ∙ ap (λ (n : ℕ). slice_get (set ports i new) n) same ∙ get-set_same ports i old new at) in
-        subst P (sym same) (here (ap (λ (p : SeenPort Identity). p.rx.refused) (sym is) ∙ refused))
-    | inr ne ↦ reported j port (sym (get-set_other ports i j new (λ e. ne (sym e))) ∙ there) refused
+        subst (λ (n : ℕ). P n port) (sym same) (subst (P i) (sym is) (here (ap refused (sym is) ∙ r)))
+    | inr ne ↦ reported j port (sym (get-set_other ports i j new (λ e. ne (sym e))) ∙ there) r
   ]
 
-  -- a refused ring is still reported, if it is reported of the port that changed
-  rings_reported : (P : SeenPort Identity → Type 0) → ((j : ℕ) (port : SeenPort Identity) → slice_get ports j ≡ Some port → port.ringer.refused ≡ true → P port) → (new.ringer.refused ≡ true → P new)
-      → (j : ℕ) (port : SeenPort Identity) → slice_get (set ports i new) j ≡ Some port → port.ringer.refused ≡ true → P port
-  rings_reported P reported here j port there refused = elim (cases_eq j i) [
-    | inl same ↦
-        let is : port ≡ new = same_Some port new (sym there ∙ ap (λ (n : ℕ). slice_get (set ports i new) n) same ∙ get-set_same ports i old new at) in
-        subst P (sym is) (here (ap (λ (p : SeenPort Identity). p.ringer.refused) (sym is) ∙ refused))
-    | inr ne ↦ reported j port (sym (get-set_other ports i j new (λ e. ne (sym e))) ∙ there) refused
-  ]
+  takes_reported : (P : ℕ → Type 0) → ((j : ℕ) (port : SeenPort Identity) → slice_get ports j ≡ Some port → port.rx.refused ≡ true → P j) → (new.rx.refused ≡ true → P i)
+      → (j : ℕ) (port : SeenPort Identity) → slice_get (set ports i new) j ≡ Some port → port.rx.refused ≡ true → P j
+  takes_reported P = still_reported (λ port. port.rx.refused) (λ j port. P j)
+
+  rings_reported : (P : ℕ → SeenPort Identity → Type 0) → ((j : ℕ) (port : SeenPort Identity) → slice_get ports j ≡ Some port → port.ringer.refused ≡ true → P j port) → (new.ringer.refused ≡ true → P i new)
+      → (j : ℕ) (port : SeenPort Identity) → slice_get (set ports i new) j ≡ Some port → port.ringer.refused ≡ true → P j port
+  rings_reported = still_reported (λ port. port.ringer.refused)
 
 -- while a site runs no take was refused
 quiet_takes : {Identity : Type 0} (state : LocalState) (ports : List (SeenPort Identity)) (P : ℕ → Type 0) → AtEach (λ i. RunsAt) state ports → (i : ℕ) (port : SeenPort Identity) → slice_get ports i ≡ Some port → port.rx.refused ≡ true → P i
 quiet_takes state ports P lists i port at refused = absurd (false≢true (sym (lists i port at).unrefused.take ∙ refused))
 
 -- nor a ring
-quiet_rings : {Identity : Type 0} (state : LocalState) (ports : List (SeenPort Identity)) (P : SeenPort Identity → Type 0) → AtEach (λ i. RunsAt) state ports → (i : ℕ) (port : SeenPort Identity) → slice_get ports i ≡ Some port → port.ringer.refused ≡ true → P port
+quiet_rings : {Identity : Type 0} (state : LocalState) (ports : List (SeenPort Identity)) (P : ℕ → SeenPort Identity → Type 0) → AtEach (λ i. RunsAt) state ports → (i : ℕ) (port : SeenPort Identity) → slice_get ports i ≡ Some port → port.ringer.refused ≡ true → P i port
 quiet_rings state ports P lists i port at refused = absurd (false≢true (sym (lists i port at).unrefused.ring ∙ refused))
 
 -- what a port refused it has refused still
@@ -183,7 +182,7 @@ module _ {Identity : Type 0} (plan : SeenPlan) (given : List (SeenPort Identity)
     lost_bell = λ e. inl refused;
     take_reported = quiet_takes running.state run.ports (λ j. fault.Lost (length run.core.places) ≡ fault.Lost j) running.lists;
     wait_reported = λ e. ap fault.Lost running.has.stands.degree;
-    ring_reported = quiet_rings running.state run.ports (TellsRing (fault.Lost (length run.core.places)) (length running.state.traffic)) running.lists;
+    ring_reported = quiet_rings running.state run.ports (ReportsRing (fault.Lost (length run.core.places)) (length running.state.traffic) run.journal) running.lists;
     no_stray = λ e. refl;
     started = λ e. absurd (cc);
   } where
@@ -202,7 +201,7 @@ module _ {Identity : Type 0} (plan : SeenPlan) (given : List (SeenPort Identity)
     lost_bell = λ e. absurd (cc);
     take_reported = quiet_takes running.state run.ports (λ j. fault.Memory ≡ fault.Lost j) running.lists;
     wait_reported = λ e. absurd (false≢true (sym running.heard ∙ e));
-    ring_reported = quiet_rings running.state run.ports (TellsRing fault.Memory (length running.state.traffic)) running.lists;
+    ring_reported = quiet_rings running.state run.ports (ReportsRing fault.Memory (length running.state.traffic) run.journal) running.lists;
     no_stray = λ e. refl;
     started = λ e. absurd (cc);
   }
@@ -230,7 +229,7 @@ module _ {Identity : Type 0} (plan : SeenPlan) (given : List (SeenPort Identity)
         lost_bell = λ e. (let same : i ≡ length running.state.traffic = cc in absurd (omega (arith, same, inside)));
         take_reported = takes_reported run.ports i port (untaken_on port) at (λ j. fault.Lost i ≡ fault.Lost j) (quiet_takes running.state run.ports (λ j. fault.Lost i ≡ fault.Lost j) running.lists) (λ e. refl);
         wait_reported = λ e. absurd (false≢true (sym running.heard ∙ e));
-        ring_reported = rings_reported run.ports i port (untaken_on port) at (TellsRing (fault.Lost i) (length running.state.traffic)) (quiet_rings running.state run.ports (TellsRing (fault.Lost i) (length running.state.traffic)) running.lists)
+        ring_reported = rings_reported run.ports i port (untaken_on port) at (ReportsRing (fault.Lost i) (length running.state.traffic) run.journal) (quiet_rings running.state run.ports (ReportsRing (fault.Lost i) (length running.state.traffic) run.journal) running.lists)
             (λ e. absurd (false≢true (sym (running.lists i port at).unrefused.ring ∙ e)));
         no_stray = λ e. refl;
         started = λ e. absurd (cc);
@@ -261,7 +260,7 @@ module _ {Identity : Type 0} (plan : SeenPlan) (given : List (SeenPort Identity)
         lost_bell = λ e. (let same : i ≡ length (with_put i l putting.before).traffic = cc in absurd (omega (arith, same, inside)));
         take_reported = takes_reported run.ports i port (refused_on port) at (λ j. fault.Lost i ≡ fault.Lost j) (quiet_takes putting.before run.ports (λ j. fault.Lost i ≡ fault.Lost j) putting.lists) (λ e. refl);
         wait_reported = λ e. absurd (false≢true (sym putting.heard ∙ e));
-        ring_reported = rings_reported run.ports i port (refused_on port) at (TellsRing (fault.Lost i) (length (with_put i l putting.before).traffic)) (quiet_rings putting.before run.ports (TellsRing (fault.Lost i) (length (with_put i l putting.before).traffic)) putting.lists)
+        ring_reported = rings_reported run.ports i port (refused_on port) at (ReportsRing (fault.Lost i) (length (with_put i l putting.before).traffic) run.journal) (quiet_rings putting.before run.ports (ReportsRing (fault.Lost i) (length (with_put i l putting.before).traffic) run.journal) putting.lists)
             (λ e. absurd (false≢true (sym (putting.lists i port at).unrefused.ring ∙ e)));
         no_stray = λ e. absurd (true≢false e);
         started = λ e. absurd (cc);
@@ -292,7 +291,7 @@ module _ {Identity : Type 0} (plan : SeenPlan) (given : List (SeenPort Identity)
         lost_bell = λ e. (let same : i ≡ length (with_put i letter.Close putting.before).traffic = cc in absurd (omega (arith, same, inside)));
         take_reported = takes_reported run.ports i port (refused_on port) at (λ j. fault.Lost i ≡ fault.Lost j) (quiet_takes putting.before run.ports (λ j. fault.Lost i ≡ fault.Lost j) putting.lists) (λ e. refl);
         wait_reported = λ e. absurd (false≢true (sym putting.heard ∙ e));
-        ring_reported = rings_reported run.ports i port (refused_on port) at (TellsRing (fault.Lost i) (length (with_put i letter.Close putting.before).traffic)) (quiet_rings putting.before run.ports (TellsRing (fault.Lost i) (length (with_put i letter.Close putting.before).traffic)) putting.lists)
+        ring_reported = rings_reported run.ports i port (refused_on port) at (ReportsRing (fault.Lost i) (length (with_put i letter.Close putting.before).traffic) run.journal) (quiet_rings putting.before run.ports (ReportsRing (fault.Lost i) (length (with_put i letter.Close putting.before).traffic) run.journal) putting.lists)
             (λ e. absurd (false≢true (sym (putting.lists i port at).unrefused.ring ∙ e)));
         no_stray = λ e. refl;
         started = λ e. absurd (cc);
@@ -313,7 +312,7 @@ module _ {Identity : Type 0} (plan : SeenPlan) (given : List (SeenPort Identity)
       take_reported = takes_reported run.ports i port new at (λ j. fault.Lost (length run.core.places) ≡ fault.Lost j) (quiet_takes putting.before run.ports (λ j. fault.Lost (length run.core.places) ≡ fault.Lost j) putting.lists)
           (λ e. absurd (false≢true (sym (putting.lists i port at).unrefused.take ∙ sym took ∙ e)));
       wait_reported = λ e. absurd (false≢true (sym putting.heard ∙ e));
-      ring_reported = rings_reported run.ports i port new at (TellsRing (fault.Lost (length run.core.places)) (length (with_put i l putting.before).traffic)) (quiet_rings putting.before run.ports (TellsRing (fault.Lost (length run.core.places)) (length (with_put i l putting.before).traffic)) putting.lists)
+      ring_reported = rings_reported run.ports i port new at (ReportsRing (fault.Lost (length run.core.places)) (length (with_put i l putting.before).traffic) run.journal) (quiet_rings putting.before run.ports (ReportsRing (fault.Lost (length run.core.places)) (length (with_put i l putting.before).traffic) run.journal) putting.lists)
           (λ e. inl (ap fault.Lost putting.has.stands.degree));
       no_stray = λ e. refl;
       started = λ e. absurd (cc);
@@ -348,7 +347,7 @@ module _ {Identity : Type 0} (plan : SeenPlan) (given : List (SeenPort Identity)
         take_reported = takes_reported run.ports i port (taken_on m l port) at (λ j. fault.Breach i reported ≡ fault.Lost j) (quiet_takes running.state run.ports (λ j. fault.Breach i reported ≡ fault.Lost j) running.lists)
             (λ e. absurd (false≢true (sym (running.lists i port at).unrefused.take ∙ e)));
         wait_reported = λ e. absurd (false≢true (sym running.heard ∙ e));
-        ring_reported = rings_reported run.ports i port (taken_on m l port) at (TellsRing (fault.Breach i reported) (length running.state.traffic)) (quiet_rings running.state run.ports (TellsRing (fault.Breach i reported) (length running.state.traffic)) running.lists)
+        ring_reported = rings_reported run.ports i port (taken_on m l port) at (ReportsRing (fault.Breach i reported) (length running.state.traffic) run.journal) (quiet_rings running.state run.ports (ReportsRing (fault.Breach i reported) (length running.state.traffic) run.journal) running.lists)
             (λ e. absurd (false≢true (sym (running.lists i port at).unrefused.ring ∙ e)));
         no_stray = λ e. absurd (true≢false e);
         started = λ e. absurd (cc);
@@ -393,7 +392,7 @@ module _ {Identity : Type 0} (plan : SeenPlan) (given : List (SeenPort Identity)
     StopsHere = StopsAt (refused_at i (Some cause) stray) (breached_at i (Some cause) stray) (record (traffic_at stopped.state i) { put = (traffic_at stopped.state i).put ++ letter.Close ∷ [] })
 
     -- whatever came of the Close
-    breaks : (new : SeenPort Identity) → SameLinks port new → StillRefused port new → StopsHere new → (new.ringer.refused ≡ true → TellsRing cause (length stopped.state.traffic) new) → IsStopped stray cause plan given (record { manner = run.manner; core = core; ports = set run.ports i new; bell = run.bell; journal = run.journal })
+    breaks : (new : SeenPort Identity) → SameLinks port new → StillRefused port new → StopsHere new → (new.ringer.refused ≡ true → ReportsRing cause (length stopped.state.traffic) run.journal i new) → IsStopped stray cause plan given (record { manner = run.manner; core = core; ports = set run.ports i new; bell = run.bell; journal = run.journal })
     breaks new links keeps stops rings =
         let same : length (with_put i letter.Close stopped.state).traffic ≡ length stopped.state.traffic = grown_place stopped.state i letter.Close in
         record {
@@ -408,8 +407,8 @@ module _ {Identity : Type 0} (plan : SeenPlan) (given : List (SeenPort Identity)
           lost_bell = λ e. bell_still run.ports i port new at keeps run.bell (stopped.lost_bell (e ∙ ap fault.Lost same));
           take_reported = takes_reported run.ports i port new at (λ j. cause ≡ fault.Lost j) stopped.take_reported (λ e. stopped.take_reported i port at (sym keeps.take ∙ e));
           wait_reported = λ e. stopped.wait_reported e ∙ ap fault.Lost (sym same);
-          ring_reported = λ j p there e. subst (λ (n : ℕ). TellsRing cause n p) (sym same)
-              (rings_reported run.ports i port new at (TellsRing cause (length stopped.state.traffic)) stopped.ring_reported rings j p there e);
+          ring_reported = λ j p there e. subst (λ (n : ℕ). ReportsRing cause n run.journal j p) (sym same)
+              (rings_reported run.ports i port new at (ReportsRing cause (length stopped.state.traffic) run.journal) stopped.ring_reported rings j p there e);
           no_stray = stopped.no_stray;
           started = stopped.started;
         }
@@ -418,16 +417,16 @@ module _ {Identity : Type 0} (plan : SeenPlan) (given : List (SeenPort Identity)
     stops_here = stopped.lists i port at
 
     -- a ring refused before that of Close was reported: until Close the end is live
-    unclosed_ring : (new : SeenPort Identity) → port.ringer.refused ≡ true → TellsRing cause (length stopped.state.traffic) new
+    unclosed_ring : (new : SeenPort Identity) → port.ringer.refused ≡ true → ReportsRing cause (length stopped.state.traffic) run.journal i new
     unclosed_ring new refused = elim (stopped.ring_reported i port at refused) [
-      | inl told ↦ inl told
-      | inr lacks ↦ absurd (false≢true (sym lacks.shut ∙ break_live))
+      | inl reported ↦ inl reported
+      | inr broke_off ↦ absurd (false≢true (sym broke_off.shut ∙ break_live))
     ]
 
     -- the ring of Close was refused: each letter before it was rung, or a ring refused before is reported
-    unheard_ring : (m : ℕ) (was : Bool) → port.ringer.refused ≡ was → TellsRing cause (length stopped.state.traffic) (closed_unheard_on m port)
+    unheard_ring : (m : ℕ) (was : Bool) → port.ringer.refused ≡ was → ReportsRing cause (length stopped.state.traffic) run.journal i (closed_unheard_on m port)
     unheard_ring m true was = unclosed_ring (closed_unheard_on m port) was
-    unheard_ring m false was = inr (record { shut = refl; at_most_one = omega (arith, stops_here.rang.each was, length-append port.tx.letters (letter.Close ∷ [])) })
+    unheard_ring m false was = inr (record { shut = refl; no_event = no_close_event run.manner plan run.core.site i run.journal stopped.state stopped.did room.1; at_most_one = omega (arith, stops_here.rang.each was, length-append port.tx.letters (letter.Close ∷ [])) })
 
     pub break_sends : (m : ℕ) (new : SeenPort Identity) (result : Closed) → SendsClose m port new result
         → IsStopped stray cause plan given (record { manner = run.manner; core = core; ports = set run.ports i new; bell = run.bell; journal = run.journal })
@@ -442,7 +441,7 @@ module _ {Identity : Type 0} (plan : SeenPlan) (given : List (SeenPort Identity)
     break_sends m new Unheard is = breaks new (record { tx = ap (λ (p : SeenPort Identity). p.tx.link) is; rx = ap (λ (p : SeenPort Identity). p.rx.link) is; bell = ap (λ (p : SeenPort Identity). p.ringer.bell) is; number = ap (λ (p : SeenPort Identity). p.ringer.number) is })
         (record { put = λ r. ap (λ (p : SeenPort Identity). p.tx.refused) is ∙ r; take = ap (λ (p : SeenPort Identity). p.rx.refused) is; ring = λ r. ap (λ (p : SeenPort Identity). p.ringer.refused) is })
         (subst StopsHere (sym is) (stops-close_unheard (refused_at i (Some cause) stray) (breached_at i (Some cause) stray) (traffic_at stopped.state i) port stops_here room.1 m))
-        (λ e. subst (TellsRing cause (length stopped.state.traffic)) (sym is) (unheard_ring m port.ringer.refused refl))
+        (λ e. subst (ReportsRing cause (length stopped.state.traffic) run.journal i) (sym is) (unheard_ring m port.ringer.refused refl))
 
     -- what the link has is no more than the core put
     pub break_room : ((plan : SeenPlan) (s : ℕ) (state : LocalState) (j : ℕ) → IsPlan plan → s < site_count plan → KeepsStreams plan s state → j < length state.traffic → length (traffic_at state j).put ≤ 2003)
