@@ -67,8 +67,8 @@ pub record IsLeft {Identity : Type 0} (manner : Manner) (plan : SeenPlan) (s : �
   pub lost_bell : end.fault ≡ Some (fault.Lost (length state.traffic)) → HasBellRefused end.ports end.bell
 
 -- What a site leaves that was started. If a wait for its bell was refused, it reports the bell as lost. If a ring of
--- one of its ringers was refused, it does so too, or that is the ring of the Close with which it broke off at this place
--- after another fault (`BrokeOffUnheard`).
+-- one of its ringers was refused, it does so too, or it broke off at this place, and at most one letter there has no
+-- ring (`BrokeOffUnheard`).
 pub record IsSiteEnd {Identity : Type 0} (manner : Manner) (plan : SeenPlan) (s : ℕ) (given : List (SeenPort Identity)) (end : SeenSiteEnd Identity) : Type 0 where
   pub left : IsLeft manner plan s given end
   pub started : end.fault ≢ Some fault.NotStarted
