@@ -14,7 +14,8 @@ DRIVERS = ("chromedriver", "chromium.chromedriver")
 # A root user gets no sandbox from Chromium, and a container little shared memory.
 WORDS = ("--headless=new", "--no-sandbox", "--disable-dev-shm-usage", "--disable-gpu", "--no-first-run")
 WORDS += ("--hide-scrollbars", "--disable-background-networking", "--disable-component-update", "--disable-sync")
-SECONDS = 30
+# How long a script may take, or what is waited for: many times what either takes on a machine with nothing else to do.
+SECONDS = 120
 # Where to click what a selector names, once it is scrolled into view: two numbers, or a line that says why it can't be
 # clicked.
 PLACE = """((where) => {
@@ -27,6 +28,16 @@ PLACE = """((where) => {
   const at = document.elementFromPoint(x, y);
   return it.contains(at) ? [x, y] : `${where} is covered by ${at && at.outerHTML.slice(0, 80)}`;
 })"""
+# Calls back once the page is at rest and the next frame is drawn.
+DRAWN = """const [drawn, main] = [arguments[0], document.querySelector('main')];
+const watch = new MutationObserver(() => look());
+const look = () => {
+  if (main.getAttribute('aria-busy') !== 'false') return;
+  watch.disconnect();
+  requestAnimationFrame(() => setTimeout(drawn));
+};
+watch.observe(main, { attributeFilter: ['aria-busy'] });
+look();"""
 # The keys by their names in JavaScript, as WebDriver types them.
 KEYS = {"ArrowLeft": "\ue012", "ArrowUp": "\ue013", "ArrowRight": "\ue014", "ArrowDown": "\ue015"}
 KEYS |= {"Home": "\ue011", "End": "\ue010", "PageUp": "\ue00e", "PageDown": "\ue00f"}
@@ -78,6 +89,8 @@ class Browser:
         except self.fault as fault:
             raise BrowserFault(fault.msg) from None
         self.driver.set_script_timeout(SECONDS)
+        # Its times are those for which the processor worked on the page, so that other programs beside it count little.
+        self.command("Performance.enable", timeDomain="threadTicks")
         # What the page wrote on its console as a warning or an error, and what it threw.
         self.noted = []
         return self
@@ -108,12 +121,25 @@ class Browser:
         except self.lost:
             raise BrowserFault("the browser ended") from None
 
+    def command(self, name, **words):
+        """Gives Chromium a command of its own, and returns the result."""
+        return self.guarded(lambda: self.driver.execute_cdp_cmd(name, words))
+
+    def work(self):
+        """Returns what the page has cost so far: milliseconds of a processor, and how often it was laid out."""
+        found = {it["name"]: it["value"] for it in self.command("Performance.getMetrics")["metrics"]}
+        return 1000 * found["TaskDuration"], found["LayoutCount"]
+
     def open(self, address):
         self.guarded(lambda: self.driver.get(address))
 
     def value(self, code):
         """Returns the value of JavaScript in the page, which is looked at by it and not changed."""
         return self.guarded(lambda: self.driver.execute_script(f"return ({code})"))
+
+    def wait_for_drawn(self):
+        """Waits until the page is at rest and drawn. It asks the page once, so that waiting costs it nothing."""
+        self.guarded(lambda: self.driver.execute_async_script(DRAWN))
 
     def wait_for(self, code, seconds=SECONDS):
         """Waits until JavaScript in the page is true."""
@@ -137,7 +163,7 @@ class Browser:
         """Moves, presses or releases the mouse. Chromium's own command for it takes half as long as the driver's."""
         event = {"type": kind, "x": place[0], "y": place[1], "clickCount": count}
         event["button"] = "left" if count else "none"
-        self.guarded(lambda: self.driver.execute_cdp_cmd("Input.dispatchMouseEvent", event))
+        self.command("Input.dispatchMouseEvent", **event)
 
     def click_at(self, where, part):
         """Clicks so far along what is there, from 0 at its left to 1 at its right, at half its height."""
@@ -183,17 +209,17 @@ class Browser:
     def look(self, width, height, scheme):
         """Gives the page a size in points and a colour scheme, light or dark."""
         size = {"width": width, "height": height, "deviceScaleFactor": 1, "mobile": False}
-        self.driver.execute_cdp_cmd("Emulation.setDeviceMetricsOverride", size)
+        self.command("Emulation.setDeviceMetricsOverride", **size)
         media = {"features": [{"name": "prefers-color-scheme", "value": scheme}]}
-        self.driver.execute_cdp_cmd("Emulation.setEmulatedMedia", media)
+        self.command("Emulation.setEmulatedMedia", **media)
 
     def download_to(self, folder):
         """Has what is saved put into a folder."""
-        self.driver.execute_cdp_cmd("Browser.setDownloadBehavior", {"behavior": "allow", "downloadPath": folder})
+        self.command("Browser.setDownloadBehavior", behavior="allow", downloadPath=folder)
 
     def tree(self):
         """Returns the nodes of the page as a screen reader gets them."""
-        return self.driver.execute_cdp_cmd("Accessibility.getFullAXTree", {})["nodes"]
+        return self.command("Accessibility.getFullAXTree")["nodes"]
 
     def picture(self, path):
         """Writes a picture of what the window shows, a PNG."""

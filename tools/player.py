@@ -12,6 +12,12 @@ RING = "plan=plans/ring_of_five.toml"
 ASKED = "0,1,2,3,4,5,5,5,4,3"
 # Where the page says what a state is.
 PARTS = ("#told", "#picture", "#enabled", "#why", "#count", "#logs", "#line", "#sites", "#edges", "#order", "#ticks")
+# Puts a text into the plan of one's own.
+PUT = """((text) => {
+  const it = document.querySelector('#text');
+  it.value = text;
+  it.dispatchEvent(new Event('input', { bubbles: true }));
+})"""
 # How long the page waits before it writes its address, and how long it may take, in seconds.
 QUIET, ADDRESS = 0.5, 5
 
@@ -111,14 +117,13 @@ class Seen:
         return difference(Answer(0, f"{self.text('#logs')}\n", ""), Answer(ran.returncode, ran.stdout, ran.stderr))
 
     def write_plan(self, plan):
-        """Writes a plan of one's own and asks for it. A long text is put there as by pasting, which types no keys."""
+        """Writes a plan of one's own and asks for it. A long text is put there at once: Chromium takes seconds to paste 20 kB."""
         self.click("#own")
         if len(plan) < 600:
             self.browser.fill("#text", plan)
         else:
             self.browser.click("#text")
-            paste = f"document.execCommand('insertText', false, {json.dumps(plan)})"
-            self.browser.value(f"document.querySelector('#text').select(), {paste}")
+            self.browser.value(f"{PUT}({json.dumps(plan)})")
         self.click("#use")
 
 
