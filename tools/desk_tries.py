@@ -217,6 +217,7 @@ def fault_of_list(server):
 
 LESSON = 'title = "Two"\n[[moment]]\nplan = "plans/pair.toml"\nchoices = "1,1"\ntitle = "one"\n[[moment]]\ntext = """{}"""\nat = 0\nextra = 1\n'
 UNFIT = {
+    "key": ('[[moment]]\nplan = "plans/pair.toml"\nchoises = "1"\n', "moment 1: there is no key choises"),
     "no plan": ("[[moment]]\n", "moment 1: it has not one of plan and text"),
     "missing plan": ('[[moment]]\nplan = "cups.toml"\n', "moment 1: there is no plan cups.toml"),
     "choices": ('[[moment]]\nplan = "plans/pair.toml"\nchoices = "1,"\n', "moment 1: choices is no list of numbers with commas between them"),

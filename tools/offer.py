@@ -10,6 +10,11 @@ FIRST = "plans/ring_of_five.toml"
 CHOICES = re.compile("([0-9]{1,10}(,[0-9]{1,10})*)?")
 
 
+# The keys of a moment, as lessons/README.md has them.
+KEYS = {"plan", "text", "choices", "at", "title", "note", "site", "naive", "hide"}
+KEYS |= {"question", "options", "answer", "because", "hints"}
+
+
 class Unfit(Exception):
     """A file cannot be offered, for the reason that it has."""
 
@@ -44,6 +49,8 @@ def plan_in(moment, path):
 
 def fault_of(moment):
     """Returns what keeps a table of a lesson from being a moment, or None."""
+    if unknown := sorted(moment.keys() - KEYS):
+        return f"there is no key {unknown[0]}"
     if ("plan" in moment) == ("text" in moment):
         return "it has not one of plan and text"
     for key in ("plan", "text", "choices", "title", "note"):
