@@ -215,7 +215,7 @@ def fault_of_list(server):
 
 # ---- Lessons and files
 
-LESSON = 'title = "Two"\n[[moment]]\nplan = "plans/pair.toml"\nchoices = "1,1"\ntitle = "one"\n[[moment]]\ntext = """{}"""\nat = 0\nextra = 1\n'
+LESSON = 'title = "Two"\n[[moment]]\nplan = "plans/pair.toml"\nchoices = "1,1"\ntitle = "one"\n[[moment]]\ntext = """{}"""\nat = 0\nanswer = 1\n'
 UNFIT = {
     "key": ('[[moment]]\nplan = "plans/pair.toml"\nchoises = "1"\n', "moment 1: there is no key choises"),
     "no plan": ("[[moment]]\n", "moment 1: it has not one of plan and text"),
@@ -267,7 +267,7 @@ def fault_of_page_file(server, folder):
     if status or fault or not printed.startswith(f"{page}: "):
         return f"status {status}, {printed}{fault}"
     record = recorded_in(page)
-    moments = [(it["plan"], it["run"], it["at"], it.get("extra")) for it in record["lesson"]["moments"]]
+    moments = [(it["plan"], it["run"], it["at"], it.get("answer")) for it in record["lesson"]["moments"]]
     if record["lesson"]["title"] != "Two" or moments != [("plans/pair.toml", 0, 2, None), (None, 1, 0, 1)]:
         return f"moments {moments}"
     with open(page, encoding="utf-8") as file:
