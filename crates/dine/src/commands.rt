@@ -113,6 +113,38 @@ fn command<H: Threads + Wait + Copy + Send + 'static, R: Read, W: Write>(
         (W.contents output.old) (W.contents output.new) }
 {
     let command = command_of(alloc, arguments)?;
+    carry_out(rt, alloc, command, input, output)
+}
+
+// Reads a plan, and writes the text that this command makes of it.
+fn carry_out<H: Threads + Wait + Copy + Send + 'static, R: Read, W: Write>(
+    rt: &H,
+    alloc: Global,
+    command: Command,
+    input: &mut R,
+    output: &mut W,
+) -> Result<(), Fault>
+    ensures done { OnOk result (IsDone (Some (asked_of command)) (R.remaining input.old)
+        (W.contents output.old) (W.contents output.new)) }
+    ensures end { OnOk result (IsAtEnd (R.remaining input.new)) }
+    ensures within { OnOk result (IfSome (R.remaining input.old) (λ bytes. length bytes ≤ input_limit)) }
+    ensures no_usage { result ≢ Err Fault.Usage }
+    ensures too_long { IsErrOf result Fault.InputTooLong
+        → IfSome (R.remaining input.old) (λ bytes. input_limit < length bytes) }
+    ensures refused { IfErr result (λ fault. status_of fault ≡ Status.PlanRefused
+        → IfSome (R.remaining input.old) IsRefused) }
+    ensures cause { IfErr result (λ fault. HasCauseOf fault (R.remaining input.old)) }
+    ensures refused_end { IfErr result (λ fault. status_of fault ≡ Status.PlanRefused
+        → IsAtEnd (R.remaining input.new)) }
+    ensures failed_run { IfErr result (λ fault. status_of fault ≡ Status.RunFailed
+        → IsFailedRun (Some (asked_of command)) fault (R.remaining input.old)) }
+    ensures refused_within { IfErr result (λ fault. status_of fault ≡ Status.PlanRefused
+        → IfSome (R.remaining input.old) (λ bytes. length bytes ≤ input_limit)) }
+    ensures unwritten { result ≢ Err Fault.WritingFailed → OnErr result (output.new ≡ output.old) }
+    ensures part { IsErrOf result Fault.WritingFailed
+        → IsPartDone (Some (asked_of command)) (R.remaining input.old)
+        (W.contents output.old) (W.contents output.new) }
+{
     let plan = plan_in(alloc, input)?;
     let text = text_of(rt, alloc, command, &plan)?;
     Ok(write_out(output, text.as_slice())?)

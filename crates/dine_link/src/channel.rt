@@ -16,8 +16,7 @@ use crate::link_end::{EndPair, LinkEnd};
 use crate::rule::{Ends, InOrder, Known, Puts, Reconciles, Takes};
 use crate::stamped::Stamped;
 use crossbeam_channel::{Pass, RuledReceiver, RuledSender, bounded_with};
-use dine_clock::Stamp;
-use dine_rules::Letter;
+use dine_rules::{Letter, Stamp};
 use std::alloc::Global;
 use std::sync::Wait;
 

@@ -1,7 +1,7 @@
 ghost use Rattle.std.specs.Prelude.{◌≡◌, ℕ, List, [], ◌∷◌, ◌++◌, length};
 ghost use Rattle.std.specs.Borrow.{ftrue};
 
-use dine_clock::Clock;
+use dine_rules::Clock;
 use std::marker::Model;
 
 /// The checks of a bell that found no ring, in order, which proofs alone read. Each is kept as the number of events of

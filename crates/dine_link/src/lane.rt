@@ -10,8 +10,7 @@ ghost use mathlib.Core.List.{IsPrefix};
 
 use crate::faults::{LinkFault, Lost};
 use crate::link_end::LinkEnd;
-use dine_clock::Stamp;
-use dine_rules::Letter;
+use dine_rules::{Letter, Stamp};
 use std::alloc::Global;
 use std::sync::Wait;
 

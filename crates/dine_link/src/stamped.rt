@@ -1,6 +1,5 @@
 //! A letter on its way.
-use dine_clock::Stamp;
-use dine_rules::Letter;
+use dine_rules::{Letter, Stamp};
 
 // A letter with the moment at which it was put. When the program runs, it is the letter alone.
 #[derive(Drop)]

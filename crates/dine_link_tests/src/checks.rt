@@ -1,6 +1,6 @@
 // The two calls of a bell that report a ring if one is left, and never sleep.
 use crate::asserts::same;
-use dine_clock::Clock;
+use dine_rules::Clock;
 use dine_link::testing::finds_asleep;
 use dine_link::{Bell, Lost, Ringer};
 use std::alloc::Global;

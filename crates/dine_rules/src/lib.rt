@@ -2,12 +2,16 @@
 #![tactic(auto)]
 
 mod breach;
+mod clock;
 mod events;
 pub mod laws;
 mod letters;
 mod phase;
+mod stamp;
 
 pub use breach::Breach;
+pub use clock::Clock;
 pub use events::{Event, EventKind};
 pub use letters::{Kind4, Letter};
 pub use phase::Phase;
+pub use stamp::Stamp;

@@ -26,7 +26,7 @@ use Rattle.dine_site.specs.declared.manner.Manner.{Manner}
 use Rattle.dine_site.specs.declared.manner.Manner.TheVariants.{Eager, Polite}
 use Rattle.dine_site.specs.Doings.{HasActed, HasDone, MayTakeBefore, empty_checks_of}
 use Rattle.dine_site.specs.Ports.{BrokeOffUnheard, HasRung, IsUnrefused, SeenPort, SameLinks, PutsFit, seen_ports}
-use Rattle.dine_clock.specs.Moments.{last_moment}
+use Rattle.dine_rules.specs.Moments.{last_moment}
 use Rattle.dine_site.specs.Times.{IsTimed, late_at, none_late}
 use Rattle.dine_site.specs.Endings.{IsBreached, IsLost, breached_at, hands_back, links_at, refused_at}
 use Rattle.dine_site.specs.SiteEnds.{HasBellRefused}

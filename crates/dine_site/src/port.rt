@@ -5,9 +5,8 @@ ghost use Rattle.dine_link.specs.Closing.{is_close};
 ghost use Rattle.dine_site.specs.Ports.{Sends, SendsClose, is_live_end, rung_on, seen_port, taken_on, unrung_on};
 ghost use Rattle.dine_site.specs.Ports.{untaken_on};
 
-use dine_clock::Stamp;
 use dine_link::{Lane, Lost, Ringer, TxEnd};
-use dine_rules::{Kind4, Letter};
+use dine_rules::{Kind4, Letter, Stamp};
 use std::sync::Wait;
 
 /// What a site has at a place: the end of the link that leads to its neighbour, the end of the link that comes from it,

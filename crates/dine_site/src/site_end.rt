@@ -4,9 +4,8 @@ ghost use Rattle.dine_site.specs.FaultWords.{site_fault_words};
 
 use crate::diner::Diner;
 use crate::port::Port;
-use dine_clock::Clock;
 use dine_link::{Bell, Lane};
-use dine_rules::{Breach, EventKind, Letter};
+use dine_rules::{Breach, Clock, EventKind, Letter};
 use dine_token::{Fork, Token};
 use std::error::Error;
 use std::fmt;

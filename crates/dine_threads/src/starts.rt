@@ -11,10 +11,9 @@ ghost use Rattle.dine_threads.specs.private.SiteStarts.{AreStartsOf, IsReady, Is
 ghost use Rattle.dine_site.specs.SiteEnds.{IsLeft, seen_site_end};
 
 use crate::opening::SitePorts;
-use dine_clock::Clock;
 use dine_graph::Plan;
 use dine_link::{Bell, Gate, Lane};
-use dine_rules::laws;
+use dine_rules::{Clock, laws};
 use dine_site::{Diner, Manner, Port, SiteEnd, SiteFault, run_site_with};
 use dine_site_core::{Packed, SiteCore, site};
 use std::alloc::{AllocError, Global};

@@ -9,8 +9,7 @@ use crate::channel::{ChannelClosedTx, ChannelLane, ChannelRx, ChannelTx};
 use crate::faults::{LinkFault, Lost};
 use crate::lane::{Lane, TxEnd};
 use crate::link_end::LinkEnd;
-use dine_clock::Stamp;
-use dine_rules::Letter;
+use dine_rules::{Letter, Stamp};
 use std::alloc::Global;
 use std::sync::Wait;
 

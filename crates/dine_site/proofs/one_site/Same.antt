@@ -2,7 +2,7 @@
 use Rattle.std.proofs.Common.{◌≡◌, ℕ, ◌||◌, refl, sym, ap, ap₂, ◌∙◌, arith}
 use Rattle.std.specs.Prelude.{nat_lt}
 use Rattle.std.specs.Global.{Vec}
-use Rattle.dine_clock.specs.declared.clock.Clock.{Clock}
+use Rattle.dine_rules.specs.declared.clock.Clock.{Clock}
 use Rattle.dine_site_core.specs.Core.{SeenCore}
 use Rattle.dine_site_core.specs.Places.{with_place}
 use Rattle.dine_site_core.specs.declared.site.places.Place.{Place}

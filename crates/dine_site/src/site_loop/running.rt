@@ -22,9 +22,8 @@ use crate::diner::Diner;
 use crate::manner::Manner;
 use crate::port::{Closed, Port, Sent};
 use crate::site_end::{SiteEnd, SiteFault, Stray};
-use dine_clock::{Clock, Stamp};
 use dine_link::{Bell, Lane, Lost, Wants};
-use dine_rules::{EventKind, Letter, laws};
+use dine_rules::{Clock, EventKind, Letter, Stamp, laws};
 use dine_site_core::SiteCore;
 use std::sync::Wait;
 

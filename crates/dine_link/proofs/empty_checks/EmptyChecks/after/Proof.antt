@@ -31,7 +31,7 @@ use Rattle.dine_link.specs.contracts.empty_checks.EmptyChecks.after.Key.{name as
 use Rattle.dine_link.specs.contracts.empty_checks.EmptyChecks.after as f
 use Rattle.dine_link.proofs.empty_checks.EmptyChecks.after.Statement as stated
 use Rattle.dine_link.proofs.empty_checks.EmptyChecks.after.Code as code
-use Rattle.dine_clock.specs.contracts.clock.Clock as clock
+use Rattle.dine_rules.specs.contracts.clock.Clock as clock
 use Rattle.dine_link.specs.contracts.empty_checks.EmptyChecks as checks
 
 abbrev stayed : Stays (f.ended).signature.params (f.ended).kept

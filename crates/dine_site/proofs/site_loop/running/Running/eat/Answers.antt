@@ -6,7 +6,7 @@ use Rattle.dine_rules.specs.declared.events.EventKind.TheVariants as event
 use Rattle.dine_site.specs.Ports.{seen_ports}
 use Rattle.std.proofs.lemmas.Bool.{and_parts}
 use Rattle.std.specs.Prelude.{nat_lt}
-use Rattle.dine_clock.specs.Moments.{last_moment}
+use Rattle.dine_rules.specs.Moments.{last_moment}
 use Rattle.dine_site.proofs.one_site.Times.{alone}
 use Rattle.dine_site.specs.Running.{SeenRun, IsObeying, seen_run}
 use Rattle.std.proofs.lemmas.Option.{slice_get_within, get_or_from_slice_get}

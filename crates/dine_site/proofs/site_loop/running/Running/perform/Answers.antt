@@ -18,7 +18,7 @@ use Rattle.dine_rules.specs.Steps.{Give, Ask, Done, Close}
 use Rattle.dine_site.proofs.one_site.Checks.{checks_more}
 use Rattle.dine_site.proofs.one_site.AtPlaces.{opens-give, opens-ask, opens-done, opens-close, putting}
 use Rattle.dine_site.proofs.one_site.Meals.{eaten_same}
-use Rattle.dine_clock.specs.Moments.{last_moment}
+use Rattle.dine_rules.specs.Moments.{last_moment}
 use Rattle.dine_site.specs.Ports.{seen_ports}
 use Rattle.dine_site.proofs.one_site.Times.{alone, begins_put, on_ok}
 use Rattle.dine_site.proofs.one_site.Same.{same_but_place, same_but_phase}

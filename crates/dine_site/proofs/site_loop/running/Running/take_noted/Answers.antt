@@ -2,7 +2,7 @@ use Rattle.std.proofs.Common.{◌<◌, List, length, set, Some, None, sym, ◌�
 use Rattle.std.proofs.lemmas.List.{length-map}
 use Rattle.dine_rules.specs.declared.letters.Letter.{Letter}
 use Rattle.std.specs.Prelude.{◌+◌, refl}
-use Rattle.dine_clock.specs.Moments.{last_moment}
+use Rattle.dine_rules.specs.Moments.{last_moment}
 use Rattle.dine_rules.specs.declared.events.EventKind.TheVariants as event
 use Rattle.dine_site.specs.Times.{IsTimed, none_late}
 use Rattle.dine_site.proofs.one_site.Times.{takes_one}

@@ -26,13 +26,13 @@ use denote.Triple.Entry.{on_entry, alive, Args}
 use denote.Triple.Spec.{Meets, triple_of}
 use denote.Triple.Table.{entered}
 use denote.Triple.Walked.{says, stay_none_ref, Stays, walk_of, Walks, ends_at, walked, Goes-none_ref, walk_Meets}
-use Rattle.dine_clock.specs.contracts.clock.Clock.last.Key.{name as key}
-use Rattle.dine_clock.specs.contracts.clock.Clock.last as f
-use Rattle.dine_clock.proofs.clock.Clock.last.Statement as stated
-use Rattle.dine_clock.proofs.clock.Clock.last.Code as code
-use Rattle.dine_clock.specs.contracts.stamp.Stamp as moment
-use Rattle.dine_clock.specs.contracts.clock.Clock as clock
-use Rattle.dine_clock.proofs.Values.{moment_of_the_last}
+use Rattle.dine_rules.specs.contracts.clock.Clock.last.Key.{name as key}
+use Rattle.dine_rules.specs.contracts.clock.Clock.last as f
+use Rattle.dine_rules.proofs.clock.Clock.last.Statement as stated
+use Rattle.dine_rules.proofs.clock.Clock.last.Code as code
+use Rattle.dine_rules.specs.contracts.stamp.Stamp as moment
+use Rattle.dine_rules.specs.contracts.clock.Clock as clock
+use Rattle.dine_rules.proofs.moments.{moment_of_the_last}
 
 abbrev stayed : Stays (f.ended).signature.params (f.ended).kept
 stayed = (stay_none_ref (0 ∷ []) tt (plain (λ _. clock.the_row)) yes, tt)

@@ -1,7 +1,7 @@
--- What the functions of this crate make. Its types have no byte, so the code of a function says nothing of it.
+-- What the functions of stamps and clocks make. These types have no byte, so the code of a function says nothing of it.
 use Rattle.std.specs.Prelude.{ℕ, ◌+◌, List, [], ◌∷◌, ◌++◌}
 use Rattle.dine_rules.specs.declared.events.EventKind.{EventKind}
-use Rattle.dine_clock.specs.Moments.{last_moment}
+use Rattle.dine_rules.specs.Moments.{last_moment}
 
 -- Stamp::first
 abbrev pub first_moment : ℕ
