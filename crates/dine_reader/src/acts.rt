@@ -36,7 +36,7 @@ pub(crate) fn first_act_fault(sites: &[Value], edges: &[Value]) -> Option<PlanFa
 fn first_with_two_acts(sites: &[Value]) -> Option<usize>
     ensures { result ≡ position has_two_acts (map view sites.now) }
 {
-    sites.iter().position(|site| has_two_acts(site))
+    sites.iter().position(has_two_acts)
 }
 
 // Whether a job of the site both adds and sets.
@@ -44,7 +44,7 @@ fn has_two_acts(site: &Value) -> bool
     ensures { result ≡ has_two_acts (view site.now) }
 {
     let jobs = items_at(site, "jobs");
-    jobs.iter().any(|job| has_both(job))
+    jobs.iter().any(has_both)
 }
 
 fn has_both(job: &Value) -> bool
@@ -56,7 +56,7 @@ fn has_both(job: &Value) -> bool
 fn first_with_large_act(sites: &[Value]) -> Option<usize>
     ensures { result ≡ position has_large_act (map view sites.now) }
 {
-    sites.iter().position(|site| has_large_act(site))
+    sites.iter().position(has_large_act)
 }
 
 // Whether a job of the site adds or sets more than 1,000,000.
@@ -64,7 +64,7 @@ fn has_large_act(site: &Value) -> bool
     ensures { result ≡ has_large_act (view site.now) }
 {
     let jobs = items_at(site, "jobs");
-    jobs.iter().any(|job| is_large(job))
+    jobs.iter().any(is_large)
 }
 
 fn is_large(job: &Value) -> bool
@@ -76,7 +76,7 @@ fn is_large(job: &Value) -> bool
 fn first_large_value(edges: &[Value]) -> Option<usize>
     ensures { result ≡ position has_large_value (map view edges.now) }
 {
-    edges.iter().position(|edge| has_large_value(edge))
+    edges.iter().position(has_large_value)
 }
 
 // Whether the value of the edge is above 1,000,000.
@@ -90,7 +90,7 @@ fn has_large_value(edge: &Value) -> bool
 fn first_other_policy(sites: &[Value]) -> Option<usize>
     ensures { result ≡ position has_other_policy (map view sites.now) }
 {
-    sites.iter().position(|site| has_other_policy(site))
+    sites.iter().position(has_other_policy)
 }
 
 // Whether `on_fault` of the site is neither `go` nor `resign`.

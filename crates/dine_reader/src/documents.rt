@@ -35,7 +35,7 @@ pub(crate) fn items_in(value: &Value) -> &[Value]
 pub(crate) fn text_at<'a>(table: &'a Value, key: &str) -> &'a str
     ensures { result.now ≡ text_at key.now (view table.now) }
 {
-    table.get(key).map_or("", |value| text_in(value))
+    table.get(key).map_or("", text_in)
 }
 
 // The text that a value is, if it is one.
@@ -58,7 +58,7 @@ pub(crate) fn has_key(table: &Value, key: &str) -> bool
 pub(crate) fn number_at(table: &Value, key: &str) -> u64
     ensures { result ≡ number_at key.now (view table.now) }
 {
-    table.get(key).map_or(0, |value| natural_in(value))
+    table.get(key).map_or(0, natural_in)
 }
 
 // The whole number that a value is, 0 if it is none or below 0.
@@ -112,7 +112,7 @@ pub(crate) fn resigns_in(site: &Value) -> bool
 pub(crate) fn fails_in(job: &Value) -> bool
     ensures { result ≡ fails_in (view job.now) }
 {
-    job.get("fails").is_some_and(|value| truth_in(value))
+    job.get("fails").is_some_and(truth_in)
 }
 
 // The truth value that a value is, false if it is none.

@@ -135,7 +135,7 @@ fn has_missing_key(document: &Value) -> bool
 {
     let sites = items_at(document, "site");
     let edges = items_at(document, "edge");
-    if sites.iter().any(|site| site_lacks_key(site)) {
+    if sites.iter().any(site_lacks_key) {
         return true;
     }
     edges.iter().any(|edge| lacks_key(edge, "ends"))
@@ -171,10 +171,10 @@ fn has_wrong_kind(document: &Value) -> bool
     if has_no_tables(document, "edge") {
         return true;
     }
-    if sites.iter().any(|site| site_is_wrong(site)) {
+    if sites.iter().any(site_is_wrong) {
         return true;
     }
-    edges.iter().any(|edge| edge_is_wrong(edge))
+    edges.iter().any(edge_is_wrong)
 }
 
 fn site_is_wrong(site: &Value) -> bool
@@ -190,7 +190,7 @@ fn site_is_wrong(site: &Value) -> bool
     if has_no_tables(site, "jobs") {
         return true;
     }
-    jobs.iter().any(|job| job_is_wrong(job))
+    jobs.iter().any(job_is_wrong)
 }
 
 #[tactic(auto, unfolding(crate::specs::RefusalTests::job_is_wrong))]

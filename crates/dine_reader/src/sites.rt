@@ -59,7 +59,7 @@ pub(crate) fn first_site_fault(
 fn first_bad_name(sites: &[Value]) -> Option<usize>
     ensures { result ≡ position has_bad_name (map view sites.now) }
 {
-    sites.iter().position(|site| has_bad_name(site))
+    sites.iter().position(has_bad_name)
 }
 
 // Whether the name of the site, or of one of its jobs, is no name.
@@ -70,7 +70,7 @@ fn has_bad_name(site: &Value) -> bool
     if is_unnamed(site) {
         return true;
     }
-    jobs.iter().any(|job| is_unnamed(job))
+    jobs.iter().any(is_unnamed)
 }
 
 fn is_unnamed(table: &Value) -> bool
@@ -118,7 +118,7 @@ pub(crate) fn has_site(sites: &[Value], name: &str) -> bool
 fn first_with_many_jobs(sites: &[Value]) -> Option<usize>
     ensures { result ≡ position has_many_jobs (map view sites.now) }
 {
-    sites.iter().position(|site| has_many_jobs(site))
+    sites.iter().position(has_many_jobs)
 }
 
 // Whether the site has more than 1,000 jobs.
@@ -132,7 +132,7 @@ fn has_many_jobs(site: &Value) -> bool
 fn first_with_many_turns(sites: &[Value]) -> Option<usize>
     ensures { result ≡ position has_many_turns (map view sites.now) }
 {
-    sites.iter().position(|site| has_many_turns(site))
+    sites.iter().position(has_many_turns)
 }
 
 // Whether a job of the site has turns above 1,000,000.

@@ -111,9 +111,14 @@ asked_by found =
     else (if bytes_eq found.0 (codes "replay") then option_map Replays (choices_in found.1)
     else (if bytes_eq found.0 (codes "check") then Some Checks else None))
 
--- the request of the arguments, as `clap` finds it: a run with the table of edges, over rings, if they name no command
+-- the request of the command that `clap` finds, with what it finds behind its name: without one, a run with the table of
+-- edges, over rings
+abbrev pub command_found : Option (Text × List Row) → Option Asked
+command_found found = option_map_or asked_by found (Some (Runs Edges Ring))
+
+-- the request of the arguments
 abbrev pub command_in : App → List Text → Option Asked
-command_in app words = option_map_or asked_by (subcommand_of app words) (Some (Runs Edges Ring))
+command_in app words = command_found (subcommand_of app words)
 
 -- `clap` finds no fault in the arguments
 abbrev pub HasNoFault : App → List Text → Type 0

@@ -1,9 +1,9 @@
 //! The arguments of the command line, read by `clap`.
-ghost use Rattle.std.specs.Prelude.{◌≡◌, IfOk, IsErrOf, None, OnOk, Some, false, is_some, map, string_bytes};
-ghost use Rattle.clap.specs.Words.{app_of, found_of, kind_of, rows_of, rule_of, with_subcommand};
+ghost use Rattle.std.specs.Prelude.{◌≡◌, IfOk, IfSome, IsErrOf, None, OnOk, Some, false, is_some, map, string_bytes};
+ghost use Rattle.clap.specs.Words.{app_of, found_of, kind_of, rows_of, rule_of, subcommand_rows_of, with_subcommand};
 ghost use Rattle.dine_words.specs.Words.{AreRight, HasNoFault, IsCommandName, are_taken, asked_by, asked_of};
-ghost use Rattle.dine_words.specs.Words.{choices_in, command_in, dine_app, fault_of_kind, links_in, links_of};
-ghost use Rattle.dine_words.specs.Words.{option_rule, run_app, run_in, table_in, table_of};
+ghost use Rattle.dine_words.specs.Words.{choices_in, command_found, command_in, dine_app, fault_of_kind, links_in, links_of};
+ghost use Rattle.dine_words.specs.Words.{option_rule, replay_app, run_app, run_in, table_in, table_of};
 ghost use Rattle.dine_words.specs.declared.words.WordsFault.TheVariants.{Memory};
 
 use crate::choices::choices_of;
@@ -101,6 +101,15 @@ pub fn command_of(alloc: Global, words: &[String]) -> Result<Command, WordsFault
         → command_in dine_app (map string_bytes words.now) ≡ None }
 {
     let matches = program(alloc)?.try_get_matches_from(words)?;
+    command_met(alloc, &matches)
+}
+
+// The command that `clap` found.
+fn command_met(alloc: Global, matches: &clap::ArgMatches<'_>) -> Result<Command, WordsFault>
+    requires known { IfSome (subcommand_rows_of matches.now) (λ found. IsCommandName found.0) }
+    ensures ok { IfOk result (λ command. command_found (subcommand_rows_of matches.now) ≡ Some (asked_of command)) }
+    ensures refused { IsErrOf result WordsFault.Usage → command_found (subcommand_rows_of matches.now) ≡ None }
+{
     match matches.subcommand() {
         Some((name, found)) => command_named(alloc, name, found),
         None => Ok(Command::Run(Table::Edges, Links::Ring)),
@@ -132,10 +141,7 @@ fn program<'a>(alloc: Global) -> Result<clap::Command<'a>, AllocError>
     let alone = clap::Command::new(alloc, "dine")
         .disable_help_flag(true)
         .disable_help_subcommand(true);
-    let replay = clap::Command::new(alloc, REPLAY).arg(text_option(alloc, CHOICES))?;
-    with_run(alloc, alone)?
-        .subcommand(replay)?
-        .subcommand(clap::Command::new(alloc, CHECK))
+    with_replay(alloc, with_run(alloc, alone)?)?.subcommand(clap::Command::new(alloc, CHECK))
 }
 
 // Adds the subcommand `run`, with its two options.
@@ -146,6 +152,17 @@ fn with_run<'a>(alloc: Global, program: clap::Command<'a>) -> Result<clap::Comma
         .arg(text_option(alloc, TABLE))?
         .arg(text_option(alloc, LINKS))?;
     program.subcommand(run)
+}
+
+// Adds the subcommand `replay`, with its option.
+fn with_replay<'a>(
+    alloc: Global,
+    program: clap::Command<'a>,
+) -> Result<clap::Command<'a>, AllocError>
+    ensures { IfOk result (λ more. app_of more ≡ with_subcommand (app_of program.entry) replay_app.top) }
+{
+    let replay = clap::Command::new(alloc, REPLAY).arg(text_option(alloc, CHOICES))?;
+    program.subcommand(replay)
 }
 
 // The option of this name, which takes a text.
