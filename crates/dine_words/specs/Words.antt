@@ -111,8 +111,8 @@ asked_by found =
     else (if bytes_eq found.0 (codes "replay") then option_map Replays (choices_in found.1)
     else (if bytes_eq found.0 (codes "check") then Some Checks else None))
 
--- the request of the command that `clap` finds, with what it finds behind its name: without one, a run with the table of
--- edges, over rings
+-- the request of the command that `clap` finds, with what it finds behind the name; without one, it is a run with the
+-- table of edges, over rings
 abbrev pub command_found : Option (Text × List Row) → Option Asked
 command_found found = option_map_or asked_by found (Some (Runs Edges Ring))
 

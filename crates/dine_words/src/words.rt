@@ -2,8 +2,9 @@
 ghost use Rattle.std.specs.Prelude.{◌≡◌, IfOk, IfSome, IsErrOf, None, OnOk, Some, false, is_some, map, string_bytes};
 ghost use Rattle.clap.specs.Words.{app_of, found_of, kind_of, rows_of, rule_of, subcommand_rows_of, with_subcommand};
 ghost use Rattle.dine_words.specs.Words.{AreRight, HasNoFault, IsCommandName, are_taken, asked_by, asked_of};
-ghost use Rattle.dine_words.specs.Words.{choices_in, command_found, command_in, dine_app, fault_of_kind, links_in, links_of};
-ghost use Rattle.dine_words.specs.Words.{option_rule, replay_app, run_app, run_in, table_in, table_of};
+ghost use Rattle.dine_words.specs.Words.{choices_in, command_found, command_in, dine_app, fault_of_kind};
+ghost use Rattle.dine_words.specs.Words.{links_in, links_of, option_rule, replay_app, run_app, run_in};
+ghost use Rattle.dine_words.specs.Words.{table_in, table_of};
 ghost use Rattle.dine_words.specs.declared.words.WordsFault.TheVariants.{Memory};
 
 use crate::choices::choices_of;
