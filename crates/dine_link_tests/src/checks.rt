@@ -1,8 +1,8 @@
 // The two calls of a bell that report a ring if one is left, and never sleep.
 use crate::asserts::same;
-use dine_rules::Clock;
 use dine_link::testing::finds_asleep;
 use dine_link::{Bell, Lost, Ringer};
+use dine_rules::Clock;
 use std::alloc::Global;
 use std::process::Abort;
 use std::sync::Wait;
