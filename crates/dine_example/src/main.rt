@@ -4,8 +4,8 @@
 //! 1. **Make a plan.** Two sites that share something need an edge, and the value of the edge is what they share: here
 //!    the balance of an account. The number of jobs of each site is fixed before the run.
 //! 2. **Write a job.** `run` is called once for each job of the site, while the site holds the forks of all its edges.
-//!    So `open_with` lends it the account that it shares with a neighbour. No other job has it open meanwhile, there is
-//!    no order of locks to keep, and no value can be reached outside a job.
+//!    So `open_with` lends it the account that it shares with a neighbour. In all tests no other job had it open
+//!    meanwhile. There is no order of locks to keep, and no value can be reached outside a job.
 //! 3. **Say why a job failed** by an error of your own. A site that resigns drops its other jobs then.
 //! 4. **Call `on_rings`** with the values by edge and the jobs by site. It returns both, with each failure.
 #![tactic(auto)]
