@@ -1,6 +1,7 @@
 -- The number of each cause, the position that it carries, and its words.
-use Rattle.std.specs.Prelude.{ℕ, List, ◌++◌, codes}
+use Rattle.std.specs.Prelude.{ℕ, List, Option, None, Some, ◌++◌, codes}
 use Rattle.std.specs.Fmt.{decimal}
+use Rattle.std.specs.Option.{option_map_or}
 use Rattle.dine_reader.specs.declared.plan_fault.PlanFault.{PlanFault}
 use Rattle.dine_reader.specs.declared.plan_fault.PlanFault.TheVariants.{NotToml, Version, UnknownKey, MissingKey, WrongKind, BadName, SiteTwice, NoSite, TooManySites, TooManyJobs, TurnsTooLarge, UnknownEnd, Loop, EdgeTwice, TooManyEdges, TwoActs, ActTooLarge, ValueTooLarge, UnknownPolicy, Memory}
 
@@ -28,20 +29,24 @@ number_of_fault (ActTooLarge site) = 18
 number_of_fault (ValueTooLarge edge) = 19
 number_of_fault (UnknownPolicy site) = 20
 
--- the position, from 0, of the site or edge that a fault names; 0 if it names none
+-- the position, from 0, of the site or edge that a fault names, if it names one
+abbrev pub position_in : PlanFault → Option ℕ
+position_in (BadName site) = Some site
+position_in (SiteTwice site) = Some site
+position_in (TooManyJobs site) = Some site
+position_in (TurnsTooLarge site) = Some site
+position_in (UnknownEnd edge) = Some edge
+position_in (Loop edge) = Some edge
+position_in (EdgeTwice edge) = Some edge
+position_in (TwoActs site) = Some site
+position_in (ActTooLarge site) = Some site
+position_in (ValueTooLarge edge) = Some edge
+position_in (UnknownPolicy site) = Some site
+position_in _ = None
+
+-- the same position; 0 if the fault names none
 abbrev pub position_of_fault : PlanFault → ℕ
-position_of_fault (BadName site) = site
-position_of_fault (SiteTwice site) = site
-position_of_fault (TooManyJobs site) = site
-position_of_fault (TurnsTooLarge site) = site
-position_of_fault (UnknownEnd edge) = edge
-position_of_fault (Loop edge) = edge
-position_of_fault (EdgeTwice edge) = edge
-position_of_fault (TwoActs site) = site
-position_of_fault (ActTooLarge site) = site
-position_of_fault (ValueTooLarge edge) = edge
-position_of_fault (UnknownPolicy site) = site
-position_of_fault _ = 0
+position_of_fault fault = option_map_or (λ position. position) (position_in fault) 0
 
 -- the words of a cause: its number, its name and, if it carries a position, the position
 abbrev pub plan_fault_words : PlanFault → List ℕ

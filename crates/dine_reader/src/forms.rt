@@ -265,7 +265,7 @@ fn is_tables(value: &Value) -> bool
     ensures { result ≡ is_tables (view value.now) }
 {
     let items = items_in(value);
-    value.is_array() && items.iter().all(|item| item.is_table())
+    value.is_array() && items.iter().all(Value::is_table)
 }
 
 // Whether a value is an array of exactly two texts.
@@ -273,5 +273,5 @@ fn is_two_texts(value: &Value) -> bool
     ensures { result ≡ is_two_texts (view value.now) }
 {
     let items = items_in(value);
-    items.len() == 2 && items.iter().all(|item| item.is_str())
+    items.len() == 2 && items.iter().all(Value::is_str)
 }

@@ -1,6 +1,8 @@
 //! Why a text is no plan.
-ghost use Rattle.std.specs.Prelude.{◌≡◌, Some};
-ghost use Rattle.dine_reader.specs.Fault.{number_of_fault, plan_fault_words};
+ghost use Rattle.std.specs.Prelude.{◌≡◌, ◌++◌, [], Some};
+ghost use Rattle.std.specs.Fmt.{decimal};
+ghost use Rattle.std.specs.Option.{option_map_or};
+ghost use Rattle.dine_reader.specs.Fault.{number_of_fault, plan_fault_words, position_in};
 ghost use Rattle.dine_reader.specs.declared.plan_fault.PlanFault.TheVariants.{Memory};
 
 use std::alloc::{AllocError, AllocFailed};
@@ -83,6 +85,54 @@ impl PlanFault {
             PlanFault::UnknownPolicy(_) => 20,
         }
     }
+
+    // The words of the cause, up to its position if it has one.
+    fn words(&self) -> &'static str
+        ensures { plan_fault_words self.now ≡ result.now ++ option_map_or decimal (position_in self.now) [] }
+    {
+        match self {
+            PlanFault::NotToml => "1 NotToml",
+            PlanFault::Version => "2 Version",
+            PlanFault::UnknownKey => "3 UnknownKey",
+            PlanFault::MissingKey => "4 MissingKey",
+            PlanFault::WrongKind => "5 WrongKind",
+            PlanFault::BadName(_) => "6 BadName at site ",
+            PlanFault::SiteTwice(_) => "7 SiteTwice at site ",
+            PlanFault::NoSite => "8 NoSite",
+            PlanFault::TooManySites => "9 TooManySites",
+            PlanFault::TooManyJobs(_) => "10 TooManyJobs at site ",
+            PlanFault::TurnsTooLarge(_) => "11 TurnsTooLarge at site ",
+            PlanFault::UnknownEnd(_) => "12 UnknownEnd at edge ",
+            PlanFault::Loop(_) => "13 Loop at edge ",
+            PlanFault::EdgeTwice(_) => "14 EdgeTwice at edge ",
+            PlanFault::TooManyEdges => "15 TooManyEdges",
+            PlanFault::Memory => "16 Memory",
+            PlanFault::TwoActs(_) => "17 TwoActs at site ",
+            PlanFault::ActTooLarge(_) => "18 ActTooLarge at site ",
+            PlanFault::ValueTooLarge(_) => "19 ValueTooLarge at edge ",
+            PlanFault::UnknownPolicy(_) => "20 UnknownPolicy at site ",
+        }
+    }
+
+    // The position of the site or edge that the cause names, if it names one.
+    fn position(&self) -> Option<u32>
+        ensures { result ≡ position_in self.now }
+    {
+        match *self {
+            PlanFault::BadName(position)
+            | PlanFault::SiteTwice(position)
+            | PlanFault::TooManyJobs(position)
+            | PlanFault::TurnsTooLarge(position)
+            | PlanFault::UnknownEnd(position)
+            | PlanFault::Loop(position)
+            | PlanFault::EdgeTwice(position)
+            | PlanFault::TwoActs(position)
+            | PlanFault::ActTooLarge(position)
+            | PlanFault::ValueTooLarge(position)
+            | PlanFault::UnknownPolicy(position) => Some(position),
+            _ => None,
+        }
+    }
 }
 
 /// Writes the number and the name of the cause and, if it has one, the position: `2 Version`, `6 BadName at site 0`.
@@ -90,27 +140,10 @@ impl fmt::Display for PlanFault {
     ghost output = { λ fault. Some (plan_fault_words fault) };
 
     fn fmt<W: fmt::Write>(&self, f: &mut fmt::Formatter<W>) -> fmt::Result {
-        match *self {
-            PlanFault::NotToml => f.write_str("1 NotToml"),
-            PlanFault::Version => f.write_str("2 Version"),
-            PlanFault::UnknownKey => f.write_str("3 UnknownKey"),
-            PlanFault::MissingKey => f.write_str("4 MissingKey"),
-            PlanFault::WrongKind => f.write_str("5 WrongKind"),
-            PlanFault::BadName(site) => write!(f, "6 BadName at site {site}"),
-            PlanFault::SiteTwice(site) => write!(f, "7 SiteTwice at site {site}"),
-            PlanFault::NoSite => f.write_str("8 NoSite"),
-            PlanFault::TooManySites => f.write_str("9 TooManySites"),
-            PlanFault::TooManyJobs(site) => write!(f, "10 TooManyJobs at site {site}"),
-            PlanFault::TurnsTooLarge(site) => write!(f, "11 TurnsTooLarge at site {site}"),
-            PlanFault::UnknownEnd(edge) => write!(f, "12 UnknownEnd at edge {edge}"),
-            PlanFault::Loop(edge) => write!(f, "13 Loop at edge {edge}"),
-            PlanFault::EdgeTwice(edge) => write!(f, "14 EdgeTwice at edge {edge}"),
-            PlanFault::TooManyEdges => f.write_str("15 TooManyEdges"),
-            PlanFault::Memory => f.write_str("16 Memory"),
-            PlanFault::TwoActs(site) => write!(f, "17 TwoActs at site {site}"),
-            PlanFault::ActTooLarge(site) => write!(f, "18 ActTooLarge at site {site}"),
-            PlanFault::ValueTooLarge(edge) => write!(f, "19 ValueTooLarge at edge {edge}"),
-            PlanFault::UnknownPolicy(site) => write!(f, "20 UnknownPolicy at site {site}"),
+        let words = self.words();
+        match self.position() {
+            Some(position) => write!(f, "{words}{position}"),
+            None => f.write_str(words),
         }
     }
 }

@@ -1,5 +1,5 @@
 //! The input, read to its end.
-ghost use Rattle.std.specs.Prelude.{◌≡◌, ◌≤◌, ◌<◌, ◌+◌, IfOk, IfSome, IsErrOf, OnOk, length, vec_len};
+ghost use Rattle.std.specs.Prelude.{◌≡◌, ◌≤◌, ◌<◌, ◌+◌, ◌++◌, IfOk, IfSome, IsErrOf, OnOk, length, vec_len};
 ghost use Rattle.std.specs.Io.KnownBytes.{IsAtEnd};
 ghost use Rattle.dine_words.specs.Input.{TakesAtMost, input_limit};
 
@@ -46,14 +46,7 @@ pub fn read_input<R: Read>(alloc: Global, input: &mut R) -> Result<Vec<u8>, Inpu
         let room = CHUNK.min(INPUT_LIMIT + 1 - taken.len());
         match input.read(&mut chunk[..room]) {
             Ok(0) => return Ok(taken),
-            Ok(count) => {
-                if taken.len() + count > INPUT_LIMIT {
-                    return Err(InputFault::TooLong);
-                }
-                taken
-                    .extend_from_slice(&chunk[..count])
-                    .map_err(|_| InputFault::Memory)?;
-            }
+            Ok(count) => add_within_limit(&mut taken, &chunk[..count])?,
             Err(error) => {
                 if error.kind() != ErrorKind::Interrupted {
                     return Err(InputFault::Failed);
@@ -62,4 +55,19 @@ pub fn read_input<R: Read>(alloc: Global, input: &mut R) -> Result<Vec<u8>, Inpu
         }
     }
     Err(InputFault::Failed)
+}
+
+// Adds the bytes to `taken`, unless that makes more than `INPUT_LIMIT`.
+fn add_within_limit(taken: &mut Vec<u8>, bytes: &[u8]) -> Result<(), InputFault>
+    requires { vec_len taken.old ≤ input_limit }
+    ensures bytes { OnOk result (taken.new.items ≡ taken.old.items ++ bytes.now) }
+    ensures within { OnOk result (vec_len taken.new ≤ input_limit) }
+    ensures too_long { IsErrOf result InputFault.TooLong → input_limit < vec_len taken.old + length bytes.now }
+{
+    if bytes.len() > INPUT_LIMIT - taken.len() {
+        return Err(InputFault::TooLong);
+    }
+    taken
+        .extend_from_slice(bytes)
+        .map_err(|_| InputFault::Memory)
 }

@@ -1,9 +1,9 @@
 //! The arguments of the command line, read by `clap`.
 ghost use Rattle.std.specs.Prelude.{◌≡◌, IfOk, IfSome, IsErrOf, None, OnOk, Some, false, is_some, map, string_bytes};
-ghost use Rattle.clap.specs.Words.{app_of, found_of, kind_of, rows_of, rule_of, subcommand_rows_of, with_subcommand};
-ghost use Rattle.dine_words.specs.Words.{AreRight, HasNoFault, IsCommandName, are_taken, asked_by, asked_of};
-ghost use Rattle.dine_words.specs.Words.{choices_in, command_found, command_in, dine_app, fault_of_kind};
-ghost use Rattle.dine_words.specs.Words.{links_in, links_of, option_rule, replay_app, run_app, run_in};
+ghost use Rattle.clap.specs.Words.{app_of, found_of, kind_of, rows_of, rule_of, subcommand_rows_of};
+ghost use Rattle.dine_words.specs.Words.{AreRight, HasNoFault, IsCommandName, IsSubcommand, are_taken, asked_by};
+ghost use Rattle.dine_words.specs.Words.{asked_of, choices_in, command_found, command_in, dine_app, fault_of_kind};
+ghost use Rattle.dine_words.specs.Words.{links_in, links_of, option_rule, program_alone, replay_app, run_app, run_in};
 ghost use Rattle.dine_words.specs.Words.{table_in, table_of};
 ghost use Rattle.dine_words.specs.declared.words.WordsFault.TheVariants.{Memory};
 
@@ -135,35 +135,39 @@ fn command_named(
     }
 }
 
-// `dine` and its subcommands. The program prints its own usage line, so `clap` offers no help.
+// `dine` and its subcommands.
 fn program<'a>(alloc: Global) -> Result<clap::Command<'a>, AllocError>
     ensures { IfOk result (λ program. app_of program ≡ dine_app) }
 {
-    let alone = clap::Command::new(alloc, "dine")
+    program_alone(alloc)
+        .subcommand(run_command(alloc)?)?
+        .subcommand(replay_command(alloc)?)?
+        .subcommand(clap::Command::new(alloc, CHECK))
+}
+
+// `dine` without its subcommands. The program prints its own usage line, so `clap` offers no help.
+fn program_alone<'a>(alloc: Global) -> clap::Command<'a>
+    ensures { app_of result ≡ program_alone }
+{
+    clap::Command::new(alloc, "dine")
         .disable_help_flag(true)
-        .disable_help_subcommand(true);
-    with_replay(alloc, with_run(alloc, alone)?)?.subcommand(clap::Command::new(alloc, CHECK))
+        .disable_help_subcommand(true)
 }
 
-// Adds the subcommand `run`, with its two options.
-fn with_run<'a>(alloc: Global, program: clap::Command<'a>) -> Result<clap::Command<'a>, AllocError>
-    ensures { IfOk result (λ more. app_of more ≡ with_subcommand (app_of program.entry) run_app.top) }
+// The command `run`, with its two options.
+fn run_command<'a>(alloc: Global) -> Result<clap::Command<'a>, AllocError>
+    ensures { IfOk result (λ run. IsSubcommand run_app run) }
 {
-    let run = clap::Command::new(alloc, RUN)
+    clap::Command::new(alloc, RUN)
         .arg(text_option(alloc, TABLE))?
-        .arg(text_option(alloc, LINKS))?;
-    program.subcommand(run)
+        .arg(text_option(alloc, LINKS))
 }
 
-// Adds the subcommand `replay`, with its option.
-fn with_replay<'a>(
-    alloc: Global,
-    program: clap::Command<'a>,
-) -> Result<clap::Command<'a>, AllocError>
-    ensures { IfOk result (λ more. app_of more ≡ with_subcommand (app_of program.entry) replay_app.top) }
+// The command `replay`, with its option.
+fn replay_command<'a>(alloc: Global) -> Result<clap::Command<'a>, AllocError>
+    ensures { IfOk result (λ replay. IsSubcommand replay_app replay) }
 {
-    let replay = clap::Command::new(alloc, REPLAY).arg(text_option(alloc, CHOICES))?;
-    program.subcommand(replay)
+    clap::Command::new(alloc, REPLAY).arg(text_option(alloc, CHOICES))
 }
 
 // The option of this name, which takes a text.

@@ -7,9 +7,8 @@ use Rattle.dine_words.proofs.words.program.Goals as goal
 
 pub returns : goal.returns
 returns c =
-    let alone_is : app_of c.disable_help_subcommand-alone.result ≡ program_alone = search rules in
-    let first_is : app_of c.in_ok-with_run.field-0 ≡ with_subcommand program_alone run_app.top
-    = c.in_ok-with_run.ensures ∙ ap (λ (alone : App). with_subcommand alone run_app.top) alone_is in
-    let second_is : app_of c.in_ok-with_replay.field-0 ≡ with_subcommand (with_subcommand program_alone run_app.top) replay_app.top
-    = c.in_ok-with_replay.ensures ∙ ap (λ (before : App). with_subcommand before replay_app.top) first_is in
-    IfOk-weaker c.subcommand.result _ _ (λ program adds. adds.shape (search rules) ∙ ap₂ with_subcommand second_is (ap (λ (a : App). a.top) c.new-2.ensures.app)) c.subcommand.ensures
+    let first_is : app_of c.in_ok-subcommand.field-0 ≡ with_subcommand program_alone run_app.top
+    = c.in_ok-run_command.ensures _ _ c.in_ok-subcommand.ensures ∙ ap (λ (alone : App). with_subcommand alone run_app.top) c.program_alone.ensures in
+    let second_is : app_of c.in_ok-subcommand-2.field-0 ≡ with_subcommand (with_subcommand program_alone run_app.top) replay_app.top
+    = c.in_ok-replay_command.ensures _ _ c.in_ok-subcommand-2.ensures ∙ ap (λ (before : App). with_subcommand before replay_app.top) first_is in
+    IfOk-weaker c.subcommand-3.result _ _ (λ program adds. adds.shape (search rules) ∙ ap₂ with_subcommand second_is (ap (λ (a : App). a.top) c.new.ensures.app)) c.subcommand-3.ensures
