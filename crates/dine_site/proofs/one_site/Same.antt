@@ -66,9 +66,9 @@ same_then was is = record {
 }
 
 module _ {Lane Tx Closed Rx Diner : Type 0} (old : Running Lane Diner Tx Closed Rx) (core : SeenCore) (ports : Vec (Port Lane Tx Closed Rx)) where
-  -- where only ports were written
-  pub same_but_ports : core ≡ old.core → vec_len ports ≡ vec_len old.ports → SameMeals old (record old { core = core; ports = ports })
-  same_but_ports is count = record {
+  -- where only ports and the journal were written
+  pub same_but_ports : (journal : Vec EventKind) → core ≡ old.core → vec_len ports ≡ vec_len old.ports → SameMeals old (record old { core = core; ports = ports; journal = journal })
+  same_but_ports journal is count = record {
     manner = refl;
     site = ap (λ (x : SeenCore). x.site) is;
     due = ap (λ (x : SeenCore). x.due) is;

@@ -70,6 +70,6 @@ returns-in_default g c =
       way = λ stray cause plan given stopped. subst (λ (k : SeenCore). IsStopped stray cause plan given (record { manner = run.manner; core = k; ports = run.ports; bell = run.bell; journal = run.journal })) (sym is) stopped;
       closed = subst (ClosedBelow (c.args.i + 1)) (sym is) (closed_already c.args.self.now.core c.args.i c.in_default.ensures.none c.requires.before);
       places = ap (λ (core : SeenCore). length core.places) is;
-      same = same_but_ports c.args.self.now c.break_off.new.self c.args.self.now.ports is refl;
+      same = same_but_ports c.args.self.now c.break_off.new.self c.args.self.now.ports c.args.self.now.journal is refl;
       checks = λ first are. are;
     }

@@ -71,10 +71,10 @@ returns-in-Heard-clause-timed g c = λ timed.
     (ends_put c.args.self.now.clock.events c.args.self.now.journal.items run.ports c.args.i c.last-stamp.result.at there.0 new late there.1 refl refl)
 
 pub returns-in-Heard-clause-same : goal.returns-in-Heard-clause-same
-returns-in-Heard-clause-same g c = same_but_ports c.args.self.now c.args.self.now.core c.close_at.new.ports refl c.close_at.ensures.count
+returns-in-Heard-clause-same g c = same_but_ports c.args.self.now c.args.self.now.core c.close_at.new.ports c.args.self.now.journal refl c.close_at.ensures.count
 
 pub returns-in-Unheard-clause-same : goal.returns-in-Unheard-clause-same
-returns-in-Unheard-clause-same g c = same_but_ports c.args.self.now c.args.self.now.core c.close_at.new.ports refl c.close_at.ensures.count
+returns-in-Unheard-clause-same g c = same_but_ports c.args.self.now c.args.self.now.core c.close_at.new.ports c.args.self.now.journal refl c.close_at.ensures.count
 
 pub returns-in-Refused-clause-same : goal.returns-in-Refused-clause-same
-returns-in-Refused-clause-same g c = same_but_ports c.args.self.now c.args.self.now.core c.close_at.new.ports refl c.close_at.ensures.count
+returns-in-Refused-clause-same g c = same_but_ports c.args.self.now c.args.self.now.core c.close_at.new.ports c.args.self.now.journal refl c.close_at.ensures.count

@@ -86,3 +86,12 @@ eat-requires-clause-whole g c =
     let meal = c.begin-meal.ensures.meal in
     let site = meal.site ∙ ap (λ (core : SeenCore). core.site) c.begin-meal.ensures.core in
     (plan, whole_meal plan _ c.begin-meal.new.self c.begin-meal.result began.stands began.keeps meal, subst (g.D.Diner.expects c.args.self.now.diner plan) (sym site) c.requires.ready.expects)
+
+pub note-requires-2 : goal.note-requires-2
+note-requires-2 g c =
+    let old = c.args.self.now.journal.items in
+    let longer = ap (λ (kinds : List EventKind). length kinds) c.note.ensures.journal in
+    omega (arith, c.requires.room, longer, length-append old (event.Begin ∷ []), c.note.ensures.capacity, c.note.new.journal.ok.0, c.args.self.now.journal.ok.0)
+
+pub note-requires : goal.note-requires
+note-requires g c = omega (arith, c.requires.room)

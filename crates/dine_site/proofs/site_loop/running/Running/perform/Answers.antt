@@ -1,12 +1,12 @@
-use Rattle.std.proofs.Common.{◌≡◌, ◌+◌, ◌||◌, true, Some, None, Ok, refl, subst, sym, ap, arith}
-use Rattle.std.proofs.lemmas.Bool.{and_parts, or_left}
+use Rattle.std.proofs.Common.{◌≡◌, ◌<◌, ◌+◌, ◌||◌, ◌&&◌, ◌∙◌, ℕ, Bool, length, true, Some, None, Ok, refl, subst, sym, ap, arith}
+use Rattle.std.proofs.lemmas.Bool.{and_parts, ltb-true, or_left}
 use Rattle.std.specs.Prelude.{nat_lt}
 use Rattle.dine_site_core.specs.Core.{SeenCore}
 use Rattle.dine_site_core.specs.NextEvent.{can_by_itself}
 use Rattle.dine_site_core.specs.declared.site.places.ForkSlot.TheVariants.{Away}
 use Rattle.dine_rules.specs.declared.phase.Phase.TheVariants as phase
 use Rattle.dine_site.specs.declared.site_loop.running.Running.{Running}
-use Rattle.dine_site_core.specs.Places.{can_quit, place_at}
+use Rattle.dine_site_core.specs.Places.{can_ask, can_close, can_give, can_quit, can_say_done, place_at}
 use Rattle.dine_rules.specs.Local.{is_thinking}
 use Rattle.dine_rules.specs.declared.events.EventKind.{EventKind}
 use Rattle.dine_rules.specs.declared.events.EventKind.TheVariants as event
@@ -26,6 +26,12 @@ use Rattle.dine_site.proofs.one_site.Proceeding.{proceeds_same}
 use Rattle.dine_site.proofs.one_site.Ways.{hungry_runs, quit_runs}
 use Rattle.dine_site.proofs.one_site.Obeying.{obeying_as}
 use Rattle.dine_site.proofs.site_loop.running.Running.perform.Goals as goal
+
+-- what the core needs at a place
+needs_at : (core : SeenCore) (i : ℕ) (needs : Bool) (kind : EventKind) → can_by_itself core kind ≡ (nat_lt i (length core.places) && needs) → can_by_itself core kind ≡ true → (i < length core.places) × (needs ≡ true)
+needs_at core i needs kind is may =
+    let parts = and_parts (nat_lt i (length core.places)) needs (sym is ∙ may) in
+    (ltb-true i (length core.places) parts.0, parts.1)
 
 pub put-requires-clause-putting : goal.put-requires-clause-putting
 put-requires-clause-putting g c κs ls =
@@ -144,3 +150,27 @@ begin-requires-clause-ready g c κs ls = c.requires.ready
 
 pub begin-requires-clause-next : goal.begin-requires-clause-next
 begin-requires-clause-next g c κs ls = subst (λ (kind : EventKind). IsNext (Some kind) c.args.self.now.core) c.in-Begin.is c.requires.next
+
+pub give-letter-requires-clause-place : goal.give-letter-requires-clause-place
+give-letter-requires-clause-place g c = (needs_at c.args.self.now.core c.in-Give.i (can_give c.args.self.now.core c.in-Give.i) (event.Give c.in-Give.i) refl (subst (λ (kind : EventKind). can_by_itself c.args.self.now.core kind ≡ true) c.in-Give.is c.requires.may)).0
+
+pub give-letter-requires-clause-may : goal.give-letter-requires-clause-may
+give-letter-requires-clause-may g c = (needs_at c.args.self.now.core c.in-Give.i (can_give c.args.self.now.core c.in-Give.i) (event.Give c.in-Give.i) refl (subst (λ (kind : EventKind). can_by_itself c.args.self.now.core kind ≡ true) c.in-Give.is c.requires.may)).1
+
+pub ask-letter-requires-clause-place : goal.ask-letter-requires-clause-place
+ask-letter-requires-clause-place g c = (needs_at c.args.self.now.core c.in-Ask.i (can_ask c.args.self.now.core c.in-Ask.i) (event.Ask c.in-Ask.i) refl (subst (λ (kind : EventKind). can_by_itself c.args.self.now.core kind ≡ true) c.in-Ask.is c.requires.may)).0
+
+pub ask-letter-requires-clause-may : goal.ask-letter-requires-clause-may
+ask-letter-requires-clause-may g c = (needs_at c.args.self.now.core c.in-Ask.i (can_ask c.args.self.now.core c.in-Ask.i) (event.Ask c.in-Ask.i) refl (subst (λ (kind : EventKind). can_by_itself c.args.self.now.core kind ≡ true) c.in-Ask.is c.requires.may)).1
+
+pub done-letter-requires-clause-place : goal.done-letter-requires-clause-place
+done-letter-requires-clause-place g c = (needs_at c.args.self.now.core c.in-Done.i (can_say_done c.args.self.now.core c.in-Done.i) (event.Done c.in-Done.i) refl (subst (λ (kind : EventKind). can_by_itself c.args.self.now.core kind ≡ true) c.in-Done.is c.requires.may)).0
+
+pub done-letter-requires-clause-may : goal.done-letter-requires-clause-may
+done-letter-requires-clause-may g c = (needs_at c.args.self.now.core c.in-Done.i (can_say_done c.args.self.now.core c.in-Done.i) (event.Done c.in-Done.i) refl (subst (λ (kind : EventKind). can_by_itself c.args.self.now.core kind ≡ true) c.in-Done.is c.requires.may)).1
+
+pub close-requires-clause-place : goal.close-requires-clause-place
+close-requires-clause-place g c = (needs_at c.args.self.now.core c.in-Close.i (can_close c.args.self.now.core c.in-Close.i) (event.Close c.in-Close.i) refl (subst (λ (kind : EventKind). can_by_itself c.args.self.now.core kind ≡ true) c.in-Close.is c.requires.may)).0
+
+pub close-requires-clause-may : goal.close-requires-clause-may
+close-requires-clause-may g c = (needs_at c.args.self.now.core c.in-Close.i (can_close c.args.self.now.core c.in-Close.i) (event.Close c.in-Close.i) refl (subst (λ (kind : EventKind). can_by_itself c.args.self.now.core kind ≡ true) c.in-Close.is c.requires.may)).1

@@ -96,10 +96,10 @@ index_mut-requires g c =
     omega (arith, within, length-map c.args.self.now.ports.items (seen_port g.L.Lane), c.args.self.now.ports.ok.0)
 
 pub returns-in-Heard-clause-same : goal.returns-in-Heard-clause-same
-returns-in-Heard-clause-same g c = same_but_ports c.args.self.now c.args.self.now.core _ refl refl
+returns-in-Heard-clause-same g c = same_but_ports c.args.self.now c.args.self.now.core _ c.args.self.now.journal refl refl
 
 pub returns-in-Unheard-clause-same : goal.returns-in-Unheard-clause-same
-returns-in-Unheard-clause-same g c = same_but_ports c.args.self.now c.args.self.now.core _ refl refl
+returns-in-Unheard-clause-same g c = same_but_ports c.args.self.now c.args.self.now.core _ c.args.self.now.journal refl refl
 
 pub returns-in-Refused-clause-same : goal.returns-in-Refused-clause-same
-returns-in-Refused-clause-same g c = same_but_ports c.args.self.now c.args.self.now.core _ refl refl
+returns-in-Refused-clause-same g c = same_but_ports c.args.self.now c.args.self.now.core _ c.args.self.now.journal refl refl

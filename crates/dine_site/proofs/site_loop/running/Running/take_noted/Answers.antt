@@ -102,7 +102,7 @@ returns-in-Ok-take-clause-same g c =
     same_at_place c.args.self.now c.take-in-Ok.new.self _ c.args.i _ c.push_reserved.new.self c.after-self.result c.in-Ok-take.ensures.core refl
 
 pub returns-in-Err-take-clause-same : goal.returns-in-Err-take-clause-same
-returns-in-Err-take-clause-same g c = same_but_ports c.args.self.now c.take-in-Ok.new.self _ c.in-Err-take.ensures.core.0 refl
+returns-in-Err-take-clause-same g c = same_but_ports c.args.self.now c.take-in-Ok.new.self _ c.args.self.now.journal c.in-Err-take.ensures.core.0 refl
 
 pub returns-in-Err-clause-same : goal.returns-in-Err-clause-same
-returns-in-Err-clause-same g c = same_but_ports c.args.self.now c.args.self.now.core _ refl refl
+returns-in-Err-clause-same g c = same_but_ports c.args.self.now c.args.self.now.core _ c.args.self.now.journal refl refl
