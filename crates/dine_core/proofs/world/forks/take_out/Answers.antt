@@ -36,8 +36,8 @@ returns-clause-fork c =
     let lower = c.take_fork-at_lower.ensures.fork ∙ fork_read hands ends.lower ends.lower_place c.index-hands-ends.result is.lower.site in
     let to_lower = c.take_fork-to_lower.ensures.fork ∙ ap first_fork (get_or_default links (2 * c.args.edge + 1) c.index-links-edge.result [] is.within) in
     let higher = c.take_fork-at_higher.ensures.fork
-        ∙ ap (λ (core : SeenCore). hand_of (place_at core ends.higher_place).fork) (get_or-set_other hands ends.lower ends.higher c.take_fork-at_lower.new.self c.index-hands-ends-2.result here)
-        ∙ fork_read hands ends.higher ends.higher_place c.index-hands-ends-2.result is.higher.site in
+    ∙ ap (λ (core : SeenCore). hand_of (place_at core ends.higher_place).fork) (get_or-set_other hands ends.lower ends.higher c.take_fork-at_lower.new.self c.index-hands-ends-2.result here)
+    ∙ fork_read hands ends.higher ends.higher_place c.index-hands-ends-2.result is.higher.site in
     let to_higher = c.take_fork-to_higher.ensures.fork ∙ ap first_fork (other_link links c.args.edge c.take_fork-to_lower.new.self c.index-links-edge-2.result is.within) in
     c.or-3.ensures ∙ ap₂ option_or (c.or-2.ensures ∙ ap₂ option_or (c.or.ensures ∙ ap₂ option_or lower to_lower) higher) to_higher
 
