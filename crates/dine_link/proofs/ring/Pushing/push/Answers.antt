@@ -1,4 +1,4 @@
-use Rattle.std.proofs.Common.{◌≡◌, ◌++◌, ◌∷◌, [], List, length, refl, ◌∙◌, ap, ap₂, arith, length-append}
+use Rattle.std.proofs.Common.{◌++◌, ◌∷◌, [], List, length, refl, ◌∙◌, ap, ap₂, arith, length-append}
 use Rattle.rtrb.specs.Ring.{sent}
 use Rattle.dine_link.specs.declared.ring.Pushing.{Pushing}
 use Rattle.dine_link.specs.declared.stamped.Stamped.{Stamped}
