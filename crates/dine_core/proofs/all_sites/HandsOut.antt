@@ -1,11 +1,19 @@
 -- Sites that ended their steps, by the cores behind their hands: each core is a site at rest.
-use Rattle.std.proofs.Common.{◌≡◌, ℕ, ◌<◌, List, [], ◌∷◌, ◌++◌, length, map, reverse, get_or, set, refl, sym, ◌∙◌, ap, arith}
+use Rattle.std.proofs.Common.{◌≡◌, ℕ, ◌<◌, List, [], ◌∷◌, ◌++◌, length, map, reverse, get_or, set, None, refl, sym, ◌∙◌, ap, subst, arith}
 use Rattle.std.proofs.Math.ListN.{get_or-map}
 use Rattle.std.proofs.lemmas.List.{get_or_default, length-map, map-set, map_push, append_assoc, reverse-append}
 use Rattle.dine_core.specs.declared.world.sites.WorldSite.{WorldSite}
 use Rattle.dine_site_core.specs.Core.{SeenCore}
-use Rattle.dine_site_core.specs.Places.{gave}
-use Rattle.dine_core.specs.private.Forks.{absent_core, at_rest, core_ended, emptied_at, meal_ended, site_at}
+use Rattle.dine_site_core.specs.Places.{gave, hand_of, place_at}
+use Rattle.dine_site_core.specs.declared.site.places.ForkSlot.{ForkSlot}
+use Rattle.dine_site_core.specs.declared.site.places.ForkSlot.TheVariants.{Away, Here, InMeal}
+use Rattle.dine_core.specs.private.Forks.{absent_core, at_rest, core_ended, emptied_at, fork_at_site, fork_in_slot, meal_ended, site_at}
+
+-- a core at rest has its forks in hand
+in_hand : (i : ℕ) (slot : ForkSlot) → hand_of slot ≡ fork_in_slot None i slot
+in_hand i Away = refl
+in_hand i (Here fork) = refl
+in_hand i (InMeal n) = refl
 
 -- the core at index s, and place i of it
 module _ (cores : List SeenCore) (s i : ℕ) (past : SeenCore) (within : s < length (map at_rest cores)) where
@@ -13,6 +21,12 @@ module _ (cores : List SeenCore) (s i : ℕ) (past : SeenCore) (within : s < len
   rest_read =
       let is_core : s < length cores = omega (arith, within, length-map cores at_rest) in
       ap at_rest (get_or_default cores s past absent_core is_core) ∙ sym (get_or-map at_rest cores s absent_core)
+
+  pub place_read : i < length (site_at (map at_rest cores) s).core.places → i < length (get_or cores s past).places
+  place_read = subst (λ (x : WorldSite). i < length x.core.places) (sym rest_read)
+
+  pub fork_read : hand_of (place_at (get_or cores s past) i).fork ≡ fork_at_site (site_at (map at_rest cores) s) i
+  fork_read = in_hand i (place_at (get_or cores s past) i).fork ∙ ap (λ (x : WorldSite). fork_at_site x i) rest_read
 
   pub emptied_read : map at_rest (set cores s (gave i (get_or cores s past))) ≡ emptied_at s i (map at_rest cores)
   emptied_read = map-set at_rest cores s (gave i (get_or cores s past)) ∙ ap (λ (x : WorldSite). set (map at_rest cores) s (record x { core = gave i x.core })) rest_read

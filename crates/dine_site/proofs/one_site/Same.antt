@@ -1,6 +1,6 @@
 -- What goes on as it was, where nothing of a site's meals changes.
 use Rattle.std.proofs.Common.{◌≡◌, ℕ, ◌||◌, refl, sym, ap, ap₂, ◌∙◌, arith}
-use Rattle.std.specs.Prelude.{nat_lt}
+use Rattle.std.specs.Prelude.{nat_lt, vec_len}
 use Rattle.std.specs.Global.{Vec}
 use Rattle.dine_rules.specs.declared.clock.Clock.{Clock}
 use Rattle.dine_site_core.specs.Core.{SeenCore}
@@ -9,6 +9,7 @@ use Rattle.dine_site_core.specs.declared.site.places.Place.{Place}
 use Rattle.dine_rules.specs.declared.events.EventKind.{EventKind}
 use Rattle.dine_rules.specs.declared.phase.Phase.{Phase}
 use Rattle.dine_site.specs.declared.diner.Diner as diners
+use Rattle.dine_site.specs.declared.port.Port.{Port}
 use Rattle.dine_site.specs.declared.site_loop.running.Running.{Running}
 use Rattle.dine_site.specs.Running.{EatsOn, ObeysOn, IsReady, SameMeals}
 use Rattle.dine_site.proofs.one_site.Obeying.{obeying_as}
@@ -46,6 +47,56 @@ module _ {Lane Tx Closed Rx Diner : Type 0} (old new : Running Lane Diner Tx Clo
     failed = same.failed;
     bell = same.bell;
     count = same.count;
+  }
+
+-- one change after another
+pub same_then : {Lane Tx Closed Rx Diner : Type 0} {a b c : Running Lane Diner Tx Closed Rx} → SameMeals a b → SameMeals b c → SameMeals a c
+same_then was is = record {
+  manner = is.manner ∙ was.manner;
+  site = is.site ∙ was.site;
+  due = is.due ∙ was.due;
+  ate = is.ate ∙ was.ate;
+  resigns = is.resigns ∙ was.resigns;
+  must_quit = is.must_quit ∙ was.must_quit;
+  has_quit = is.has_quit ∙ was.has_quit;
+  diner = is.diner ∙ was.diner;
+  failed = is.failed ∙ was.failed;
+  bell = is.bell ∙ was.bell;
+  count = is.count ∙ was.count;
+}
+
+module _ {Lane Tx Closed Rx Diner : Type 0} (old : Running Lane Diner Tx Closed Rx) (core : SeenCore) (ports : Vec (Port Lane Tx Closed Rx)) where
+  -- where only ports and the journal were written
+  pub same_but_ports : (journal : Vec EventKind) → core ≡ old.core → vec_len ports ≡ vec_len old.ports → SameMeals old (record old { core = core; ports = ports; journal = journal })
+  same_but_ports journal is count = record {
+    manner = refl;
+    site = ap (λ (x : SeenCore). x.site) is;
+    due = ap (λ (x : SeenCore). x.due) is;
+    ate = ap (λ (x : SeenCore). x.ate) is;
+    resigns = ap (λ (x : SeenCore). x.resigns) is;
+    must_quit = ap (λ (x : SeenCore). x.must_quit) is;
+    has_quit = ap (λ (x : SeenCore). x.has_quit) is;
+    diner = refl;
+    failed = refl;
+    bell = refl;
+    count = count;
+  }
+
+  -- where a place of the core was written too, the journal and the clock
+  pub same_at_place : (i : ℕ) (place : Place) (journal : Vec EventKind) (clock : Clock) → core ≡ with_place i place old.core → vec_len ports ≡ vec_len old.ports
+      → SameMeals old (record old { core = core; ports = ports; journal = journal; clock = clock })
+  same_at_place i place journal clock is count = record {
+    manner = refl;
+    site = ap (λ (x : SeenCore). x.site) is;
+    due = ap (λ (x : SeenCore). x.due) is;
+    ate = ap (λ (x : SeenCore). x.ate) is;
+    resigns = ap (λ (x : SeenCore). x.resigns) is;
+    must_quit = ap (λ (x : SeenCore). x.must_quit) is;
+    has_quit = ap (λ (x : SeenCore). x.has_quit) is;
+    diner = refl;
+    failed = refl;
+    bell = refl;
+    count = count;
   }
 
 -- where only the phase of the core was written, and the journal

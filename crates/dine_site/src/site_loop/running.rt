@@ -5,6 +5,7 @@ ghost use Rattle.std.specs.Prelude.{slice_get, slice_set, vec_capacity, vec_len}
 ghost use Rattle.dine_graph.specs.Plan.{SeenPlan};
 ghost use Rattle.dine_rules.specs.Letters.{has_close};
 ghost use Rattle.dine_rules.specs.Local.{traffic_at};
+ghost use Rattle.dine_rules.specs.Moments.{last_moment};
 ghost use Rattle.dine_site_core.specs.NextEvent.{can_by_itself};
 ghost use Rattle.dine_site_core.specs.Standing.{ForEachState};
 ghost use Rattle.dine_site_core.specs.CoreWants.{wants_of};
@@ -163,39 +164,33 @@ impl<L: Lane, D: Diner> Running<L, D> {
         match kind {
             EventKind::Give(i) => {
                 let letter = self.core.give(i);
-                self.journal.push_reserved(EventKind::Give(i));
-                self.clock = self.clock.after(&EventKind::Give(i), &Stamp::first());
+                note(&mut self.journal, &mut self.clock, EventKind::Give(i));
                 self.put(rt, i, letter)
             }
             EventKind::Ask(i) => {
                 let letter = self.core.ask(i);
-                self.journal.push_reserved(EventKind::Ask(i));
-                self.clock = self.clock.after(&EventKind::Ask(i), &Stamp::first());
+                note(&mut self.journal, &mut self.clock, EventKind::Ask(i));
                 self.put(rt, i, letter)
             }
             EventKind::Done(i) => {
                 let letter = self.core.done(i);
-                self.journal.push_reserved(EventKind::Done(i));
-                self.clock = self.clock.after(&EventKind::Done(i), &Stamp::first());
+                note(&mut self.journal, &mut self.clock, EventKind::Done(i));
                 self.put(rt, i, letter)
             }
             EventKind::Close(i) => {
                 let _ = self.core.close(i);
-                self.journal.push_reserved(EventKind::Close(i));
-                self.clock = self.clock.after(&EventKind::Close(i), &Stamp::first());
+                note(&mut self.journal, &mut self.clock, EventKind::Close(i));
                 self.close(rt, i)
             }
             EventKind::Begin => self.begin(rt),
             EventKind::Hungry => {
                 self.core.hungry();
-                self.journal.push_reserved(EventKind::Hungry);
-                self.clock = self.clock.after(&EventKind::Hungry, &Stamp::first());
+                note(&mut self.journal, &mut self.clock, EventKind::Hungry);
                 Ok(())
             }
             EventKind::Quit => {
                 self.core.quit();
-                self.journal.push_reserved(EventKind::Quit);
-                self.clock = self.clock.after(&EventKind::Quit, &Stamp::first());
+                note(&mut self.journal, &mut self.clock, EventKind::Quit);
                 Ok(())
             }
             EventKind::End | EventKind::Take(_) => unreachable!(),
@@ -251,13 +246,11 @@ impl<L: Lane, D: Diner> Running<L, D> {
     {
         laws::journals_grow_by_each_event();
         let meal = self.core.begin();
-        self.journal.push_reserved(EventKind::Begin);
-        self.clock = self.clock.after(&EventKind::Begin, &Stamp::first());
+        note(&mut self.journal, &mut self.clock, EventKind::Begin);
         let ok = self.diner.eat(meal.k(), &meal).is_ok();
         self.failed += u32::from(!ok);
         self.core.end(meal, !ok);
-        self.journal.push_reserved(EventKind::End);
-        self.clock = self.clock.after(&EventKind::End, &Stamp::first());
+        note(&mut self.journal, &mut self.clock, EventKind::End);
     }
 
     // Puts a letter other than Close, and rings.
@@ -474,6 +467,17 @@ impl<L: Lane, D: Diner> Running<L, D> {
             fault,
         }
     }
+}
+
+// Notes an event that needs no letter: in the journal, which has capacity for it, and on the clock.
+fn note(journal: &mut Vec<EventKind>, clock: &mut Clock, kind: EventKind)
+    requires room { vec_len journal.old < vec_capacity journal.old }
+    ensures journal { journal.new.items ≡ journal.old.items ++ kind ∷ [] }
+    ensures capacity { vec_capacity journal.new ≡ vec_capacity journal.old }
+    ensures clock { clock.new.events ≡ clock.old.events ++ (kind, last_moment clock.old.events + 1) ∷ [] }
+{
+    journal.push_reserved(kind);
+    *clock = clock.after(&kind, &Stamp::first());
 }
 
 // Puts Close at place i, whose end is live, and rings. If the link refuses it, the end stays live.

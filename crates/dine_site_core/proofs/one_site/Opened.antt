@@ -7,13 +7,13 @@ use Rattle.dine_token.specs.declared.act.Act.{Act}
 use Rattle.dine_token.specs.Values.{IsAct}
 use Rattle.dine_token.specs.Fork.{SeenFork}
 use Rattle.std.proofs.lemmas.List.{length-map}
-use Rattle.dine_graph.specs.Plan.{SeenPlan, SeenJob, IsPlan, act_of, acts_of, edge_count, is_end, edges_of, job_count, jobs_of, lo_of, hi_of, no_job, site_count}
+use Rattle.dine_graph.specs.Plan.{SeenPlan, SeenJob, IsPlan, act_of, acts_of, edge_count, is_end, edges_of, job_count, jobs_of, lo_of, hi_of, no_job, resigns, site_count}
 use Rattle.dine_rules.specs.declared.phase.Phase.TheVariants.{Thinking}
 use Rattle.dine_site_core.specs.declared.site.places.Place.{Place}
 use Rattle.dine_site_core.specs.declared.site.places.ForkSlot.TheVariants.{Away, Here}
-use Rattle.dine_rules.specs.Local.{no_traffic, edge_at}
+use Rattle.dine_rules.specs.Local.{Traffic, no_traffic, edge_at, start_of}
 use Rattle.dine_rules.specs.Steps.{opened_fork}
-use Rattle.dine_site_core.specs.Core.{SeenCore, kept_of}
+use Rattle.dine_site_core.specs.Core.{SeenCore, Refines, kept_of}
 use Rattle.dine_site_core.proofs.lists.Lists.{get_or-map_at}
 use Rattle.dine_site_core.specs.Places.{is_held, FitsPlace, FitsSlot, IsSoundPlace, IsSound}
 use Rattle.dine_rules.proofs.one_place.Placed.{IsPlaced, placed}
@@ -82,6 +82,30 @@ sound_start plan s due acts policy places is_plan is_site due_is acts_are is = r
   within = omega arith;
   hungry = λ h. absurd (false≢true h);
 }
+
+-- and they represent the initial state
+pub refines_start : (plan : SeenPlan) (s due : ℕ) (acts : List Act) (policy : Bool) (places : List Place) → IsPlan plan → s < site_count plan → due ≡ job_count plan s → acts ≡ acts_of plan s → policy ≡ resigns plan s
+    → places ≡ map (λ edge. kept_of plan s Thinking 0 edge no_traffic) (edges_of plan s) → Refines plan (start_of plan s) (start_core s due acts policy places)
+refines_start plan s due acts policy places is_plan is_site due_is acts_are policy_is is =
+    let edges = edges_of plan s in
+    let f : ℕ → Place = λ edge. kept_of plan s Thinking 0 edge no_traffic in
+    let none : ℕ → Traffic = λ edge. no_traffic in
+    record {
+      is_plan = is_plan;
+      is_site = is_site;
+      due = due_is;
+      acts = acts_are;
+      resigns = policy_is;
+      phase = refl;
+      ate = refl;
+      must_quit = refl;
+      has_quit = refl;
+      degree = ap length is ∙ length-map edges f ∙ sym (length-map edges none);
+      places = λ i past h.
+          let within : i < length edges = omega (arith, h, ap length is, length-map edges f) in
+          ap (λ (l : List Place). get_or l i past) is ∙ get_or-map_at f edges i past 0 within
+          ∙ ap (λ (traffic : Traffic). kept_of plan s Thinking 0 (edge_at plan s i) traffic) (sym (get_or-map_at none edges i no_traffic 0 within));
+    }
 
 pub filter_few : (p : ℕ → Bool) (xs : List ℕ) → length (filter p xs) ≤ length xs
 filter_few p [] = omega arith

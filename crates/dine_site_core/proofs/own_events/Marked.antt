@@ -4,7 +4,7 @@ use Rattle.std.specs.List.{All, list_all}
 use Rattle.std.specs.Option.{option_map}
 use Rattle.dine_token.specs.Fork.{SeenFork, IsDirty}
 use Rattle.dine_set.specs.Marks.{marks_of, marks_without, nth_position}
-use Rattle.dine_set.proofs.MarksOf.{without-marks_of, marks_of-agree, marks_of-set, marks_of-same, marks_of-none, marks_of-each, marks_of-map}
+use Rattle.dine_set.proofs.MarksOf.{without-marks_of, marks_of-agree, marks_of-push, marks_of-set, marks_of-same, marks_of-none, marks_of-each, marks_of-map}
 use Rattle.dine_set.proofs.NthPosition.{nth_position-zero}
 use Rattle.dine_site_core.specs.declared.site.places.Place.{Place}
 use Rattle.dine_site_core.specs.declared.site.places.ForkSlot.{ForkSlot}
@@ -18,6 +18,10 @@ module _ (test : Place → Bool) (xs : List Place) (marks : List Bool) (are : ma
 
   pub kept : (past : Place) → test place ≡ test (get_or xs i past) → marks ≡ marks_of test (set xs i place)
   kept past same = are ∙ sym (marks_of-same test xs i place past same)
+
+  -- it is added at the end
+  pub added : (mark : Bool) → length xs < 64 → i ≡ length xs → mark ≡ test place → set marks i mark ≡ marks_of test (xs ++ place ∷ [])
+  added mark few last is = ap (λ (l : List Bool). set l i mark) are ∙ ap (λ (n : ℕ). set (marks_of test xs) n mark) last ∙ ap (set (marks_of test xs) (length xs)) is ∙ sym (marks_of-push test xs place few)
 
 -- ---- all places
 

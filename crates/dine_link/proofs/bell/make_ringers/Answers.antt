@@ -1,7 +1,9 @@
-use Rattle.std.proofs.Common.{ap, ◌∙◌, arith, rules}
-use Rattle.std.proofs.lemmas.Grind.{common_steps}
+use Rattle.std.proofs.Common.{◌≡◌, ℕ, [], map, ap, ◌∙◌, arith, rules}
+use Rattle.std.specs.List.{range_with_len}
 use Rattle.crossbeam_channel.specs.Claims.{view}
 use Rattle.crossbeam_channel.specs.Ends.{sends_on}
+use Rattle.dine_link.specs.declared.bell_rule.Part.TheVariants.{Waits}
+use Rattle.dine_link.specs.Bells.{new_ringer}
 use Rattle.dine_link.specs.private.BellRule.{with_next_ringer, next_ringer}
 use Rattle.dine_link.proofs.BellSteps.{forks, ringer_more}
 use Rattle.dine_link.proofs.bell.make_ringers.Goals as goal
@@ -14,9 +16,22 @@ loop-number-preserved c = let before = c.loop-number.invariant in record {
   seated = c.another-own.ensures.channel.0;
   knows = c.another-own.ensures.rule.0 ∙ ap with_next_ringer before.knows;
   so_far = ringer_more (sends_on c.args.sender.now) (sends_on c.in_ok-sender_too.sender_too) c.loop-number.number c.loop-number.ringers.items c.push_reserved.new.self.items (view c.another-own.result) before.so_far c.in_ok-sender_too.ensures (c.another-own.ensures.rule.1 ∙ ap next_ringer before.knows) c.push_reserved.ensures.items;
-  count = grind (arith, common_steps);
-  room = grind (arith, common_steps);
+  count = omega (arith, before.count, c.push_reserved.ensures.len);
+  room = omega (arith, before.room, c.push_reserved.ensures.capacity);
 }
 
 pub loop-number-init : goal.loop-number-init
 loop-number-init c = search rules
+
+pub push_reserved-requires : goal.push_reserved-requires
+push_reserved-requires c = omega (arith, c.loop-number.invariant.count, c.loop-number.invariant.room)
+
+pub returns : goal.returns
+returns c =
+    let made = c.loop-number.invariant in
+    let all : c.loop-number.number ≡ c.args.degree = omega (arith, c.loop-number-test.false, c.loop-number.auto.number-end) in
+    record {
+      seated = made.seated;
+      knows = made.knows ∙ ap (λ (n : ℕ). Waits n []) all;
+      ringers = made.so_far ∙ ap (λ (n : ℕ). map (new_ringer (sends_on c.args.sender.now)) (range_with_len 0 n)) all;
+    }

@@ -1,9 +1,11 @@
-use Rattle.std.proofs.Common.{◌≡◌, ◌<◌, Bool, List, Some, [], length, get_or, slice_get, option_map, position, sym, ◌∙◌, ap, arith}
+use Rattle.std.proofs.Common.{◌≡◌, ◌<◌, Bool, List, Option, None, Some, [], length, get_or, slice_get, option_map, position, sym, ◌∙◌, ap, arith}
 use Rattle.std.specs.Option.{option_or}
-use Rattle.std.proofs.lemmas.Option.{get_or_from_slice_get, slice_get-get_or}
+use Rattle.std.specs.Prelude.{option_and_then}
+use Rattle.dine_rules.specs.declared.events.EventKind.{EventKind}
+use Rattle.std.proofs.lemmas.Option.{get_or_from_slice_get, slice_get-get_or, slice_get_past}
 use Rattle.dine_rules.specs.declared.events.EventKind.TheVariants as event
 use Rattle.dine_core.specs.declared.world.sites.WorldSite.{WorldSite}
-use Rattle.dine_core.specs.private.EnabledSites.{first_kind_at}
+use Rattle.dine_core.specs.private.EnabledSites.{first_kind, first_kind_at}
 use Rattle.dine_site_core.specs.NextEvent.{next_of}
 use Rattle.dine_core.specs.private.WorldFields.{seen_world}
 use Rattle.dine_core.specs.Worlds.{SeenWorld}
@@ -32,3 +34,12 @@ pub index-nonempty_inboxes-requires : goal.index-nonempty_inboxes-requires
 index-nonempty_inboxes-requires c =
     let found = c.in_ok-world_site.ensures.lookup in
     omega (arith, found.3.0, ap length c.deref.ensures.value, c.self.invariant.nonempty_inboxes.every_site)
+
+pub returns-in_err-world_site : goal.returns-in_err-world_site
+returns-in_err-world_site c =
+    let seen = seen_world c.self.inside in
+    let s = c.args.site in
+    let same : c.deref.result.now ≡ seen.sites = cc in
+    let none : slice_get seen.sites s ≡ None = slice_get_past seen.sites s (omega (arith, ap length same, c.in_err-world_site.ensures.lookup.3)) in
+    let there : ◌≡◌ {A = Option EventKind} (first_kind_at seen s) None = ap (option_and_then (λ (w : WorldSite). first_kind seen.links w.core)) none in
+    c.from_residual.ensures ∙ sym there ∙ ap (λ (w : SeenWorld). first_kind_at w s) c.self.view_is

@@ -1,9 +1,13 @@
-use Rattle.std.proofs.Common.{◌≡◌, ℕ, ◌+◌, ◌*◌, ◌<◌, length, Option, Some, None, sym, ◌∙◌, ap, subst, arith, Bor}
+use Rattle.std.proofs.Common.{◌≡◌, ℕ, ◌+◌, ◌*◌, ◌<◌, ◌≤◌, length, map, Option, Some, None, sym, ◌∙◌, ap, subst, arith, Bor}
+use Rattle.std.specs.List.{range_with_len}
 use Rattle.std.specs.Option.{option_map, option_or}
+use Rattle.std.proofs.lemmas.List.{length-map}
+use Rattle.std.proofs.lemmas.Option.{slice_get_past}
+use Rattle.dine_graph.specs.Plan.{edge_count}
 use Rattle.dine_token.specs.declared.fork.Fork.{Fork}
 use Rattle.dine_core.specs.declared.world.sites.WorldSite.{WorldSite}
 use Rattle.dine_core.specs.private.Forks.{first_fork, fork_at_site}
-use Rattle.dine_core.specs.Worlds.{IsWorldOf}
+use Rattle.dine_core.specs.Worlds.{IsWorldOf, SeenWorld, ends_seen, fork_seen, forks_seen}
 use Rattle.dine_core.proofs.all_sites.ForkPlaces.{edge_read, fork_read, letters_read, meals_fit, place_fits, world_site_read}
 use Rattle.dine_core.proofs.world.World.fork.Goals as goal
 
@@ -85,3 +89,11 @@ returns c plan world is =
     (c.fork-3.ensures ∙ ap (λ (x : WorldSite). fork_at_site x ends.higher_place) (world_site_read sites ends.higher ends.higher_place e c.index-higher.result.now w.higher c.index-higher.ensures))
     (c.fork-4.ensures ∙ ap first_fork (letters_read links (2 * e) c.index-2.result.now (omega (arith, w.within)) c.index-2.ensures))
     ∙ fork_read c.self.inside c.self.invariant c.deref.result.now c.deref.ensures.value e ends found.3.0 found.1 plan world (subst (IsWorldOf plan world) (sym c.self.view_is) is)
+
+pub returns-in_err-ends : goal.returns-in_err-ends
+returns-in_err-ends c plan world is =
+    let edges = range_with_len 0 (edge_count plan) in
+    let here : c.deref.result.now ≡ c.self.inside.edges.items = cc in
+    let count : length c.deref.result.now ≡ length (map (ends_seen plan) edges) = ap length (here ∙ ap (λ (w : SeenWorld). w.edges) c.self.view_is ∙ is.edges) in
+    let past : length (forks_seen plan world) ≤ c.args.edge = omega (arith, c.in_err-ends.ensures.lookup.3, count, length-map edges (ends_seen plan), length-map edges (fork_seen plan world)) in
+    ap (option_map (λ (x : Bor Fork). x.now)) c.from_residual.ensures ∙ sym (slice_get_past (forks_seen plan world) c.args.edge past)

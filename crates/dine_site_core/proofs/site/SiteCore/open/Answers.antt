@@ -1,5 +1,5 @@
 use Rattle.std.proofs.Common.{arith}
-use Rattle.dine_site_core.proofs.one_site.Opened.{sound_start, places_few}
+use Rattle.dine_site_core.proofs.one_site.Opened.{places_few, refines_start, sound_start}
 use Rattle.dine_site_core.proofs.site.SiteCore.open.Goals as goal
 
 pub invariant_of-result : goal.invariant_of-result
@@ -15,3 +15,10 @@ invariant_of-result c = record {
     room_for_tokens = omega (arith, c.in_ok-hands.ensures.tokens, c.len.ensures);
   };
 }
+
+pub returns-clause-start : goal.returns-clause-start
+returns-clause-start c =
+    refines_start c.args.plan.now c.args.site c.jobs.result _ c.resigns.result _ c.jobs.ensures.plan c.requires.site c.jobs.ensures.count c.in_ok-acts.ensures c.resigns.ensures.policy c.in_ok-places.ensures
+
+pub returns-clause-fresh : goal.returns-clause-fresh
+returns-clause-fresh c = record { is_plan = c.jobs.ensures.plan; is_site = c.requires.site; stands = returns-clause-start c }

@@ -1,10 +1,14 @@
-use Rattle.std.proofs.Common.{◌+◌, ◌++◌, ◌∷◌, [], length, ap, sym, subst, ◌∙◌}
+use Rattle.std.proofs.Common.{◌≡◌, ◌<◌, ◌≤◌, ◌+◌, ◌++◌, ◌∷◌, [], Some, true, length, ap, sym, subst, ◌∙◌, arith}
+use Rattle.std.proofs.lemmas.List.{length-map}
+use Rattle.std.specs.Prelude.{OnOk, vec_capacity, vec_len}
+use Rattle.dine_site_core.specs.NextEvent.{can_by_itself}
 use Rattle.dine_link.specs.Bells.{SeenBell}
 use Rattle.dine_site.specs.declared.site_loop.running.Running.{Running}
 use Rattle.dine_rules.specs.declared.events.EventKind.TheVariants as event
 use Rattle.dine_site.specs.declared.manner.Manner.{Manner}
-use Rattle.dine_site.specs.Running.{AreChecks, GoesOn, HasChecked, IsRunning, Proceeds}
-use Rattle.dine_site.proofs.one_site.Checks.{checks_as, checks_meal, same_degree, same_refused}
+use Rattle.dine_site.specs.Ports.{seen_port}
+use Rattle.dine_site.specs.Running.{AreChecks, GoesOn, HasChecked, IsNext, IsRunning, IsTimedRun, MayTakeNow, Proceeds}
+use Rattle.dine_site.proofs.one_site.Checks.{checks_as, checks_meal, may_take_before_meal, same_degree, same_refused}
 use Rattle.dine_site.proofs.one_site.Proceeding.{may_then, proceeds_heard, proceeds_same, proceeds_then}
 use Rattle.dine_site.proofs.site_loop.running.Running.begin.Goals as goal
 
@@ -64,3 +68,31 @@ returns-in-None-clause-checks g c first are =
     let journal = c.eat.ensures.journal ∙ ap (λ (run : Running _ _ _ _ _). run.journal.items ++ event.Begin ∷ event.End ∷ []) rest in
     subst (λ (m : Manner). AreChecks first m c.eat.new.self.bell.found_empty c.eat.new.self.clock.events c.eat.new.self.journal.items) (sym manner)
     (checks_meal first old.manner old.bell c.eat.new.self.bell old.clock.events c.eat.new.self.clock.events old.journal.items c.eat.new.self.journal.items (c.eat.ensures.bell ∙ c.in-None.ensures.bell) journal noted are)
+
+pub returns-in-Some-clause-timed : goal.returns-in-Some-clause-timed
+returns-in-Some-clause-timed g c =
+    subst (λ (run : Running _ _ _ _ _). OnOk c.take_where_rung.result (IsTimedRun g.L.Lane run → IsTimedRun g.L.Lane c.take_where_rung.new.self)) c.check_bell.ensures.rest c.take_where_rung.ensures.timed
+
+pub returns-in-None-clause-timed : goal.returns-in-None-clause-timed
+returns-in-None-clause-timed g c = subst (λ (run : Running _ _ _ _ _). IsTimedRun g.L.Lane run → IsTimedRun g.L.Lane c.eat.new.self) c.check_bell.ensures.rest c.eat.ensures.timed
+
+pub take_where_rung-requires-clause-place : goal.take_where_rung-requires-clause-place
+take_where_rung-requires-clause-place g c κs ls =
+    let old = c.args.self.now in
+    let ports = length-map old.ports.items (seen_port g.L.Lane) in
+    let within : c.in-Some.i < length old.core.places = omega (arith, c.in-Some.ensures.place, c.requires.ready.ready.bell, c.requires.ready.running.2.has.places, ports, old.ports.ok.0) in
+    subst (λ (run : Running _ _ _ _ _). c.in-Some.i < length run.core.places) (sym c.check_bell.ensures.rest) within
+
+pub take_where_rung-requires-clause-turn : goal.take_where_rung-requires-clause-turn
+take_where_rung-requires-clause-turn g c κs ls =
+    let old = c.args.self.now in
+    subst (λ (run : Running _ _ _ _ _). MayTakeNow run.manner run.core) (sym c.check_bell.ensures.rest) (may_take_before_meal old.manner old.core c.in-Some.ensures.polite c.requires.next)
+
+pub eat-requires-clause-may : goal.eat-requires-clause-may
+eat-requires-clause-may g c κs ls = subst (λ (run : Running _ _ _ _ _). can_by_itself run.core event.Begin ≡ true) (sym c.check_bell.ensures.rest) c.requires.may
+
+pub eat-requires-clause-next : goal.eat-requires-clause-next
+eat-requires-clause-next g c κs ls = subst (λ (run : Running _ _ _ _ _). IsNext (Some event.Begin) run.core) (sym c.check_bell.ensures.rest) c.requires.next
+
+pub eat-requires-clause-room : goal.eat-requires-clause-room
+eat-requires-clause-room g c κs ls = subst (λ (run : Running _ _ _ _ _). vec_len run.journal + 2 ≤ vec_capacity run.journal) (sym c.check_bell.ensures.rest) c.requires.room

@@ -1,4 +1,4 @@
-use Rattle.std.proofs.Common.{◌≡◌, true, ◌+◌, ◌<◌, ◌^◌, List, length, sym, subst, arith, refl, ap}
+use Rattle.std.proofs.Common.{◌≡◌, true, ◌+◌, ◌<◌, ◌^◌, List, length, sym, subst, arith, refl, ap, ◌∙◌, length-set}
 use Rattle.std.specs.List.{slice_get}
 use Rattle.dine_rules.specs.declared.letters.Letter.{Letter}
 use Rattle.dine_rules.specs.declared.letters.Letter.TheVariants as letter
@@ -6,11 +6,13 @@ use Rattle.std.proofs.lemmas.List.{length-map}
 use Rattle.dine_site.specs.Ports.{SeenPort, seen_port}
 use Rattle.dine_site.specs.Running.{SeenRun, ClosedBelow, IsStopped, seen_run}
 use Rattle.dine_site.proofs.lists.Seen.{there_is, if_there, of_there}
+use Rattle.dine_rules.specs.Local.{is_eating}
 use Rattle.dine_rules.specs.Steps.{Break}
 use Rattle.dine_site_core.specs.Core.{SeenCore}
 use Rattle.dine_site_core.specs.Standing.{CorePuts}
 use Rattle.dine_site.proofs.one_site.Stops.{break_live, break_room, break_sends}
-use Rattle.dine_site.proofs.one_site.Ends.{closed_more}
+use Rattle.dine_site.proofs.one_site.Ends.{closed_already, closed_more}
+use Rattle.dine_site.proofs.one_site.Same.{same_at_place, same_but_ports}
 use Rattle.dine_site.proofs.site_loop.running.Running.break_at.Goals as goal
 
 pub close_at-requires-clause-live : goal.close_at-requires-clause-live
@@ -48,18 +50,26 @@ close_at-requires-clause-place g c κs ls =
     omega (arith, c.requires.place, c.requires.stopped.2.2.has.places, ports, c.args.self.now.ports.ok.0)
 
 pub returns-clause-same : goal.returns-clause-same
-returns-clause-same g c =
-    let is = c.in-Some.ensures.core in
+returns-clause-same g c = same_at_place c.args.self.now c.break_off.new.self c.close_at.new.ports c.args.i _ c.args.self.now.journal c.args.self.now.clock c.in-Some.ensures.core c.close_at.ensures.count
+
+pub returns-clause-places : goal.returns-clause-places
+returns-clause-places g c = ap (λ (core : SeenCore). length core.places) c.in-Some.ensures.core ∙ length-set c.args.self.now.core.places c.args.i _
+
+-- ---- Close was put before
+
+pub break_off-requires-clause-not_eating : goal.break_off-requires-clause-not_eating
+break_off-requires-clause-not_eating g c =
+    let has = c.requires.stopped.2.2.has in
+    ap is_eating has.stands.phase ∙ has.rests
+
+pub returns-in_default : goal.returns-in_default
+returns-in_default g c =
+    let run : SeenRun g.L.Lane.Identity = seen_run g.L.Lane c.args.self.now in
+    let is = c.in_default.ensures.letter in
     record {
-      manner = refl;
-      site = ap (λ (core : SeenCore). core.site) is;
-      due = ap (λ (core : SeenCore). core.due) is;
-      ate = ap (λ (core : SeenCore). core.ate) is;
-      resigns = ap (λ (core : SeenCore). core.resigns) is;
-      must_quit = ap (λ (core : SeenCore). core.must_quit) is;
-      has_quit = ap (λ (core : SeenCore). core.has_quit) is;
-      diner = refl;
-      failed = refl;
-      bell = refl;
-      count = c.close_at.ensures.count;
+      way = λ stray cause plan given stopped. subst (λ (k : SeenCore). IsStopped stray cause plan given (record { manner = run.manner; core = k; ports = run.ports; bell = run.bell; journal = run.journal })) (sym is) stopped;
+      closed = subst (ClosedBelow (c.args.i + 1)) (sym is) (closed_already c.args.self.now.core c.args.i c.in_default.ensures.none c.requires.before);
+      places = ap (λ (core : SeenCore). length core.places) is;
+      same = same_but_ports c.args.self.now c.break_off.new.self c.args.self.now.ports c.args.self.now.journal is refl;
+      checks = λ first are. are;
     }

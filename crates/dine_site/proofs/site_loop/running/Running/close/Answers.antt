@@ -13,6 +13,7 @@ use Rattle.dine_site.proofs.one_site.Stops.{close_stops, unheard_stops}
 use Rattle.dine_site.specs.declared.site_loop.running.Stop.{Stop}
 use Rattle.dine_rules.specs.Local.{traffic_at}
 use Rattle.dine_site.proofs.one_site.Ways.{close_runs, putting_within, put_live, put_room}
+use Rattle.dine_site.proofs.one_site.Same.{same_but_ports}
 use Rattle.dine_site.proofs.site_loop.running.Running.close.Goals as goal
 
 pub close_at-requires-clause-live : goal.close_at-requires-clause-live
@@ -68,3 +69,12 @@ returns-in-Heard-clause-timed g c = λ timed.
     let late = subst (λ (z : ℕ). IsTimed (late_at c.args.i z) c.args.self.now.clock.events c.args.self.now.journal.items run.ports) (sym c.last-stamp.ensures) timed in
     subst (IsTimed none_late c.args.self.now.clock.events c.args.self.now.journal.items) (sym ports)
     (ends_put c.args.self.now.clock.events c.args.self.now.journal.items run.ports c.args.i c.last-stamp.result.at there.0 new late there.1 refl refl)
+
+pub returns-in-Heard-clause-same : goal.returns-in-Heard-clause-same
+returns-in-Heard-clause-same g c = same_but_ports c.args.self.now c.args.self.now.core c.close_at.new.ports c.args.self.now.journal refl c.close_at.ensures.count
+
+pub returns-in-Unheard-clause-same : goal.returns-in-Unheard-clause-same
+returns-in-Unheard-clause-same g c = same_but_ports c.args.self.now c.args.self.now.core c.close_at.new.ports c.args.self.now.journal refl c.close_at.ensures.count
+
+pub returns-in-Refused-clause-same : goal.returns-in-Refused-clause-same
+returns-in-Refused-clause-same g c = same_but_ports c.args.self.now c.args.self.now.core c.close_at.new.ports c.args.self.now.journal refl c.close_at.ensures.count

@@ -46,7 +46,7 @@ returns g c =
     let has_left : Bool = nat_lt begun_is.ate begun_is.due in
     record {
       proceeds = record {
-        way = λ plan given running. eat_runs plan given run c.journals_grow_by_each_event.ensures.event failed c.begin-meal.new.self c.end.new.self c.begin-meal.result.forks c.push_reserved.new.self.items c.push_reserved-2.new.self.items c.push_reserved.ensures.items c.push_reserved-2.ensures.items c.begin-meal.ensures.step c.begin-meal.ensures.in_hand c.end.ensures.step c.requires.next running;
+        way = λ plan given running. eat_runs plan given run c.journals_grow_by_each_event.ensures.event failed c.begin-meal.new.self c.end.new.self c.begin-meal.result.forks c.note.new.journal.items c.note-2.new.journal.items c.note.ensures.journal c.note-2.ensures.journal c.begin-meal.ensures.step c.begin-meal.ensures.in_hand c.end.ensures.step c.requires.next running;
         ready = search rules;
         eats = λ first eaten.
             eaten_more g.D.Diner.calls g.D.Diner.marks g.D.Diner.fits core.ate old.failed c.k.result c.end.new.self.ate _ first old.diner c.eat.new.self _ eaten
@@ -62,11 +62,11 @@ returns g c =
       };
       timed = λ timed.
           let ports = seen_ports g.L.Lane c.args.self.now.ports.items in
-          let first = alone c.args.self.now.clock.events c.args.self.now.journal.items ports event.Begin (last_moment c.args.self.now.clock.events + c.first.result.at + 1) (omega arith) timed c.push_reserved.new.self.items c.push_reserved.ensures.items c.after-self.result.events c.after-self.ensures refl in
-          alone c.after-self.result.events c.push_reserved.new.self.items ports event.End (last_moment c.after-self.result.events + c.first-2.result.at + 1) (omega arith) first c.push_reserved-2.new.self.items c.push_reserved-2.ensures.items c.after-self-2.result.events c.after-self-2.ensures refl;
+          let first = alone c.args.self.now.clock.events c.args.self.now.journal.items ports event.Begin (last_moment c.args.self.now.clock.events + 1) (omega arith) timed c.note.new.journal.items c.note.ensures.journal c.note.new.clock.events c.note.ensures.clock refl in
+          alone c.note.new.clock.events c.note.new.journal.items ports event.End (last_moment c.note.new.clock.events + 1) (omega arith) first c.note-2.new.journal.items c.note-2.ensures.journal c.note-2.new.clock.events c.note-2.ensures.clock refl;
       bell = refl;
-      journal = c.push_reserved-2.ensures.items ∙ ap (λ (kinds : List EventKind). kinds ++ event.End ∷ []) c.push_reserved.ensures.items ∙ append_assoc old.journal.items (event.Begin ∷ []) (event.End ∷ []);
-      noted = two_more old.clock.events c.after-self.result.events c.after-self-2.result.events _ _ c.after-self.ensures c.after-self-2.ensures;
+      journal = c.note-2.ensures.journal ∙ ap (λ (kinds : List EventKind). kinds ++ event.End ∷ []) c.note.ensures.journal ∙ append_assoc old.journal.items (event.Begin ∷ []) (event.End ∷ []);
+      noted = two_more old.clock.events c.note.new.clock.events c.note-2.new.clock.events _ _ c.note.ensures.clock c.note-2.ensures.clock;
     }
 
 pub eat-requires-clause-own : goal.eat-requires-clause-own
@@ -86,3 +86,12 @@ eat-requires-clause-whole g c =
     let meal = c.begin-meal.ensures.meal in
     let site = meal.site ∙ ap (λ (core : SeenCore). core.site) c.begin-meal.ensures.core in
     (plan, whole_meal plan _ c.begin-meal.new.self c.begin-meal.result began.stands began.keeps meal, subst (g.D.Diner.expects c.args.self.now.diner plan) (sym site) c.requires.ready.expects)
+
+pub note-requires-2 : goal.note-requires-2
+note-requires-2 g c =
+    let old = c.args.self.now.journal.items in
+    let longer = ap (λ (kinds : List EventKind). length kinds) c.note.ensures.journal in
+    omega (arith, c.requires.room, longer, length-append old (event.Begin ∷ []), c.note.ensures.capacity, c.note.new.journal.ok.0, c.args.self.now.journal.ok.0)
+
+pub note-requires : goal.note-requires
+note-requires g c = omega (arith, c.requires.room)

@@ -1,12 +1,12 @@
-use Rattle.std.proofs.Common.{◌≡◌, ◌+◌, ◌||◌, true, Some, None, Ok, refl, subst, sym, ap, arith}
-use Rattle.std.proofs.lemmas.Bool.{and_parts, or_left}
+use Rattle.std.proofs.Common.{◌≡◌, ◌<◌, ◌+◌, ◌||◌, ◌&&◌, ◌∙◌, ℕ, Bool, length, true, Some, None, Ok, refl, subst, sym, ap, arith}
+use Rattle.std.proofs.lemmas.Bool.{and_parts, ltb-true, or_left}
 use Rattle.std.specs.Prelude.{nat_lt}
 use Rattle.dine_site_core.specs.Core.{SeenCore}
 use Rattle.dine_site_core.specs.NextEvent.{can_by_itself}
 use Rattle.dine_site_core.specs.declared.site.places.ForkSlot.TheVariants.{Away}
 use Rattle.dine_rules.specs.declared.phase.Phase.TheVariants as phase
 use Rattle.dine_site.specs.declared.site_loop.running.Running.{Running}
-use Rattle.dine_site_core.specs.Places.{can_quit, place_at}
+use Rattle.dine_site_core.specs.Places.{can_ask, can_close, can_give, can_quit, can_say_done, place_at}
 use Rattle.dine_rules.specs.Local.{is_thinking}
 use Rattle.dine_rules.specs.declared.events.EventKind.{EventKind}
 use Rattle.dine_rules.specs.declared.events.EventKind.TheVariants as event
@@ -27,55 +27,61 @@ use Rattle.dine_site.proofs.one_site.Ways.{hungry_runs, quit_runs}
 use Rattle.dine_site.proofs.one_site.Obeying.{obeying_as}
 use Rattle.dine_site.proofs.site_loop.running.Running.perform.Goals as goal
 
+-- what the core needs at a place
+needs_at : (core : SeenCore) (i : ℕ) (needs : Bool) (kind : EventKind) → can_by_itself core kind ≡ (nat_lt i (length core.places) && needs) → can_by_itself core kind ≡ true → (i < length core.places) × (needs ≡ true)
+needs_at core i needs kind is may =
+    let parts = and_parts (nat_lt i (length core.places)) needs (sym is ∙ may) in
+    (ltb-true i (length core.places) parts.0, parts.1)
+
 pub put-requires-clause-putting : goal.put-requires-clause-putting
 put-requires-clause-putting g c κs ls =
     let p = c.requires.ready.running in
     let run : SeenRun g.L.Lane.Identity = seen_run g.L.Lane c.args.self.now in
-    (p.0, p.1, putting p.0 p.1 c.in-Give.i (Give c.in-Give.i) c.give-letter.result (opens-give c.in-Give.i) c.journals_grow_by_each_event.ensures.event (event.Give c.in-Give.i) refl refl run c.give-letter.new.self c.push_reserved.new.self.items c.push_reserved.ensures.items c.give-letter.ensures.step (subst (λ (kind : EventKind). IsNext (Some kind) c.args.self.now.core) c.in-Give.is c.requires.next) p.2)
+    (p.0, p.1, putting p.0 p.1 c.in-Give.i (Give c.in-Give.i) c.give-letter.result (opens-give c.in-Give.i) c.journals_grow_by_each_event.ensures.event (event.Give c.in-Give.i) refl refl run c.give-letter.new.self c.note.new.journal.items c.note.ensures.journal c.give-letter.ensures.step (subst (λ (kind : EventKind). IsNext (Some kind) c.args.self.now.core) c.in-Give.is c.requires.next) p.2)
 
 pub returns-in-Give : goal.returns-in-Give
 returns-in-Give g c =
     let run : SeenRun g.L.Lane.Identity = seen_run g.L.Lane c.args.self.now in
     let core = c.args.self.now.core in
-    let same = same_but_place c.args.self.now c.put.new.self c.in-Give.i (record (place_at core c.in-Give.i) { fork = Away }) c.give-letter.new.self c.push_reserved.new.self c.after-self.result c.give-letter.ensures.core c.put.ensures.same in
+    let same = same_but_place c.args.self.now c.put.new.self c.in-Give.i (record (place_at core c.in-Give.i) { fork = Away }) c.give-letter.new.self c.note.new.journal c.note.new.clock c.give-letter.ensures.core c.put.ensures.same in
     record {
-      proceeds = proceeds_same g.L.Lane g.D.Diner (GoesOn c.put.result) c.args.self.now c.put.new.self same c.requires.ready.ready (λ plan given running. c.put.ensures.way plan given (putting plan given c.in-Give.i (Give c.in-Give.i) c.give-letter.result (opens-give c.in-Give.i) c.journals_grow_by_each_event.ensures.event (event.Give c.in-Give.i) refl refl run c.give-letter.new.self c.push_reserved.new.self.items c.push_reserved.ensures.items c.give-letter.ensures.step (subst (λ (kind : EventKind). IsNext (Some kind) c.args.self.now.core) c.in-Give.is c.requires.next) running));
-      timed = on_ok c.put.result (λ goes timed. goes (begins_put c.args.self.now.clock.events c.args.self.now.journal.items (seen_ports g.L.Lane c.args.self.now.ports.items) (event.Give c.in-Give.i) (last_moment c.args.self.now.clock.events + c.first.result.at + 1) (omega arith) timed c.push_reserved.new.self.items c.push_reserved.ensures.items c.after-self.result.events c.after-self.ensures c.in-Give.i refl)) c.put.ensures.timed;
-      checks = λ first are. c.put.ensures.checks first (checks_more first c.args.self.now.manner c.args.self.now.bell.found_empty c.args.self.now.clock.events c.args.self.now.journal.items (event.Give c.in-Give.i) (last_moment c.args.self.now.clock.events + c.first.result.at + 1) refl c.after-self.result.events c.after-self.ensures c.push_reserved.new.self.items c.push_reserved.ensures.items are);
+      proceeds = proceeds_same g.L.Lane g.D.Diner (GoesOn c.put.result) c.args.self.now c.put.new.self same c.requires.ready.ready (λ plan given running. c.put.ensures.way plan given (putting plan given c.in-Give.i (Give c.in-Give.i) c.give-letter.result (opens-give c.in-Give.i) c.journals_grow_by_each_event.ensures.event (event.Give c.in-Give.i) refl refl run c.give-letter.new.self c.note.new.journal.items c.note.ensures.journal c.give-letter.ensures.step (subst (λ (kind : EventKind). IsNext (Some kind) c.args.self.now.core) c.in-Give.is c.requires.next) running));
+      timed = on_ok c.put.result (λ goes timed. goes (begins_put c.args.self.now.clock.events c.args.self.now.journal.items (seen_ports g.L.Lane c.args.self.now.ports.items) (event.Give c.in-Give.i) (last_moment c.args.self.now.clock.events + 1) (omega arith) timed c.note.new.journal.items c.note.ensures.journal c.note.new.clock.events c.note.ensures.clock c.in-Give.i refl)) c.put.ensures.timed;
+      checks = λ first are. c.put.ensures.checks first (checks_more first c.args.self.now.manner c.args.self.now.bell.found_empty c.args.self.now.clock.events c.args.self.now.journal.items (event.Give c.in-Give.i) (last_moment c.args.self.now.clock.events + 1) refl c.note.new.clock.events c.note.ensures.clock c.note.new.journal.items c.note.ensures.journal are);
     }
 
 pub put-requires-in-Ask-clause-putting : goal.put-requires-in-Ask-clause-putting
 put-requires-in-Ask-clause-putting g c κs ls =
     let p = c.requires.ready.running in
     let run : SeenRun g.L.Lane.Identity = seen_run g.L.Lane c.args.self.now in
-    (p.0, p.1, putting p.0 p.1 c.in-Ask.i (Ask c.in-Ask.i) c.ask-letter.result (opens-ask c.in-Ask.i) c.journals_grow_by_each_event.ensures.event (event.Ask c.in-Ask.i) refl refl run c.ask-letter.new.self c.push_reserved-in-Ask.new.self.items c.push_reserved-in-Ask.ensures.items c.ask-letter.ensures.step (subst (λ (kind : EventKind). IsNext (Some kind) c.args.self.now.core) c.in-Ask.is c.requires.next) p.2)
+    (p.0, p.1, putting p.0 p.1 c.in-Ask.i (Ask c.in-Ask.i) c.ask-letter.result (opens-ask c.in-Ask.i) c.journals_grow_by_each_event.ensures.event (event.Ask c.in-Ask.i) refl refl run c.ask-letter.new.self c.note-in-Ask.new.journal.items c.note-in-Ask.ensures.journal c.ask-letter.ensures.step (subst (λ (kind : EventKind). IsNext (Some kind) c.args.self.now.core) c.in-Ask.is c.requires.next) p.2)
 
 pub returns-in-Ask : goal.returns-in-Ask
 returns-in-Ask g c =
     let run : SeenRun g.L.Lane.Identity = seen_run g.L.Lane c.args.self.now in
     let core = c.args.self.now.core in
-    let same = same_but_place c.args.self.now c.put-in-Ask.new.self c.in-Ask.i (record (place_at core c.in-Ask.i) { token = None }) c.ask-letter.new.self c.push_reserved-in-Ask.new.self c.after-self-in-Ask.result c.ask-letter.ensures.core c.put-in-Ask.ensures.same in
+    let same = same_but_place c.args.self.now c.put-in-Ask.new.self c.in-Ask.i (record (place_at core c.in-Ask.i) { token = None }) c.ask-letter.new.self c.note-in-Ask.new.journal c.note-in-Ask.new.clock c.ask-letter.ensures.core c.put-in-Ask.ensures.same in
     record {
-      proceeds = proceeds_same g.L.Lane g.D.Diner (GoesOn c.put-in-Ask.result) c.args.self.now c.put-in-Ask.new.self same c.requires.ready.ready (λ plan given running. c.put-in-Ask.ensures.way plan given (putting plan given c.in-Ask.i (Ask c.in-Ask.i) c.ask-letter.result (opens-ask c.in-Ask.i) c.journals_grow_by_each_event.ensures.event (event.Ask c.in-Ask.i) refl refl run c.ask-letter.new.self c.push_reserved-in-Ask.new.self.items c.push_reserved-in-Ask.ensures.items c.ask-letter.ensures.step (subst (λ (kind : EventKind). IsNext (Some kind) c.args.self.now.core) c.in-Ask.is c.requires.next) running));
-      timed = on_ok c.put-in-Ask.result (λ goes timed. goes (begins_put c.args.self.now.clock.events c.args.self.now.journal.items (seen_ports g.L.Lane c.args.self.now.ports.items) (event.Ask c.in-Ask.i) (last_moment c.args.self.now.clock.events + c.first-in-Ask.result.at + 1) (omega arith) timed c.push_reserved-in-Ask.new.self.items c.push_reserved-in-Ask.ensures.items c.after-self-in-Ask.result.events c.after-self-in-Ask.ensures c.in-Ask.i refl)) c.put-in-Ask.ensures.timed;
-      checks = λ first are. c.put-in-Ask.ensures.checks first (checks_more first c.args.self.now.manner c.args.self.now.bell.found_empty c.args.self.now.clock.events c.args.self.now.journal.items (event.Ask c.in-Ask.i) (last_moment c.args.self.now.clock.events + c.first-in-Ask.result.at + 1) refl c.after-self-in-Ask.result.events c.after-self-in-Ask.ensures c.push_reserved-in-Ask.new.self.items c.push_reserved-in-Ask.ensures.items are);
+      proceeds = proceeds_same g.L.Lane g.D.Diner (GoesOn c.put-in-Ask.result) c.args.self.now c.put-in-Ask.new.self same c.requires.ready.ready (λ plan given running. c.put-in-Ask.ensures.way plan given (putting plan given c.in-Ask.i (Ask c.in-Ask.i) c.ask-letter.result (opens-ask c.in-Ask.i) c.journals_grow_by_each_event.ensures.event (event.Ask c.in-Ask.i) refl refl run c.ask-letter.new.self c.note-in-Ask.new.journal.items c.note-in-Ask.ensures.journal c.ask-letter.ensures.step (subst (λ (kind : EventKind). IsNext (Some kind) c.args.self.now.core) c.in-Ask.is c.requires.next) running));
+      timed = on_ok c.put-in-Ask.result (λ goes timed. goes (begins_put c.args.self.now.clock.events c.args.self.now.journal.items (seen_ports g.L.Lane c.args.self.now.ports.items) (event.Ask c.in-Ask.i) (last_moment c.args.self.now.clock.events + 1) (omega arith) timed c.note-in-Ask.new.journal.items c.note-in-Ask.ensures.journal c.note-in-Ask.new.clock.events c.note-in-Ask.ensures.clock c.in-Ask.i refl)) c.put-in-Ask.ensures.timed;
+      checks = λ first are. c.put-in-Ask.ensures.checks first (checks_more first c.args.self.now.manner c.args.self.now.bell.found_empty c.args.self.now.clock.events c.args.self.now.journal.items (event.Ask c.in-Ask.i) (last_moment c.args.self.now.clock.events + 1) refl c.note-in-Ask.new.clock.events c.note-in-Ask.ensures.clock c.note-in-Ask.new.journal.items c.note-in-Ask.ensures.journal are);
     }
 
 pub put-requires-in-Done-clause-putting : goal.put-requires-in-Done-clause-putting
 put-requires-in-Done-clause-putting g c κs ls =
     let p = c.requires.ready.running in
     let run : SeenRun g.L.Lane.Identity = seen_run g.L.Lane c.args.self.now in
-    (p.0, p.1, putting p.0 p.1 c.in-Done.i (Done c.in-Done.i) c.done-letter.result (opens-done c.in-Done.i) c.journals_grow_by_each_event.ensures.event (event.Done c.in-Done.i) refl refl run c.done-letter.new.self c.push_reserved-in-Done.new.self.items c.push_reserved-in-Done.ensures.items c.done-letter.ensures.step (subst (λ (kind : EventKind). IsNext (Some kind) c.args.self.now.core) c.in-Done.is c.requires.next) p.2)
+    (p.0, p.1, putting p.0 p.1 c.in-Done.i (Done c.in-Done.i) c.done-letter.result (opens-done c.in-Done.i) c.journals_grow_by_each_event.ensures.event (event.Done c.in-Done.i) refl refl run c.done-letter.new.self c.note-in-Done.new.journal.items c.note-in-Done.ensures.journal c.done-letter.ensures.step (subst (λ (kind : EventKind). IsNext (Some kind) c.args.self.now.core) c.in-Done.is c.requires.next) p.2)
 
 pub returns-in-Done : goal.returns-in-Done
 returns-in-Done g c =
     let run : SeenRun g.L.Lane.Identity = seen_run g.L.Lane c.args.self.now in
     let core = c.args.self.now.core in
-    let same = same_but_place c.args.self.now c.put-in-Done.new.self c.in-Done.i (record (place_at core c.in-Done.i) { done_put = true }) c.done-letter.new.self c.push_reserved-in-Done.new.self c.after-self-in-Done.result c.done-letter.ensures.core c.put-in-Done.ensures.same in
+    let same = same_but_place c.args.self.now c.put-in-Done.new.self c.in-Done.i (record (place_at core c.in-Done.i) { done_put = true }) c.done-letter.new.self c.note-in-Done.new.journal c.note-in-Done.new.clock c.done-letter.ensures.core c.put-in-Done.ensures.same in
     record {
-      proceeds = proceeds_same g.L.Lane g.D.Diner (GoesOn c.put-in-Done.result) c.args.self.now c.put-in-Done.new.self same c.requires.ready.ready (λ plan given running. c.put-in-Done.ensures.way plan given (putting plan given c.in-Done.i (Done c.in-Done.i) c.done-letter.result (opens-done c.in-Done.i) c.journals_grow_by_each_event.ensures.event (event.Done c.in-Done.i) refl refl run c.done-letter.new.self c.push_reserved-in-Done.new.self.items c.push_reserved-in-Done.ensures.items c.done-letter.ensures.step (subst (λ (kind : EventKind). IsNext (Some kind) c.args.self.now.core) c.in-Done.is c.requires.next) running));
-      timed = on_ok c.put-in-Done.result (λ goes timed. goes (begins_put c.args.self.now.clock.events c.args.self.now.journal.items (seen_ports g.L.Lane c.args.self.now.ports.items) (event.Done c.in-Done.i) (last_moment c.args.self.now.clock.events + c.first-in-Done.result.at + 1) (omega arith) timed c.push_reserved-in-Done.new.self.items c.push_reserved-in-Done.ensures.items c.after-self-in-Done.result.events c.after-self-in-Done.ensures c.in-Done.i refl)) c.put-in-Done.ensures.timed;
-      checks = λ first are. c.put-in-Done.ensures.checks first (checks_more first c.args.self.now.manner c.args.self.now.bell.found_empty c.args.self.now.clock.events c.args.self.now.journal.items (event.Done c.in-Done.i) (last_moment c.args.self.now.clock.events + c.first-in-Done.result.at + 1) refl c.after-self-in-Done.result.events c.after-self-in-Done.ensures c.push_reserved-in-Done.new.self.items c.push_reserved-in-Done.ensures.items are);
+      proceeds = proceeds_same g.L.Lane g.D.Diner (GoesOn c.put-in-Done.result) c.args.self.now c.put-in-Done.new.self same c.requires.ready.ready (λ plan given running. c.put-in-Done.ensures.way plan given (putting plan given c.in-Done.i (Done c.in-Done.i) c.done-letter.result (opens-done c.in-Done.i) c.journals_grow_by_each_event.ensures.event (event.Done c.in-Done.i) refl refl run c.done-letter.new.self c.note-in-Done.new.journal.items c.note-in-Done.ensures.journal c.done-letter.ensures.step (subst (λ (kind : EventKind). IsNext (Some kind) c.args.self.now.core) c.in-Done.is c.requires.next) running));
+      timed = on_ok c.put-in-Done.result (λ goes timed. goes (begins_put c.args.self.now.clock.events c.args.self.now.journal.items (seen_ports g.L.Lane c.args.self.now.ports.items) (event.Done c.in-Done.i) (last_moment c.args.self.now.clock.events + 1) (omega arith) timed c.note-in-Done.new.journal.items c.note-in-Done.ensures.journal c.note-in-Done.new.clock.events c.note-in-Done.ensures.clock c.in-Done.i refl)) c.put-in-Done.ensures.timed;
+      checks = λ first are. c.put-in-Done.ensures.checks first (checks_more first c.args.self.now.manner c.args.self.now.bell.found_empty c.args.self.now.clock.events c.args.self.now.journal.items (event.Done c.in-Done.i) (last_moment c.args.self.now.clock.events + 1) refl c.note-in-Done.new.clock.events c.note-in-Done.ensures.clock c.note-in-Done.new.journal.items c.note-in-Done.ensures.journal are);
     }
 
 pub close-requires-in-Close-clause-putting : goal.close-requires-in-Close-clause-putting
@@ -83,29 +89,29 @@ close-requires-in-Close-clause-putting g c κs ls =
     let p = c.requires.ready.running in
     let run : SeenRun g.L.Lane.Identity = seen_run g.L.Lane c.args.self.now in
     let puts : CorePuts c.in-Close.i (Close c.in-Close.i) c.args.self.now.core c.close.new.self letter.Close = subst (λ (l : Letter). CorePuts c.in-Close.i (Close c.in-Close.i) c.args.self.now.core c.close.new.self l) c.close.ensures.letter c.close.ensures.step in
-    (p.0, p.1, putting p.0 p.1 c.in-Close.i (Close c.in-Close.i) letter.Close (opens-close c.in-Close.i) c.journals_grow_by_each_event.ensures.event (event.Close c.in-Close.i) refl refl run c.close.new.self c.push_reserved-in-Close.new.self.items c.push_reserved-in-Close.ensures.items puts (subst (λ (kind : EventKind). IsNext (Some kind) c.args.self.now.core) c.in-Close.is c.requires.next) p.2)
+    (p.0, p.1, putting p.0 p.1 c.in-Close.i (Close c.in-Close.i) letter.Close (opens-close c.in-Close.i) c.journals_grow_by_each_event.ensures.event (event.Close c.in-Close.i) refl refl run c.close.new.self c.note-in-Close.new.journal.items c.note-in-Close.ensures.journal puts (subst (λ (kind : EventKind). IsNext (Some kind) c.args.self.now.core) c.in-Close.is c.requires.next) p.2)
 
 pub returns-in-Close : goal.returns-in-Close
 returns-in-Close g c =
     let run : SeenRun g.L.Lane.Identity = seen_run g.L.Lane c.args.self.now in
     let puts : CorePuts c.in-Close.i (Close c.in-Close.i) c.args.self.now.core c.close.new.self letter.Close = subst (λ (l : Letter). CorePuts c.in-Close.i (Close c.in-Close.i) c.args.self.now.core c.close.new.self l) c.close.ensures.letter c.close.ensures.step in
     let core = c.args.self.now.core in
-    let same = same_but_place c.args.self.now c.close-in-Close.new.self c.in-Close.i (record (place_at core c.in-Close.i) { close_put = true }) c.close.new.self c.push_reserved-in-Close.new.self c.after-self-in-Close.result c.close.ensures.core c.close-in-Close.ensures.same in
+    let same = same_but_place c.args.self.now c.close-in-Close.new.self c.in-Close.i (record (place_at core c.in-Close.i) { close_put = true }) c.close.new.self c.note-in-Close.new.journal c.note-in-Close.new.clock c.close.ensures.core c.close-in-Close.ensures.same in
     record {
-      proceeds = proceeds_same g.L.Lane g.D.Diner (GoesOn c.close-in-Close.result) c.args.self.now c.close-in-Close.new.self same c.requires.ready.ready (λ plan given running. c.close-in-Close.ensures.way plan given (putting plan given c.in-Close.i (Close c.in-Close.i) letter.Close (opens-close c.in-Close.i) c.journals_grow_by_each_event.ensures.event (event.Close c.in-Close.i) refl refl run c.close.new.self c.push_reserved-in-Close.new.self.items c.push_reserved-in-Close.ensures.items puts (subst (λ (kind : EventKind). IsNext (Some kind) c.args.self.now.core) c.in-Close.is c.requires.next) running));
-      timed = on_ok c.close-in-Close.result (λ goes timed. goes (begins_put c.args.self.now.clock.events c.args.self.now.journal.items (seen_ports g.L.Lane c.args.self.now.ports.items) (event.Close c.in-Close.i) (last_moment c.args.self.now.clock.events + c.first-in-Close.result.at + 1) (omega arith) timed c.push_reserved-in-Close.new.self.items c.push_reserved-in-Close.ensures.items c.after-self-in-Close.result.events c.after-self-in-Close.ensures c.in-Close.i refl)) c.close-in-Close.ensures.timed;
-      checks = λ first are. c.close-in-Close.ensures.checks first (checks_more first c.args.self.now.manner c.args.self.now.bell.found_empty c.args.self.now.clock.events c.args.self.now.journal.items (event.Close c.in-Close.i) (last_moment c.args.self.now.clock.events + c.first-in-Close.result.at + 1) refl c.after-self-in-Close.result.events c.after-self-in-Close.ensures c.push_reserved-in-Close.new.self.items c.push_reserved-in-Close.ensures.items are);
+      proceeds = proceeds_same g.L.Lane g.D.Diner (GoesOn c.close-in-Close.result) c.args.self.now c.close-in-Close.new.self same c.requires.ready.ready (λ plan given running. c.close-in-Close.ensures.way plan given (putting plan given c.in-Close.i (Close c.in-Close.i) letter.Close (opens-close c.in-Close.i) c.journals_grow_by_each_event.ensures.event (event.Close c.in-Close.i) refl refl run c.close.new.self c.note-in-Close.new.journal.items c.note-in-Close.ensures.journal puts (subst (λ (kind : EventKind). IsNext (Some kind) c.args.self.now.core) c.in-Close.is c.requires.next) running));
+      timed = on_ok c.close-in-Close.result (λ goes timed. goes (begins_put c.args.self.now.clock.events c.args.self.now.journal.items (seen_ports g.L.Lane c.args.self.now.ports.items) (event.Close c.in-Close.i) (last_moment c.args.self.now.clock.events + 1) (omega arith) timed c.note-in-Close.new.journal.items c.note-in-Close.ensures.journal c.note-in-Close.new.clock.events c.note-in-Close.ensures.clock c.in-Close.i refl)) c.close-in-Close.ensures.timed;
+      checks = λ first are. c.close-in-Close.ensures.checks first (checks_more first c.args.self.now.manner c.args.self.now.bell.found_empty c.args.self.now.clock.events c.args.self.now.journal.items (event.Close c.in-Close.i) (last_moment c.args.self.now.clock.events + 1) refl c.note-in-Close.new.clock.events c.note-in-Close.ensures.clock c.note-in-Close.new.journal.items c.note-in-Close.ensures.journal are);
     }
 
 pub returns-in-Hungry : goal.returns-in-Hungry
 returns-in-Hungry g c =
     let run : SeenRun g.L.Lane.Identity = seen_run g.L.Lane c.args.self.now in
-    let new : Running _ _ _ _ _ = record c.args.self.now { core = c.hungry.new.self; journal = c.push_reserved-in-Hungry.new.self; clock = c.after-self-in-Hungry.result } in
-    let same = same_but_phase c.args.self.now phase.Hungry c.hungry.new.self c.push_reserved-in-Hungry.new.self c.after-self-in-Hungry.result c.hungry.ensures.hungry in
+    let new : Running _ _ _ _ _ = record c.args.self.now { core = c.hungry.new.self; journal = c.note-in-Hungry.new.journal; clock = c.note-in-Hungry.new.clock } in
+    let same = same_but_phase c.args.self.now phase.Hungry c.hungry.new.self c.note-in-Hungry.new.journal c.note-in-Hungry.new.clock c.hungry.ensures.hungry in
     record {
-      proceeds = proceeds_same g.L.Lane g.D.Diner (GoesOn (Ok tt)) c.args.self.now new same c.requires.ready.ready (λ plan given running. hungry_runs plan given run c.journals_grow_by_each_event.ensures.event c.hungry.new.self c.push_reserved-in-Hungry.new.self.items c.push_reserved-in-Hungry.ensures.items c.hungry.ensures.step (subst (λ (kind : EventKind). IsNext (Some kind) c.args.self.now.core) c.in-Hungry.is c.requires.next) running);
-      timed = λ timed. alone c.args.self.now.clock.events c.args.self.now.journal.items (seen_ports g.L.Lane c.args.self.now.ports.items) event.Hungry (last_moment c.args.self.now.clock.events + c.first-in-Hungry.result.at + 1) (omega arith) timed c.push_reserved-in-Hungry.new.self.items c.push_reserved-in-Hungry.ensures.items c.after-self-in-Hungry.result.events c.after-self-in-Hungry.ensures refl;
-      checks = λ first are. checks_more first c.args.self.now.manner c.args.self.now.bell.found_empty c.args.self.now.clock.events c.args.self.now.journal.items event.Hungry (last_moment c.args.self.now.clock.events + c.first-in-Hungry.result.at + 1) refl c.after-self-in-Hungry.result.events c.after-self-in-Hungry.ensures c.push_reserved-in-Hungry.new.self.items c.push_reserved-in-Hungry.ensures.items are;
+      proceeds = proceeds_same g.L.Lane g.D.Diner (GoesOn (Ok tt)) c.args.self.now new same c.requires.ready.ready (λ plan given running. hungry_runs plan given run c.journals_grow_by_each_event.ensures.event c.hungry.new.self c.note-in-Hungry.new.journal.items c.note-in-Hungry.ensures.journal c.hungry.ensures.step (subst (λ (kind : EventKind). IsNext (Some kind) c.args.self.now.core) c.in-Hungry.is c.requires.next) running);
+      timed = λ timed. alone c.args.self.now.clock.events c.args.self.now.journal.items (seen_ports g.L.Lane c.args.self.now.ports.items) event.Hungry (last_moment c.args.self.now.clock.events + 1) (omega arith) timed c.note-in-Hungry.new.journal.items c.note-in-Hungry.ensures.journal c.note-in-Hungry.new.clock.events c.note-in-Hungry.ensures.clock refl;
+      checks = λ first are. checks_more first c.args.self.now.manner c.args.self.now.bell.found_empty c.args.self.now.clock.events c.args.self.now.journal.items event.Hungry (last_moment c.args.self.now.clock.events + 1) refl c.note-in-Hungry.new.clock.events c.note-in-Hungry.ensures.clock c.note-in-Hungry.new.journal.items c.note-in-Hungry.ensures.journal are;
     }
 
 pub returns-in-Quit : goal.returns-in-Quit
@@ -120,7 +126,7 @@ returns-in-Quit g c =
     let can : can_quit core ≡ true = subst (λ (kind : EventKind). can_by_itself core kind ≡ true) c.in-Quit.is c.requires.may in
     record {
       proceeds = record {
-        way = λ plan given running. quit_runs plan given run c.journals_grow_by_each_event.ensures.event c.quit.new.self c.push_reserved-in-Quit.new.self.items c.push_reserved-in-Quit.ensures.items c.quit.ensures.step (subst (λ (kind : EventKind). IsNext (Some kind) core) c.in-Quit.is c.requires.next) running;
+        way = λ plan given running. quit_runs plan given run c.journals_grow_by_each_event.ensures.event c.quit.new.self c.note-in-Quit.new.journal.items c.note-in-Quit.ensures.journal c.quit.ensures.step (subst (λ (kind : EventKind). IsNext (Some kind) core) c.in-Quit.is c.requires.next) running;
         ready = record { bell = ready.bell; room = omega (arith, ready.room, ate, ap (λ (core : SeenCore). core.due) is); failed = omega (arith, ready.failed, ate) };
         eats = λ first eaten. eaten_same g.D.Diner.calls g.D.Diner.marks g.D.Diner.fits core.ate old.failed c.quit.new.self.ate old.failed first old.diner old.diner eaten ate refl refl;
         obeys = λ first obeying.
@@ -132,8 +138,8 @@ returns-in-Quit g c =
         site = ap (λ (core : SeenCore). core.site) is;
         expects = λ plan site is. is;
       };
-      timed = λ timed. alone c.args.self.now.clock.events c.args.self.now.journal.items (seen_ports g.L.Lane c.args.self.now.ports.items) event.Quit (last_moment c.args.self.now.clock.events + c.first-in-Quit.result.at + 1) (omega arith) timed c.push_reserved-in-Quit.new.self.items c.push_reserved-in-Quit.ensures.items c.after-self-in-Quit.result.events c.after-self-in-Quit.ensures refl;
-      checks = λ first are. checks_more first c.args.self.now.manner c.args.self.now.bell.found_empty c.args.self.now.clock.events c.args.self.now.journal.items event.Quit (last_moment c.args.self.now.clock.events + c.first-in-Quit.result.at + 1) refl c.after-self-in-Quit.result.events c.after-self-in-Quit.ensures c.push_reserved-in-Quit.new.self.items c.push_reserved-in-Quit.ensures.items are;
+      timed = λ timed. alone c.args.self.now.clock.events c.args.self.now.journal.items (seen_ports g.L.Lane c.args.self.now.ports.items) event.Quit (last_moment c.args.self.now.clock.events + 1) (omega arith) timed c.note-in-Quit.new.journal.items c.note-in-Quit.ensures.journal c.note-in-Quit.new.clock.events c.note-in-Quit.ensures.clock refl;
+      checks = λ first are. checks_more first c.args.self.now.manner c.args.self.now.bell.found_empty c.args.self.now.clock.events c.args.self.now.journal.items event.Quit (last_moment c.args.self.now.clock.events + 1) refl c.note-in-Quit.new.clock.events c.note-in-Quit.ensures.clock c.note-in-Quit.new.journal.items c.note-in-Quit.ensures.journal are;
     }
 
 pub returns-in-Begin : goal.returns-in-Begin
@@ -144,3 +150,27 @@ begin-requires-clause-ready g c κs ls = c.requires.ready
 
 pub begin-requires-clause-next : goal.begin-requires-clause-next
 begin-requires-clause-next g c κs ls = subst (λ (kind : EventKind). IsNext (Some kind) c.args.self.now.core) c.in-Begin.is c.requires.next
+
+pub give-letter-requires-clause-place : goal.give-letter-requires-clause-place
+give-letter-requires-clause-place g c = (needs_at c.args.self.now.core c.in-Give.i (can_give c.args.self.now.core c.in-Give.i) (event.Give c.in-Give.i) refl (subst (λ (kind : EventKind). can_by_itself c.args.self.now.core kind ≡ true) c.in-Give.is c.requires.may)).0
+
+pub give-letter-requires-clause-may : goal.give-letter-requires-clause-may
+give-letter-requires-clause-may g c = (needs_at c.args.self.now.core c.in-Give.i (can_give c.args.self.now.core c.in-Give.i) (event.Give c.in-Give.i) refl (subst (λ (kind : EventKind). can_by_itself c.args.self.now.core kind ≡ true) c.in-Give.is c.requires.may)).1
+
+pub ask-letter-requires-clause-place : goal.ask-letter-requires-clause-place
+ask-letter-requires-clause-place g c = (needs_at c.args.self.now.core c.in-Ask.i (can_ask c.args.self.now.core c.in-Ask.i) (event.Ask c.in-Ask.i) refl (subst (λ (kind : EventKind). can_by_itself c.args.self.now.core kind ≡ true) c.in-Ask.is c.requires.may)).0
+
+pub ask-letter-requires-clause-may : goal.ask-letter-requires-clause-may
+ask-letter-requires-clause-may g c = (needs_at c.args.self.now.core c.in-Ask.i (can_ask c.args.self.now.core c.in-Ask.i) (event.Ask c.in-Ask.i) refl (subst (λ (kind : EventKind). can_by_itself c.args.self.now.core kind ≡ true) c.in-Ask.is c.requires.may)).1
+
+pub done-letter-requires-clause-place : goal.done-letter-requires-clause-place
+done-letter-requires-clause-place g c = (needs_at c.args.self.now.core c.in-Done.i (can_say_done c.args.self.now.core c.in-Done.i) (event.Done c.in-Done.i) refl (subst (λ (kind : EventKind). can_by_itself c.args.self.now.core kind ≡ true) c.in-Done.is c.requires.may)).0
+
+pub done-letter-requires-clause-may : goal.done-letter-requires-clause-may
+done-letter-requires-clause-may g c = (needs_at c.args.self.now.core c.in-Done.i (can_say_done c.args.self.now.core c.in-Done.i) (event.Done c.in-Done.i) refl (subst (λ (kind : EventKind). can_by_itself c.args.self.now.core kind ≡ true) c.in-Done.is c.requires.may)).1
+
+pub close-requires-clause-place : goal.close-requires-clause-place
+close-requires-clause-place g c = (needs_at c.args.self.now.core c.in-Close.i (can_close c.args.self.now.core c.in-Close.i) (event.Close c.in-Close.i) refl (subst (λ (kind : EventKind). can_by_itself c.args.self.now.core kind ≡ true) c.in-Close.is c.requires.may)).0
+
+pub close-requires-clause-may : goal.close-requires-clause-may
+close-requires-clause-may g c = (needs_at c.args.self.now.core c.in-Close.i (can_close c.args.self.now.core c.in-Close.i) (event.Close c.in-Close.i) refl (subst (λ (kind : EventKind). can_by_itself c.args.self.now.core kind ≡ true) c.in-Close.is c.requires.may)).1

@@ -12,6 +12,7 @@ use Rattle.dine_site.proofs.one_site.Stops.{put_stops, unheard_stops}
 use Rattle.dine_site.specs.declared.site_loop.running.Stop.{Stop}
 use Rattle.dine_rules.specs.Local.{traffic_at}
 use Rattle.dine_site.proofs.one_site.Ways.{put_runs, putting_within, put_live, put_room}
+use Rattle.dine_site.proofs.one_site.Same.{same_but_ports}
 use Rattle.dine_site.proofs.site_loop.running.Running.put.Goals as goal
 
 pub put-requires-clause-live : goal.put-requires-clause-live
@@ -87,3 +88,18 @@ returns-in-Heard-clause-timed g c = λ timed.
     let late = subst (λ (z : ℕ). IsTimed (late_at c.args.i z) c.args.self.now.clock.events c.args.self.now.journal.items run.ports) (sym c.last-stamp.ensures) timed in
     subst (IsTimed none_late c.args.self.now.clock.events c.args.self.now.journal.items) (sym ports)
     (ends_put c.args.self.now.clock.events c.args.self.now.journal.items run.ports c.args.i c.last-stamp.result.at old new late at refl refl)
+
+pub index_mut-requires : goal.index_mut-requires
+index_mut-requires g c =
+    let p = c.requires.putting in
+    let within = putting_within p.0 p.1 (seen_run g.L.Lane c.args.self.now) c.args.i c.args.letter p.2 in
+    omega (arith, within, length-map c.args.self.now.ports.items (seen_port g.L.Lane), c.args.self.now.ports.ok.0)
+
+pub returns-in-Heard-clause-same : goal.returns-in-Heard-clause-same
+returns-in-Heard-clause-same g c = same_but_ports c.args.self.now c.args.self.now.core _ c.args.self.now.journal refl refl
+
+pub returns-in-Unheard-clause-same : goal.returns-in-Unheard-clause-same
+returns-in-Unheard-clause-same g c = same_but_ports c.args.self.now c.args.self.now.core _ c.args.self.now.journal refl refl
+
+pub returns-in-Refused-clause-same : goal.returns-in-Refused-clause-same
+returns-in-Refused-clause-same g c = same_but_ports c.args.self.now c.args.self.now.core _ c.args.self.now.journal refl refl

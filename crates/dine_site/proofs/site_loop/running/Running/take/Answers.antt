@@ -1,4 +1,30 @@
+use Rattle.std.proofs.Common.{◌≡◌, Result, Err, sym, subst, rules}
+use Rattle.std.specs.Prelude.{OnOk}
+use Rattle.dine_site.specs.declared.site_loop.running.Stop.{Stop}
+use Rattle.dine_site.specs.Running.{GoesOn, IsRunning, IsTimedRun, Leads}
+use Rattle.dine_site.proofs.one_site.Times.{on_ok}
+use Rattle.dine_site.proofs.one_site.Same.{same_then}
 use Rattle.dine_site.proofs.site_loop.running.Running.take.Goals as goal
 
 pub returns-clause-way : goal.returns-clause-way
 returns-clause-way g c plan given running = c.take_noted.ensures.way plan given (c.in_ok-make_room.ensures.way plan given running)
+
+pub returns-clause-same : goal.returns-clause-same
+returns-clause-same g c = same_then c.make_room.ensures.same c.take_noted.ensures.same
+
+pub returns-clause-timed : goal.returns-clause-timed
+returns-clause-timed g c = on_ok c.take_noted.result (λ goes timed. goes (c.make_room.ensures.timed timed)) c.take_noted.ensures.timed
+
+pub returns-clause-checks : goal.returns-clause-checks
+returns-clause-checks g c first are = c.take_noted.ensures.checks first (c.make_room.ensures.checks first are)
+
+pub returns-in_err-make_room : goal.returns-in_err-make_room
+returns-in_err-make_room g c =
+    let stop = c.in_err-make_room.field-0.0 in
+    let is : c.from_residual.result ≡ Err stop = search rules in
+    record {
+      way = subst (λ (result : Result (Unit {0}) Stop). Leads g.L.Lane IsRunning (GoesOn result) c.args.self.now c.make_room.new.self) (sym is) c.in_err-make_room.ensures.way;
+      same = c.make_room.ensures.same;
+      timed = subst (λ (result : Result (Unit {0}) Stop). OnOk result (IsTimedRun g.L.Lane c.args.self.now → IsTimedRun g.L.Lane c.make_room.new.self)) (sym is) tt;
+      checks = c.make_room.ensures.checks;
+    }

@@ -15,7 +15,13 @@ use Rattle.dine_site_core.specs.Core.{SeenCore}
 use Rattle.dine_site.proofs.one_site.Checks.{checks_more}
 use Rattle.dine_site.proofs.one_site.Stops.{breach_stops, take_stops}
 use Rattle.dine_site.proofs.one_site.Ways.{take_runs, take_room}
+use Rattle.dine_site.proofs.one_site.Same.{same_at_place, same_but_ports}
 use Rattle.dine_site.proofs.site_loop.running.Running.take_noted.Goals as goal
+
+pub index_mut-requires : goal.index_mut-requires
+index_mut-requires g c =
+    let ports = length-map c.args.self.now.ports.items (seen_port g.L.Lane) in
+    omega (arith, c.requires.place, c.requires.running.2.has.places, ports, c.args.self.now.ports.ok.0)
 
 pub take-requires-clause-open : goal.take-requires-clause-open
 take-requires-clause-open g c κs ls =
@@ -90,3 +96,13 @@ returns-in-Ok-take-clause-checks g c first are =
     let old = c.args.self.now in
     checks_more first old.manner old.bell.found_empty old.clock.events old.journal.items (event.Take c.args.i) (last_moment old.clock.events + c.in-Ok.stamp.at + 1) refl
     c.after-self.result.events c.after-self.ensures c.push_reserved.new.self.items c.push_reserved.ensures.items are
+
+pub returns-in-Ok-take-clause-same : goal.returns-in-Ok-take-clause-same
+returns-in-Ok-take-clause-same g c =
+    same_at_place c.args.self.now c.take-in-Ok.new.self _ c.args.i _ c.push_reserved.new.self c.after-self.result c.in-Ok-take.ensures.core refl
+
+pub returns-in-Err-take-clause-same : goal.returns-in-Err-take-clause-same
+returns-in-Err-take-clause-same g c = same_but_ports c.args.self.now c.take-in-Ok.new.self _ c.args.self.now.journal c.in-Err-take.ensures.core.0 refl
+
+pub returns-in-Err-clause-same : goal.returns-in-Err-clause-same
+returns-in-Err-clause-same g c = same_but_ports c.args.self.now c.args.self.now.core _ c.args.self.now.journal refl refl
