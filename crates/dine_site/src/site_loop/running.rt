@@ -469,7 +469,7 @@ impl<L: Lane, D: Diner> Running<L, D> {
     }
 }
 
-// Notes an event that needs no letter: in the journal, which has capacity for it, and on the clock.
+// Notes an event that takes no letter: in the journal, which has capacity for it, and on the clock.
 fn note(journal: &mut Vec<EventKind>, clock: &mut Clock, kind: EventKind)
     requires room { vec_len journal.old < vec_capacity journal.old }
     ensures journal { journal.new.items ≡ journal.old.items ++ kind ∷ [] }
