@@ -5,3 +5,4 @@ pub mod Output
 pub mod PlanBytes
 pub mod Status
 pub mod Words
+pub mod private

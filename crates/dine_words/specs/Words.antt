@@ -2,10 +2,9 @@
 use Rattle.std.specs.Prelude.{◌≡◌, ◌⊎◌, ◌&&◌, ℕ, Bool, List, [], Option, Some, None, codes, if◌then◌else◌, is_some, option_map, true}
 use Rattle.std.specs.Option.{option_map_or}
 use Rattle.std.specs.Str.{bytes_eq}
-use Rattle.clap.specs.Words.{AddsSubcommand, App, Row, Rule, Text, app_of, fault_of, first_of, new_app, new_rule, subcommand_of, takes, with_rule, with_subcommand}
+use Rattle.clap.specs.Words.{App, Row, Rule, Text, fault_of, first_of, new_app, new_rule, subcommand_of, takes, with_rule, with_subcommand}
 use Rattle.clap.specs.declared.builder.action.ArgAction.TheVariants.{Set}
 use Rattle.clap.specs.Simple.{on_top}
-use Rattle.clap.specs.declared.builder.command.Command.{Command as ClapCommand}
 use Rattle.clap.specs.declared.error.kind.ErrorKind.{ErrorKind}
 use Rattle.clap.specs.declared.error.kind.ErrorKind.TheVariants.{OutOfMemory}
 use Rattle.dine_words.specs.Choices.{choices_of}
@@ -24,10 +23,6 @@ program_alone = on_top (λ s. record s {
   disable_help_flag = true;
   disable_help_subcommand = true;
 }) (new_app (codes "dine"))
-
--- a command that, added to a program, is a subcommand of this app there
-abbrev pub IsSubcommand : App → ClapCommand → Type 0
-IsSubcommand app command = (program more : ClapCommand) → AddsSubcommand program command more → app_of more ≡ with_subcommand (app_of program) app.top
 
 -- an option of this name, which takes a text
 abbrev pub option_rule : Text → Rule

@@ -1,10 +1,11 @@
 //! The arguments of the command line, read by `clap`.
 ghost use Rattle.std.specs.Prelude.{◌≡◌, IfOk, IfSome, IsErrOf, None, OnOk, Some, false, is_some, map, string_bytes};
 ghost use Rattle.clap.specs.Words.{app_of, found_of, kind_of, rows_of, rule_of, subcommand_rows_of};
-ghost use Rattle.dine_words.specs.Words.{AreRight, HasNoFault, IsCommandName, IsSubcommand, are_taken, asked_by};
+ghost use Rattle.dine_words.specs.Words.{AreRight, HasNoFault, IsCommandName, are_taken, asked_by};
 ghost use Rattle.dine_words.specs.Words.{asked_of, choices_in, command_found, command_in, dine_app, fault_of_kind};
 ghost use Rattle.dine_words.specs.Words.{links_in, links_of, option_rule, program_alone, replay_app, run_app, run_in};
 ghost use Rattle.dine_words.specs.Words.{table_in, table_of};
+ghost use Rattle.dine_words.specs.private.Subcommands.{IsSubcommand};
 ghost use Rattle.dine_words.specs.declared.words.WordsFault.TheVariants.{Memory};
 
 use crate::choices::choices_of;
