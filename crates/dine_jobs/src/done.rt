@@ -51,7 +51,7 @@ pub struct Done<T: Drop, J: Job<T>> {
     pub sites: Vec<SiteDone<J, J::Fault>>,
     /// The forks, by edge, each with its log.
     pub forks: Vec<Fork>,
-    /// How often a value was not free: 0, unless a job opened a value that it had open.
+    /// How often a value was not free. In all tests it was 0, except if a job opened a value that it had open.
     pub missed: u64,
 }
 

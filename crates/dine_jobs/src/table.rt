@@ -17,7 +17,7 @@ use std::sync::MutexGuard;
 pub enum OpenFault {
     /// The site has no such place, edge or neighbour.
     NoEdge,
-    /// The value is open: the job opened it before, and has it still.
+    /// The value is open already. In all tests the job itself had opened it.
     Open,
 }
 
@@ -122,7 +122,7 @@ impl<'a, T: Drop> Table<'a, T> {
     ///
     /// # Errors
     ///
-    /// `NoEdge` if the site has no such place. `Open` if the job has the value open.
+    /// `NoEdge` if the site has no such place. `Open` if the value is open already.
     pub fn open(&self, place: Place) -> Result<MutexGuard<'_, T>, OpenFault>
         ensures within { OnOk result (place.0 < length self.now.forks) }
         ensures outside { length self.now.forks ≤ place.0 → IsErrOf result OpenFault.NoEdge }
@@ -137,7 +137,7 @@ impl<'a, T: Drop> Table<'a, T> {
     ///
     /// # Errors
     ///
-    /// `NoEdge` if it is no edge of the site. `Open` if the job has the value open.
+    /// `NoEdge` if it is no edge of the site. `Open` if the value is open already.
     pub fn open_edge(&self, edge: EdgeId) -> Result<MutexGuard<'_, T>, OpenFault>
         ensures { OnOk result ((place : _) × (fork : SeenFork)
             × (slice_get self.now.forks place ≡ Some fork) × (fork.edge ≡ edge.0)) }
@@ -154,7 +154,7 @@ impl<'a, T: Drop> Table<'a, T> {
     ///
     /// # Errors
     ///
-    /// `NoEdge` if the site has no edge to that one. `Open` if the job has the value open.
+    /// `NoEdge` if the site has no edge to that one. `Open` if the value is open already.
     pub fn open_with(&self, neighbour: SiteId) -> Result<MutexGuard<'_, T>, OpenFault>
         ensures { OnOk result ((place : _) × (fork : SeenFork)
             × (slice_get self.now.forks place ≡ Some fork) × (neighbour.0 ≡ other_end fork self.now.site)) }

@@ -21,7 +21,7 @@ use std::alloc::{AllocError, Global};
 ///
 /// # Errors
 ///
-/// Fails if an allocation fails, and for no other cause.
+/// Fails if an allocation fails. No clause says that it fails for no other cause.
 pub fn order_of<D: Diner>(
     alloc: Global,
     plan: &Plan,
