@@ -23,8 +23,8 @@ module _ {J : Type 0} (noted : J → Option ℕ) where
   chain_notes first [] last ran = ap noted ran
   chain_notes first (call ∷ calls) last ran = one_more first call.k call.ok ran.0 last calls ran.1 (chain_notes ran.0 calls last ran.2)
 
-  -- So it is for each site. `IsDoneBy` says only that there is a chain; that is enough, since an equation of two options
-  -- of numbers has at most one proof.
+  -- So it is for each site. `IsDoneBy` says only that there is a chain. That is enough, since an equation of two
+  -- options of numbers has at most one proof.
   pub all_noted : {F : Type 0} (manner : _) (plan : SeenPlan) (given : List J) (left : List (SiteDone J F)) → AreDoneBy Notes manner plan given left → HaveNotedLast noted given left
   all_noted manner plan given left done s job site at left_at =
       let is = done.each s job site at left_at in
