@@ -2,6 +2,8 @@
 #![tactic(auto)]
 
 #[cfg(test)]
+mod after;
+#[cfg(test)]
 mod calls;
 #[cfg(test)]
 mod faults;
