@@ -1,8 +1,7 @@
 -- An event that puts a letter: the core has done it and the journal has it, and then the letter is put.
-use Rattle.std.proofs.Common.{◌≡◌, ◌+◌, ◌++◌, ◌∷◌, [], ℕ, List, Bool, false, None, Result, Some, refl, arith}
+use Rattle.std.proofs.Common.{◌≡◌, ◌+◌, ◌++◌, ◌∷◌, [], ℕ, false, None, Result, Some, arith}
 use Rattle.std.specs.Prelude.{OnOk}
 use Rattle.std.specs.Global.{Vec}
-use Rattle.dine_graph.specs.Plan.{SeenPlan}
 use Rattle.dine_rules.specs.Moments.{last_moment}
 use Rattle.dine_rules.specs.Steps.{Puts, Step, shape_of, step_by}
 use Rattle.dine_rules.specs.declared.clock.Clock.{Clock}
@@ -17,7 +16,7 @@ use Rattle.dine_site.specs.declared.diner.Diner as diners
 use Rattle.dine_site.specs.declared.site_loop.running.Running.{Running}
 use Rattle.dine_site.specs.declared.site_loop.running.Stop.{Stop}
 use Rattle.dine_site.specs.Doings.{event_of, is_begin, own_event}
-use Rattle.dine_site.specs.Ports.{SeenPort, seen_ports}
+use Rattle.dine_site.specs.Ports.{seen_ports}
 use Rattle.dine_site.specs.Running.{ChecksOn, ForSome, GoesOn, IsNext, IsPutting, IsRunning, IsTimedBut, IsTimedRun, Leads, MayProceed, Proceeds, SameMeals, seen_run}
 use Rattle.dine_site.proofs.one_site.AtPlaces.{Opens, putting}
 use Rattle.dine_site.proofs.one_site.Checks.{checks_more}
