@@ -1,4 +1,4 @@
-use Rattle.std.proofs.Common.{◌≡◌, ◌<◌, ◌+◌, ◌||◌, ◌&&◌, ◌∙◌, ℕ, Bool, length, true, Some, None, Ok, refl, subst, sym, ap, arith}
+use Rattle.std.proofs.Common.{◌≡◌, ◌<◌, ◌+◌, ◌||◌, ◌&&◌, ◌∙◌, ℕ, Bool, length, true, Some, None, Ok, refl, subst, sym, ap, arith, rules}
 use Rattle.std.proofs.lemmas.Bool.{and_parts, ltb-true, or_left}
 use Rattle.std.specs.Prelude.{nat_lt}
 use Rattle.dine_site_core.specs.Core.{SeenCore}
@@ -26,6 +26,7 @@ use Rattle.dine_site.proofs.one_site.Same.{same_but_phase}
 use Rattle.dine_site.proofs.one_site.Proceeding.{proceeds_same}
 use Rattle.dine_site.proofs.one_site.Ways.{hungry_runs, quit_runs}
 use Rattle.dine_site.proofs.one_site.Obeying.{obeying_as}
+use Rattle.dine_link.specs.Closing.{is_close}
 use Rattle.dine_site.proofs.site_loop.running.Running.perform.Goals as goal
 
 -- what the core needs at a place
@@ -163,3 +164,42 @@ close-requires-clause-place g c = (needs_at c.args.self.now.core c.in-Close.i (c
 
 pub close-requires-clause-may : goal.close-requires-clause-may
 close-requires-clause-may g c = (needs_at c.args.self.now.core c.in-Close.i (can_close c.args.self.now.core c.in-Close.i) (event.Close c.in-Close.i) refl (subst (λ (kind : EventKind). can_by_itself c.args.self.now.core kind ≡ true) c.in-Close.is c.requires.may)).1
+
+pub note-requires : goal.note-requires
+note-requires g c = record { room = c.requires.room }
+
+pub note-requires-in-Ask : goal.note-requires-in-Ask
+note-requires-in-Ask g c = record { room = c.requires.room }
+
+pub note-requires-in-Done : goal.note-requires-in-Done
+note-requires-in-Done g c = record { room = c.requires.room }
+
+pub note-requires-in-Close : goal.note-requires-in-Close
+note-requires-in-Close g c = record { room = c.requires.room }
+
+pub note-requires-in-Hungry : goal.note-requires-in-Hungry
+note-requires-in-Hungry g c = record { room = c.requires.room }
+
+pub note-requires-in-Quit : goal.note-requires-in-Quit
+note-requires-in-Quit g c = record { room = c.requires.room }
+
+pub begin-requires-clause-may : goal.begin-requires-clause-may
+begin-requires-clause-may g c κs ls = subst (λ (kind : EventKind). can_by_itself c.args.self.now.core kind ≡ true) c.in-Begin.is c.requires.may
+
+pub begin-requires-clause-room : goal.begin-requires-clause-room
+begin-requires-clause-room g c κs ls = c.requires.room_for_end c.in-Begin.is
+
+pub hungry-requires : goal.hungry-requires
+hungry-requires g c = subst (λ (kind : EventKind). can_by_itself c.args.self.now.core kind ≡ true) c.in-Hungry.is c.requires.may
+
+pub quit-requires : goal.quit-requires
+quit-requires g c = subst (λ (kind : EventKind). can_by_itself c.args.self.now.core kind ≡ true) c.in-Quit.is c.requires.may
+
+pub put-requires-clause-letter : goal.put-requires-clause-letter
+put-requires-clause-letter g c κs ls = search rules
+
+pub put-requires-in-Ask-clause-letter : goal.put-requires-in-Ask-clause-letter
+put-requires-in-Ask-clause-letter g c κs ls = ap is_close c.ask-letter.ensures.letter
+
+pub put-requires-in-Done-clause-letter : goal.put-requires-in-Done-clause-letter
+put-requires-in-Done-clause-letter g c κs ls = ap is_close c.done-letter.ensures.letter
