@@ -15,3 +15,4 @@ pub mod Stops
 pub mod Ends
 pub mod Leaving
 pub mod Times
+pub mod Saying

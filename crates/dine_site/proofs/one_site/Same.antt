@@ -82,22 +82,12 @@ module _ {Lane Tx Closed Rx Diner : Type 0} (old : Running Lane Diner Tx Closed 
     count = count;
   }
 
+module _ {Lane Tx Closed Rx Diner : Type 0} (old : Running Lane Diner Tx Closed Rx) (core : SeenCore) (ports : Vec (Port Lane Tx Closed Rx)) where
   -- where a place of the core was written too, the journal and the clock
   pub same_at_place : (i : ℕ) (place : Place) (journal : Vec EventKind) (clock : Clock) → core ≡ with_place i place old.core → vec_len ports ≡ vec_len old.ports
       → SameMeals old (record old { core = core; ports = ports; journal = journal; clock = clock })
-  same_at_place i place journal clock is count = record {
-    manner = refl;
-    site = ap (λ (x : SeenCore). x.site) is;
-    due = ap (λ (x : SeenCore). x.due) is;
-    ate = ap (λ (x : SeenCore). x.ate) is;
-    resigns = ap (λ (x : SeenCore). x.resigns) is;
-    must_quit = ap (λ (x : SeenCore). x.must_quit) is;
-    has_quit = ap (λ (x : SeenCore). x.has_quit) is;
-    diner = refl;
-    failed = refl;
-    bell = refl;
-    count = count;
-  }
+  same_at_place i place journal clock is count =
+      same_but_place old _ i place core journal clock is (same_but_ports (record old { core = core; journal = journal; clock = clock }) core ports journal refl count)
 
 -- where only the phase of the core was written, and the journal
 pub same_but_phase : {Lane Tx Closed Rx Diner : Type 0} (old : Running Lane Diner Tx Closed Rx) (phase : Phase) (core : SeenCore) (journal : Vec EventKind) (clock : Clock) → core ≡ record old.core { phase = phase } → SameMeals old (record old { core = core; journal = journal; clock = clock })

@@ -78,3 +78,18 @@ returns-in-Unheard-clause-same g c = same_but_ports c.args.self.now c.args.self.
 
 pub returns-in-Refused-clause-same : goal.returns-in-Refused-clause-same
 returns-in-Refused-clause-same g c = same_but_ports c.args.self.now c.args.self.now.core c.close_at.new.ports c.args.self.now.journal refl c.close_at.ensures.count
+
+pub returns-in-Heard-clause-checks : goal.returns-in-Heard-clause-checks
+returns-in-Heard-clause-checks g c first are = are
+
+pub returns-in-Unheard-clause-timed : goal.returns-in-Unheard-clause-timed
+returns-in-Unheard-clause-timed g c = tt
+
+pub returns-in-Unheard-clause-checks : goal.returns-in-Unheard-clause-checks
+returns-in-Unheard-clause-checks g c first are = are
+
+pub returns-in-Refused-clause-timed : goal.returns-in-Refused-clause-timed
+returns-in-Refused-clause-timed g c = tt
+
+pub returns-in-Refused-clause-checks : goal.returns-in-Refused-clause-checks
+returns-in-Refused-clause-checks g c first are = are

@@ -77,3 +77,9 @@ pub returns-in-Err-clause-checks : goal.returns-in-Err-clause-checks
 returns-in-Err-clause-checks g c first are =
     let old = c.args.self.now in
     checks_as first old.manner old.bell.found_empty c.wait_for.new.self.found_empty old.clock.events old.journal.items (ap (λ (b : SeenBell). b.found_empty) c.in-Err.ensures.reported) are
+
+pub returns-in-Ok-clause-timed : goal.returns-in-Ok-clause-timed
+returns-in-Ok-clause-timed g c = c.take_where_rung.ensures.timed
+
+pub returns-in-Err-clause-timed : goal.returns-in-Err-clause-timed
+returns-in-Err-clause-timed g c = tt

@@ -1,4 +1,4 @@
-use Rattle.std.proofs.Common.{◌≡◌, ◌<◌, ◌+◌, ◌||◌, ◌&&◌, ◌∙◌, ℕ, Bool, length, true, Some, None, Ok, refl, subst, sym, ap, arith}
+use Rattle.std.proofs.Common.{◌≡◌, ◌<◌, ◌+◌, ◌||◌, ◌&&◌, ◌∙◌, ℕ, Bool, length, true, Some, None, Ok, refl, subst, sym, ap, arith, rules}
 use Rattle.std.proofs.lemmas.Bool.{and_parts, ltb-true, or_left}
 use Rattle.std.specs.Prelude.{nat_lt}
 use Rattle.dine_site_core.specs.Core.{SeenCore}
@@ -16,15 +16,17 @@ use Rattle.dine_site.specs.Running.{SeenRun, GoesOn, IsObeying, IsNext, seen_run
 use Rattle.dine_site_core.specs.Standing.{CorePuts}
 use Rattle.dine_rules.specs.Steps.{Give, Ask, Done, Close}
 use Rattle.dine_site.proofs.one_site.Checks.{checks_more}
-use Rattle.dine_site.proofs.one_site.AtPlaces.{opens-give, opens-ask, opens-done, opens-close, putting}
+use Rattle.dine_site.proofs.one_site.AtPlaces.{opens-give, opens-ask, opens-done, opens-close}
+use Rattle.dine_site.proofs.one_site.Saying.{checks_said, is_said, proceeds_said, timed_said}
 use Rattle.dine_site.proofs.one_site.Meals.{eaten_same}
 use Rattle.dine_rules.specs.Moments.{last_moment}
 use Rattle.dine_site.specs.Ports.{seen_ports}
-use Rattle.dine_site.proofs.one_site.Times.{alone, begins_put, on_ok}
-use Rattle.dine_site.proofs.one_site.Same.{same_but_place, same_but_phase}
+use Rattle.dine_site.proofs.one_site.Times.{alone}
+use Rattle.dine_site.proofs.one_site.Same.{same_but_phase}
 use Rattle.dine_site.proofs.one_site.Proceeding.{proceeds_same}
 use Rattle.dine_site.proofs.one_site.Ways.{hungry_runs, quit_runs}
 use Rattle.dine_site.proofs.one_site.Obeying.{obeying_as}
+use Rattle.dine_link.specs.Closing.{is_close}
 use Rattle.dine_site.proofs.site_loop.running.Running.perform.Goals as goal
 
 -- what the core needs at a place
@@ -35,72 +37,60 @@ needs_at core i needs kind is may =
 
 pub put-requires-clause-putting : goal.put-requires-clause-putting
 put-requires-clause-putting g c κs ls =
-    let p = c.requires.ready.running in
-    let run : SeenRun g.L.Lane.Identity = seen_run g.L.Lane c.args.self.now in
-    (p.0, p.1, putting p.0 p.1 c.in-Give.i (Give c.in-Give.i) c.give-letter.result (opens-give c.in-Give.i) c.journals_grow_by_each_event.ensures.event (event.Give c.in-Give.i) refl refl run c.give-letter.new.self c.note.new.journal.items c.note.ensures.journal c.give-letter.ensures.step (subst (λ (kind : EventKind). IsNext (Some kind) c.args.self.now.core) c.in-Give.is c.requires.next) p.2)
+    let next = subst (λ (kind : EventKind). IsNext (Some kind) c.args.self.now.core) c.in-Give.is c.requires.next in
+    is_said g.L.Lane g.D.Diner c.journals_grow_by_each_event.ensures.event c.args.self.now c.in-Give.i (Give c.in-Give.i) (opens-give c.in-Give.i) (event.Give c.in-Give.i) refl refl c.give-letter.new.self c.give-letter.result c.give-letter.ensures.step next c.note.new.journal c.note.ensures.journal c.note.new.clock c.requires.ready.running
 
 pub returns-in-Give : goal.returns-in-Give
 returns-in-Give g c =
-    let run : SeenRun g.L.Lane.Identity = seen_run g.L.Lane c.args.self.now in
-    let core = c.args.self.now.core in
-    let same = same_but_place c.args.self.now c.put.new.self c.in-Give.i (record (place_at core c.in-Give.i) { fork = Away }) c.give-letter.new.self c.note.new.journal c.note.new.clock c.give-letter.ensures.core c.put.ensures.same in
+    let next = subst (λ (kind : EventKind). IsNext (Some kind) c.args.self.now.core) c.in-Give.is c.requires.next in
     record {
-      proceeds = proceeds_same g.L.Lane g.D.Diner (GoesOn c.put.result) c.args.self.now c.put.new.self same c.requires.ready.ready (λ plan given running. c.put.ensures.way plan given (putting plan given c.in-Give.i (Give c.in-Give.i) c.give-letter.result (opens-give c.in-Give.i) c.journals_grow_by_each_event.ensures.event (event.Give c.in-Give.i) refl refl run c.give-letter.new.self c.note.new.journal.items c.note.ensures.journal c.give-letter.ensures.step (subst (λ (kind : EventKind). IsNext (Some kind) c.args.self.now.core) c.in-Give.is c.requires.next) running));
-      timed = on_ok c.put.result (λ goes timed. goes (begins_put c.args.self.now.clock.events c.args.self.now.journal.items (seen_ports g.L.Lane c.args.self.now.ports.items) (event.Give c.in-Give.i) (last_moment c.args.self.now.clock.events + 1) (omega arith) timed c.note.new.journal.items c.note.ensures.journal c.note.new.clock.events c.note.ensures.clock c.in-Give.i refl)) c.put.ensures.timed;
-      checks = λ first are. c.put.ensures.checks first (checks_more first c.args.self.now.manner c.args.self.now.bell.found_empty c.args.self.now.clock.events c.args.self.now.journal.items (event.Give c.in-Give.i) (last_moment c.args.self.now.clock.events + 1) refl c.note.new.clock.events c.note.ensures.clock c.note.new.journal.items c.note.ensures.journal are);
+      proceeds = proceeds_said g.L.Lane g.D.Diner c.journals_grow_by_each_event.ensures.event c.args.self.now c.in-Give.i (Give c.in-Give.i) (opens-give c.in-Give.i) (event.Give c.in-Give.i) refl refl c.give-letter.new.self c.give-letter.result c.give-letter.ensures.step next c.note.new.journal c.note.ensures.journal c.note.new.clock c.note.ensures.clock refl refl (record (place_at c.args.self.now.core c.in-Give.i) { fork = Away }) c.give-letter.ensures.core c.requires.ready c.put.new.self c.put.result c.put.ensures.same c.put.ensures.way;
+      timed = timed_said g.L.Lane g.D.Diner c.journals_grow_by_each_event.ensures.event c.args.self.now c.in-Give.i (Give c.in-Give.i) (opens-give c.in-Give.i) (event.Give c.in-Give.i) refl refl c.give-letter.new.self c.give-letter.result c.give-letter.ensures.step next c.note.new.journal c.note.ensures.journal c.note.new.clock c.note.ensures.clock refl refl (record (place_at c.args.self.now.core c.in-Give.i) { fork = Away }) c.give-letter.ensures.core c.requires.ready c.put.new.self c.put.result c.put.ensures.same c.put.ensures.timed;
+      checks = checks_said g.L.Lane g.D.Diner c.journals_grow_by_each_event.ensures.event c.args.self.now c.in-Give.i (Give c.in-Give.i) (opens-give c.in-Give.i) (event.Give c.in-Give.i) refl refl c.give-letter.new.self c.give-letter.result c.give-letter.ensures.step next c.note.new.journal c.note.ensures.journal c.note.new.clock c.note.ensures.clock refl refl (record (place_at c.args.self.now.core c.in-Give.i) { fork = Away }) c.give-letter.ensures.core c.requires.ready c.put.new.self c.put.result c.put.ensures.same c.put.ensures.checks;
     }
 
 pub put-requires-in-Ask-clause-putting : goal.put-requires-in-Ask-clause-putting
 put-requires-in-Ask-clause-putting g c κs ls =
-    let p = c.requires.ready.running in
-    let run : SeenRun g.L.Lane.Identity = seen_run g.L.Lane c.args.self.now in
-    (p.0, p.1, putting p.0 p.1 c.in-Ask.i (Ask c.in-Ask.i) c.ask-letter.result (opens-ask c.in-Ask.i) c.journals_grow_by_each_event.ensures.event (event.Ask c.in-Ask.i) refl refl run c.ask-letter.new.self c.note-in-Ask.new.journal.items c.note-in-Ask.ensures.journal c.ask-letter.ensures.step (subst (λ (kind : EventKind). IsNext (Some kind) c.args.self.now.core) c.in-Ask.is c.requires.next) p.2)
+    let next = subst (λ (kind : EventKind). IsNext (Some kind) c.args.self.now.core) c.in-Ask.is c.requires.next in
+    is_said g.L.Lane g.D.Diner c.journals_grow_by_each_event.ensures.event c.args.self.now c.in-Ask.i (Ask c.in-Ask.i) (opens-ask c.in-Ask.i) (event.Ask c.in-Ask.i) refl refl c.ask-letter.new.self c.ask-letter.result c.ask-letter.ensures.step next c.note-in-Ask.new.journal c.note-in-Ask.ensures.journal c.note-in-Ask.new.clock c.requires.ready.running
 
 pub returns-in-Ask : goal.returns-in-Ask
 returns-in-Ask g c =
-    let run : SeenRun g.L.Lane.Identity = seen_run g.L.Lane c.args.self.now in
-    let core = c.args.self.now.core in
-    let same = same_but_place c.args.self.now c.put-in-Ask.new.self c.in-Ask.i (record (place_at core c.in-Ask.i) { token = None }) c.ask-letter.new.self c.note-in-Ask.new.journal c.note-in-Ask.new.clock c.ask-letter.ensures.core c.put-in-Ask.ensures.same in
+    let next = subst (λ (kind : EventKind). IsNext (Some kind) c.args.self.now.core) c.in-Ask.is c.requires.next in
     record {
-      proceeds = proceeds_same g.L.Lane g.D.Diner (GoesOn c.put-in-Ask.result) c.args.self.now c.put-in-Ask.new.self same c.requires.ready.ready (λ plan given running. c.put-in-Ask.ensures.way plan given (putting plan given c.in-Ask.i (Ask c.in-Ask.i) c.ask-letter.result (opens-ask c.in-Ask.i) c.journals_grow_by_each_event.ensures.event (event.Ask c.in-Ask.i) refl refl run c.ask-letter.new.self c.note-in-Ask.new.journal.items c.note-in-Ask.ensures.journal c.ask-letter.ensures.step (subst (λ (kind : EventKind). IsNext (Some kind) c.args.self.now.core) c.in-Ask.is c.requires.next) running));
-      timed = on_ok c.put-in-Ask.result (λ goes timed. goes (begins_put c.args.self.now.clock.events c.args.self.now.journal.items (seen_ports g.L.Lane c.args.self.now.ports.items) (event.Ask c.in-Ask.i) (last_moment c.args.self.now.clock.events + 1) (omega arith) timed c.note-in-Ask.new.journal.items c.note-in-Ask.ensures.journal c.note-in-Ask.new.clock.events c.note-in-Ask.ensures.clock c.in-Ask.i refl)) c.put-in-Ask.ensures.timed;
-      checks = λ first are. c.put-in-Ask.ensures.checks first (checks_more first c.args.self.now.manner c.args.self.now.bell.found_empty c.args.self.now.clock.events c.args.self.now.journal.items (event.Ask c.in-Ask.i) (last_moment c.args.self.now.clock.events + 1) refl c.note-in-Ask.new.clock.events c.note-in-Ask.ensures.clock c.note-in-Ask.new.journal.items c.note-in-Ask.ensures.journal are);
+      proceeds = proceeds_said g.L.Lane g.D.Diner c.journals_grow_by_each_event.ensures.event c.args.self.now c.in-Ask.i (Ask c.in-Ask.i) (opens-ask c.in-Ask.i) (event.Ask c.in-Ask.i) refl refl c.ask-letter.new.self c.ask-letter.result c.ask-letter.ensures.step next c.note-in-Ask.new.journal c.note-in-Ask.ensures.journal c.note-in-Ask.new.clock c.note-in-Ask.ensures.clock refl refl (record (place_at c.args.self.now.core c.in-Ask.i) { token = None }) c.ask-letter.ensures.core c.requires.ready c.put-in-Ask.new.self c.put-in-Ask.result c.put-in-Ask.ensures.same c.put-in-Ask.ensures.way;
+      timed = timed_said g.L.Lane g.D.Diner c.journals_grow_by_each_event.ensures.event c.args.self.now c.in-Ask.i (Ask c.in-Ask.i) (opens-ask c.in-Ask.i) (event.Ask c.in-Ask.i) refl refl c.ask-letter.new.self c.ask-letter.result c.ask-letter.ensures.step next c.note-in-Ask.new.journal c.note-in-Ask.ensures.journal c.note-in-Ask.new.clock c.note-in-Ask.ensures.clock refl refl (record (place_at c.args.self.now.core c.in-Ask.i) { token = None }) c.ask-letter.ensures.core c.requires.ready c.put-in-Ask.new.self c.put-in-Ask.result c.put-in-Ask.ensures.same c.put-in-Ask.ensures.timed;
+      checks = checks_said g.L.Lane g.D.Diner c.journals_grow_by_each_event.ensures.event c.args.self.now c.in-Ask.i (Ask c.in-Ask.i) (opens-ask c.in-Ask.i) (event.Ask c.in-Ask.i) refl refl c.ask-letter.new.self c.ask-letter.result c.ask-letter.ensures.step next c.note-in-Ask.new.journal c.note-in-Ask.ensures.journal c.note-in-Ask.new.clock c.note-in-Ask.ensures.clock refl refl (record (place_at c.args.self.now.core c.in-Ask.i) { token = None }) c.ask-letter.ensures.core c.requires.ready c.put-in-Ask.new.self c.put-in-Ask.result c.put-in-Ask.ensures.same c.put-in-Ask.ensures.checks;
     }
 
 pub put-requires-in-Done-clause-putting : goal.put-requires-in-Done-clause-putting
 put-requires-in-Done-clause-putting g c κs ls =
-    let p = c.requires.ready.running in
-    let run : SeenRun g.L.Lane.Identity = seen_run g.L.Lane c.args.self.now in
-    (p.0, p.1, putting p.0 p.1 c.in-Done.i (Done c.in-Done.i) c.done-letter.result (opens-done c.in-Done.i) c.journals_grow_by_each_event.ensures.event (event.Done c.in-Done.i) refl refl run c.done-letter.new.self c.note-in-Done.new.journal.items c.note-in-Done.ensures.journal c.done-letter.ensures.step (subst (λ (kind : EventKind). IsNext (Some kind) c.args.self.now.core) c.in-Done.is c.requires.next) p.2)
+    let next = subst (λ (kind : EventKind). IsNext (Some kind) c.args.self.now.core) c.in-Done.is c.requires.next in
+    is_said g.L.Lane g.D.Diner c.journals_grow_by_each_event.ensures.event c.args.self.now c.in-Done.i (Done c.in-Done.i) (opens-done c.in-Done.i) (event.Done c.in-Done.i) refl refl c.done-letter.new.self c.done-letter.result c.done-letter.ensures.step next c.note-in-Done.new.journal c.note-in-Done.ensures.journal c.note-in-Done.new.clock c.requires.ready.running
 
 pub returns-in-Done : goal.returns-in-Done
 returns-in-Done g c =
-    let run : SeenRun g.L.Lane.Identity = seen_run g.L.Lane c.args.self.now in
-    let core = c.args.self.now.core in
-    let same = same_but_place c.args.self.now c.put-in-Done.new.self c.in-Done.i (record (place_at core c.in-Done.i) { done_put = true }) c.done-letter.new.self c.note-in-Done.new.journal c.note-in-Done.new.clock c.done-letter.ensures.core c.put-in-Done.ensures.same in
+    let next = subst (λ (kind : EventKind). IsNext (Some kind) c.args.self.now.core) c.in-Done.is c.requires.next in
     record {
-      proceeds = proceeds_same g.L.Lane g.D.Diner (GoesOn c.put-in-Done.result) c.args.self.now c.put-in-Done.new.self same c.requires.ready.ready (λ plan given running. c.put-in-Done.ensures.way plan given (putting plan given c.in-Done.i (Done c.in-Done.i) c.done-letter.result (opens-done c.in-Done.i) c.journals_grow_by_each_event.ensures.event (event.Done c.in-Done.i) refl refl run c.done-letter.new.self c.note-in-Done.new.journal.items c.note-in-Done.ensures.journal c.done-letter.ensures.step (subst (λ (kind : EventKind). IsNext (Some kind) c.args.self.now.core) c.in-Done.is c.requires.next) running));
-      timed = on_ok c.put-in-Done.result (λ goes timed. goes (begins_put c.args.self.now.clock.events c.args.self.now.journal.items (seen_ports g.L.Lane c.args.self.now.ports.items) (event.Done c.in-Done.i) (last_moment c.args.self.now.clock.events + 1) (omega arith) timed c.note-in-Done.new.journal.items c.note-in-Done.ensures.journal c.note-in-Done.new.clock.events c.note-in-Done.ensures.clock c.in-Done.i refl)) c.put-in-Done.ensures.timed;
-      checks = λ first are. c.put-in-Done.ensures.checks first (checks_more first c.args.self.now.manner c.args.self.now.bell.found_empty c.args.self.now.clock.events c.args.self.now.journal.items (event.Done c.in-Done.i) (last_moment c.args.self.now.clock.events + 1) refl c.note-in-Done.new.clock.events c.note-in-Done.ensures.clock c.note-in-Done.new.journal.items c.note-in-Done.ensures.journal are);
+      proceeds = proceeds_said g.L.Lane g.D.Diner c.journals_grow_by_each_event.ensures.event c.args.self.now c.in-Done.i (Done c.in-Done.i) (opens-done c.in-Done.i) (event.Done c.in-Done.i) refl refl c.done-letter.new.self c.done-letter.result c.done-letter.ensures.step next c.note-in-Done.new.journal c.note-in-Done.ensures.journal c.note-in-Done.new.clock c.note-in-Done.ensures.clock refl refl (record (place_at c.args.self.now.core c.in-Done.i) { done_put = true }) c.done-letter.ensures.core c.requires.ready c.put-in-Done.new.self c.put-in-Done.result c.put-in-Done.ensures.same c.put-in-Done.ensures.way;
+      timed = timed_said g.L.Lane g.D.Diner c.journals_grow_by_each_event.ensures.event c.args.self.now c.in-Done.i (Done c.in-Done.i) (opens-done c.in-Done.i) (event.Done c.in-Done.i) refl refl c.done-letter.new.self c.done-letter.result c.done-letter.ensures.step next c.note-in-Done.new.journal c.note-in-Done.ensures.journal c.note-in-Done.new.clock c.note-in-Done.ensures.clock refl refl (record (place_at c.args.self.now.core c.in-Done.i) { done_put = true }) c.done-letter.ensures.core c.requires.ready c.put-in-Done.new.self c.put-in-Done.result c.put-in-Done.ensures.same c.put-in-Done.ensures.timed;
+      checks = checks_said g.L.Lane g.D.Diner c.journals_grow_by_each_event.ensures.event c.args.self.now c.in-Done.i (Done c.in-Done.i) (opens-done c.in-Done.i) (event.Done c.in-Done.i) refl refl c.done-letter.new.self c.done-letter.result c.done-letter.ensures.step next c.note-in-Done.new.journal c.note-in-Done.ensures.journal c.note-in-Done.new.clock c.note-in-Done.ensures.clock refl refl (record (place_at c.args.self.now.core c.in-Done.i) { done_put = true }) c.done-letter.ensures.core c.requires.ready c.put-in-Done.new.self c.put-in-Done.result c.put-in-Done.ensures.same c.put-in-Done.ensures.checks;
     }
 
 pub close-requires-in-Close-clause-putting : goal.close-requires-in-Close-clause-putting
 close-requires-in-Close-clause-putting g c κs ls =
-    let p = c.requires.ready.running in
-    let run : SeenRun g.L.Lane.Identity = seen_run g.L.Lane c.args.self.now in
     let puts : CorePuts c.in-Close.i (Close c.in-Close.i) c.args.self.now.core c.close.new.self letter.Close = subst (λ (l : Letter). CorePuts c.in-Close.i (Close c.in-Close.i) c.args.self.now.core c.close.new.self l) c.close.ensures.letter c.close.ensures.step in
-    (p.0, p.1, putting p.0 p.1 c.in-Close.i (Close c.in-Close.i) letter.Close (opens-close c.in-Close.i) c.journals_grow_by_each_event.ensures.event (event.Close c.in-Close.i) refl refl run c.close.new.self c.note-in-Close.new.journal.items c.note-in-Close.ensures.journal puts (subst (λ (kind : EventKind). IsNext (Some kind) c.args.self.now.core) c.in-Close.is c.requires.next) p.2)
+    let next = subst (λ (kind : EventKind). IsNext (Some kind) c.args.self.now.core) c.in-Close.is c.requires.next in
+    is_said g.L.Lane g.D.Diner c.journals_grow_by_each_event.ensures.event c.args.self.now c.in-Close.i (Close c.in-Close.i) (opens-close c.in-Close.i) (event.Close c.in-Close.i) refl refl c.close.new.self letter.Close puts next c.note-in-Close.new.journal c.note-in-Close.ensures.journal c.note-in-Close.new.clock c.requires.ready.running
 
 pub returns-in-Close : goal.returns-in-Close
 returns-in-Close g c =
-    let run : SeenRun g.L.Lane.Identity = seen_run g.L.Lane c.args.self.now in
     let puts : CorePuts c.in-Close.i (Close c.in-Close.i) c.args.self.now.core c.close.new.self letter.Close = subst (λ (l : Letter). CorePuts c.in-Close.i (Close c.in-Close.i) c.args.self.now.core c.close.new.self l) c.close.ensures.letter c.close.ensures.step in
-    let core = c.args.self.now.core in
-    let same = same_but_place c.args.self.now c.close-in-Close.new.self c.in-Close.i (record (place_at core c.in-Close.i) { close_put = true }) c.close.new.self c.note-in-Close.new.journal c.note-in-Close.new.clock c.close.ensures.core c.close-in-Close.ensures.same in
+    let next = subst (λ (kind : EventKind). IsNext (Some kind) c.args.self.now.core) c.in-Close.is c.requires.next in
     record {
-      proceeds = proceeds_same g.L.Lane g.D.Diner (GoesOn c.close-in-Close.result) c.args.self.now c.close-in-Close.new.self same c.requires.ready.ready (λ plan given running. c.close-in-Close.ensures.way plan given (putting plan given c.in-Close.i (Close c.in-Close.i) letter.Close (opens-close c.in-Close.i) c.journals_grow_by_each_event.ensures.event (event.Close c.in-Close.i) refl refl run c.close.new.self c.note-in-Close.new.journal.items c.note-in-Close.ensures.journal puts (subst (λ (kind : EventKind). IsNext (Some kind) c.args.self.now.core) c.in-Close.is c.requires.next) running));
-      timed = on_ok c.close-in-Close.result (λ goes timed. goes (begins_put c.args.self.now.clock.events c.args.self.now.journal.items (seen_ports g.L.Lane c.args.self.now.ports.items) (event.Close c.in-Close.i) (last_moment c.args.self.now.clock.events + 1) (omega arith) timed c.note-in-Close.new.journal.items c.note-in-Close.ensures.journal c.note-in-Close.new.clock.events c.note-in-Close.ensures.clock c.in-Close.i refl)) c.close-in-Close.ensures.timed;
-      checks = λ first are. c.close-in-Close.ensures.checks first (checks_more first c.args.self.now.manner c.args.self.now.bell.found_empty c.args.self.now.clock.events c.args.self.now.journal.items (event.Close c.in-Close.i) (last_moment c.args.self.now.clock.events + 1) refl c.note-in-Close.new.clock.events c.note-in-Close.ensures.clock c.note-in-Close.new.journal.items c.note-in-Close.ensures.journal are);
+      proceeds = proceeds_said g.L.Lane g.D.Diner c.journals_grow_by_each_event.ensures.event c.args.self.now c.in-Close.i (Close c.in-Close.i) (opens-close c.in-Close.i) (event.Close c.in-Close.i) refl refl c.close.new.self letter.Close puts next c.note-in-Close.new.journal c.note-in-Close.ensures.journal c.note-in-Close.new.clock c.note-in-Close.ensures.clock refl refl (record (place_at c.args.self.now.core c.in-Close.i) { close_put = true }) c.close.ensures.core c.requires.ready c.close-in-Close.new.self c.close-in-Close.result c.close-in-Close.ensures.same c.close-in-Close.ensures.way;
+      timed = timed_said g.L.Lane g.D.Diner c.journals_grow_by_each_event.ensures.event c.args.self.now c.in-Close.i (Close c.in-Close.i) (opens-close c.in-Close.i) (event.Close c.in-Close.i) refl refl c.close.new.self letter.Close puts next c.note-in-Close.new.journal c.note-in-Close.ensures.journal c.note-in-Close.new.clock c.note-in-Close.ensures.clock refl refl (record (place_at c.args.self.now.core c.in-Close.i) { close_put = true }) c.close.ensures.core c.requires.ready c.close-in-Close.new.self c.close-in-Close.result c.close-in-Close.ensures.same c.close-in-Close.ensures.timed;
+      checks = checks_said g.L.Lane g.D.Diner c.journals_grow_by_each_event.ensures.event c.args.self.now c.in-Close.i (Close c.in-Close.i) (opens-close c.in-Close.i) (event.Close c.in-Close.i) refl refl c.close.new.self letter.Close puts next c.note-in-Close.new.journal c.note-in-Close.ensures.journal c.note-in-Close.new.clock c.note-in-Close.ensures.clock refl refl (record (place_at c.args.self.now.core c.in-Close.i) { close_put = true }) c.close.ensures.core c.requires.ready c.close-in-Close.new.self c.close-in-Close.result c.close-in-Close.ensures.same c.close-in-Close.ensures.checks;
     }
 
 pub returns-in-Hungry : goal.returns-in-Hungry
@@ -174,3 +164,42 @@ close-requires-clause-place g c = (needs_at c.args.self.now.core c.in-Close.i (c
 
 pub close-requires-clause-may : goal.close-requires-clause-may
 close-requires-clause-may g c = (needs_at c.args.self.now.core c.in-Close.i (can_close c.args.self.now.core c.in-Close.i) (event.Close c.in-Close.i) refl (subst (λ (kind : EventKind). can_by_itself c.args.self.now.core kind ≡ true) c.in-Close.is c.requires.may)).1
+
+pub note-requires : goal.note-requires
+note-requires g c = record { room = c.requires.room }
+
+pub note-requires-in-Ask : goal.note-requires-in-Ask
+note-requires-in-Ask g c = record { room = c.requires.room }
+
+pub note-requires-in-Done : goal.note-requires-in-Done
+note-requires-in-Done g c = record { room = c.requires.room }
+
+pub note-requires-in-Close : goal.note-requires-in-Close
+note-requires-in-Close g c = record { room = c.requires.room }
+
+pub note-requires-in-Hungry : goal.note-requires-in-Hungry
+note-requires-in-Hungry g c = record { room = c.requires.room }
+
+pub note-requires-in-Quit : goal.note-requires-in-Quit
+note-requires-in-Quit g c = record { room = c.requires.room }
+
+pub begin-requires-clause-may : goal.begin-requires-clause-may
+begin-requires-clause-may g c κs ls = subst (λ (kind : EventKind). can_by_itself c.args.self.now.core kind ≡ true) c.in-Begin.is c.requires.may
+
+pub begin-requires-clause-room : goal.begin-requires-clause-room
+begin-requires-clause-room g c κs ls = c.requires.room_for_end c.in-Begin.is
+
+pub hungry-requires : goal.hungry-requires
+hungry-requires g c = subst (λ (kind : EventKind). can_by_itself c.args.self.now.core kind ≡ true) c.in-Hungry.is c.requires.may
+
+pub quit-requires : goal.quit-requires
+quit-requires g c = subst (λ (kind : EventKind). can_by_itself c.args.self.now.core kind ≡ true) c.in-Quit.is c.requires.may
+
+pub put-requires-clause-letter : goal.put-requires-clause-letter
+put-requires-clause-letter g c κs ls = search rules
+
+pub put-requires-in-Ask-clause-letter : goal.put-requires-in-Ask-clause-letter
+put-requires-in-Ask-clause-letter g c κs ls = ap is_close c.ask-letter.ensures.letter
+
+pub put-requires-in-Done-clause-letter : goal.put-requires-in-Done-clause-letter
+put-requires-in-Done-clause-letter g c κs ls = ap is_close c.done-letter.ensures.letter

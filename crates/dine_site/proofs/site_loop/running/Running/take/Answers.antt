@@ -1,7 +1,12 @@
-use Rattle.std.proofs.Common.{◌≡◌, Result, Err, sym, subst, rules}
+use Rattle.std.proofs.Common.{◌≡◌, ◌<◌, false, length, Result, Err, sym, subst, rules}
 use Rattle.std.specs.Prelude.{OnOk}
 use Rattle.dine_site.specs.declared.site_loop.running.Stop.{Stop}
-use Rattle.dine_site.specs.Running.{GoesOn, IsRunning, IsTimedRun, Leads}
+use Rattle.dine_rules.specs.Letters.{has_close}
+use Rattle.dine_rules.specs.Local.{traffic_at}
+use Rattle.dine_site_core.specs.Core.{SeenCore}
+use Rattle.dine_site_core.specs.Standing.{ForEachState}
+use Rattle.dine_site.specs.declared.manner.Manner.{Manner}
+use Rattle.dine_site.specs.Running.{GoesOn, IsRunning, IsTimedRun, Leads, MayTakeNow}
 use Rattle.dine_site.proofs.one_site.Times.{on_ok}
 use Rattle.dine_site.proofs.one_site.Same.{same_then}
 use Rattle.dine_site.proofs.site_loop.running.Running.take.Goals as goal
@@ -28,3 +33,20 @@ returns-in_err-make_room g c =
       timed = subst (λ (result : Result (Unit {0}) Stop). OnOk result (IsTimedRun g.L.Lane c.args.self.now → IsTimedRun g.L.Lane c.make_room.new.self)) (sym is) tt;
       checks = c.make_room.ensures.checks;
     }
+
+pub take_noted-requires-clause-running : goal.take_noted-requires-clause-running
+take_noted-requires-clause-running g c κs ls =
+    let p = c.requires.running in
+    (p.0, p.1, c.in_ok-make_room.ensures.way p.0 p.1 p.2)
+
+pub take_noted-requires-clause-place : goal.take_noted-requires-clause-place
+take_noted-requires-clause-place g c κs ls = subst (λ (core : SeenCore). c.args.i < length core.places) (sym c.make_room.ensures.core) c.requires.place
+
+pub take_noted-requires-clause-not_closed : goal.take_noted-requires-clause-not_closed
+take_noted-requires-clause-not_closed g c κs ls =
+    subst (λ (core : SeenCore). ForEachState core (λ plan state. has_close (traffic_at state c.args.i).taken ≡ false)) (sym c.make_room.ensures.core) c.requires.not_closed
+
+pub take_noted-requires-clause-turn : goal.take_noted-requires-clause-turn
+take_noted-requires-clause-turn g c κs ls =
+    subst (λ (manner : Manner). MayTakeNow manner c.make_room.new.self.core) (sym c.make_room.ensures.same.manner)
+    (subst (λ (core : SeenCore). MayTakeNow c.args.self.now.manner core) (sym c.make_room.ensures.core) c.requires.turn)

@@ -106,3 +106,15 @@ returns-in-Err-take-clause-same g c = same_but_ports c.args.self.now c.take-in-O
 
 pub returns-in-Err-clause-same : goal.returns-in-Err-clause-same
 returns-in-Err-clause-same g c = same_but_ports c.args.self.now c.args.self.now.core _ c.args.self.now.journal refl refl
+
+pub returns-in-Err-take-clause-timed : goal.returns-in-Err-take-clause-timed
+returns-in-Err-take-clause-timed g c = tt
+
+pub returns-in-Err-take-clause-checks : goal.returns-in-Err-take-clause-checks
+returns-in-Err-take-clause-checks g c first are = are
+
+pub returns-in-Err-clause-timed : goal.returns-in-Err-clause-timed
+returns-in-Err-clause-timed g c = tt
+
+pub returns-in-Err-clause-checks : goal.returns-in-Err-clause-checks
+returns-in-Err-clause-checks g c first are = are
