@@ -199,9 +199,11 @@ impl Lane for ChannelLane {
     ghost seen_rx = { channels.seen_rx };
 
     fn pair(alloc: Global, edge: u32, from: u32) -> Result<(ChannelTx, ChannelRx), LinkFault> {
-        let (sender, receiver, mut putting) = bounded_with::<Stamped, Known, InOrder, Global>(
+        let Ok((sender, receiver, mut putting)) = bounded_with::<Stamped, Known, InOrder, Global>(
             alloc, CAPACITY,
-        )?;
+        ) else {
+            return Err(LinkFault::Memory);
+        };
         let taking = sender.another::<Ends>(&mut putting);
         let tx = Putting {
             edge,
@@ -229,9 +231,10 @@ impl Lane for ChannelLane {
         letter: Letter,
         stamp: Stamp,
     ) -> Result<(), (Letter, Lost)> {
-        tx.putting
-            .send(rt, letter, stamp)
-            .map_err(|letter| (letter, Lost))
+        match tx.putting.send(rt, letter, stamp) {
+            Ok(()) => Ok(()),
+            Err(letter) => Err((letter, Lost)),
+        }
     }
 
     fn close_at<R: Wait>(

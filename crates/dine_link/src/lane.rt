@@ -105,8 +105,10 @@ pub trait Lane: Send {
         ensures taken { IfOk result (λ letter. HasTaken letter (seen_rx rx.old) (seen_rx rx.new)) }
         ensures refused { IfErr result (λ _. seen_rx rx.new ≡ after_refusal (seen_rx rx.old)) }
     {
-        let (letter, _) = Self::take_at(rt, rx)?;
-        Ok(letter)
+        match Self::take_at(rt, rx) {
+            Ok((letter, _)) => Ok(letter),
+            Err(lost) => Err(lost),
+        }
     }
 
     /// Puts a letter as [`Lane::put`] does, with its moment. A moment is for proofs alone, and costs nothing.

@@ -99,8 +99,10 @@ impl Lane for FaultLane {
             ((faults.seen_tx ends.0).refused ≡ false) × ((faults.seen_rx ends.1).refused ≡ false)) }
         ensures unlimited { IfOk result (λ ends. (ends.0.left ≡ None) × (ends.1.left ≡ None)) }
     {
-        let (tx, rx) = ChannelLane::pair(alloc, edge, from)?;
-        Ok((fault_tx(tx, None), fault_rx(rx, None)))
+        match ChannelLane::pair(alloc, edge, from) {
+            Ok((tx, rx)) => Ok((fault_tx(tx, None), fault_rx(rx, None))),
+            Err(fault) => Err(fault),
+        }
     }
 
     fn put_at<R: Wait>(
@@ -126,7 +128,10 @@ impl Lane for FaultLane {
             tx.refuse();
             return Err((FaultTx { tx, left }, Lost));
         }
-        ChannelLane::close_at(rt, tx, stamp).map_err(|(tx, lost)| (FaultTx { tx, left }, lost))
+        match ChannelLane::close_at(rt, tx, stamp) {
+            Ok(closed) => Ok(closed),
+            Err((tx, lost)) => Err((FaultTx { tx, left }, lost)),
+        }
     }
 
     fn take_at<R: Wait>(rt: &R, rx: &mut FaultRx) -> Result<(Letter, Stamp), Lost> {

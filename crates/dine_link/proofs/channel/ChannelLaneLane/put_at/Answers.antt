@@ -6,8 +6,3 @@ use Rattle.dine_link.proofs.channel.ChannelLaneLane.put_at.Goals as goal
 pub invariant_of-tx : goal.invariant_of-tx
 invariant_of-tx g c = record { unclosed = unclosed-sent c.send.result (seen_tx c.args.tx.now) (seen_putting c.send.new.self) c.args.letter c.args.stamp.at c.send.ensures.put c.send.ensures.refused c.args.tx.now.unclosed c.requires.letter }
 
-pub returns-clause-handed_back : goal.returns-clause-handed_back
-returns-clause-handed_back g c = search rules
-
-pub returns-clause-refused : goal.returns-clause-refused
-returns-clause-refused g c = search rules
