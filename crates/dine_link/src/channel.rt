@@ -225,6 +225,21 @@ impl Lane for ChannelLane {
         Ok((ChannelTx { putting: tx }, rx))
     }
 
+    fn put<R: Wait>(rt: &R, tx: &mut ChannelTx, letter: Letter) -> Result<(), (Letter, Lost)> {
+        ChannelLane::put_at(rt, tx, letter, Stamp::first())
+    }
+
+    fn close<R: Wait>(rt: &R, tx: ChannelTx) -> Result<ChannelClosedTx, (ChannelTx, Lost)> {
+        ChannelLane::close_at(rt, tx, Stamp::first())
+    }
+
+    fn take<R: Wait>(rt: &R, rx: &mut ChannelRx) -> Result<Letter, Lost> {
+        match ChannelLane::take_at(rt, rx) {
+            Ok((letter, _)) => Ok(letter),
+            Err(lost) => Err(lost),
+        }
+    }
+
     fn put_at<R: Wait>(
         rt: &R,
         tx: &mut ChannelTx,

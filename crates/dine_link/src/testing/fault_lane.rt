@@ -105,6 +105,21 @@ impl Lane for FaultLane {
         }
     }
 
+    fn put<R: Wait>(rt: &R, tx: &mut FaultTx, letter: Letter) -> Result<(), (Letter, Lost)> {
+        FaultLane::put_at(rt, tx, letter, Stamp::first())
+    }
+
+    fn close<R: Wait>(rt: &R, tx: FaultTx) -> Result<ChannelClosedTx, (FaultTx, Lost)> {
+        FaultLane::close_at(rt, tx, Stamp::first())
+    }
+
+    fn take<R: Wait>(rt: &R, rx: &mut FaultRx) -> Result<Letter, Lost> {
+        match FaultLane::take_at(rt, rx) {
+            Ok((letter, _)) => Ok(letter),
+            Err(lost) => Err(lost),
+        }
+    }
+
     fn put_at<R: Wait>(
         rt: &R,
         tx: &mut FaultTx,
