@@ -1,7 +1,7 @@
 -- Each step of a bell keeps its rule.
 use Rattle.std.specs.Prelude.{Result, Ok, Err, IfSome, MatchOption, MatchResult}
-use Rattle.std.specs.Result.{result_ok}
-use Rattle.std.proofs.Common.{◌≡◌, ◌≢◌, ◌<◌, ◌+◌, ℕ, zero, suc, List, [], ◌∷◌, ◌++◌, map, set, false, sym, refl, ap, ◌∙◌, subst, ⊎_elim, arith}
+use Rattle.std.specs.Result.{result_ok, is_err}
+use Rattle.std.proofs.Common.{◌≡◌, ◌≢◌, ◌<◌, ◌+◌, ℕ, Bool, zero, suc, List, [], ◌∷◌, ◌++◌, map, set, true, false, true≢false, sym, refl, ap, ◌∙◌, subst, ⊎_elim, arith}
 use mathlib.Core.Option.{some, some-ne-none, some-injective}
 use lib.ListN.{get_elem?}
 use Rattle.std.specs.List.{All, range_with_len}
@@ -15,7 +15,7 @@ use Rattle.crossbeam_channel.specs.Claims.{view}
 use Rattle.crossbeam_channel.specs.Ends.{receives_on}
 use Rattle.dine_link.specs.declared.bell.Bell.TheInside.{Inside as InBell}
 use Rattle.dine_link.specs.private.BellRule.{IsOfBell, IsOfRinger, Fits, AreOfRingers, no_ringers, with_next_ringer, next_ringer, IsKnown, after_sound, after_hearing, reported_by, rings_of}
-use Rattle.dine_link.specs.Bells.{BellId, SeenBell, SeenRinger, new_ringer, after_report}
+use Rattle.dine_link.specs.Bells.{BellId, SeenBell, SeenRinger, new_ringer, after_ring, after_report}
 use Rattle.dine_link.proofs.Passes.{Each, each_set}
 
 -- a new channel
@@ -147,3 +147,28 @@ own_rung number (Rings own count) is = is
 
 pub still_ringer : (number : ℕ) (old new : Part) → new ≡ after_sound old → IsOfRinger number old → IsOfRinger number new
 still_ringer number old new rung is = subst (IsOfRinger number) (sym rung) (own_rung number old is)
+
+-- what a send does to a ringer's pass
+abbrev pub Rang : {E : Type 0} → (E → Type 0) → Result Unit E → ℕ → Part → Part → Type 0
+Rang held result number old new = MatchResult result (λ _. IsOfRinger number old × (new ≡ after_sound old)) (λ e. held e × (new ≡ old))
+
+pub rang : {E : Type 0} (held : E → Type 0) (result : Result Unit E) (number : ℕ) (old new : Part) → Rang held result number old new → false ≡ is_err result → new ≡ after_sound old
+rang held (Ok done) number old new h is = h.1
+rang held (Err e) number old new h is = absurd (true≢false (sym is))
+
+pub not_rang : {E : Type 0} (held : E → Type 0) (result : Result Unit E) (number : ℕ) (old new : Part) → Rang held result number old new → true ≡ is_err result → new ≡ old
+not_rang held (Ok done) number old new h is = absurd (true≢false is)
+not_rang held (Err e) number old new h is = h.1
+
+rings_after : (number : ℕ) (v : Part) → IsOfRinger number v → rings_of (after_sound v) ≡ rings_of v + 1
+rings_after number (Waits count reported) is = absurd is
+rings_after number (Rings own count) is = refl
+
+-- the ringer whose pass knows this
+abbrev pub ringer_knows : BellId → ℕ → Bool → Part → SeenRinger
+ringer_knows bell number refused v = record { bell = bell; number = number; rings = rings_of v; refused = refused }
+
+pub rung_seen : (bell : BellId) (number : ℕ) (refused : Bool) (old new : Part) (now : SeenRinger) → ringer_knows bell number refused old ≡ now → IsOfRinger number old → new ≡ after_sound old → ringer_knows bell number refused new ≡ after_ring now
+rung_seen bell number refused old new now is own rung =
+    let one : ℕ → SeenRinger = λ rings. record { bell = bell; number = number; rings = rings; refused = refused } in
+    ap (ringer_knows bell number refused) rung ∙ ap one (rings_after number old own) ∙ ap after_ring is

@@ -1,5 +1,7 @@
-use Rattle.dine_link.proofs.BellSteps.{rings, still_ringer}
+use Rattle.dine_link.proofs.BellSteps.{rings, still_ringer, rung_seen}
 use Rattle.std.proofs.Common.{subst, sym}
+use Rattle.crossbeam_channel.specs.Claims.{view}
+use Rattle.crossbeam_channel.specs.Ends.{sends_on}
 use Rattle.dine_link.specs.private.BellRule.{IsOfRinger}
 use Rattle.dine_link.proofs.bell.Ringer.sound.Goals as goal
 
@@ -11,3 +13,6 @@ invariant_of-self g c = record { seated = c.try_send_as.ensures.channel.0; own =
 
 pub invariant_of-self-2 : goal.invariant_of-self-2
 invariant_of-self-2 g c = record { seated = c.try_send_as.ensures.channel.0; own = still_ringer c.self.inside.number _ _ c.in_ok-try_send_as.ensures.rule.1 c.self.invariant.own }
+
+pub returns : goal.returns
+returns g c = rung_seen (sends_on c.self.inside.sender) c.self.inside.number c.self.inside.refused (view c.self.inside.pass) (view c.try_send_as.new.pass) c.args.self.now c.self.view_is c.self.invariant.own c.in_ok-try_send_as.ensures.rule.1
