@@ -1,5 +1,5 @@
 -- Each step of a bell keeps its rule.
-use Rattle.std.specs.Prelude.{Result, Ok, Err, IfSome, MatchOption, MatchResult}
+use Rattle.std.specs.Prelude.{Option, Some, None, Result, Ok, Err, IfSome, MatchOption, MatchResult, is_some}
 use Rattle.std.specs.Result.{result_ok, is_err}
 use Rattle.std.proofs.Common.{◌≡◌, ◌≢◌, ◌<◌, ◌+◌, ℕ, Bool, zero, suc, List, [], ◌∷◌, ◌++◌, map, set, true, false, true≢false, sym, refl, ap, ◌∙◌, subst, ⊎_elim, arith}
 use mathlib.Core.Option.{some, some-ne-none, some-injective}
@@ -172,3 +172,12 @@ pub rung_seen : (bell : BellId) (number : ℕ) (refused : Bool) (old new : Part)
 rung_seen bell number refused old new now is own rung =
     let one : ℕ → SeenRinger = λ rings. record { bell = bell; number = number; rings = rings; refused = refused } in
     ap (ringer_knows bell number refused) rung ∙ ap one (rings_after number old own) ∙ ap after_ring is
+
+-- a check that found no ring, and one that found a ring
+pub none_found : (number : Option ℕ) (P R : Type 0) (Q S : ℕ → Type 0) → is_some number ≡ false → MatchOption number P Q → (P → R) → MatchOption number R S
+none_found None P R Q S lacks h follows = follows h
+none_found (Some n) P R Q S lacks h follows = absurd (true≢false lacks)
+
+pub some_found : (number : Option ℕ) (P R : Type 0) (Q : ℕ → Type 0) → is_some number ≡ true → MatchOption number P Q → MatchOption number R Q
+some_found None P R Q has h = absurd (true≢false (sym has))
+some_found (Some n) P R Q has h = h
