@@ -2,6 +2,7 @@ use Rattle.std.proofs.Common.{◌≡◌, refl, sym, ap, ◌∙◌, length, subst
 use Rattle.dine_rules.specs.Letters.{has_close}
 use Rattle.crossbeam_channel.specs.Claims.{view, IsSeatAt}
 use Rattle.dine_link.specs.Channels.{Channel}
+use Rattle.dine_link.specs.Links.{LinkName}
 use Rattle.dine_link.specs.Stamps.{letters_in, moments_in}
 use Rattle.dine_link.specs.declared.rule.Known.{Known}
 use Rattle.dine_link.specs.private.Rule.{fresh, putting, taking}
@@ -54,3 +55,8 @@ returns-clause-untimed c = (
 
 pub returns-clause-unrefused : goal.returns-clause-unrefused
 returns-clause-unrefused c = (refl, refl)
+
+pub returns-clause-pair : goal.returns-clause-pair
+returns-clause-pair c =
+    let name : Channel → LinkName Channel = λ channel. record { identity = channel; edge = c.args.edge; from = c.args.from } in
+    ap name c.in-Ok.ensures.0
