@@ -1,5 +1,7 @@
 -- Each step of a bell keeps its rule.
-use Rattle.std.proofs.Common.{◌≡◌, ◌≢◌, ◌<◌, ◌+◌, ℕ, zero, suc, List, [], ◌∷◌, ◌++◌, map, set, false, sym, refl, ap, ◌∙◌, subst, ⊎_elim, arith}
+use Rattle.std.specs.Prelude.{Option, Some, None, Result, Ok, Err, IfSome, MatchOption, MatchResult, is_some}
+use Rattle.std.specs.Result.{result_ok, is_err}
+use Rattle.std.proofs.Common.{◌≡◌, ◌≢◌, ◌<◌, ◌+◌, ℕ, Bool, zero, suc, List, [], ◌∷◌, ◌++◌, map, set, true, false, true≢false, sym, refl, ap, ◌∙◌, subst, ⊎_elim, arith}
 use mathlib.Core.Option.{some, some-ne-none, some-injective}
 use lib.ListN.{get_elem?}
 use Rattle.std.specs.List.{All, range_with_len}
@@ -9,8 +11,11 @@ use Rattle.crossbeam_channel.specs.Fifo.{Pushes, Pops, Forks}
 use Rattle.atomic_table.proofs.Lists.{at_snoc}
 use Rattle.dine_link.specs.declared.bell_rule.Part.{Part}
 use Rattle.dine_link.specs.declared.bell_rule.Part.TheVariants.{Waits, Rings}
-use Rattle.dine_link.specs.private.BellRule.{IsOfRinger, Fits, AreOfRingers, no_ringers, with_next_ringer, next_ringer, IsKnown, after_sound, after_hearing, rings_of}
-use Rattle.dine_link.specs.Bells.{BellId, SeenRinger, new_ringer}
+use Rattle.crossbeam_channel.specs.Claims.{view}
+use Rattle.crossbeam_channel.specs.Ends.{receives_on}
+use Rattle.dine_link.specs.declared.bell.Bell.TheInside.{Inside as InBell}
+use Rattle.dine_link.specs.private.BellRule.{IsOfBell, IsOfRinger, Fits, AreOfRingers, no_ringers, with_next_ringer, next_ringer, IsKnown, after_sound, after_hearing, reported_by, rings_of}
+use Rattle.dine_link.specs.Bells.{BellId, SeenBell, SeenRinger, new_ringer, after_ring, after_report}
 use Rattle.dine_link.proofs.Passes.{Each, each_set}
 
 -- a new channel
@@ -95,3 +100,84 @@ pub ringer_more : (bell own_bell : BellId) (number : ℕ) (before after : List S
     → after ≡ before ++ record { bell = own_bell; number = number; rings = rings_of own; refused = false } ∷ [] → after ≡ map (new_ringer bell) (range_with_len 0 (number + 1))
 ringer_more bell own_bell number before after own so_far same is added = let one : BellId → Part → SeenRinger = λ b p. record { bell = b; number = number; rings = rings_of p; refused = false } in
     added ∙ ap (λ (l : List SeenRinger). l ++ one own_bell own ∷ []) so_far ∙ ap (λ (b : BellId). map (new_ringer bell) (range_with_len 0 number) ++ one b own ∷ []) same ∙ ap (λ (p : Part). map (new_ringer bell) (range_with_len 0 number) ++ one bell p ∷ []) is ∙ sym (map-range_with_len_more (new_ringer bell) 0 number number (omega arith))
+
+-- what a receive does to the bell's pass
+abbrev pub Heard : {E : Type 0} → Type 0 → Result ℕ E → Part → Part → Type 0
+Heard held result old new = MatchResult result (λ number. IsKnown number old × (new ≡ after_hearing old number)) (λ _. (new ≡ old) × held)
+
+own_after : (degree number : ℕ) (v : Part) → IsOfBell degree v → IsOfBell degree (after_hearing v number)
+own_after degree number (Waits count reported) own = own
+own_after degree number (Rings own_number count) own = own
+
+pub still_own : {E : Type 0} (held : Type 0) (result : Result ℕ E) (degree : ℕ) (old new : Part) → Heard held result old new → IsOfBell degree old → IsOfBell degree new
+still_own held (Ok number) degree old new h own = subst (IsOfBell degree) (sym h.1) (own_after degree number old own)
+still_own held (Err e) degree old new h own = subst (IsOfBell degree) (sym h.0) own
+
+-- a number that the bell's pass knows is below the degree
+pub below_degree : (degree number : ℕ) (v : Part) → IsOfBell degree v → IsKnown number v → number < degree
+below_degree degree number (Waits count reported) own known = omega (arith, own, known)
+below_degree degree number (Rings own_number count) own known = absurd own
+
+pub heard_below : {E : Type 0} (held : Type 0) (result : Result ℕ E) (degree : ℕ) (old new : Part) → Heard held result old new → IsOfBell degree old → IfSome (result_ok result) (λ number. number < degree)
+heard_below held (Ok number) degree old new h own = below_degree degree number old own h.0
+heard_below held (Err e) degree old new h own = tt
+
+-- the bell whose pass knows this
+abbrev pub bell_knows : InBell → Part → SeenBell
+bell_knows bell v = record { identity = receives_on bell.receiver; degree = bell.degree; reported = reported_by v; found_empty = bell.empty_checks.at; refused = bell.refused }
+
+reported_after : (degree number : ℕ) (v : Part) → IsOfBell degree v → reported_by (after_hearing v number) ≡ reported_by v ++ number ∷ []
+reported_after degree number (Waits count reported) own = refl
+reported_after degree number (Rings own_number count) own = absurd own
+
+pub reports : (bell : InBell) (number : ℕ) (new : Part) (now : SeenBell) → bell_knows bell (view bell.pass) ≡ now → IsOfBell bell.degree (view bell.pass) → new ≡ after_hearing (view bell.pass) number → bell_knows bell new ≡ after_report number now
+reports bell number new now is own heard =
+    let one : List ℕ → SeenBell = λ reported. record { identity = receives_on bell.receiver; degree = bell.degree; reported = reported; found_empty = bell.empty_checks.at; refused = bell.refused } in
+    ap (bell_knows bell) heard ∙ ap one (reported_after bell.degree number (view bell.pass) own) ∙ ap (after_report number) is
+
+pub heard_seen : {E : Type 0} (held : Type 0) (result : Result ℕ E) (bell : InBell) (new : Part) (now : SeenBell) → Heard held result (view bell.pass) new → bell_knows bell (view bell.pass) ≡ now → IsOfBell bell.degree (view bell.pass)
+    → MatchOption (result_ok result) (bell_knows bell new ≡ now) (λ number. bell_knows bell new ≡ after_report number now)
+heard_seen held (Ok number) bell new now h is own = reports bell number new now is own h.1
+heard_seen held (Err e) bell new now h is own = ap (bell_knows bell) h.0 ∙ is
+
+-- a ringer's pass after a ring
+own_rung : (number : ℕ) (v : Part) → IsOfRinger number v → IsOfRinger number (after_sound v)
+own_rung number (Waits count reported) is = is
+own_rung number (Rings own count) is = is
+
+pub still_ringer : (number : ℕ) (old new : Part) → new ≡ after_sound old → IsOfRinger number old → IsOfRinger number new
+still_ringer number old new rung is = subst (IsOfRinger number) (sym rung) (own_rung number old is)
+
+-- what a send does to a ringer's pass
+abbrev pub Rang : {E : Type 0} → (E → Type 0) → Result Unit E → ℕ → Part → Part → Type 0
+Rang held result number old new = MatchResult result (λ _. IsOfRinger number old × (new ≡ after_sound old)) (λ e. held e × (new ≡ old))
+
+pub rang : {E : Type 0} (held : E → Type 0) (result : Result Unit E) (number : ℕ) (old new : Part) → Rang held result number old new → false ≡ is_err result → new ≡ after_sound old
+rang held (Ok done) number old new h is = h.1
+rang held (Err e) number old new h is = absurd (true≢false (sym is))
+
+pub not_rang : {E : Type 0} (held : E → Type 0) (result : Result Unit E) (number : ℕ) (old new : Part) → Rang held result number old new → true ≡ is_err result → new ≡ old
+not_rang held (Ok done) number old new h is = absurd (true≢false is)
+not_rang held (Err e) number old new h is = h.1
+
+rings_after : (number : ℕ) (v : Part) → IsOfRinger number v → rings_of (after_sound v) ≡ rings_of v + 1
+rings_after number (Waits count reported) is = absurd is
+rings_after number (Rings own count) is = refl
+
+-- the ringer whose pass knows this
+abbrev pub ringer_knows : BellId → ℕ → Bool → Part → SeenRinger
+ringer_knows bell number refused v = record { bell = bell; number = number; rings = rings_of v; refused = refused }
+
+pub rung_seen : (bell : BellId) (number : ℕ) (refused : Bool) (old new : Part) (now : SeenRinger) → ringer_knows bell number refused old ≡ now → IsOfRinger number old → new ≡ after_sound old → ringer_knows bell number refused new ≡ after_ring now
+rung_seen bell number refused old new now is own rung =
+    let one : ℕ → SeenRinger = λ rings. record { bell = bell; number = number; rings = rings; refused = refused } in
+    ap (ringer_knows bell number refused) rung ∙ ap one (rings_after number old own) ∙ ap after_ring is
+
+-- a check that found no ring, and one that found a ring
+pub none_found : (number : Option ℕ) (P R : Type 0) (Q S : ℕ → Type 0) → is_some number ≡ false → MatchOption number P Q → (P → R) → MatchOption number R S
+none_found None P R Q S lacks h follows = follows h
+none_found (Some n) P R Q S lacks h follows = absurd (true≢false lacks)
+
+pub some_found : (number : Option ℕ) (P R : Type 0) (Q : ℕ → Type 0) → is_some number ≡ true → MatchOption number P Q → MatchOption number R Q
+some_found None P R Q has h = absurd (true≢false (sym has))
+some_found (Some n) P R Q has h = h

@@ -74,9 +74,10 @@ pub fn send<T: Drop, V, P: Protocol<T, V>, M: Outcome<T, V> + Lesson<T, V>, R: W
         }
         thread::yield_now();
     }
-    sender
-        .send_as::<M, R>(rt, pass, message)
-        .map_err(|refused| refused.into_inner())
+    match sender.send_as::<M, R>(rt, pass, message) {
+        Ok(()) => Ok(()),
+        Err(refused) => Err(refused.into_inner()),
+    }
 }
 
 // Receives a message, or returns None if the other end is gone.

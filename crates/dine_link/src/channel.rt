@@ -199,9 +199,11 @@ impl Lane for ChannelLane {
     ghost seen_rx = { channels.seen_rx };
 
     fn pair(alloc: Global, edge: u32, from: u32) -> Result<(ChannelTx, ChannelRx), LinkFault> {
-        let (sender, receiver, mut putting) = bounded_with::<Stamped, Known, InOrder, Global>(
+        let Ok((sender, receiver, mut putting)) = bounded_with::<Stamped, Known, InOrder, Global>(
             alloc, CAPACITY,
-        )?;
+        ) else {
+            return Err(LinkFault::Memory);
+        };
         let taking = sender.another::<Ends>(&mut putting);
         let tx = Putting {
             edge,
@@ -223,15 +225,31 @@ impl Lane for ChannelLane {
         Ok((ChannelTx { putting: tx }, rx))
     }
 
+    fn put<R: Wait>(rt: &R, tx: &mut ChannelTx, letter: Letter) -> Result<(), (Letter, Lost)> {
+        ChannelLane::put_at(rt, tx, letter, Stamp::first())
+    }
+
+    fn close<R: Wait>(rt: &R, tx: ChannelTx) -> Result<ChannelClosedTx, (ChannelTx, Lost)> {
+        ChannelLane::close_at(rt, tx, Stamp::first())
+    }
+
+    fn take<R: Wait>(rt: &R, rx: &mut ChannelRx) -> Result<Letter, Lost> {
+        match ChannelLane::take_at(rt, rx) {
+            Ok((letter, _)) => Ok(letter),
+            Err(lost) => Err(lost),
+        }
+    }
+
     fn put_at<R: Wait>(
         rt: &R,
         tx: &mut ChannelTx,
         letter: Letter,
         stamp: Stamp,
     ) -> Result<(), (Letter, Lost)> {
-        tx.putting
-            .send(rt, letter, stamp)
-            .map_err(|letter| (letter, Lost))
+        match tx.putting.send(rt, letter, stamp) {
+            Ok(()) => Ok(()),
+            Err(letter) => Err((letter, Lost)),
+        }
     }
 
     fn close_at<R: Wait>(

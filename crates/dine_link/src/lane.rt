@@ -75,10 +75,7 @@ pub trait Lane: Send {
         requires few_letters { length (seen_tx tx.old).letters < 2 ^ 61 }
         ensures put { IfOk result (λ _. seen_tx tx.new ≡ with_letter letter (seen_tx tx.old)) }
         ensures handed_back { IfErr result (λ refused. refused.0 ≡ letter) }
-        ensures refused { IfErr result (λ _. seen_tx tx.new ≡ after_refusal (seen_tx tx.old)) }
-    {
-        Self::put_at(rt, tx, letter, Stamp::first())
-    }
+        ensures refused { IfErr result (λ _. seen_tx tx.new ≡ after_refusal (seen_tx tx.old)) };
 
     /// Puts Close, the last letter of the link. If the link is full, it waits. Fewer than 2^61 letters were put before.
     ///
@@ -88,10 +85,7 @@ pub trait Lane: Send {
     fn close<R: Wait>(rt: &R, tx: Self::Tx) -> Result<Self::ClosedTx, (Self::Tx, Lost)>
         requires few_letters { length (seen_tx tx).letters < 2 ^ 61 }
         ensures closed { IfOk result (λ closed. seen_closed closed ≡ with_letter Close (seen_tx tx)) }
-        ensures refused { IfErr result (λ refused. seen_tx refused.0 ≡ after_refusal (seen_tx tx)) }
-    {
-        Self::close_at(rt, tx, Stamp::first())
-    }
+        ensures refused { IfErr result (λ refused. seen_tx refused.0 ≡ after_refusal (seen_tx tx)) };
 
     /// Takes the next letter. If the link is empty, it waits. Close was not taken before, and fewer than 2^61 letters
     /// were.
@@ -103,11 +97,7 @@ pub trait Lane: Send {
         requires open { has_close (seen_rx rx.old).letters ≡ false }
         requires few_letters { length (seen_rx rx.old).letters < 2 ^ 61 }
         ensures taken { IfOk result (λ letter. HasTaken letter (seen_rx rx.old) (seen_rx rx.new)) }
-        ensures refused { IfErr result (λ _. seen_rx rx.new ≡ after_refusal (seen_rx rx.old)) }
-    {
-        let (letter, _) = Self::take_at(rt, rx)?;
-        Ok(letter)
-    }
+        ensures refused { IfErr result (λ _. seen_rx rx.new ≡ after_refusal (seen_rx rx.old)) };
 
     /// Puts a letter as [`Lane::put`] does, with its moment. A moment is for proofs alone, and costs nothing.
     fn put_at<R: Wait>(

@@ -146,7 +146,9 @@ impl Lane for RingLane {
     ghost seen_rx = { rings.seen_rx };
 
     fn pair(alloc: Global, edge: u32, from: u32) -> Result<(RingTx, RingRx), LinkFault> {
-        let (producer, consumer) = RingBuffer::new(alloc, CAPACITY)?;
+        let Ok((producer, consumer)) = RingBuffer::new(alloc, CAPACITY) else {
+            return Err(LinkFault::Memory);
+        };
         let tx = Pushing {
             edge,
             from,
@@ -186,8 +188,10 @@ impl Lane for RingLane {
         ensures taken { IfOk result (λ letter. HasTaken letter (rings.seen_rx rx.old) (rings.seen_rx rx.new)) }
         ensures never_lost { IsOk result }
     {
-        let (letter, _) = RingLane::take_at(rt, rx)?;
-        Ok(letter)
+        match RingLane::take_at(rt, rx) {
+            Ok((letter, _)) => Ok(letter),
+            Err(lost) => Err(lost),
+        }
     }
 
     fn put_at<R: Wait>(

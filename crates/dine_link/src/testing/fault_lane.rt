@@ -99,8 +99,25 @@ impl Lane for FaultLane {
             ((faults.seen_tx ends.0).refused ≡ false) × ((faults.seen_rx ends.1).refused ≡ false)) }
         ensures unlimited { IfOk result (λ ends. (ends.0.left ≡ None) × (ends.1.left ≡ None)) }
     {
-        let (tx, rx) = ChannelLane::pair(alloc, edge, from)?;
-        Ok((fault_tx(tx, None), fault_rx(rx, None)))
+        match ChannelLane::pair(alloc, edge, from) {
+            Ok((tx, rx)) => Ok((fault_tx(tx, None), fault_rx(rx, None))),
+            Err(fault) => Err(fault),
+        }
+    }
+
+    fn put<R: Wait>(rt: &R, tx: &mut FaultTx, letter: Letter) -> Result<(), (Letter, Lost)> {
+        FaultLane::put_at(rt, tx, letter, Stamp::first())
+    }
+
+    fn close<R: Wait>(rt: &R, tx: FaultTx) -> Result<ChannelClosedTx, (FaultTx, Lost)> {
+        FaultLane::close_at(rt, tx, Stamp::first())
+    }
+
+    fn take<R: Wait>(rt: &R, rx: &mut FaultRx) -> Result<Letter, Lost> {
+        match FaultLane::take_at(rt, rx) {
+            Ok((letter, _)) => Ok(letter),
+            Err(lost) => Err(lost),
+        }
     }
 
     fn put_at<R: Wait>(
@@ -126,7 +143,10 @@ impl Lane for FaultLane {
             tx.refuse();
             return Err((FaultTx { tx, left }, Lost));
         }
-        ChannelLane::close_at(rt, tx, stamp).map_err(|(tx, lost)| (FaultTx { tx, left }, lost))
+        match ChannelLane::close_at(rt, tx, stamp) {
+            Ok(closed) => Ok(closed),
+            Err((tx, lost)) => Err((FaultTx { tx, left }, lost)),
+        }
     }
 
     fn take_at<R: Wait>(rt: &R, rx: &mut FaultRx) -> Result<(Letter, Stamp), Lost> {

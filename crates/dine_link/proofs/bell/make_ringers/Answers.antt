@@ -1,10 +1,10 @@
-use Rattle.std.proofs.Common.{◌≡◌, ℕ, [], map, ap, ◌∙◌, arith, rules}
+use Rattle.std.proofs.Common.{◌≡◌, ℕ, [], map, subst, refl, sym, ap, ◌∙◌, arith}
 use Rattle.std.specs.List.{range_with_len}
-use Rattle.crossbeam_channel.specs.Claims.{view}
+use Rattle.crossbeam_channel.specs.Claims.{view, IsSeatAt}
 use Rattle.crossbeam_channel.specs.Ends.{sends_on}
 use Rattle.dine_link.specs.declared.bell_rule.Part.TheVariants.{Waits}
-use Rattle.dine_link.specs.Bells.{new_ringer}
-use Rattle.dine_link.specs.private.BellRule.{with_next_ringer, next_ringer}
+use Rattle.dine_link.specs.Bells.{BellId, new_ringer}
+use Rattle.dine_link.specs.private.BellRule.{IsOfRinger, with_next_ringer, next_ringer}
 use Rattle.dine_link.proofs.BellSteps.{forks, ringer_more}
 use Rattle.dine_link.proofs.bell.make_ringers.Goals as goal
 
@@ -21,7 +21,15 @@ loop-number-preserved c = let before = c.loop-number.invariant in record {
 }
 
 pub loop-number-init : goal.loop-number-init
-loop-number-init c = search rules
+loop-number-init c = record { seated = c.requires.seated; knows = c.requires.first; so_far = c.in_ok-ringers.ensures.items; count = c.in_ok-ringers.ensures.len; room = c.in_ok-ringers.ensures.capacity }
+
+pub invariant_of-push_reserved : goal.invariant_of-push_reserved
+invariant_of-push_reserved c =
+    let own = sym (c.another-own.ensures.rule.1 ∙ ap next_ringer c.loop-number.invariant.knows) in
+    record {
+      seated = subst (λ (bell : BellId). IsSeatAt bell c.another-own.result) (sym c.in_ok-sender_too.ensures) c.another-own.ensures.channel.2;
+      own = subst (IsOfRinger c.loop-number.number) own refl;
+    }
 
 pub push_reserved-requires : goal.push_reserved-requires
 push_reserved-requires c = omega (arith, c.loop-number.invariant.count, c.loop-number.invariant.room)

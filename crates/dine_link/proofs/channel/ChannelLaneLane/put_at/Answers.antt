@@ -1,4 +1,3 @@
-use Rattle.std.proofs.Common.{rules}
 use Rattle.dine_link.proofs.Endings.{unclosed-sent}
 use Rattle.dine_link.specs.Channels.{seen_tx, seen_putting}
 use Rattle.dine_link.proofs.channel.ChannelLaneLane.put_at.Goals as goal
@@ -6,8 +5,8 @@ use Rattle.dine_link.proofs.channel.ChannelLaneLane.put_at.Goals as goal
 pub invariant_of-tx : goal.invariant_of-tx
 invariant_of-tx g c = record { unclosed = unclosed-sent c.send.result (seen_tx c.args.tx.now) (seen_putting c.send.new.self) c.args.letter c.args.stamp.at c.send.ensures.put c.send.ensures.refused c.args.tx.now.unclosed c.requires.letter }
 
-pub returns-clause-handed_back : goal.returns-clause-handed_back
-returns-clause-handed_back g c = search rules
+pub returns-in-Err-clause-handed_back : goal.returns-in-Err-clause-handed_back
+returns-in-Err-clause-handed_back g c = c.in-Err.ensures.handed_back
 
-pub returns-clause-refused : goal.returns-clause-refused
-returns-clause-refused g c = search rules
+pub returns-in-Err-clause-refused : goal.returns-in-Err-clause-refused
+returns-in-Err-clause-refused g c = c.in-Err.ensures.refused

@@ -22,3 +22,6 @@ returns-in-Ok g c =
     let more = c.in-Ok.ensures.ok.0 ∙ ap₂ (λ (letters : List Stamped) (x : Stamped). letters ++ x ∷ []) same.1 same.2 in
     let new : Pushing = record { edge = c.loop.self.edge; from = c.loop.self.from; put = length (sent c.push.new.self); producer = c.push.new.self; counted = refl } in
     pushed c.args.self.now new letter ((ring.0.0 ∙ same.0.0.0, ring.0.1 ∙ same.0.0.1, ring.0.2 ∙ same.0.0.2, ring.0.3 ∙ same.0.0.3), ring.1 ∙ same.0.1) same.4 same.5 more
+
+pub loop-init : goal.loop-init
+loop-init g c = (((refl, refl, refl, refl), refl), refl, refl, refl, refl, refl)

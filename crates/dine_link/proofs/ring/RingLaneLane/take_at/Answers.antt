@@ -1,4 +1,4 @@
-use Rattle.std.proofs.Common.{List, [], ◌∷◌, length, refl, ap, sym, ◌∙◌, arith, rules, length-append}
+use Rattle.std.proofs.Common.{List, [], ◌∷◌, length, refl, ap, sym, ◌∙◌, arith, length-append}
 use Rattle.rtrb.specs.Ring.{received}
 use Rattle.dine_rules.specs.Letters.{has_close}
 use Rattle.dine_link.specs.declared.ring.RingRx.{RingRx}
@@ -13,7 +13,9 @@ pub invariant_of-rx-clause-noted : goal.invariant_of-rx-clause-noted
 invariant_of-rx-clause-noted g c = rw (ap letters_in c.in-Ok.ensures.ok.0 ∙ letters_then (received c.loop.rx.consumer) c.in-Ok.got, ap (λ end. end.letters) c.loop.invariant) (c.is_close-rx.ensures ∙ sym (has_close-added (letters_in (received c.args.rx.now.consumer)) c.in-Ok.got.letter c.requires.open))
 
 pub invariant_of-rx-in_default : goal.invariant_of-rx-in_default
-invariant_of-rx-in_default g c = search rules
+invariant_of-rx-in_default g c =
+    let same = sym c.in_default.ensures.empty.0 in
+    record { counted = c.loop.rx.counted ∙ ap (λ (l : List Stamped). length l) same; noted = c.loop.rx.noted ∙ ap (λ (l : List Stamped). has_close (letters_in l)) same }
 
 pub overflow_add-rx : goal.overflow_add-rx
 overflow_add-rx g c =
@@ -30,3 +32,6 @@ returns-in-Ok-clause-taken g c =
     let letters = received c.pop.new.self in
     let new : RingRx = record { edge = c.loop.rx.edge; from = c.loop.rx.from; taken = length letters; closed = has_close (letters_in letters); consumer = c.pop.new.self; counted = refl; noted = refl } in
     popped c.loop.rx new got c.pop.ensures.ring refl refl c.in-Ok.ensures.ok.0 ∙ ap (with_letter_at got.letter got.stamp.at) c.loop.invariant
+
+pub loop-init : goal.loop-init
+loop-init g c = refl
