@@ -260,7 +260,7 @@ impl Lane for ChannelLane {
         let ChannelTx { mut putting } = tx;
         match putting.send(rt, Letter::Close, stamp) {
             Ok(()) => Ok(ChannelClosedTx { putting }),
-            Err(_) => Err((ChannelTx { putting }, Lost)),
+            Err(_close) => Err((ChannelTx { putting }, Lost)),
         }
     }
 

@@ -1,4 +1,5 @@
 use Rattle.std.proofs.Common.{◌≡◌, ℕ, [], map, subst, refl, sym, ap, ◌∙◌, arith}
+use Rattle.std.proofs.lemmas.Result.{IfOk-from_err}
 use Rattle.std.specs.List.{range_with_len}
 use Rattle.crossbeam_channel.specs.Claims.{view, IsSeatAt}
 use Rattle.crossbeam_channel.specs.Ends.{sends_on}
@@ -43,3 +44,16 @@ returns c =
       knows = made.knows ∙ ap (λ (n : ℕ). Waits n []) all;
       ringers = made.so_far ∙ ap (λ (n : ℕ). map (new_ringer (sends_on c.args.sender.now)) (range_with_len 0 n)) all;
     }
+
+pub returns-in_err-ringers : goal.returns-in_err-ringers
+returns-in_err-ringers c = record { seated = c.requires.seated; knows = IfOk-from_err _ _ c.from_residual.ensures.0; ringers = IfOk-from_err _ _ c.from_residual.ensures.0 }
+
+pub returns-in_err-sender_too : goal.returns-in_err-sender_too
+returns-in_err-sender_too c =
+    let refused = c.from_residual-in_err-sender_too.ensures.0 in
+    record { seated = c.loop-number.invariant.seated; knows = IfOk-from_err _ _ refused; ringers = IfOk-from_err _ _ refused }
+
+pub returns-in_err-waker : goal.returns-in_err-waker
+returns-in_err-waker c =
+    let refused = c.from_residual-in_err-waker.ensures.0 in
+    record { seated = c.loop-number.invariant.seated; knows = IfOk-from_err _ _ refused; ringers = IfOk-from_err _ _ refused }
