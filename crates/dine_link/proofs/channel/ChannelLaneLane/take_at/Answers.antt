@@ -43,3 +43,6 @@ pub invariant_of-rx-2-clause-counted : goal.invariant_of-rx-2-clause-counted
 invariant_of-rx-2-clause-counted g c =
     let longer = ap (λ (v : Known). length v.taken) c.in-Some.ensures.rule in
     omega (arith, c.args.rx.now.counted, longer, length-append (view c.args.rx.now.pass).taken (c.in-Some.got ∷ []))
+
+pub invariant_of-rx-2-clause-seated : goal.invariant_of-rx-2-clause-seated
+invariant_of-rx-2-clause-seated g c = c.receive.ensures.channel.0
