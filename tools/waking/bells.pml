@@ -188,8 +188,9 @@ inline note(s, number, k) {
   }
 }
 
-/* Rings a neighbour's bell for a letter.
-   of bell.rt: Ringer::ring_for, Ringer::sound */
+/* Rings a neighbour's bell for a letter, and wakes the thread if it has to.
+   of Runs.antt: RingsBell, WakesThread
+   of bell.rt: Ringer::ring_for, Ringer::sound, send_and_note */
 inline ring_for(s, number, k) {
 #ifdef BUG_SEND_AFTER
   LOCK(s); note(s, number, k); UNLOCK(s);
@@ -260,7 +261,8 @@ inline next_event() {
   }
 }
 
-/* of running.rt: Running::eat, Running::begin */
+/* of Runs.antt: Acts, if the event is Begin or End
+   of running.rt: Running::eat, Running::begin */
 inline eat() {
   d_step {
     eating[me] = 1; i = 0;
@@ -273,6 +275,7 @@ inline eat() {
 }
 
 /* Puts a letter at place i, and rings.
+   of Runs.antt: Acts, if the event puts a letter
    of running.rt: Running::put, Running::close, close_at */
 inline put() {
   PUT_BEFORE
@@ -280,6 +283,7 @@ inline put() {
 }
 
 /* Notes under the lock that the bell sleeps, and what it wants.
+   of Runs.antt: FallsAsleep
    of sleeper.rt: SleepState::fall_asleep; of running.rt: Running::wants */
 inline fall_asleep() {
   d_step {
@@ -307,7 +311,8 @@ inline park() {
 }
 
 /* What the letter `kind` from place `number` does to the site, with the asserts that it is in turn.
-   of running.rt: Running::take_where_rung, Running::take, Running::take_noted */
+   of Runs.antt: TakesLetter
+   of running.rt: Running::take_where_rung, Running::take, Running::take_and_note */
 inline take() {
   TAKE_AFTER
   d_step {
@@ -326,7 +331,7 @@ inline take() {
 }
 
 /* of running.rt: Running::work, Running::do_events, Running::act, Running::make_room, Running::perform,
-   Running::hear */
+   Running::wait_and_take */
 proctype site(byte me; byte due) {
   byte away, dirty, tokens; /* the places whose fork is away, is here and dirty, and whose token is here */
   byte open, said, heard, gone; /* the places without a Close by this site, with its Done, with the other Done, Close */
@@ -375,7 +380,8 @@ hear:
   :: IS_DONE && gone == BIT(degree[me]) - 1 && open == 0 -> goto finished
   :: else
   fi;
-  /* of bell.rt: Bell::wait_for, Bell::hear, Bell::fall_asleep */
+  /* of Runs.antt: HearsRing
+     of bell.rt: Bell::wait_for, Bell::next_ring, Bell::fall_asleep, next_ring_or_sleep */
   if
   :: HEAR; goto heard_one
   :: empty(bell[me])

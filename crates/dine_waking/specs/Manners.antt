@@ -1,0 +1,60 @@
+-- Runs in which each site takes letters in its manner. It is polite or eager.
+use Rattle.std.specs.Prelude.{◌≡◌, ℕ, zero, suc, Bool, true, false, [], None}
+use Rattle.dine_token.specs.Log.{is_dirty}
+use Rattle.dine_graph.specs.Plan.{SeenPlan}
+use Rattle.dine_rules.specs.declared.events.EventKind.TheVariants as event
+use Rattle.dine_rules.specs.Holdings.{fork_at, hand_at, token_at}
+use Rattle.dine_rules.specs.Letters.{forks_in, requests_in}
+use Rattle.dine_rules.specs.Links.{queue_to}
+use Rattle.dine_rules.specs.Local.{neighbour_at, traffic_at}
+use Rattle.dine_rules.specs.World.{state_of}
+use Rattle.dine_site_core.specs.NextEvent.{next_event}
+use Rattle.dine_waking.specs.Runs.{ByActing, ByHearing, Run, RunStep, ThreadStep, has_yet_to_ring, number_there, thread_of}
+
+-- The step is in the manner of its site. A polite site begins a meal only if its bell has no ring left: here the check
+-- of the bell and the Begin are one step. An eager site hears a ring only if it can do nothing without a letter. Both
+-- do their other steps as any site does.
+abbrev pub IsInManner : (plan : SeenPlan) (s : ℕ) (old new : Run) → ThreadStep plan s old new → Bool → Type 0
+IsInManner plan s old new (ByActing a) true = a.kind ≡ event.Begin → (thread_of old s).bell ≡ []
+IsInManner plan s old new (ByHearing h) false = next_event plan s (state_of old.world s) ≡ None
+IsInManner plan s old new step polite = Unit {0}
+
+-- One step of a run, in the manner of the site that does it. `is_polite` says which sites are polite. The others are
+-- eager.
+pub record MannerStep (plan : SeenPlan) (is_polite : ℕ → Bool) (old new : Run) : Type 0 where
+  pub step : RunStep plan old new
+  pub in_manner : IsInManner plan step.site old new step.step (is_polite step.site)
+
+-- n such steps lead from one moment of a run to the other
+abbrev pub LeadsInManner : SeenPlan → (ℕ → Bool) → ℕ → Run → Run → Type 0
+LeadsInManner plan is_polite zero old new = old ≡ new
+LeadsInManner plan is_polite (suc n) old new = (next : Run) × MannerStep plan is_polite old next × LeadsInManner plan is_polite n next new
+
+-- the neighbour at place i asks the site for the fork: its Request is in the link
+abbrev pub IsAsked : SeenPlan → Run → ℕ → ℕ → Type 0
+IsAsked plan run s i = requests_in (queue_to plan run.world s i) ≡ 1
+
+-- the neighbour at place i has rung for each letter that it put there
+abbrev pub HasRungForAll : SeenPlan → Run → ℕ → ℕ → Type 0
+HasRungForAll plan run s i = has_yet_to_ring (thread_of run (neighbour_at plan s i)).doing (number_there plan s i) ≡ 0
+
+-- the site holds the fork of place i, and the fork is dirty
+abbrev pub HoldsDirtyFork : SeenPlan → Run → ℕ → ℕ → Type 0
+HoldsDirtyFork plan run s i = (fork_at plan s (state_of run.world s) i ≡ 1) × (is_dirty (hand_at s (state_of run.world s) i) ≡ true)
+
+-- the site holds the fork of place i, and the fork is clean
+abbrev pub HoldsCleanFork : SeenPlan → Run → ℕ → ℕ → Type 0
+HoldsCleanFork plan run s i = (fork_at plan s (state_of run.world s) i ≡ 1) × (is_dirty (hand_at s (state_of run.world s) i) ≡ false)
+
+-- The site waits for the fork of place i: it has neither the fork nor the token, and it has rung for each letter that
+-- it put there. So it has asked for the fork. Its Request may have been taken, and the fork may be on its way to it.
+abbrev pub WaitsForFork : SeenPlan → Run → ℕ → ℕ → Type 0
+WaitsForFork plan run s i = (fork_at plan s (state_of run.world s) i ≡ 0) × (token_at plan s (state_of run.world s) i ≡ 0) × (has_yet_to_ring (thread_of run s).doing i ≡ 0)
+
+-- how many times the site has given the fork of place i
+abbrev pub forks_given : Run → ℕ → ℕ → ℕ
+forks_given run s i = forks_in (traffic_at (state_of run.world s) i).put
+
+-- how many meals the site has begun
+abbrev pub meals_so_far : Run → ℕ → ℕ
+meals_so_far run s = (state_of run.world s).ate
