@@ -1,6 +1,6 @@
 // The list of enabled events, as buttons. The buttons stay while the list changes, so that the focus does too.
 
-import { setOff, setText, textElement } from "./marks.js";
+import { setText, textElement } from "./marks.js";
 
 export class EnabledList {
   // `parts` has the list, the count, and what is done at a choice, and at a light.
@@ -38,12 +38,12 @@ export class EnabledList {
     const isByPointer = event.detail > 0;
     const chosen = this.events[place];
     if (!chosen || event.detail > 1 || (isByPointer && this.pressed !== chosen.words)) return;
-    if (this.items[place].button.getAttribute("aria-disabled") !== "true") this.choose(chosen.number);
+    this.choose(chosen.number);
   }
 
-  // Shows the events, of which the one numbered `next` is to follow, and is the only one that may if nothing else was
-  // recorded. `total` is how many there are, with those that are not shown.
-  show(events, { next, total, isRecorded }) {
+  // Shows the events, of which the one numbered `next` is to follow. `total` is how many there are, with those that are
+  // not shown.
+  show(events, { next, total }) {
     const focused = this.items.findIndex(({ button }) => button === document.activeElement);
     this.events = events;
     while (this.items.length < events.length) this.items.push(this.make());
@@ -53,7 +53,6 @@ export class EnabledList {
       setText(words, event.words);
       setText(rule, event.rule);
       button.classList.toggle("next", event.number === next);
-      setOff(button, isRecorded && event.number !== next);
     });
     this.place(events.length, total);
     setText(this.many, events.length < total ? `${events.length} of ${total}` : total || "");

@@ -31,8 +31,10 @@ export class Keys {
 
   hear(event) {
     const { key, target } = event;
-    if (event.ctrlKey || event.metaKey || event.altKey || document.querySelector("dialog[open]")) return;
+    if (document.querySelector("dialog[open]")) return;
     const kind = kindOf(target);
+    if ((event.ctrlKey || event.metaKey) && key === "z" && kind !== "text" && this.does("Undo")) event.preventDefault();
+    if (event.ctrlKey || event.metaKey || event.altKey) return;
     if (kind === "text") {
       if (key === "Escape" || (key === "Enter" && target.matches("input"))) target.blur();
       return;
@@ -44,13 +46,15 @@ export class Keys {
     }
     if (kind === "slider" && UP_DOWN.has(key)) event.preventDefault();
     if ((kind === "button" || kind === "choice") && (key === " " || key === "Enter")) return;
+    // Arrows go along the answers to choose from.
+    if (kind === "choice" && key.startsWith("Arrow")) return;
     this.doKey(event, kind);
   }
 
   doKey(event, kind) {
     const { key } = event;
     const isLetter = key.length === 1 && key !== " ";
-    // A key of one letter acts on what has the focus even if such keys are turned off: + and - on the slider.
+    // A key of one letter queue on what has the focus even if such keys are turned off: + and - on the slider.
     if (isLetter && !this.hasLetters() && !(kind === "slider" && "+-=".includes(key))) return;
     if (kind === "menu" && isLetter) return;
     // Space that is held down does not play and pause in turn.

@@ -1,8 +1,11 @@
 // What pictures are made of: elements, the outline of a site by its phase, and the marks for forks, tokens and words.
 
 const SVG = "http://www.w3.org/2000/svg";
-// Up to which size a fork is a dot and a token has no question mark.
-const DOT = 12;
+// Up to which length a fork is a dot, and up to which size a token has no question mark.
+const DOT = { fork: 11.5, token: 12 };
+// Where a dirty fork has sauce and a clean one shines, each with how far it reaches.
+const SAUCE = [[-7.5, -7.5, 2.9], [0, -3.5, 2.5], [7.5, -8.8, 2.3], [5, 0.6, 2.3]];
+const SHINE = [[9, -10, 5.4], [-8.5, 3.5, 4]];
 
 export const between = (least, number, most) => Math.max(least, Math.min(number, most));
 
@@ -67,17 +70,28 @@ export function outline(phase, radius) {
   return `M${radius},0A${radius},${radius} 0 1 0 ${-radius},0A${radius},${radius} 0 1 0 ${radius},0Z`;
 }
 
-// A fork whose handle points down, or a dot if it is small. It is filled while it is dirty.
-export function forkMark(size, inside) {
+// A fork whose handle points down, or a dot if it is small. A dirty one is full of sauce, and a clean one shines.
+export function forkMark(long, inside) {
   const group = element("g", { class: "fork" }, inside);
-  if (size < DOT) {
-    element("circle", { class: "dot", r: size * 0.42 }, group);
+  if (long < DOT.fork) {
+    element("circle", { class: "dot", r: long * 0.44 }, group);
     return group;
   }
-  const path = "M-6.5,-11V-6Q-6.5,0 0,0Q6.5,0 6.5,-6V-11M0,-11V12";
-  const scaled = element("g", { transform: `scale(${size / 27})` }, group);
+  const path = "M-7.5,-11V-5Q-7.5,2 0,2Q7.5,2 7.5,-5V-11M0,-11V12";
+  const scaled = element("g", { transform: `scale(${long / 27})` }, group);
   for (const kind of ["halo", "outer", "inner"]) element("path", { class: kind, d: path }, scaled);
+  for (const [cx, cy, r] of SAUCE) element("circle", { class: "sauce", cx, cy, r }, scaled);
+  for (const [x, y, far] of SHINE) element("path", { class: "shine", d: starPath(x, y, far) }, scaled);
   return group;
+}
+
+// A star with four rays.
+function starPath(x, y, far) {
+  const near = 0.22 * far;
+  const points = [[0, -1], [1, 0], [0, 1], [-1, 0]].flatMap(([right, down]) => [
+    `${x + far * right},${y + far * down}`, `${x + near * (right - down)},${y + near * (down + right)}`,
+  ]);
+  return `M${points.join("L")}Z`;
 }
 
 // A token: the right to ask for the fork.
@@ -85,7 +99,7 @@ export function tokenMark(size, inside) {
   const group = element("g", { class: "token" }, inside);
   const side = size * 0.74;
   element("rect", { x: -side / 2, y: -side / 2, width: side, height: side, rx: side * 0.24 }, group);
-  if (size >= DOT) element("text", { "font-size": side * 0.85 }, group).textContent = "?";
+  if (size >= DOT.token) element("text", { "font-size": side * 0.85 }, group).textContent = "?";
   return group;
 }
 
@@ -105,48 +119,60 @@ export function phaseMark(phase) {
   return svg;
 }
 
-// The legend: each mark with what it means, forks and tokens as large as in the picture.
-export function drawLegend(list, size) {
-  list.replaceChildren();
-  const mark = Math.min(size, 18);
-  const shape = (phase) => (inside) => {
-    const group = element("g", { class: `site ${phase}` }, inside);
-    element("path", { class: "shape", d: outline(phase, 7.5) }, group);
-  };
-  const fork = (kind) => (inside) => forkMark(mark, inside).classList.add(kind);
-  const arrow = (inside) => {
-    const group = element("g", { class: "edge ranked" }, inside);
-    element("line", { x1: -10, y1: 0, x2: 10, y2: 0 }, group);
-    element("path", { class: "head", d: "M-4,-5L6,0L-4,5Z" }, group);
-  };
-  const lane = (inside) => {
+// What a legend may have: words, what is drawn for them, and whether a picture has it that shows some kinds of marks.
+const shape = (phase) => (inside) => {
+  const group = element("g", { class: `site ${phase}` }, inside);
+  element("path", { class: "shape", d: outline(phase.split(" ")[0], 7.5) }, group);
+};
+const fork = (kind) => (inside) => forkMark(21, inside).classList.add(kind);
+const arrow = (kind) => (inside) => {
+  const group = element("g", { class: `edge ${kind}` }, inside);
+  element("line", { x1: -10, y1: 0, x2: 10, y2: 0 }, group);
+  element("path", { class: "head", d: "M-4,-5L6,0L-4,5Z" }, group);
+};
+const hasPhase = (does) => ({ phases }) => phases.has(does);
+const hasLetter = (letter) => ({ letters }) => letters.has(letter);
+const LEGEND = [
+  ["thinking", shape("thinking"), hasPhase("thinking")],
+  ["hungry", shape("hungry"), hasPhase("hungry")],
+  ["eating", shape("eating"), hasPhase("eating")],
+  ["fork", fork("plain"), ({ kinds, isPlain }) => isPlain && kinds.has("forks")],
+  ["dirty fork", fork("dirty"), ({ kinds, forks, isPlain }) => !isPlain && kinds.has("forks") && forks.has(true)],
+  ["clean fork", fork("clean"), ({ kinds, forks, isPlain }) => !isPlain && kinds.has("forks") && forks.has(false)],
+  ["token", (inside) => tokenMark(18, inside), ({ kinds, isPlain }) => !isPlain && kinds.has("tokens")],
+  ["letter Done", (inside) => wordMark("done", 18, inside), hasLetter("done")],
+  ["letter Close", (inside) => wordMark("close", 18, inside), hasLetter("close")],
+  ["on its way", (inside) => {
     element("line", { class: "lane", x1: -10, y1: 0, x2: 4, y2: 0 }, inside);
     element("path", { class: "tip", d: "M3,-4L9,0L3,4Z" }, inside);
-  };
-  const closed = (inside) => {
-    element("line", { x1: -10, y1: 0, x2: 10, y2: 0 }, element("g", { class: "edge closed" }, inside));
-  };
-  const rank = (inside) => {
-    const group = element("g", { class: "rank" }, element("g", { class: "ranked" }, inside));
+  }, ({ letters }) => letters.size > 0],
+  ["goes before", arrow("ranked"), ({ kinds, isPlain }) => !isPlain && kinds.has("arrows")],
+  ["waits for", arrow("caught"), ({ kinds, isPlain }) => isPlain && kinds.has("arrows")],
+  ["how many go before", (inside) => {
+    const group = element("g", { class: "rank" }, element("g", { class: "counts" }, inside));
     element("circle", { r: 9 }, group);
-    element("text", { "font-size": 12 }, group).textContent = "1";
-  };
-  const last = (inside) => {
-    const group = element("g", { class: "site last" }, inside);
-    element("path", { class: "halo", d: outline("thinking", 8) }, group);
-  };
-  const entries = [
-    ["thinking", shape("thinking")], ["hungry", shape("hungry")], ["eating", shape("eating")],
-    ["dirty fork", fork("dirty")], ["clean fork", fork("clean")], ["token", (inside) => tokenMark(mark, inside)],
-    ["letter Done", (inside) => wordMark("done", 18, inside)],
-    ["letter Close", (inside) => wordMark("close", 18, inside)], ["on its way", lane], ["goes before", arrow],
-    ["place in the order", rank], ["changed last", last], ["done", shape("thinking done")], ["closed edge", closed],
-  ];
-  for (const [words, draw] of entries) {
+    element("text", { "font-size": 12 }, group).textContent = "2";
+  }, ({ kinds, isPlain }) => !isPlain && kinds.has("counts")],
+  ["changed last", (inside) => {
+    element("path", { class: "halo", d: outline("thinking", 8) }, element("g", { class: "site last" }, inside));
+  }, ({ hasLast }) => hasLast],
+  ["done", shape("thinking done"), hasPhase("done")],
+  ["quit", shape("thinking quit"), hasPhase("quit")],
+  ["closed edge", (inside) => {
+    element("line", { x1: -10, y1: 0, x2: 10, y2: 0 }, element("g", { class: "edge closed" }, inside));
+  }, ({ hasClosed }) => hasClosed],
+];
+
+// Draws the legend of what a picture has: each mark with what it means.
+export function drawLegend(list, had) {
+  const entries = LEGEND.filter(([, , isThere]) => isThere(had));
+  const key = entries.map(([words]) => words).join();
+  if (list.dataset.key === key) return;
+  list.dataset.key = key;
+  list.replaceChildren(...entries.map(([words, draw]) => {
     const item = document.createElement("li");
-    const svg = element("svg", { viewBox: "-11 -11 22 22", "aria-hidden": "true" }, item);
-    draw(svg);
+    draw(element("svg", { viewBox: "-11 -11 22 22", "aria-hidden": "true" }, item));
     item.append(words);
-    list.append(item);
-  }
+    return item;
+  }));
 }

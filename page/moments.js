@@ -3,6 +3,7 @@
 
 const PLACE = "dine-moments";
 export const OWN = "own";
+export const SENT = "sent";
 
 // What the browser keeps, or nothing where it may keep nothing.
 export function kept(name) {
@@ -22,8 +23,8 @@ export function keep(name, text) {
 }
 
 export function ownLesson() {
-  const told = JSON.parse(kept(PLACE) ?? "null");
-  return { path: OWN, title: told?.title ?? "My moments", moments: told?.moments ?? [] };
+  const lesson = JSON.parse(kept(PLACE) ?? "null");
+  return { path: OWN, title: lesson?.title ?? "My moments", moments: lesson?.moments ?? [] };
 }
 
 export function keepLesson({ title, moments }) {

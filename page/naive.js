@@ -113,7 +113,7 @@ export class NaiveTable {
     return this.ring !== null && this.ring.every((site) => this.waitsFor(site) !== null);
   }
 
-  told() {
+  said() {
     if (this.isCaught()) {
       // Each holds the fork towards the next one, and waits for the one before it.
       const sites = [this.ring[0], ...this.ring.slice(1).reverse()];
@@ -138,7 +138,7 @@ export class NaiveTable {
         ends,
         fork: this.holders[edge] === null ? { isFree: true } : { at: this.holders[edge] },
         token: null,
-        dirty: false,
+        dirty: null,
         preferred: waiter(edge) < 0 ? null : waiter(edge),
         isCaught: isCaught && waiter(edge) >= 0,
       })),

@@ -3,29 +3,42 @@
 import { momentOf } from "./address.js";
 import { Keys, openMenu } from "./keys.js";
 import { between, setAttribute, textElement } from "./marks.js";
-import { found, mind } from "./mind.js";
+import { found, page } from "./state.js";
 import { keep, kept, saveFile, tomlOf } from "./moments.js";
-import { acts, course, ownPlan, player, tell } from "./parts.js";
+import { queue, timeline, planEditor, player, tell } from "./parts.js";
 import { programOf } from "./program.js";
 import {
   choose, chooseRandom, jump, leaveLesson, openOffered, openPlan, openWritten, pause, quicker, runOnThreads, scrub,
-  showRate, step,
+  showRate, step, takeOther, takeUp, undo,
 } from "./steps.js";
 import {
-  keepMoment, lessonOf, offerLessons, openLesson, openMoment, openScheduleOf, removeMoment, writeMoment,
+  keepMoment, lessonOf, lessonSent, offerLessons, openLesson, openMoment, openNext, openScheduleOf, removeMoment,
+  showNext, writeMoment,
 } from "./teach.js";
-import { noteAddress, openPicture, select, shellLine, show } from "./view.js";
+import { nameOf, noteAddress, openPicture, select, shellLine, show, showKinds, writeAddress } from "./view.js";
 
-async function copyLine() {
+// How far a finger goes at least to turn to another moment, in points.
+const SWIPE = 50;
+
+// Copies a text, and says so on its button. Without a clipboard it does what is left to do, and says that.
+async function copy(name, text, otherwise) {
+  const button = found(name);
+  button.dataset.words ??= button.textContent;
   try {
-    await navigator.clipboard.writeText(shellLine());
-    found("copy").textContent = "Copied";
+    await navigator.clipboard.writeText(text);
+    button.textContent = "Copied";
   } catch {
-    getSelection().selectAllChildren(found("line"));
-    found("copy").textContent = "Selected";
+    button.textContent = otherwise();
   }
-  setTimeout(() => { found("copy").textContent = "Copy"; }, 1200);
+  setTimeout(() => { button.textContent = button.dataset.words; }, 1200);
 }
+
+const copyLine = () => copy("copy", shellLine(), () => {
+  getSelection().selectAllChildren(found("line"));
+  return "Selected";
+});
+
+const copyLink = async () => copy("link", await writeAddress(), () => "It is above");
 
 function turnTheme() {
   const root = document.documentElement;
@@ -55,35 +68,36 @@ const back = () => jump((it) => it.at - 1);
 const BUTTONS = {
   reset: () => jump(() => 0),
   back,
-  step: paused(() => acts.do(step)),
+  undo,
+  step: paused(() => queue.do(step)),
   play: () => player.play(),
   first: paused(() => choose(0)),
   random: paused(chooseRandom),
   threads: runOnThreads,
-  own: paused(() => ownPlan.show(mind.wanted)),
-  use: () => ownPlan.use(),
-  again: () => ownPlan.again(mind.schedule?.plan ?? ""),
+  own: paused(() => planEditor.show(page.wanted)),
+  use: () => planEditor.use(),
+  again: () => planEditor.again(page.schedule?.plan ?? ""),
   copy: copyLine,
+  link: copyLink,
   theme: turnTheme,
   large: turnLarge,
   help: () => found("keys").showModal(),
   unselect: () => select(null),
-  "zoom-in": () => course.zoom(2),
-  "zoom-out": () => course.zoom(0.5),
-  "zoom-all": () => course.zoomOut(),
-  previous: () => openMoment(mind.moment - 1),
-  next: () => openMoment(mind.moment + 1),
+  "zoom-in": () => timeline.zoom(2),
+  "zoom-out": () => timeline.zoom(0.5),
+  "zoom-all": () => timeline.zoomOut(),
+  previous: () => openMoment(page.moment - 1),
+  next: openNext,
+  return: () => openMoment(page.moment),
   leave: leaveLesson,
   keep: writeMoment,
   "keep-it": keepMoment,
   remove: removeMoment,
-  save: () => saveFile("lesson.toml", tomlOf(mind.lesson)),
+  save: () => saveFile("lesson.toml", tomlOf(page.lesson)),
 };
 
 // What can be done before there is a plan.
 const WITHOUT_PLAN = new Set(["own", "use", "theme", "help", "large"]);
-// What a page without a server leaves out.
-const WITH_PROGRAM = ["own", "threads", "first", "random", "keep", "how-steps"];
 
 const KEYS = {
   ArrowRight: BUTTONS.step,
@@ -94,6 +108,7 @@ const KEYS = {
   PageDown: BUTTONS.next,
   PageUp: BUTTONS.previous,
   Escape: escape,
+  Undo: undo,
   f: BUTTONS.first,
   r: BUTTONS.random,
   "+": () => quicker(0.5),
@@ -106,6 +121,7 @@ const KEYS = {
   l: () => openMenu(found("lessons")),
   o: BUTTONS.own,
   c: copyLine,
+  a: copyLink,
   d: turnTheme,
   v: turnLarge,
   w: turn("ranks"),
@@ -117,7 +133,7 @@ const KEYS = {
 
 function escape() {
   if (document.body.classList.contains("large")) turnLarge();
-  else if (mind.selected !== null) select(null);
+  else if (page.selected !== null) select(null);
 }
 
 function turnPick() {
@@ -133,7 +149,7 @@ function press(number) {
 // Does what a key does. A figure does the enabled event of its number.
 function doKey(key) {
   const does = /^[0-9]$/.test(key) ? () => press(Number(key)) : KEYS[key];
-  if (!does || !(mind.schedule || [BUTTONS.own, BUTTONS.theme, BUTTONS.help].includes(does))) return false;
+  if (!does || !(page.schedule || [BUTTONS.own, BUTTONS.theme, BUTTONS.help].includes(does))) return false;
   does();
   return true;
 }
@@ -141,7 +157,7 @@ function doKey(key) {
 function doButton(name) {
   const button = found(name);
   if (button.getAttribute("aria-disabled") === "true") return;
-  if (mind.schedule || WITHOUT_PLAN.has(name)) BUTTONS[name]();
+  if (page.schedule || WITHOUT_PLAN.has(name)) BUTTONS[name]();
 }
 
 // Goes along the timeline by a tenth, if it has the focus and there is no lesson for these keys.
@@ -162,91 +178,114 @@ function listen() {
   found("seed").addEventListener("change", noteAddress);
   found("speed").addEventListener("input", showRate);
   found("letters").addEventListener("change", () => keep("dine-letters", found("letters").checked ? "on" : "off"));
-  found("course-scroll").addEventListener("keydown", leap);
+  found("timeline-scroll").addEventListener("keydown", leap);
   found("keep-form").addEventListener("submit", (event) => {
     if (event.submitter?.value === "cancel") return;
     event.preventDefault();
     keepMoment();
   });
-  addEventListener("hashchange", openAddress);
-  for (const name of ["predict", "naive", "focus"]) {
-    found(name).addEventListener("change", () => mind.schedule && show());
-  }
-  found("ranks").addEventListener("change", showRanks);
+  for (const where of document.querySelectorAll(".picture, .lesson")) listenToSwipes(where);
+  addEventListener("hashchange", () => openAddress());
+  for (const name of ["predict", "focus"]) found(name).addEventListener("change", () => page.schedule && show());
+  found("naive").addEventListener("change", () => {
+    page.isPlain = false;
+    showKinds();
+  });
+  // What a moment shows goes as soon as the reader says what to show.
+  found("ranks").addEventListener("change", () => {
+    page.kinds = null;
+    showKinds();
+  });
 }
 
-function showRanks() {
-  found("real-side").classList.toggle("ranked", found("ranks").checked);
-  found("order").hidden = !found("ranks").checked;
+// A finger that goes across the picture or the note turns to the next moment of a lesson, or to the one before.
+function listenToSwipes(where) {
+  let from = null;
+  where.addEventListener("touchstart", ({ touches }) => {
+    from = touches.length === 1 ? touches[0] : null;
+  }, { passive: true });
+  where.addEventListener("touchend", ({ changedTouches: [to] }) => {
+    if (!from || !page.lesson) return;
+    const [right, down] = [to.clientX - from.clientX, to.clientY - from.clientY];
+    if (Math.abs(right) < SWIPE || Math.abs(right) < 2 * Math.abs(down)) return;
+    if (right < 0) openNext();
+    else openMoment(page.moment - 1);
+  }, { passive: true });
 }
 
 // Draws the picture anew whenever its place has another size.
 function watchSize() {
   const rem = parseFloat(getComputedStyle(document.documentElement).fontSize) / 16;
-  new ResizeObserver(([{ contentRect }]) => {
-    const { width, height } = contentRect;
-    if (width === 0 || (Math.abs(width - mind.room.width) < 1 && Math.abs(height - mind.room.height) < 1)) return;
-    mind.room = { width, height, rem };
-    if (!mind.schedule) return;
+  const watch = new ResizeObserver(() => {
+    const shown = found(page.isPlain ? "naive-picture" : "picture").parentElement;
+    const { clientWidth: width, clientHeight: height } = shown;
+    if (width === 0 || (Math.abs(width - page.room.width) < 1 && Math.abs(height - page.room.height) < 1)) return;
+    page.room = { width, height, rem };
+    if (!page.schedule) return;
     openPicture();
     show();
-  }).observe(found("picture").parentElement);
+  });
+  for (const where of document.querySelectorAll(".canvas")) watch.observe(where);
 }
 
 async function begin() {
-  Object.assign(mind.does, { select, show, scrub, step, openWritten, press });
+  Object.assign(page.does, { select, show, showNext, scrub, step, takeOther, openWritten, press });
   if (kept("dine-theme")) document.documentElement.dataset.theme = kept("dine-theme");
   found("letters").checked = kept("dine-letters") !== "off";
   found("choices").append(textElement("b", ""), textElement("span", ""));
-  mind.program = await programOf();
+  page.program = await programOf();
   showRate();
-  showRanks();
+  showKinds();
   watchSize();
   listen();
-  const told = await mind.program.plans();
-  Object.assign(mind, { first: told.first, lessons: told.lessons ?? [] });
-  for (const { path, text } of told.plans) mind.plans.set(path, text);
-  found("unproved").hidden = !told.unproved;
-  const nameOf = (path) => path.replace(/^plans\/(.*)\.toml$/, "$1").replaceAll("_", " ");
-  for (const path of mind.plans.keys()) found("plans").add(new Option(nameOf(path), path));
-  if (mind.program.isRecorded) for (const name of WITH_PROGRAM) found(name).hidden = true;
+  const { catalog } = page.program;
+  Object.assign(page, { first: catalog.first, lessons: catalog.lessons });
+  for (const { path, text } of catalog.plans) page.plans.set(path, text);
+  found("unproved").hidden = !catalog.unproved;
+  for (const path of page.plans.keys()) found("plans").add(new Option(nameOf(path), path));
   offerLessons();
-  await openFirst(told);
+  await openFirst(catalog);
 }
 
-// Shows what the address says, or else the plan or the lesson that the server was begun with.
-function openAddress() {
-  return acts.do(async () => {
-    const said = await momentOf(location.hash);
+// The path of the offered plan with this text, or null.
+function pathOf(plan) {
+  return [...page.plans.keys()].find((path) => page.plans.get(path) === plan) ?? null;
+}
+
+// Shows what the address says, or else the plan or the lesson that the page was made for.
+function openAddress(address = location.hash) {
+  return queue.do(async () => {
+    const said = await momentOf(address);
     if (said.by) found("pick").value = said.by;
     if (said.seed !== null) found("seed").value = said.seed;
     if (said.speed !== null) found("speed").value = said.speed;
     showRate();
-    const path = said.path ?? mind.first;
-    if (said.plan === null && !mind.plans.has(path)) throw new Error(`there is no plan ${path} here`);
-    const lesson = said.lesson ? lessonOf(said.lesson) : null;
-    Object.assign(mind, { lesson, moment: between(0, said.moment, Math.max(0, (lesson?.moments.length ?? 0) - 1)) });
-    found("lessons").value = lesson?.path ?? "";
+    const path = said.plan === null ? said.path ?? page.first : pathOf(said.plan);
+    if (said.plan === null && !page.plans.has(path)) throw new Error(`there is no plan ${path} here`);
+    const lesson = said.own ? lessonSent(said.own) : said.lesson ? lessonOf(said.lesson) : null;
+    const place = between(0, said.moment, Math.max(0, (lesson?.moments.length ?? 0) - 1));
     if (lesson?.moments.length && said.path === null && said.plan === null) {
-      await openScheduleOf(lesson.moments[mind.moment]);
+      await openScheduleOf(lesson, place);
       return;
     }
-    const plan = said.plan ?? mind.plans.get(path);
-    await openPlan({ ...said, path: said.plan === null ? path : null, plan });
+    const plan = said.plan ?? page.plans.get(path);
+    await openPlan({ ...said, path, plan });
+    if (lesson) takeUp(lesson, place);
+    else leaveLesson();
   });
 }
 
 // Opens the lesson or the plan that the page begins with.
-async function openFirst(told) {
-  if (told.lesson && location.hash.length < 2) {
-    found("lessons").value = told.lesson;
+async function openFirst({ lesson, begin }) {
+  if (lesson && location.hash.length < 2) {
+    found("lessons").value = lesson;
     await openLesson();
     return;
   }
-  await (mind.program.isRecorded ? openOffered() : openAddress());
-  // An address that shows nothing leaves the plan to be seen that the server was begun with, and its fault.
-  const plan = mind.plans.get(mind.first);
-  if (!mind.schedule && mind.wanted !== plan) await openPlan({ path: mind.first, plan });
+  await openAddress(location.hash.length < 2 ? begin : location.hash);
+  // An address that shows nothing leaves the plan to be seen that the page was made for, and its fault.
+  const plan = page.plans.get(page.first);
+  if (!page.schedule && page.wanted !== plan) await openPlan({ path: page.first, plan });
 }
 
 begin().catch((fault) => tell(fault.message));

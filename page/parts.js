@@ -1,12 +1,12 @@
 // The parts of the page, each with its elements.
 
-import { Acts, Player } from "./acts.js";
-import { Course } from "./course.js";
+import { Queue, Player } from "./queue.js";
+import { Timeline } from "./timeline.js";
 import { EnabledList } from "./enabled.js";
 import { LessonPanel } from "./lessons.js";
 import { setText } from "./marks.js";
-import { found, mind, rate } from "./mind.js";
-import { OwnPlan } from "./own.js";
+import { found, page, rate } from "./state.js";
+import { PlanEditor } from "./plan_editor.js";
 import { Picture } from "./picture.js";
 import { Quiz } from "./quiz.js";
 import { faultText } from "./refusals.js";
@@ -19,30 +19,31 @@ export function tell(line) {
   found("fault").hidden = line === "";
 }
 
-const turnSite = (site) => mind.does.select(site === mind.selected ? null : site);
-const pressEvent = (number) => mind.does.press(number);
+const turnSite = (site) => page.does.select(site === page.selected ? null : site);
+const pressEvent = (number) => page.does.press(number);
 
-export const player = new Player({ button: found("play"), step: () => acts.do(mind.does.step), rate });
-export const acts = new Acts({
+export const player = new Player({ button: found("play"), step: () => queue.do(page.does.step), rate });
+export const queue = new Queue({
   busy: document.querySelector("main"),
   note: tell,
-  told: (fault) => {
+  ended: (fault) => {
     if (fault) player.pause();
-    tell(fault ? faultText(fault.message, mind.wanted) : "");
+    tell(fault ? faultText(fault.message, page.wanted) : "");
   },
 });
 export const picture = new Picture(found("picture"), turnSite);
 export const naivePicture = new Picture(found("naive-picture"), () => {});
-export const course = new Course({
-  names: found("course-names"),
-  scroll: found("course-scroll"),
-  inside: found("course-inside"),
-  view: found("course-view"),
-  svg: found("course"),
-  veil: found("course-veil"),
-  cursor: found("course-cursor"),
-  jump: (place) => mind.does.scrub(place),
-  hint: (text) => setText(found("course-hint"), text),
+export const timeline = new Timeline({
+  names: found("timeline-names"),
+  scroll: found("timeline-scroll"),
+  inside: found("timeline-inside"),
+  view: found("timeline-view"),
+  svg: found("timeline"),
+  veil: found("timeline-veil"),
+  cursor: found("timeline-cursor"),
+  jump: (place) => page.does.scrub(place),
+  takeOther: () => page.does.takeOther(),
+  hint: (text) => setText(found("timeline-hint"), text),
 });
 export const enabledList = new EnabledList({
   list: found("enabled"),
@@ -56,16 +57,15 @@ export const why = new Why({
   box: found("why"),
   close: found("unselect"),
   choose: pressEvent,
-  isRecorded: () => mind.program.isRecorded,
 });
-export const quiz = new Quiz({ form: found("quiz"), checked: () => mind.does.show() });
+export const quiz = new Quiz({ form: found("quiz"), checked: () => page.does.show() });
 export const siteTable = new SiteTable(found("sites"), turnSite);
 export const edgeTable = new EdgeTable(found("edges"));
-export const ownPlan = new OwnPlan({
-  dialog: found("own-plan"),
+export const planEditor = new PlanEditor({
+  dialog: found("plan-editor"),
   text: found("text"),
-  fault: found("own-fault"),
-  open: (plan) => mind.does.openWritten(plan),
+  fault: found("plan-fault"),
+  open: (plan) => page.does.openWritten(plan),
 });
 export const lessonPanel = new LessonPanel({
   panel: found("lesson"),
@@ -75,6 +75,9 @@ export const lessonPanel = new LessonPanel({
   question: found("question"),
   previous: found("previous"),
   next: found("next"),
+  back: found("return"),
   save: found("save"),
   remove: found("remove"),
+  play: () => page.does.showNext(),
+  checked: () => page.does.show(),
 });

@@ -1,19 +1,20 @@
-// The picture of a state: the sites, and on each edge its fork, its token and the letters in its links. With ranks, an
-// arrow on each edge goes from the end that has precedence to the other one.
+// The picture of a state: the sites, and on each edge its fork, its token and the letters in its links. The arrow of an
+// edge goes from the end that has precedence to the other one.
 
 import {
   between, commonOf, element, forkMark, outline, setAttribute, setText, shortened, tokenMark, wordMark,
 } from "./marks.js";
-import { MARK, SHOWN, SITE, TURN, linesOf, placesOf, pointOf } from "./places.js";
+import { drawCallout } from "./callout.js";
+import { SHOWN, SITE, TURN, linesOf, placesOf, pointOf } from "./places.js";
 
-// Up to how many edges each has its number in the picture, and from which size of the marks on.
-const NUMBERED = { edges: 24, size: 12 };
 // The size that a picture is drawn for. It is drawn larger where there is space for it, with its letters.
 const DRAWN = { width: 600, height: 400 };
 // The radius of what is hit by a click on a site, at least.
 const HIT = 10;
 // Which letter an event moves, and to which mark it belongs.
 const MOVED = { fork: "forks", request: "tokens", done: "words", close: "words" };
+// How far a letter reaches before and behind its middle, in sizes of the marks; a fork as far as it is long.
+const REACH = 0.4;
 
 // What a site does, in a word or two.
 export function doesWhat(site) {
@@ -32,26 +33,18 @@ function headWidth({ size }) {
   return between(5, size * 0.5, 13);
 }
 
-// Half of how far a number reaches along a line.
-function halfOf({ along }, number) {
-  return 5 * Math.abs(along.y) + 4 * String(number).length * Math.abs(along.x);
-}
-
-// How far from the middle of a line its number is, behind the head of the arrow and before it.
-function numberPlaces(line) {
-  const apart = line.half + 2;
-  return { behind: 0.1 * line.size + apart, before: headWidth(line) - 0.1 * line.size + apart };
-}
-
-// How much of a line is free from its middle towards an end that has a token, a fork or nothing.
-function freeOf(line, end, mark) {
-  return line.length / 2 - line.begin[end] - { token: 1.75, fork: 0.9, none: 0 }[mark] * line.size;
-}
-
-// Whether a line has space for its number, wherever its fork and its token are.
-function hasSpace(line) {
-  const need = numberPlaces(line).before + line.half;
-  return [0, 1].every((end) => Math.max(freeOf(line, end, "token"), freeOf(line, 1 - end, "fork")) >= need);
+// How many sites go before each one along the arrows: its neighbours that go before it, those before them, and so on.
+export function countsBefore({ sites, edges, order }) {
+  const before = sites.map(() => new Set());
+  // The order has each site behind all that go before it.
+  for (const site of order ?? []) {
+    for (const { ends, preferred } of edges) {
+      if (preferred === site || !ends.includes(site)) continue;
+      before[site].add(preferred);
+      for (const other of before[preferred]) before[site].add(other);
+    }
+  }
+  return before.map((those) => those.size);
 }
 
 export class Picture {
@@ -83,9 +76,6 @@ export class Picture {
     const [edges, lanes, drawn, marks] = [1, 2, 3, 4].map(() => element("g", {}, this.svg));
     const byEdge = (make) => new Map(this.numbers.map((edge, turn) => [edge, make(lines[turn], edge)]));
     this.lines = byEdge((line) => line);
-    this.numbers.forEach((edge, turn) => { lines[turn].half = halfOf(lines[turn], edge); });
-    this.isNumbered = lines.length <= NUMBERED.edges && (this.hasValues || lines.every(hasSpace))
-      && (lines[0]?.size ?? 0) >= NUMBERED.size;
     this.edges = byEdge((line, edge) => this.openEdge(line, edge, edges));
     this.common = commonOf(sites.map((site) => state.sites[site].name));
     this.lanes = byEdge(() => element("g", {}, lanes));
@@ -93,27 +83,26 @@ export class Picture {
       return [site, this.openSite(places[turn], state.sites[site], site, drawn)];
     }));
     this.tokens = byEdge((line) => tokenMark(line.size, marks));
-    this.forks = byEdge((line) => forkMark(line.size, marks));
+    this.forks = byEdge((line) => forkMark(line.laid.fork * line.size, marks));
     this.words = byEdge(() => element("g", {}, marks));
-    // How large a mark is. Without edges there is none, and the legend shows the largest.
-    this.size = lines[0]?.size ?? MARK.most;
     this.marked = [];
   }
 
   openEdge(line, edge, inside) {
     const group = element("g", { class: "edge" }, inside);
-    element("line", { x1: line.from.x, y1: line.from.y, x2: line.to.x, y2: line.to.y }, group);
+    const ends = { x1: line.from.x, y1: line.from.y, x2: line.to.x, y2: line.to.y };
+    element("line", { ...ends, class: "tinge" }, group).style.strokeWidth = `${0.6 * line.size}px`;
+    element("line", { ...ends, class: "line" }, group);
     const title = element("title", {}, group);
     const at = pointOf(line, line.length / 2);
     const wide = headWidth(line);
-    const begin = this.isNumbered && !this.hasValues ? -0.1 * line.size : -wide / 2;
-    const tip = `M${begin},${-wide * 0.55}L${begin + wide},0L${begin},${wide * 0.55}Z`;
+    const tip = `M${-wide / 2},${-wide * 0.55}L${wide / 2},0L${-wide / 2},${wide * 0.55}Z`;
     const head = element("path", { class: "head", d: tip }, group);
-    const label = this.isNumbered ? element("text", this.hasValues ? this.valuePlace(line) : at, group) : null;
-    return { group, title, head, label, at, key: null };
+    const label = this.hasValues ? element("text", this.valuePlace(line), group) : null;
+    return { group, title, head, label, place: at, key: null };
   }
 
-  // A value is wider than a number, and stands beside the edge, on the outer side, where no letter is.
+  // A value stands beside the edge, on the outer side.
   valuePlace(line) {
     const far = line.size + 14;
     const { width, height } = this.svg.viewBox.baseVal;
@@ -145,10 +134,10 @@ export class Picture {
       const kind = place.radius < SITE.phase + 3 ? "small tight" : "small";
       for (const y of rows.slice(1)) texts.push(element("text", { class: kind, y }, group));
     }
-    return { group, halo, shape, title, texts, rank: this.openRank(place, group), radius: place.radius, key: null };
+    return { group, halo, shape, title, texts, rank: this.openRank(place, group), place, key: null };
   }
 
-  // The place in the order of precedence: beside a large site, in a small one.
+  // How many sites go before this one: beside a large site, in a small one.
   openRank({ radius, angle }, group) {
     if (radius < 7) return null;
     const isBeside = radius >= SITE.name;
@@ -178,9 +167,8 @@ export class Picture {
 
   // Draws a state, of which only what differs from the one before is touched.
   show(state) {
-    const ranks = [];
-    state.order?.forEach((site, place) => { ranks[site] = place + 1; });
-    for (const [site, drawn] of this.sites) this.showSite(state.sites[site], drawn, ranks[site]);
+    const counts = state.order ? countsBefore(state) : [];
+    for (const [site, drawn] of this.sites) this.showSite(state.sites[site], drawn, counts[site]);
     for (const [number, drawn] of this.edges) {
       const edge = state.edges[number];
       const links = state.links.slice(2 * number, 2 * number + 2);
@@ -195,22 +183,23 @@ export class Picture {
     setAttribute(this.svg, "aria-label", textOf(state));
   }
 
-  showSite(site, drawn, rank) {
+  showSite(site, drawn, before) {
     const does = doesWhat(site);
     const failed = site.failed?.length ?? 0;
-    const key = [site.phase, does, site.eaten, failed, rank].join();
+    const key = [site.phase, does, site.eaten, failed, before].join();
     if (drawn.key === key) return;
     drawn.key = key;
     for (const kind of ["thinking", "hungry", "eating"]) drawn.group.classList.toggle(kind, site.phase === kind);
     for (const kind of ["quit", "done"]) drawn.group.classList.toggle(kind, does === kind);
     drawn.group.classList.toggle("failed", failed > 0);
-    drawn.shape.setAttribute("d", outline(site.phase, drawn.radius));
-    drawn.halo.setAttribute("d", outline(site.phase, drawn.radius + 5));
+    drawn.shape.setAttribute("d", outline(site.phase, drawn.place.radius));
+    drawn.halo.setAttribute("d", outline(site.phase, drawn.place.radius + 5));
     const meals = `${mealsOf(site)} of ${site.jobs}`;
-    drawn.title.textContent = `${site.name}: ${does}, ${meals} meals${failed ? `, ${failed} failed` : ""}`;
+    const goes = before === undefined ? "" : `; ${before} before it`;
+    drawn.title.textContent = `${site.name}: ${does}, ${meals} meals${failed ? `, ${failed} failed` : ""}${goes}`;
     const lines = [does, failed ? `${meals}, ${failed}✗` : meals];
     drawn.texts.forEach((text, row) => setText(text, lines[row]));
-    if (drawn.rank) setText(drawn.rank, rank ?? "");
+    if (drawn.rank) setText(drawn.rank, before ?? "");
   }
 
   // Puts the fork and the token of an edge at the end that has them, and turns its arrow.
@@ -221,71 +210,72 @@ export class Picture {
     const first = edge.preferred === undefined || edge.preferred === null ? null : state.sites[edge.preferred].name;
     setText(drawn.title, `edge ${number}: ${low} ${edge.roles?.[0] ?? ""}, ${high} ${edge.roles?.[1] ?? ""}`
       + `${value === null ? "" : `, value ${value}`}${first === null ? "" : `; ${first} goes first`}`);
-    if (drawn.label) this.showLabel(drawn.label, line, value === null ? number : `=${value}`, edge);
+    if (drawn.label) setText(drawn.label, `=${value}`);
     const closed = edge.said?.filter((it) => it.close_put).length ?? 0;
     drawn.group.classList.toggle("closing", closed === 1);
     drawn.group.classList.toggle("closed", closed === 2);
     drawn.group.classList.toggle("caught", edge.isCaught === true);
     const turned = edge.preferred === edge.ends[1] ? 180 : 0;
     drawn.head.style.visibility = first === null ? "hidden" : "";
-    this.put(drawn.head, drawn.at, line.angle + turned);
+    this.put(drawn.head, drawn.place, line.angle + turned);
     this.showMarks(edge, number, line);
-  }
-
-  // The number of an edge stands behind the head of its arrow, or before it if there is a mark.
-  showLabel(label, line, text, { ends, preferred, token, fork }) {
-    setText(label, text);
-    if (this.hasValues) return;
-    const back = preferred === ends[1] ? 1 : 0;
-    const mark = token?.at === ends[back] ? "token" : fork.at === ends[back] ? "fork" : "none";
-    const { behind, before } = numberPlaces(line);
-    const far = freeOf(line, back, mark) >= behind + line.half ? behind : -before;
-    const { x, y } = pointOf(line, line.length / 2 + (back ? far : -far));
-    setAttribute(label, "x", x);
-    setAttribute(label, "y", y);
   }
 
   showMarks(edge, number, line) {
     const [fork, token] = [this.forks.get(number), this.tokens.get(number)];
-    for (const kind of ["dirty", "clean"]) fork.classList.toggle(kind, (kind === "dirty") === edge.dirty);
-    const farOf = (site, places) => {
-      const isLow = site === edge.ends[0];
-      const far = line.begin[isLow ? 0 : 1] + places * line.size;
-      return isLow ? far : line.length - far;
-    };
+    for (const kind of ["dirty", "clean"]) {
+      const isSo = (kind === "dirty") === edge.dirty;
+      fork.classList.toggle(kind, isSo);
+      this.edges.get(number).group.classList.toggle(kind, isSo);
+    }
+    const { laid, size } = line;
     if (edge.fork.at !== undefined) {
       // Whoever has a fork has it by its handle.
-      const turned = line.angle + (edge.fork.at === edge.ends[0] ? 90 : -90);
-      this.put(fork, pointOf(line, farOf(edge.fork.at, 0.45)), turned);
+      const end = edge.ends.indexOf(edge.fork.at);
+      this.put(fork, this.pointAt(line, end, (laid.fork / 2) * size), line.angle + (end ? -90 : 90));
     } else if (edge.fork.isFree) {
       this.put(fork, pointOf(line, line.length / 2), line.angle);
     }
     token.style.visibility = edge.token === null ? "hidden" : "";
-    if (edge.token?.at !== undefined) this.put(token, pointOf(line, farOf(edge.token.at, 1.36)));
+    if (edge.token?.at !== undefined) {
+      this.put(token, this.pointAt(line, edge.ends.indexOf(edge.token.at), laid.token * size, laid.beside * size));
+    }
   }
 
-  // Draws the letters of a link beside its edge, the one that will be taken first in front.
-  showLink(link) {
-    const line = this.lines.get(link.edge);
-    const lane = this.lanes.get(link.edge);
-    const way = link.from < link.to ? 1 : -1;
-    const apart = line.size * 0.95;
-    const beside = way * (line.size * 0.5 + (this.isNumbered ? 7 : 3));
-    const middle = (line.begin[0] + line.length - line.begin[1]) / 2;
-    const half = (link.letters.length * apart) / 2;
-    const ends = [-half - 4, half + Math.min(8, apart)].map((far) => pointOf(line, middle + way * far, beside));
-    element("line", { class: "lane", x1: ends[0].x, y1: ends[0].y, x2: ends[1].x, y2: ends[1].y }, lane);
-    const tip = `translate(${ends[1].x},${ends[1].y}) rotate(${line.angle + (way > 0 ? 0 : 180)})`;
-    element("path", { class: "tip", d: "M0,-5L8,0L0,5Z", transform: tip }, lane);
-    link.letters.forEach((letter, place) => {
-      const at = pointOf(line, middle + way * (half - (place + 0.5) * apart), beside);
-      if (letter === "fork") this.put(this.forks.get(link.edge), at, line.angle + (way > 0 ? -90 : 90));
-      else if (letter === "request") this.put(this.tokens.get(link.edge), at);
-      else this.put(wordMark(letter, line.size, this.words.get(link.edge)), at);
-    });
+  // The point so far behind where the marks of an end begin, and so far beside the line, where letters to it go.
+  pointAt(line, end, far, beside = 0) {
+    const along = line.begin[end] + far;
+    return pointOf(line, end ? line.length - along : along, end ? beside : -beside);
+  }
+
+  // Draws the letters of a link along its edge. They wait before the site that takes them, the first of them in front.
+  showLink({ edge, from, to, letters }) {
+    const [line, lane] = [this.lines.get(edge), this.lanes.get(edge)];
+    const { size, laid } = line;
+    const end = from < to ? 1 : 0;
+    const beside = Math.max(laid.beside * size, size * 0.5 + 3);
+    const whole = line.length - line.begin[0] - line.begin[1];
+    const [begin, tip] = [whole, 4].map((it) => this.pointAt(line, end, it, beside));
+    const path = element("g", { class: letters.every((it) => it === "request") ? "lane-of-request" : "" }, lane);
+    element("line", { class: "lane", x1: begin.x, y1: begin.y, x2: tip.x, y2: tip.y }, path);
+    const turned = `translate(${tip.x},${tip.y}) rotate(${line.angle + (end ? 0 : 180)})`;
+    const long = Math.min(4, 0.3 * size);
+    const head = `M${-long},${-1.2 * long}L${long},0L${-long},${1.2 * long}Z`;
+    element("path", { class: "tip", d: head, transform: turned }, path);
+    // Where a token is held on the line, letters wait behind it.
+    let far = laid.beside ? 10 : 1.9 * size;
+    for (const letter of letters) {
+      const half = (letter === "fork" ? laid.fork / 2 : REACH) * size;
+      const at = this.pointAt(line, end, far + half, beside);
+      far += 2 * half + 2;
+      if (letter === "fork") this.put(this.forks.get(edge), at, line.angle + (end ? -90 : 90));
+      else if (letter === "request") this.put(this.tokens.get(edge), at);
+      else this.put(wordMark(letter, size, this.words.get(edge)), at);
+    }
   }
 
   put(mark, { x, y }, turned = 0) {
+    mark.place = { x, y };
     mark.style.transform = `translate(${x.toFixed(1)}px, ${y.toFixed(1)}px) rotate(${turned.toFixed(1)}deg)`;
   }
 
@@ -305,6 +295,34 @@ export class Picture {
     this.edges?.forEach((drawn, number) => drawn.group.classList.toggle("lit", number === edge));
   }
 
+  // Has words point at a thing, such as "site e" or "fork a-b", or at nothing.
+  point({ sites, edges }, thing, words) {
+    this.callout?.remove();
+    this.callout = null;
+    const [kind, name] = thing.split(" ");
+    const nameOfEdge = ([low, high]) => `${sites[low].name}-${sites[high].name}`;
+    const edge = edges.findIndex(({ ends }) => [ends, [...ends].reverse()].some((it) => nameOfEdge(it) === name));
+    const site = this.sites.get(sites.findIndex((it) => it.name === name))?.place;
+    const marks = { fork: this.forks, token: this.tokens, arrow: this.edges };
+    const at = site ?? marks[kind]?.get(edge)?.place;
+    if (!at) return;
+    const far = (kind === "fork" ? 0.8 : 0.5) * (this.lines.get(edge)?.size ?? 0);
+    this.callout = drawCallout(this.svg, { radius: far, ...at }, words ?? "", this.boxes());
+  }
+
+  // What words in the picture should not cover.
+  boxes() {
+    const box = ({ x, y }, far) => ({ x, y, wide: far, high: far });
+    const found = [...this.sites.values()].map(({ place }) => box(place, 1.2 * place.radius + 8));
+    for (const [edge, { size }] of this.lines) {
+      for (const [marks, far] of [[this.edges, 0.4], [this.forks, 0.95], [this.tokens, 0.5]]) {
+        const { place } = marks.get(edge);
+        if (place) found.push(box(place, far * size));
+      }
+    }
+    return found;
+  }
+
   select(site) {
     this.sites?.forEach((drawn, number) => drawn.group.classList.toggle("selected", number === site));
   }
@@ -313,8 +331,8 @@ export class Picture {
 // What a picture shows, in words.
 function textOf(state) {
   if (state.sites.length <= 16) {
-    const told = (site) => `${site.name} ${doesWhat(site)}, ${mealsOf(site)} of ${site.jobs} meals`;
-    return state.sites.map(told).join("; ");
+    const words = (site) => `${site.name} ${doesWhat(site)}, ${mealsOf(site)} of ${site.jobs} meals`;
+    return state.sites.map(words).join("; ");
   }
   const count = (phase) => state.sites.filter((site) => site.phase === phase).length;
   const counts = ["thinking", "hungry", "eating"].map((phase) => `${count(phase)} ${phase}`);

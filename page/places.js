@@ -5,8 +5,8 @@ import { between } from "./marks.js";
 export const TURN = 2 * Math.PI;
 // The radius of a site: the least, the largest, and from which on its name, its phase and its meals fit inside.
 export const SITE = { least: 5, most: 46, name: 21, phase: 26, meals: 37 };
-// How large a mark on an edge is.
-export const MARK = { least: 6, most: 28 };
+// How large a mark on an edge is, and from which size on forks are long.
+const MARK = { least: 6, wide: 8, most: 28 };
 // How many letters of a name a picture shows.
 export const SHOWN = 14;
 
@@ -119,7 +119,12 @@ function roundPlaces(sites, edges, width, height) {
   }
   let seat = 0;
   const places = sites.map((_, site) => {
-    if (site === hub) return { x: width / 2, y: height / 2, radius: Math.max(radius, 26), angle: null };
+    if (site === hub) {
+      // Its name fits inside it where its edges can spare that.
+      const near = Math.min(far.x, far.y);
+      const most = Math.min(26, Math.max(0.3 * near, Math.min(SITE.name, 0.36 * near)));
+      return { x: width / 2, y: height / 2, radius: Math.max(radius, most), angle: null };
+    }
     const at = seatAt(seat, count, far);
     seat += 1;
     return { x: width / 2 + at.x, y: height / 2 + at.y, radius, angle: Math.atan2(at.y, at.x) };
@@ -154,6 +159,15 @@ function anglesOf(places, edges) {
   });
 }
 
+// How long a fork is, how far from its end a token is held, and how far beside the line, in sizes of the marks. Where
+// the edges of a site are near one another, forks are small, and tokens are held behind them.
+const LAID = {
+  wide: { fork: 1.9, token: 0.5, beside: 0.86, across: 1.7 },
+  narrow: { fork: 0.95, token: 1.36, beside: 0, across: 0.8 },
+};
+// How far from the middle of a line the marks of an end begin at most, in sizes of the marks.
+const HALF = 1.9;
+
 // For each edge its line, and how far from each end its marks are.
 export function linesOf(places, edges) {
   const angles = anglesOf(places, edges);
@@ -169,11 +183,18 @@ export function linesOf(places, edges) {
     return 0.9 * line.length * Math.sin(Math.min(angles[line.low], angles[line.high], Math.PI) / 2);
   });
   const size = between(MARK.least, Math.min(Math.min(...free) / 5.2, Math.max(...apart)), MARK.most);
+  // How far out the marks of a site have to begin, so that those of two edges have space beside each other.
+  const outOf = (site, across) => (angles[site] < 2 ? (across * size) / (2 * Math.sin(angles[site] / 2)) : 0);
+  const isWide = size >= MARK.wide && lines.every(({ low, high, length }) => {
+    return [low, high].every((site) => outOf(site, LAID.wide.across) <= length / 2 - HALF * size);
+  });
+  const laid = isWide ? LAID.wide : LAID.narrow;
   for (const line of lines) {
-    line.size = size;
+    Object.assign(line, { size, laid });
     line.begin = [[line.low, line.from], [line.high, line.to]].map(([site, place]) => {
-      const crowded = angles[site] < 2 ? (0.8 * size) / (2 * Math.sin(angles[site] / 2)) : 0;
-      return Math.max(1.22 * place.radius + 2, Math.min(crowded, line.length / 2 - 1.8 * size));
+      // On a short line the marks stay in their own half, though they cover the site then.
+      const half = line.length / 2 - HALF * size;
+      return Math.max(0, Math.min(Math.max(1.22 * place.radius + 2, outOf(site, laid.across)), half));
     });
   }
   return lines;

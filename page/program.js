@@ -1,99 +1,97 @@
-// The program behind the page. It is asked through the server; a page that was exported has in itself what the program
-// printed, and asks nobody.
+// Whom the page asks. The states come from the proved rules, compiled to WebAssembly, which work beside the page. A run
+// on threads comes from ./show, or was recorded if the page is one file.
 
-// A question that was refused, with the program's line.
+import { unpacked, unpackedText } from "./packing.js";
+
+// A question that was refused, with the line that says why.
 class Refused extends Error {}
 
-async function answerOf(question, body) {
+async function asked(question, how = {}) {
   let answer;
-  let told;
   try {
-    answer = await fetch(question, body === null ? {} : { method: "POST", body });
-    told = await answer.text();
+    answer = await fetch(question, how);
   } catch {
     throw new Error("no answer: is ./show still running?");
   }
-  if (!answer.ok) throw new Refused(told.trim());
-  return told;
+  if (!answer.ok) throw new Refused((await answer.text()).trim());
+  return answer;
 }
 
-// Asks the server, which calls the program for each question.
-class Served {
-  constructor() {
-    this.isRecorded = false;
+class Program {
+  // `catalog` is what the page offers, `module` has the bytes of the rules, and `worker` is the address of the worker.
+  constructor({ catalog, module, worker, isServed }) {
+    Object.assign(this, { catalog, isServed, waiting: [] });
+    this.worker = new Worker(worker);
+    this.worker.addEventListener("message", ({ data }) => this.hear(data));
+    // Only a worker that can't begin has an error, and then it answers nothing any more.
+    this.worker.addEventListener("error", ({ message }) => {
+      this.fault = new Error(message || "the worker can't begin");
+      for (const { reject } of this.waiting) reject(this.fault);
+    });
+    this.worker.postMessage({ module });
   }
 
-  async plans() {
-    return JSON.parse(await answerOf("/plans", null));
+  hear({ text, fault }) {
+    const { resolve, reject } = this.waiting.shift();
+    const answer = fault ? null : JSON.parse(text);
+    if (fault) reject(new Error(fault));
+    else if (answer.refused) reject(new Refused(answer.refused.line));
+    else resolve(answer);
   }
 
-  // The list that the schedule of a plan begins with.
-  listOf() {
-    return [];
+  ask(question) {
+    return new Promise((resolve, reject) => {
+      if (this.fault) throw this.fault;
+      this.waiting.push({ resolve, reject });
+      this.worker.postMessage(question);
+    });
   }
 
-  // The states after so many choices of the list, for each of the rising places.
-  async states(plan, list, places) {
-    const told = await answerOf("/states", `${places.join(",")}\n${list.join(",")}\n${plan}`);
-    return told.trimEnd().split("\n").map((line) => JSON.parse(line));
+  // The states of a plan after so many choices of the list, for each of the rising places.
+  states(plan, list, places) {
+    return this.ask({ name: "states", plan, list, places: Uint32Array.from(places) });
   }
 
   // The events of a list, in columns.
-  async events(plan, list) {
-    return JSON.parse(await answerOf("/events", `${list.join(",")}\n${plan}`));
+  events(plan, list) {
+    return this.ask({ name: "events", plan, list: Uint32Array.from(list) });
+  }
+
+  // Whether this plan can be run on threads, or was.
+  hasRun(plan) {
+    return this.isServed || this.recorded(plan) !== undefined;
+  }
+
+  recorded(plan) {
+    return this.catalog.runs?.find(({ text }) => text === plan);
+  }
+
+  // How far the build of the program is that runs threads, in a line, which is empty once it is built.
+  async build() {
+    return this.isServed ? (await (await asked("build", { method: "POST" })).text()).trim() : "";
   }
 
   // The list of a run on threads.
   async run(plan) {
-    const told = (await answerOf("/run", `\n${plan}`)).trim();
-    return told === "" ? [] : told.split(",").map(Number);
+    const text = this.isServed ? await (await asked("run", { method: "POST", body: `\n${plan}` })).text() : null;
+    return numbersOf(text ?? this.recorded(plan).choices);
   }
 }
 
-// What an exported page has in itself.
-class Recorded {
-  constructor({ lesson, runs, unproved }) {
-    Object.assign(this, { isRecorded: true, lesson, runs, unproved });
-  }
-
-  async plans() {
-    const plans = this.runs.map(({ plan, text }, run) => ({ path: plan ?? `run ${run + 1}`, text, run }));
-    const lessons = this.lesson ? [this.lesson] : [];
-    const lesson = this.lesson?.path ?? null;
-    return { first: plans[0].path, plans, lessons, lesson, unproved: this.unproved };
-  }
-
-  listOf(path) {
-    return this.runs.find(({ plan }, run) => (plan ?? `run ${run + 1}`) === path)?.events.done ?? [];
-  }
-
-  // The run that begins with this list.
-  runOf(plan, list) {
-    const begins = ({ text, events }) => text === plan && list.every((choice, place) => events.done[place] === choice);
-    const found = this.runs.find(begins);
-    if (!found) throw new Refused("this page has no server: it shows what was recorded, and nothing else");
-    return found;
-  }
-
-  async states(plan, list, places) {
-    const { states } = this.runOf(plan, list);
-    return places.map((place) => states[Math.min(place, states.length - 1)]);
-  }
-
-  async events(plan, list) {
-    return this.runOf(plan, list).events;
-  }
+// The numbers of a list as a text.
+function numbersOf(text) {
+  return text.trim() === "" ? [] : text.split(",").map(Number);
 }
 
-// Unpacks what the page was exported with.
-async function unpacked(text) {
-  const bytes = Uint8Array.from(atob(text.trim()), (letter) => letter.charCodeAt(0));
-  const stream = new Blob([bytes]).stream().pipeThrough(new DecompressionStream("gzip"));
-  return JSON.parse(await new Response(stream).text());
-}
-
-// Returns whom this page asks.
+// Returns whom this page asks. A page in one file has all in itself.
 export async function programOf() {
-  const held = document.getElementById("recorded");
-  return held ? new Recorded(await unpacked(held.textContent)) : new Served();
+  const held = (name) => document.getElementById(name)?.textContent;
+  if (!held("module")) {
+    const [catalog, module] = await Promise.all([asked("catalog"), asked("dine.wasm")]);
+    const worker = new URL("worker.js", document.baseURI);
+    return new Program({ catalog: await catalog.json(), module: await module.arrayBuffer(), worker, isServed: true });
+  }
+  const [catalog, module] = [JSON.parse(await unpackedText(held("catalog"))), await unpacked(held("module"))];
+  const worker = URL.createObjectURL(new Blob([held("worker")], { type: "text/javascript" }));
+  return new Program({ catalog, module, worker, isServed: false });
 }

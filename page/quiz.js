@@ -57,10 +57,10 @@ export class Quiz {
     });
     this.button = textElement("button", "Check", "main");
     this.button.type = "submit";
-    this.told = textElement("output", this.asked ? this.score() : "");
+    this.answer = textElement("output", this.asked ? this.score() : "");
     const row = document.createElement("div");
     row.className = "row";
-    row.append(this.button, this.told);
+    row.append(this.button, this.answer);
     this.form.replaceChildren(textElement("p", "Tick all that may happen next."), ...items, row);
   }
 
@@ -86,7 +86,7 @@ export class Quiz {
       const said = `${isRight ? "✓" : "✗"} ${isEnabled ? "may happen" : "may not"}: ${why}`;
       labels[place].append(textElement("small", said));
     });
-    this.told.textContent = this.score();
+    this.answer.textContent = this.score();
     this.button.remove();
     this.checked();
   }

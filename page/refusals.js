@@ -1,25 +1,26 @@
-// Why a plan is refused, in a sentence, and the line of its text that it is about.
+// Why a plan is refused, in a sentence, and the line of its text that it is about. tools/explain reads the sentences too, so
+// they are written as JSON.
 
 const SENTENCES = {
-  NotToml: "The text is not TOML.",
-  Version: "The plan must begin with version = 1 or version = 2.",
-  UnknownKey: "A table has a key that plans do not have, or not in this version.",
-  MissingKey: "A site or a job has no name, or an edge has no ends.",
-  WrongKind: "A value is of the wrong kind: a text for a number, or a number below 0.",
-  BadName: "A name of this site or of a job of it is not 1 to 32 letters, digits, _ or -.",
-  SiteTwice: "An earlier site has the same name.",
-  NoSite: "The plan has no site.",
-  TooManySites: "The plan has more than 64 sites.",
-  TooManyJobs: "This site has more than 1,000 jobs.",
-  TurnsTooLarge: "A job of this site has turns above 1,000,000.",
-  UnknownEnd: "An end of this edge is not the name of a site.",
-  Loop: "Both ends of this edge are one site.",
-  EdgeTwice: "An earlier edge joins the same two sites.",
-  TooManyEdges: "The plan has more than 512 edges.",
-  TwoActs: "A job of this site has both add and set.",
-  ActTooLarge: "A job of this site has add or set above 1,000,000.",
-  ValueTooLarge: "The value of this edge is above 1,000,000.",
-  UnknownPolicy: "on_fault of this site is neither \"go\" nor \"resign\".",
+  "NotToml": "The text is not TOML.",
+  "Version": "The plan must begin with version = 1 or version = 2.",
+  "UnknownKey": "A table has a key that plans do not have, or not in this version.",
+  "MissingKey": "A site or a job has no name, or an edge has no ends.",
+  "WrongKind": "A value is of the wrong kind, such as a text for a number, or a number below 0.",
+  "BadName": "A name of this site or of a job of it is not 1 to 32 letters, digits, _ or -.",
+  "SiteTwice": "An earlier site has the same name.",
+  "NoSite": "The plan has no site.",
+  "TooManySites": "The plan has more than 64 sites.",
+  "TooManyJobs": "This site has more than 1,000 jobs.",
+  "TurnsTooLarge": "A job of this site has turns above 1,000,000.",
+  "UnknownEnd": "An end of this edge is not the name of a site.",
+  "Loop": "Both ends of this edge are one site.",
+  "EdgeTwice": "An earlier edge joins the same two sites.",
+  "TooManyEdges": "The plan has more than 512 edges.",
+  "TwoActs": "A job of this site has both add and set.",
+  "ActTooLarge": "A job of this site has add or set above 1,000,000.",
+  "ValueTooLarge": "The value of this edge is above 1,000,000.",
+  "UnknownPolicy": "on_fault of this site is neither \"go\" nor \"resign\"."
 };
 
 // The lines, from 0, of the site or edge with this number: from its header to the one before the next header.
@@ -36,15 +37,15 @@ function linesOfTable(text, table, number) {
 }
 
 // A fault in words that the page shows at its head: the sentence of a refusal, or the line as it is.
-export function faultText(told, text) {
-  const { sentence } = refusalOf(told, text);
-  return sentence === told ? told : `The plan is refused. ${sentence}`;
+export function faultText(line, text) {
+  const { sentence } = refusalOf(line, text);
+  return sentence === line ? line : `The plan is refused. ${sentence}`;
 }
 
 // The sentence for the program's line, and the lines of the text that it is about, or null.
-export function refusalOf(told, text) {
-  const [, name, table, number] = /plan refused: \d+ (\w+)(?: at (site|edge) (\d+))?/.exec(told) ?? [];
-  if (!SENTENCES[name]) return { sentence: told, lines: null };
+export function refusalOf(line, text) {
+  const [, name, table, number] = /plan refused: \d+ (\w+)(?: at (site|edge) (\d+))?/.exec(line) ?? [];
+  if (!SENTENCES[name]) return { sentence: line, lines: null };
   const lines = table ? linesOfTable(text, table, Number(number)) : null;
   const where = lines ? ` Line ${lines.from + 1}.` : table ? ` It is ${table} ${number}, counted from 0.` : "";
   return { sentence: `${SENTENCES[name]}${where}`, lines };

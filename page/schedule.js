@@ -5,9 +5,9 @@ import { between } from "./marks.js";
 
 // How many states are kept, the least and the most, and of how many letters in all.
 const KEPT = { least: 40, most: 300, letters: 30e6 };
-// How many states are asked for at a time beyond the one that is wanted, of how many letters, and how near the reader
-// may come to the last that is kept before the following are asked for.
-const AHEAD = { states: 20, letters: 1.5e6, margin: 8 };
+// How many states before the one that is wanted are asked for with it, of how many letters, and how near the reader may
+// come to the first that is kept before those are asked for.
+const BEFORE = { states: 20, letters: 1.5e6, margin: 8 };
 // The letter by which the program names a kind of event in a column.
 const KINDS = { hungry: "h", ask: "a", give: "g", begin: "b", end: "e", quit: "q", done: "d", close: "c" };
 const TAKEN = { request: "A", fork: "G", done: "D", close: "C" };
@@ -49,29 +49,32 @@ export class Schedule {
   constructor(program, path, plan) {
     Object.assign(this, { program, path, plan });
     // The choices, of which so many are done. A list that was handed out is never changed.
-    this.list = [];
+    this.list = new Uint32Array(0);
     this.at = 0;
     this.state = null;
     this.states = new Map();
     this.events = new Events();
     // Counts the changes of the list, so that who draws the events knows whether they are others.
     this.version = 0;
+    // Where the list was cut off by its last change.
+    this.cut = 0;
     this.isOfThreads = false;
-    // How many of the choices that it was opened with were left out, and where that is to be told.
+    // How many of the choices that it was opened with were left out, and where that is said.
     this.left = { count: 0, at: 0 };
     // About how many letters a state has.
-    this.letters = AHEAD.letters;
+    this.letters = BEFORE.letters;
     // What is asked for while the reader looks at a state.
     this.pending = null;
   }
 
   // Has a list of choices, of which `at` are done, all if it is null. Those that name no event are left out.
   async open(list, at) {
-    const told = list.length || this.program.isRecorded ? await this.program.events(this.plan, list) : null;
-    this.list = told?.done ?? [];
-    this.events = new Events(told ?? undefined);
+    const events = list.length ? await this.program.events(this.plan, list) : null;
+    this.list = Uint32Array.from(events?.done ?? []);
+    this.events = new Events(events ?? undefined);
     this.states.clear();
     this.version += 1;
+    this.cut = 0;
     await this.go(between(0, at ?? Math.min(list.length, this.list.length), this.list.length));
     this.left = { count: Math.max(0, list.length - this.list.length), at: this.at };
   }
@@ -92,35 +95,31 @@ export class Schedule {
     if (this.states.size > most) this.states.delete(this.states.keys().next().value);
   }
 
-  // The places to ask for together with this one: those that follow on the way.
-  placesFrom(count, way) {
-    const ahead = between(0, Math.floor(AHEAD.letters / this.letters), AHEAD.states);
-    const [least, most] = way < 0 ? [count - ahead, count] : [count, count + ahead];
-    const places = [];
-    for (let place = Math.max(0, least); place <= Math.min(most, this.list.length); place += 1) {
-      if (place === count || !this.states.has(place)) places.push(place);
-    }
-    return places;
-  }
-
-  // Goes to where so many choices are done. A step of one asks for those that follow too, some of them meanwhile.
+  // Goes to where so many choices are done. A step back asks for the states before that one too, some of them meanwhile:
+  // the rules only go on, and a place behind them is reached from the start.
   async go(count) {
-    const way = Math.abs(count - this.at) === 1 ? count - this.at : 0;
+    const isBack = count === this.at - 1;
     if (!this.states.has(count)) await this.pending;
-    if (!this.states.has(count)) await this.fetch(way ? this.placesFrom(count, way) : [count]);
+    if (!this.states.has(count)) await this.fetch(isBack ? this.placesBefore(count) : [count]);
     this.at = count;
     this.state = this.states.get(count);
-    if (way) this.askAhead(way);
+    if (isBack) this.askBefore();
   }
 
-  // Asks for what follows on the way while the reader looks, if not enough of it is kept.
-  askAhead(way) {
-    let place = this.at + way;
-    while (this.states.has(place)) place += way;
-    const isThere = place >= 0 && place <= this.list.length;
-    if (this.pending || !isThere || Math.abs(place - this.at) > AHEAD.margin) return;
-    // A fault is told when the state is asked for again.
-    this.pending = this.fetch(this.placesFrom(place, way)).catch(() => {}).finally(() => {
+  // This place, and some of those before it whose states are not kept.
+  placesBefore(count) {
+    const first = count - between(0, Math.floor(BEFORE.letters / this.letters), Math.min(BEFORE.states, count));
+    const places = Array.from({ length: count - first + 1 }, (_, turn) => first + turn);
+    return places.filter((place) => place === count || !this.states.has(place));
+  }
+
+  // Asks for what is before while the reader looks, if not enough of it is kept.
+  askBefore() {
+    let place = this.at - 1;
+    while (this.states.has(place)) place -= 1;
+    if (this.pending || place < 0 || this.at - place > BEFORE.margin) return;
+    // A fault is reported when the state is asked for again.
+    this.pending = this.fetch(this.placesBefore(place)).catch(() => {}).finally(() => {
       this.pending = null;
     });
   }
@@ -131,10 +130,13 @@ export class Schedule {
       await this.go(this.at + 1);
       return;
     }
-    const list = [...this.list.slice(0, this.at), number];
+    const list = new Uint32Array(this.at + 1);
+    list.set(this.list.subarray(0, this.at));
+    list[this.at] = number;
     const [state] = await this.program.states(this.plan, list, [list.length]);
     for (const count of [...this.states.keys()]) if (count > this.at) this.states.delete(count);
     this.events.with(this.at, this.state.enabled[number]);
+    this.cut = this.at;
     this.list = list;
     this.at = list.length;
     this.state = state;
@@ -147,7 +149,7 @@ export class Schedule {
   next(by, seed) {
     if (this.at < this.list.length) return this.list[this.at];
     const count = this.state.enabled.length;
-    if (count === 0 || this.program.isRecorded) return null;
+    if (count === 0) return null;
     return by === "random" ? drawn(seed, this.at, count) : 0;
   }
 }

@@ -1,33 +1,82 @@
 // Steps along a schedule, and the plans that schedules are of.
 
 import { between, setAttribute, setText } from "./marks.js";
-import { found, mind, rate, seed } from "./mind.js";
+import { found, page, rate, seed } from "./state.js";
 import { NaiveTable } from "./naive.js";
-import { acts, edgeTable, player, siteTable } from "./parts.js";
+import { edgeTable, player, queue, siteTable, tell } from "./parts.js";
 import { Schedule, drawn } from "./schedule.js";
-import { hubSite, isCrowded, noteAddress, openPicture, show } from "./view.js";
+import { wayFrom } from "./lessons.js";
+import { hubSite, isCrowded, noteAddress, openPicture, show, showKinds } from "./view.js";
+
+// How often the page asks how far a build is, in milliseconds.
+const BUILD = 1000;
+// How many changes can be undone.
+const PAST = 50;
+// How long a letter flies along its edge, in milliseconds.
+export const FLIGHT = 600;
+
+// Keeps the list that is shown, so that it can be had back. If events of it are still to come, the timeline has them.
+function remember() {
+  const { list, at, isOfThreads } = page.schedule;
+  const kept = { list, at, isOfThreads };
+  page.past = [...page.past.slice(1 - PAST), { ...kept, other: page.other }];
+  if (at < list.length) page.other = kept;
+}
+
+// Does the enabled event with this number.
+async function doEvent(number) {
+  const { schedule } = page;
+  pace(player.isPlaying ? Math.min(FLIGHT, 800 / rate()) : FLIGHT);
+  if (schedule.list[schedule.at] !== number) remember();
+  await schedule.choose(number);
+  show();
+}
 
 export function choose(number) {
-  return acts.do(async () => {
-    if (number >= mind.schedule.state.enabled.length) return;
-    await mind.schedule.choose(number);
-    show();
+  return queue.do(async () => {
+    if (number < page.schedule.state.enabled.length) await doEvent(number);
   });
 }
 
 export function chooseRandom() {
-  return acts.do(async () => {
-    const count = mind.schedule.state.enabled.length;
-    if (count === 0) return;
-    await mind.schedule.choose(drawn(seed(), mind.schedule.at, count));
-    show();
+  return queue.do(async () => {
+    const count = page.schedule.state.enabled.length;
+    if (count > 0) await doEvent(drawn(seed(), page.schedule.at, count));
+  });
+}
+
+async function restore({ list, at, isOfThreads }) {
+  await page.schedule.open(list, at);
+  page.schedule.isOfThreads = isOfThreads;
+  show();
+}
+
+// Takes back the last change of the list.
+export function undo() {
+  pause();
+  return queue.do(async () => {
+    const last = page.past.pop();
+    if (!last) return;
+    page.other = last.other;
+    await restore(last);
+  });
+}
+
+// Goes back to the list that was left, at the place where it was. The one that is shown is left for it.
+export function takeOther() {
+  pause();
+  return queue.do(async () => {
+    const { other, schedule: { list, isOfThreads } } = page;
+    remember();
+    page.other = { list, at: other.at, isOfThreads };
+    await restore(other);
   });
 }
 
 export function jump(count) {
   pause();
-  return acts.do(async () => {
-    const { schedule } = mind;
+  return queue.do(async () => {
+    const { schedule } = page;
     await schedule.go(between(0, count(schedule), schedule.list.length));
     show();
   });
@@ -35,44 +84,78 @@ export function jump(count) {
 
 // Goes along with a pointer that is dragged over the timeline: only to where it is last.
 export function scrub(place) {
-  mind.scrubbed = place;
-  if (acts.waiting === 0) jump(() => mind.scrubbed);
-  else if (acts.waiting === 1) jump(() => mind.scrubbed);
+  page.scrubbed = place;
+  if (queue.waiting === 0) jump(() => page.scrubbed);
+  else if (queue.waiting === 1) jump(() => page.scrubbed);
+}
+
+// How long a mark takes to where it goes, in milliseconds.
+export function pace(wait) {
+  document.documentElement.style.setProperty("--move", `${wait}ms`);
 }
 
 // Does the event that follows, and stops playing if there is none.
 export async function step() {
-  const { schedule } = mind;
+  const { schedule } = page;
   const number = schedule.next(found("pick").value, seed());
   if (number === null) {
     pause();
     return;
   }
-  await schedule.choose(number);
-  show();
-  if (schedule.next("first", 0) === null) pause();
+  await doEvent(number);
+  const isEndOfWay = page.lesson !== null && schedule.at === page.way.length;
+  if (isEndOfWay || schedule.next("first", 0) === null) pause();
 }
 
+// Ends what plays by itself.
 export function pause() {
+  page.walk?.skip();
+  page.walk = null;
   player.pause();
 }
 
-// Runs the plan on threads, and plays what they did.
+// Runs the plan on threads, and plays what they did. While the program for it is being built, it says how far that is.
 export function runOnThreads() {
   pause();
-  return acts.do(async () => {
-    const list = await mind.program.run(mind.schedule.plan);
-    await mind.schedule.open(list, 0);
-    mind.schedule.isOfThreads = true;
-    show();
+  return queue.do(async () => {
+    if (!page.program.hasRun(page.schedule.plan) || !await isBuilt()) return;
+    const list = await page.program.run(page.schedule.plan);
+    remember();
+    await restore({ list, at: 0, isOfThreads: true });
     player.play();
   });
+}
+
+let asking = null;
+
+// Returns whether the program that runs threads is built. If it is not, its build begins, and the page says how far
+// that is.
+async function isBuilt() {
+  clearTimeout(asking);
+  let line = "";
+  try {
+    line = await page.program.build();
+  } finally {
+    found("building").hidden = line === "";
+  }
+  if (line) asking = setTimeout(watchBuild, BUILD);
+  setText(found("building"), `The program that runs threads is being built: ${line}`);
+  return line === "";
+}
+
+async function watchBuild() {
+  try {
+    if (!await isBuilt()) return;
+    setText(found("building"), "The program that runs threads is built.");
+    found("building").hidden = false;
+  } catch (fault) {
+    tell(fault.message);
+  }
 }
 
 export function showRate() {
   setText(found("rate"), `${Number(rate().toPrecision(2))}/s`);
   setAttribute(found("speed"), "aria-valuetext", `${Number(rate().toPrecision(2))} events a second`);
-  document.documentElement.style.setProperty("--move", `${Math.min(350, 800 / rate())}ms`);
   noteAddress();
 }
 
@@ -83,14 +166,17 @@ export function quicker(by) {
 
 // Shows a plan after the choices, of which `at` are done.
 export async function openPlan({ path, plan, list = [], at = null, isOfThreads = false }) {
-  mind.wanted = plan;
-  const opened = new Schedule(mind.program, path, plan);
+  page.wanted = plan;
+  const opened = new Schedule(page.program, path, plan);
   await opened.open(list, at);
   pause();
   opened.isOfThreads = isOfThreads;
   const { state } = opened;
-  Object.assign(mind, { schedule: opened, selected: null, hub: hubSite(state), naive: new NaiveTable(state) });
+  Object.assign(page, { schedule: opened, selected: null, hub: hubSite(state), naive: new NaiveTable(state) });
+  Object.assign(page, { past: [], other: null });
   if (path === null) offerOwn();
+  found("threads").hidden = !page.program.hasRun(plan);
+  setText(found("threads"), page.program.isServed ? "Run on threads" : "Recorded run on threads");
   found("plans").value = path ?? "";
   setText(found("about"), aboutOf(plan));
   setAttribute(found("about"), "title", aboutOf(plan));
@@ -115,9 +201,9 @@ function offerOwn() {
 
 export function openOffered() {
   const path = found("plans").value;
-  return acts.do(async () => {
+  return queue.do(async () => {
     if (path === "") return;
-    await openPlan({ path, plan: mind.plans.get(path), list: mind.program.listOf(path), at: 0 });
+    await openPlan({ path, plan: page.plans.get(path) });
     leaveLesson();
   });
 }
@@ -125,7 +211,7 @@ export function openOffered() {
 // Opens the plan that was written. Returns the line of its refusal, or null.
 export async function openWritten(plan) {
   let refused = null;
-  await acts.do(async () => {
+  await queue.do(async () => {
     try {
       await openPlan({ path: null, plan });
       leaveLesson();
@@ -136,9 +222,26 @@ export async function openWritten(plan) {
   return refused;
 }
 
-// Goes on without a lesson.
+// Has the page show what a moment of a lesson asks for, or all if there is none.
+export function takeUp(lesson, place = 0) {
+  const moment = lesson?.moments[place];
+  const site = page.schedule?.state.sites.findIndex(({ name }) => name === moment?.site) ?? -1;
+  Object.assign(page, {
+    lesson,
+    moment: place,
+    way: moment ? wayFrom(lesson.moments, place) : [],
+    kinds: moment?.show ?? null,
+    isPlain: moment?.naive === "alone",
+    selected: site < 0 ? null : site,
+  });
+  found("lessons").value = lesson?.path ?? "";
+  found("naive").checked = moment?.naive === true;
+  found("predict").checked = moment?.hide === true;
+  showKinds();
+}
+
+// Goes on without a lesson. The switches that a moment had set go back; what the reader had set stays.
 export function leaveLesson() {
-  Object.assign(mind, { lesson: null, moment: 0 });
-  found("lessons").value = "";
-  show();
+  if (page.lesson) takeUp(null);
+  else show();
 }

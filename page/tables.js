@@ -2,7 +2,7 @@
 // event changed are marked.
 
 import { outline, phaseMark, setAttribute, setText, textElement } from "./marks.js";
-import { doesWhat, mealsOf } from "./picture.js";
+import { countsBefore, doesWhat, mealsOf } from "./picture.js";
 import { otherEnd } from "./sentences.js";
 
 function emptyRows(body, count, width) {
@@ -33,17 +33,17 @@ export class SiteTable {
   }
 
   show(state, event, selected) {
-    const ranks = new Map(state.order?.map((site, place) => [site, place + 1]));
+    const counts = countsBefore(state);
     state.sites.forEach((site, number) => {
       const row = this.table.tBodies[0].rows[number];
-      const [first, does, meals, rank] = row.cells;
+      const [first, does, meals, before] = row.cells;
       const group = does.firstChild.firstChild;
       setAttribute(group, "class", `site ${site.phase}`);
       setAttribute(group.firstChild, "d", outline(site.phase, 7));
       setText(does.lastChild, ` ${doesWhat(site)}${site.resigns && !site.quit ? ", quits after a failed meal" : ""}`);
       const failed = site.failed?.length ? `, failed: ${site.failed.join(", ")}` : "";
       setText(meals, `${mealsOf(site)} of ${site.jobs}${failed}`);
-      setText(rank, ranks.get(number) ?? "");
+      setText(before, counts[number]);
       setAttribute(first.firstChild, "aria-pressed", number === selected);
       setAttribute(row, "class", number === event?.site ? "last" : "");
     });

@@ -2,62 +2,119 @@
 
 import { addressOf } from "./address.js";
 import { drawLegend, setAttribute, setOff, setText } from "./marks.js";
-import { found, mind, seed } from "./mind.js";
-import { OWN } from "./moments.js";
-import { course, edgeTable, enabledList, lessonPanel, naivePicture, picture, quiz, siteTable, why } from "./parts.js";
-import { mealsOf } from "./picture.js";
-import { showTicks } from "./ticks.js";
+import { found, page, seed } from "./state.js";
+import { placeOf } from "./lessons.js";
+import { timeline, edgeTable, enabledList, lessonPanel, naivePicture, picture, quiz, siteTable, why } from "./parts.js";
+import { doesWhat, mealsOf } from "./picture.js";
+import { showChecks } from "./checks_shown.js";
+import { linesOfStarving, showStarving } from "./starving.js";
 
 const START = "all forks are dirty, at the lower ends of their edges; the tokens are at the higher ends";
 // With more sites or edges than these a picture has one site in focus.
 const MANY = { sites: 16, edges: 40 };
 // Up to how many letters a line of choices is shown whole, and a line of a log.
 const WHOLE = { choices: 4000, log: 1200 };
+// The kinds of marks that a picture may show.
+const MARKS = ["forks", "tokens", "arrows", "counts"];
 // How long the page waits before it writes its address, in milliseconds.
 const QUIET = 150;
 
 export function show() {
-  const { schedule } = mind;
+  const { schedule } = page;
   const { state } = schedule;
   const last = schedule.at === 0 ? null : state.last ?? null;
-  if (focusOf() !== mind.focus) openPicture();
+  if (focusOf() !== page.focus) openPicture();
   picture.show(state);
-  picture.mark(last);
-  picture.select(mind.selected);
+  picture.mark(page.kinds ? null : last);
+  picture.select(page.selected);
   picture.light(null, null);
-  showTold(state, last);
-  setText(found("order"), orderText(state));
-  setAttribute(found("order"), "title", found("order").textContent);
-  showTicks(found("ticks"), state);
+  showChecks(found("checks"), state);
   showEnabled(state);
-  why.show(state, mind.selected, shownSites(state), isPredicting());
+  why.show(state, page.selected, shownSites(state));
   showCount(state);
   showLogs(state);
-  siteTable.show(state, last, mind.selected);
+  siteTable.show(state, last, page.selected);
   edgeTable.show(state, last);
-  showCourse();
+  showTimeline();
   showNaive();
-  lessonPanel.show(mind.lesson, mind.moment, mind.lesson?.path === OWN, schedule.at);
+  showLast(state, last);
+  drawLegend(found("legend"), page.isPlain ? hadOf(page.naive.state(), null) : hadOf(state, last));
+  showLesson();
+  const name = page.lesson?.title ?? (schedule.path ? nameOf(schedule.path) : "A plan of your own");
+  document.title = `${name} · Dining philosophers`;
   noteAddress();
 }
 
+// Has the picture show the kinds of marks of the moment, or all, with the arrows and the counts if they are wanted.
+export function showKinds() {
+  const kinds = page.kinds ?? (found("ranks").checked ? MARKS : MARKS.slice(0, 2));
+  for (const kind of MARKS) found("stage").classList.toggle(kind, kinds.includes(kind));
+  document.body.classList.toggle("shows-less", page.kinds !== null);
+  document.body.classList.toggle("is-plain", page.isPlain);
+  if (page.schedule) show();
+}
+
+// What a picture has of what its legend may have.
+function hadOf({ sites, edges, links }, last) {
+  const kinds = new Set(MARKS.filter((kind) => found("stage").classList.contains(kind)));
+  const letters = new Set(links.flatMap((link) => link.letters));
+  if (!kinds.has("tokens")) letters.delete("request");
+  return {
+    kinds,
+    letters,
+    phases: new Set(sites.map(doesWhat)),
+    forks: new Set(edges.map(({ dirty }) => dirty)),
+    hasLast: last !== null && page.kinds === null,
+    hasClosed: edges.some((edge) => edge.said?.every((it) => it.close_put)),
+    isPlain: page.isPlain,
+  };
+}
+
+// Shows the moment of the lesson, and points at what it speaks of.
+function showLesson() {
+  const { schedule, lesson, way } = page;
+  const { list, at } = schedule;
+  const moment = lesson?.moments[page.moment];
+  const isOnWay = at < list.length && list.length === way.length && way.every((it, turn) => list[turn] === it);
+  const isThere = moment !== undefined && at === placeOf(moment);
+  lessonPanel.show(lesson, page.moment, isThere || page.walk !== null, isOnWay);
+  const isStory = page.selected === null && !found("predict").checked;
+  const isTold = isOnWay || (isThere && !moment.starve && moment !== lesson.moments.at(-1));
+  document.body.classList.toggle("on-way", isStory && page.kinds !== null && isTold);
+  document.body.classList.toggle("starves", isStory && moment?.starve !== undefined);
+  const thing = isThere ? moment.point ?? "" : "";
+  picture.point(schedule.state, page.isPlain ? "" : thing, moment?.callout);
+  naivePicture.point(schedule.state, page.isPlain ? thing : "", moment?.callout);
+  showStarving(found("starving"), moment?.starve ? linesOfStarving(schedule, placeOf(moment), moment.starve) : []);
+}
+
+// The name of a plan by its path.
+export function nameOf(path) {
+  return path.replace(/^.*\/(.*)\.toml$/, "$1").replaceAll("_", " ");
+}
+
 export function select(site) {
-  mind.selected = site;
+  page.selected = site;
   show();
 }
 
 // The sites that the picture shows.
 function shownSites(state) {
-  return mind.focus === null ? [...state.sites.keys()] : [...picture.sites.keys()];
+  return page.focus === null ? [...state.sites.keys()] : [...picture.sites.keys()];
 }
 
 function isPredicting() {
-  return found("predict").checked && !quiz.isChecked && mind.schedule.state.enabled.length > 0;
+  return found("predict").checked && !quiz.isChecked && page.schedule.state.enabled.length > 0;
 }
 
-function showTold(state, last) {
-  const [words, rule] = found("told").children;
-  const { at, left } = mind.schedule;
+function showLast(state, last) {
+  const [words, rule] = found("last").children;
+  const { at, left } = page.schedule;
+  if (page.isPlain) {
+    setText(words, page.naive.words);
+    setText(rule, "");
+    return;
+  }
   setText(words, at === 0 ? "The start" : last?.words ?? `After event ${at}`);
   const isOver = state.enabled.length === 0;
   const end = `the end: no event is enabled any more${failedText(state)}`;
@@ -78,48 +135,40 @@ function failedText(state) {
   return [...failed, ...quit].map((it) => `; ${it}`).join("");
 }
 
-// The order of the sites by which precedence has no cycle.
-function orderText(state) {
-  if (!state.order) return "";
-  const names = state.order.map((site) => state.sites[site].name);
-  return `Order along all arrows: ${names.join(" → ")}`;
-}
-
 function showEnabled(state) {
   const asks = found("predict").checked && state.enabled.length > 0;
-  if (asks) quiz.show(state, seed(), `${mind.schedule.version} ${mind.schedule.at} ${mind.schedule.path}`);
+  if (asks) quiz.show(state, seed(), `${page.schedule.version} ${page.schedule.at} ${page.schedule.path}`);
   else quiz.hide();
   found("quiz").hidden = !asks;
-  // What each site waits for would give the answer away.
-  document.body.classList.toggle("asks", asks && mind.selected === null);
+  // What a site waits for, and what it may do, would give the answer away.
+  document.body.classList.toggle("asks", isPredicting());
   found("enabled").hidden = isPredicting();
   setText(found("enabled-name"), isPredicting() ? "What may happen next?" : "May happen next");
-  const { at, list } = mind.schedule;
+  const { at, list } = page.schedule;
   const sites = new Set(shownSites(state));
-  const events = mind.focus === null ? state.enabled : state.enabled.filter((event) => sites.has(event.site));
+  const events = page.focus === null ? state.enabled : state.enabled.filter((event) => sites.has(event.site));
   const next = at < list.length ? list[at] : null;
-  const { isRecorded } = mind.program;
-  enabledList.show(isPredicting() ? [] : events, { next, total: state.enabled.length, isRecorded });
+  enabledList.show(isPredicting() ? [] : events, { next, total: state.enabled.length });
   if (isPredicting()) setText(found("many"), "");
 }
 
 function showCount(state) {
-  const { schedule } = mind;
+  const { schedule } = page;
   const isOver = state.enabled.length === 0;
   const most = `at most ${state.bound}`;
   setText(found("count"), isOver ? `event ${state.events}, the end; ${most}` : `event ${state.events} of ${most}`);
   found("progress").max = Math.max(isOver ? state.events : state.bound, 1);
   found("progress").value = state.events || (isOver ? 1 : 0);
   for (const name of ["back", "reset"]) setOff(found(name), schedule.at === 0);
+  setOff(found("undo"), page.past.length === 0);
   const hasNext = schedule.next("first", 0) !== null;
   for (const name of ["step", "play"]) setOff(found(name), !hasNext);
-  for (const name of ["first", "random"]) setOff(found(name), isOver || mind.program.isRecorded);
+  for (const name of ["first", "random"]) setOff(found(name), isOver);
 }
 
-// The line for a shell that leads to this state.
-export function shellLine() {
-  const { list, at, path } = mind.schedule;
-  const done = list.slice(0, at).join(",");
+// The line for a shell that leads to this state, by the choices that were done.
+export function shellLine(done = page.schedule.list.subarray(0, page.schedule.at).join(",")) {
+  const { path } = page.schedule;
   return `./dine ${done ? `replay --choices ${done}` : "replay"} < ${quoted(path ?? "plan.toml")}`;
 }
 
@@ -128,18 +177,26 @@ function cut(text, most = WHOLE.choices) {
   return text.length <= most ? text : `${text.slice(0, most / 4)} … ${text.slice(-most / 4)}`;
 }
 
+// The choices from a place to another, without those in the middle if there are many.
+function choicesText(from, to) {
+  const list = page.schedule.list.subarray(from, to);
+  const few = WHOLE.choices / 4;
+  if (list.length <= 2 * few) return cut(list.join(","));
+  return cut(`${list.subarray(0, few).join(",")},${list.subarray(-few).join(",")}`, WHOLE.choices - 1);
+}
+
 function showLogs(state) {
-  const { list, at, path } = mind.schedule;
+  const { list, at, path } = page.schedule;
   const logs = state.logs.map((log) => cut(log, WHOLE.log));
   setText(found("logs"), [...logs, `events ${state.events} of ${state.bound}`].join("\n"));
-  const done = list.slice(0, at).join(",");
-  setText(found("line"), cut(shellLine()));
+  const done = choicesText(0, at);
+  setText(found("line"), shellLine(done));
   const own = path === null ? "Save the text of your plan as plan.toml. " : "";
   const note = found("line").textContent.includes("…") ? "Copy takes all of it. " : "";
   setText(found("line-note"), `${note}${own}It does these events, and then the first enabled one until there is none.`);
-  const rest = list.slice(at).join(",");
-  setText(found("choices").firstChild, cut(done) || "none");
-  setText(found("choices").lastChild, rest && `${done ? "," : " then "}${cut(rest)}`);
+  const rest = choicesText(at, list.length);
+  setText(found("choices").firstChild, done || "none");
+  setText(found("choices").lastChild, rest && `${done ? "," : " then "}${rest}`);
 }
 
 // A path as a shell reads it.
@@ -147,39 +204,38 @@ function quoted(path) {
   return /^[\w./-]+$/.test(path) ? path : `'${path.replaceAll("'", "'\\''")}'`;
 }
 
-function showCourse() {
-  const { schedule } = mind;
-  course.draw(schedule);
-  course.show(schedule.at);
-  setText(found("course-name"), schedule.isOfThreads ? "What the threads did" : "The run so far");
-  setText(found("course-note"), courseNote());
-  const slider = found("course-scroll");
+function showTimeline() {
+  const { schedule } = page;
+  timeline.draw(schedule, page.other);
+  timeline.show(schedule.at);
+  setText(found("timeline-name"), schedule.isOfThreads ? "What the threads did" : "The run so far");
+  setText(found("timeline-note"), timelineNote());
+  const slider = found("timeline-scroll");
   setAttribute(slider, "aria-valuemax", schedule.list.length);
   setAttribute(slider, "aria-valuenow", schedule.at);
   setAttribute(slider, "aria-valuetext", `event ${schedule.at} of ${schedule.list.length}`);
 }
 
-function courseNote() {
-  const { list, at, isOfThreads, state } = mind.schedule;
-  const count = `${list.length.toLocaleString("en")} ${list.length === 1 ? "event" : "events"}`;
-  if (isOfThreads) {
-    const threads = state.sites.length === 1 ? "one thread" : `${state.sites.length} threads`;
-    return `${count} of ${threads}, played in one order that fits`;
-  }
+// What the event was that the cursor is behind.
+function timelineNote() {
+  const { list, at, isOfThreads, state } = page.schedule;
   if (list.length === 0) return "bar: a meal; ochre line: a wait; arrow: a fork on its way";
-  return at < list.length ? `${count}, of which ${(list.length - at).toLocaleString("en")} are still to come` : count;
+  const count = `${list.length.toLocaleString("en")} ${list.length === 1 ? "event" : "events"}`;
+  if (at === 0) return isOfThreads ? `${count}, in one order that fits` : count;
+  return `${at.toLocaleString("en")} of ${count}: ${state.last?.words ?? ""}`;
 }
 
 function showNaive() {
-  const isShown = found("naive").checked;
-  found("naive-side").hidden = !isShown;
-  for (const name of ["real-name", "real-told"]) found(name).hidden = !isShown;
-  if (!isShown) return;
-  mind.naive.go(mind.schedule.at);
-  naivePicture.show(mind.naive.state());
-  setText(found("real-told"), realText(mind.schedule.state));
-  setText(found("naive-told"), mind.naive.told());
-  setAttribute(found("naive-told"), "class", mind.naive.isCaught() ? "caught" : "");
+  const isBeside = found("naive").checked;
+  found("naive-side").hidden = !isBeside && !page.isPlain;
+  found("real-side").hidden = page.isPlain;
+  for (const name of ["real-name", "real-note"]) found(name).hidden = !isBeside;
+  if (!isBeside && !page.isPlain) return;
+  page.naive.go(page.schedule.at);
+  naivePicture.show(page.naive.state());
+  setText(found("real-note"), realText(page.schedule.state));
+  setText(found("naive-note"), page.naive.said());
+  setAttribute(found("naive-note"), "class", page.naive.isCaught() ? "caught" : "");
 }
 
 // What the rules have come to, beside what happens without them.
@@ -192,8 +248,8 @@ function realText({ sites, enabled }) {
 
 // The site that is in focus, or null if all are shown.
 function focusOf() {
-  if (!isCrowded(mind.schedule.state) || !found("focus").checked) return null;
-  return mind.selected ?? mind.hub;
+  if (!isCrowded(page.schedule.state) || !found("focus").checked) return null;
+  return page.selected ?? page.hub;
 }
 
 export function isCrowded({ sites, edges }) {
@@ -207,24 +263,33 @@ export function hubSite({ sites, edges }) {
 }
 
 export function openPicture() {
-  const { state } = mind.schedule;
-  mind.focus = focusOf();
-  picture.open(state, mind.room, mind.focus);
-  naivePicture.open(mind.naive.state(), mind.room, mind.focus);
-  drawLegend(found("legend"), picture.size);
+  const { state } = page.schedule;
+  page.focus = focusOf();
+  picture.open(state, page.room, page.focus);
+  naivePicture.open(page.naive.state(), page.room, page.focus);
 }
 
 let noting = null;
 
 export function noteAddress() {
   clearTimeout(noting);
-  noting = setTimeout(async () => {
-    if (!mind.schedule || mind.program.isRecorded) return;
-    const { path, plan, list, at, isOfThreads } = mind.schedule;
-    const how = { by: found("pick").value, seed: seed(), speed: Number(found("speed").value) };
-    const lesson = mind.lesson && mind.lesson.path !== OWN ? mind.lesson.path : null;
-    const address = await addressOf({ path, plan, list, at, isOfThreads, ...how, lesson, moment: mind.moment });
-    history.replaceState(null, "", address || location.pathname);
-    found("too-long").hidden = address !== "";
+  noting = setTimeout(() => {
+    if (page.schedule) writeAddress();
   }, QUIET);
+}
+
+// Writes the address of the moment that is shown, and returns it.
+export async function writeAddress() {
+  const { path, plan, list, at, isOfThreads } = page.schedule;
+  const how = { by: found("pick").value, seed: seed(), speed: Number(found("speed").value) };
+  const { lesson, moment } = page;
+  const said = await addressOf({ path, plan, list, at, isOfThreads, ...how, lesson, moment });
+  const address = location.href.replace(/#.*/s, "") + said;
+  try {
+    history.replaceState(null, "", address);
+  } catch {
+    // A page within another may have no address of its own.
+  }
+  found("too-long").hidden = address.includes("#");
+  return address;
 }

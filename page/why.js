@@ -55,32 +55,31 @@ function precedenceOf(state, site) {
 }
 
 export class Why {
-  // `parts` has the heading, the box, the button that closes it, what is done at a choice, and whether there is no
-  // program to do it.
+  // `parts` has the heading, the box, the button that closes it, and what is done at a choice.
   constructor(parts) {
     Object.assign(this, parts);
     this.key = null;
   }
 
   // Shows of the sites what they wait for, or all of the site that is selected.
-  show(state, selected, sites, isHidden) {
+  show(state, selected, sites) {
     const { events, done, bound } = state;
-    const key = JSON.stringify([selected, sites.length, isHidden, state.sites, state.edges, events, done, bound]);
+    const key = JSON.stringify([selected, sites.length, state.sites, state.edges, events, done, bound]);
     if (this.key === key) return;
     this.key = key;
     this.close.hidden = selected === null;
     if (selected === null) this.showWaits(state, sites);
-    else this.showSite(state, selected, isHidden);
+    else this.showSite(state, selected);
   }
 
   showWaits(state, sites) {
     this.heading.textContent = "Who waits, and for what";
     const lines = waitLines(state, sites);
-    const told = lines.length ? listOf(lines) : textElement("p", "No site is hungry.");
-    this.box.replaceChildren(told, textElement("p", "Click a site for all that it holds and may do.", "note"));
+    const waits = lines.length ? listOf(lines) : textElement("p", "No site is hungry.");
+    this.box.replaceChildren(waits, textElement("p", "Click a site for all that it holds and may do.", "note"));
   }
 
-  showSite(state, number, isHidden) {
+  showSite(state, number) {
     const site = state.sites[number];
     this.heading.textContent = `${site.name}: ${doesWhat(site)}, ${mealsOf(site)} of ${site.jobs} meals`;
     const { holds, lacks } = holdings(state, number);
@@ -91,7 +90,7 @@ export class Why {
     const goes = precedenceOf(state, number);
     if (goes) lines.push(lineOf("Goes: ", goes));
     this.box.replaceChildren(listOf(lines));
-    if (!isHidden) this.addEvents(state, number);
+    this.addEvents(state, number);
   }
 
   addEvents(state, number) {
@@ -105,7 +104,6 @@ export class Why {
   }
 
   eventItem(event) {
-    if (this.isRecorded()) return lineOf(event.words, ` ${event.rule}`);
     const item = document.createElement("li");
     const button = textElement("button", event.words, "inline");
     button.type = "button";

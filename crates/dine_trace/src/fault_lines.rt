@@ -1,4 +1,4 @@
-//! What ends the program before its end.
+//! The faults that end the program.
 
 use dine::PlanDiner;
 use dine_plan::PlanFault;
@@ -14,23 +14,23 @@ const NO_LIST: &str = "dine_trace: the first line of the input is no LIST";
 
 const NO_ORDER: &str = "dine_trace: no order of the run";
 
-/// What ended the program before its end.
+/// A fault that ended the program.
 #[derive(Clone, Copy, Debug, PartialEq, Eq)]
 pub enum Fault {
-    /// The words are refused.
+    /// The arguments are refused.
     Usage,
-    /// The first line of the input is to be a LIST, and is none.
+    /// The first line of the input should be a LIST, and is none.
     NoList,
-    /// What the threads of a run did is in no order that a world of the plan accepts and that leads to the logs that
-    /// were gathered.
+    /// There is no order of what the threads of a run did that leads a world of the plan to the logs that were
+    /// gathered.
     NoOrder,
-    /// What ends `dine` too, with the line that it has.
-    Told(dine::Fault),
+    /// A fault that ends `dine` too, with its line.
+    Dine(dine::Fault),
 }
 
 impl Fault {
-    /// Prints the line that tells of it to `faults`, and answers the status that it ends the program with. That the
-    /// line can't be printed is told to nobody.
+    /// Prints the line of the fault to `faults`, and returns the status that the program ends with. If the line cannot
+    /// be printed, that is not reported.
     pub fn end<F: Write>(self, faults: &mut F) -> Status {
         match self {
             Fault::Usage => {
@@ -45,7 +45,7 @@ impl Fault {
                 let _ = write_line(faults, NO_ORDER);
                 Status::RunFailed
             }
-            Fault::Told(fault) => fault.end(faults),
+            Fault::Dine(fault) => fault.end(faults),
         }
     }
 }
@@ -54,7 +54,7 @@ impl From<dine::Fault> for Fault {
     fn from(fault: dine::Fault) -> Fault {
         match fault {
             dine::Fault::Usage => Fault::Usage,
-            _ => Fault::Told(fault),
+            _ => Fault::Dine(fault),
         }
     }
 }
@@ -97,13 +97,6 @@ impl From<AllocError> for Fault {
 
 impl<T: Drop> From<AllocFailed<T>> for Fault {
     fn from(_error: AllocFailed<T>) -> Fault {
-        Fault::Told(dine::Fault::OutOfMemory)
-    }
-}
-
-// A state is written to memory, so nothing but want of memory keeps it from being written.
-impl From<serde_json::Error> for Fault {
-    fn from(_error: serde_json::Error) -> Fault {
-        Fault::Told(dine::Fault::OutOfMemory)
+        Fault::Dine(dine::Fault::OutOfMemory)
     }
 }

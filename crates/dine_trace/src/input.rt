@@ -8,7 +8,7 @@ use std::str;
 
 const LINE_FEED: u8 = b'\n';
 
-/// The choices of the first line, which are none where it is empty, and what is behind it.
+/// Returns the choices of the first line, which are none if it is empty, and the bytes after it.
 pub fn split_list(alloc: Global, bytes: &[u8]) -> Result<(Vec<u32>, &[u8]), Fault> {
     let end = length_of_line(bytes);
     let (line, rest) = bytes.split_at(end);
@@ -25,7 +25,7 @@ pub fn split_list(alloc: Global, bytes: &[u8]) -> Result<(Vec<u32>, &[u8]), Faul
     }
 }
 
-// How many bytes are before the first line feed, or in all where there is none.
+// The number of bytes before the first line feed, or of all if there is none.
 fn length_of_line(bytes: &[u8]) -> usize
     ensures { result ≤ length bytes.now }
 {

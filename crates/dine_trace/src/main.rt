@@ -1,39 +1,34 @@
-//! Shows a schedule of a plan. The plan is the standard input, and LIST has the numbers of the events to do, in turn,
+//! Prints a schedule of a plan. The plan is the standard input, and LIST has the numbers of the events to do, in turn,
 //! as for `dine replay --choices`.
 //!
 //! Step by step: before each step the enabled events with their numbers, which one was chosen, and after it what each
 //! end of each edge is. After the last choice the first enabled event is done until there is none, and the last lines
 //! are those that `dine replay` prints.
 //!
-//! With `--json` the state after the choices, in one line; with `--events` all events of the choices; with `--states`
-//! a line for the state after each of so many of them as PLACES says. With `--run` it runs the plan on threads, and
-//! prints the LIST that goes as the run went. If LIST is `-`, it is the first line of the input, and the plan is behind
-//! it.
+//! With `--json` it prints the state after the choices, in one line; with `--events` all events of the choices; with
+//! `--states` the state after each of the numbers of events in PLACES, one line each. With `--run` it runs the plan on
+//! threads, and prints the LIST that leads through the events of that run. If LIST is `-`, it is the first line of the
+//! input, and the plan follows it.
 //!
 //! usage: dine_trace [[--json | --events | --states PLACES] [LIST] | --run [--links channel|ring]] < PLAN
 #![tactic(auto)]
 
-mod course;
-mod edges;
-mod events;
+mod ends;
 mod fault_lines;
 mod input;
-mod past;
-mod precedence;
-mod reasons;
-mod schedule;
-mod state;
+mod runs;
+mod states;
 mod trace;
 mod words;
 
-use course::course_text;
 use dine::arguments_of;
 use dine_plan::Plan;
+use dine_states::course_text;
 use dine_words::{Status, exit_of, plan_of_bytes, read_input, write_line};
 use fault_lines::Fault;
 use input::split_list;
-use schedule::choices_of_run;
-use state::{state_text, write_states};
+use runs::choices_of_run;
+use states::{state_text, write_states};
 use std::alloc::Global;
 use std::io::{Read, Write};
 use std::process::ExitCode;
@@ -43,7 +38,7 @@ use std::{env, io};
 use trace::show_plan;
 use words::{Asked, Choices, Form, asked_of};
 
-// Reads the plan, and shows what the words ask for.
+// Reads the plan, and prints what the arguments ask for.
 fn show<H: Threads + Wait + Copy + Send + 'static, R: Read, W: Write>(
     rt: &H,
     alloc: Global,
@@ -64,7 +59,7 @@ fn show<H: Threads + Wait + Copy + Send + 'static, R: Read, W: Write>(
     }
 }
 
-// Shows what is asked of the choices, and of the plan that the input is or has behind them.
+// Prints what is asked for. The input is the plan, or the choices and then the plan.
 fn show_of<W: Write>(
     alloc: Global,
     bytes: &[u8],
@@ -85,7 +80,7 @@ fn show_of<W: Write>(
     }
 }
 
-// The plan that the bytes are.
+// The plan in the bytes.
 fn plan_of(alloc: Global, bytes: &[u8]) -> Result<Plan, Fault> {
     match plan_of_bytes(alloc, bytes) {
         Ok(plan) => Ok(plan),
@@ -93,7 +88,7 @@ fn plan_of(alloc: Global, bytes: &[u8]) -> Result<Plan, Fault> {
     }
 }
 
-// Shows what is asked of the plan and the choices.
+// Prints what is asked for of the plan and the choices.
 fn show_form<W: Write>(
     alloc: Global,
     plan: &Plan,

@@ -1,16 +1,16 @@
 //! The steps of a schedule.
 
-use crate::edges::push_edges;
-use crate::events::{Enabled, push_event};
+use crate::ends::push_edges;
 use crate::fault_lines::Fault;
 use dine_core::{Event, World};
 use dine_log_text::replay_text;
 use dine_plan::Plan;
+use dine_states::{Enabled, push_event};
 use dine_words::write_out;
 use std::alloc::{AllocError, Global};
 use std::io::Write;
 
-/// Shows each step of the plan's schedule, and then what `dine replay` prints.
+/// Prints each step of the plan's schedule, and then what `dine replay` prints.
 pub fn show_plan<W: Write>(
     alloc: Global,
     plan: &Plan,
@@ -26,7 +26,7 @@ pub fn show_plan<W: Write>(
     Ok(())
 }
 
-// Shows the steps of the choices, and those after them.
+// Prints the steps of the choices, and those after them.
 fn show_steps<W: Write>(
     alloc: Global,
     plan: &Plan,
@@ -48,8 +48,8 @@ fn show_steps<W: Write>(
     Ok(())
 }
 
-// Shows the enabled events, does the one with this number where there is one, and shows what the edges are then. It
-// answers how many steps there were by then, of which so many were before.
+// Prints the enabled events, does the one with this number if there is one, and prints what the ends of the edges are
+// then. Returns the number of steps that were done; `before` is that number before this step.
 fn show_step<W: Write>(
     alloc: Global,
     plan: &Plan,
@@ -87,7 +87,7 @@ fn push_enabled(text: &mut String, plan: &Plan, world: &World) -> Result<(), All
     Ok(())
 }
 
-// Does the enabled event with this number. Where there is none it answers false, and nothing changes.
+// Does the enabled event with this number, and returns whether there is one. If there is none, nothing changes.
 fn does(world: &mut World, choice: u32) -> bool {
     match world.enabled(choice) {
         Some(event) => world.step(event).is_ok(),

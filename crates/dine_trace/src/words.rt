@@ -1,10 +1,10 @@
-//! The words of the command line.
+//! The arguments of the program.
 
 use crate::fault_lines::Fault;
 use dine_words::{Command, Links, Table, command_of};
 use std::alloc::Global;
 
-// The word for a LIST that is the first line of the input.
+// The argument for a LIST that is the first line of the input.
 const IN_INPUT: &str = "-";
 
 /// Where the choices are.
@@ -12,11 +12,11 @@ const IN_INPUT: &str = "-";
 pub enum Choices {
     /// These are the choices.
     Given(Vec<u32>),
-    /// The first line of the input is their LIST, and the plan is behind it.
+    /// The first line of the input is their LIST, and the plan follows it.
     InInput,
 }
 
-/// What the program is asked to show of a plan and choices.
+/// What the program is asked to print of a plan and choices.
 #[derive(Drop)]
 pub enum Form {
     /// The steps of the choices, and those after them.
@@ -25,20 +25,20 @@ pub enum Form {
     State,
     /// All events of the choices, as JSON.
     Events,
-    /// The states after so many events of the choices, as a line of JSON each.
+    /// The states after these numbers of events of the choices, as a line of JSON each.
     States(Vec<u32>),
 }
 
-/// What the program is asked to show.
+/// What the program is asked to print.
 #[derive(Drop)]
 pub enum Asked {
     /// Something of choices.
     Of(Form, Choices),
-    /// The choices that go as a run on threads went, over links of this kind.
+    /// Choices that lead through the events of a run on threads, over links of this kind.
     Run(Links),
 }
 
-/// What the words ask for, of which the first is the program's own name.
+/// Returns what the arguments ask for. The first of them is the program's own name.
 pub fn asked_of(alloc: Global, words: &[String]) -> Result<Asked, Fault> {
     match words.get(1) {
         None => of(alloc, Form::Steps, &[]),
@@ -52,12 +52,12 @@ pub fn asked_of(alloc: Global, words: &[String]) -> Result<Asked, Fault> {
     }
 }
 
-// This form of the choices of the words.
+// This form of the choices of the arguments.
 fn of(alloc: Global, form: Form, words: &[String]) -> Result<Asked, Fault> {
     Ok(Asked::Of(form, choices_in(alloc, words)?))
 }
 
-// The states at the places that the first of the words lists.
+// The states at the places that the first of the arguments lists.
 fn states_in(alloc: Global, words: &[String]) -> Result<Asked, Fault> {
     match words.get(0) {
         Some(places) => of(
@@ -69,8 +69,8 @@ fn states_in(alloc: Global, words: &[String]) -> Result<Asked, Fault> {
     }
 }
 
-// The choices of the words: one that is a LIST as for `dine replay --choices`, or says that the input has it, or no
-// word, and then there are none.
+// The choices of the arguments: of one that is a LIST as for `dine replay --choices`, or that says that the input has
+// it; none if there is no argument.
 fn choices_in(alloc: Global, words: &[String]) -> Result<Choices, Fault> {
     match words.len() {
         0 => Ok(Choices::Given(Vec::new(alloc))),
@@ -80,7 +80,7 @@ fn choices_in(alloc: Global, words: &[String]) -> Result<Choices, Fault> {
     }
 }
 
-/// The choices of a LIST as for `dine replay --choices`.
+/// Returns the choices of a LIST as for `dine replay --choices`.
 pub fn choices_of(alloc: Global, list: &str) -> Result<Vec<u32>, Fault> {
     match said_to_dine(alloc, ["replay", "--choices", list].as_slice())? {
         Command::Replay(choices) => Ok(choices),
@@ -88,7 +88,7 @@ pub fn choices_of(alloc: Global, list: &str) -> Result<Vec<u32>, Fault> {
     }
 }
 
-// The links of the words, as for `dine run --links`: where there is no word, those of `dine`.
+// The links of the arguments, as for `dine run --links`. If there is no argument, those that `dine` takes.
 fn links_in(alloc: Global, words: &[String]) -> Result<Links, Fault> {
     let command = match words.len() {
         0 => said_to_dine(alloc, ["run"].as_slice())?,
@@ -103,7 +103,7 @@ fn links_in(alloc: Global, words: &[String]) -> Result<Links, Fault> {
     }
 }
 
-// What these words ask `dine` for.
+// What these arguments ask `dine` for.
 fn said_to_dine(alloc: Global, said: &[&str]) -> Result<Command, Fault> {
     let mut words = Vec::new(alloc);
     words.push(String::from_str(alloc, "dine")?)?;

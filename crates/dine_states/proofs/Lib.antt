@@ -1,0 +1,10 @@
+pub mod Orders
+pub mod Stuck
+pub mod Forks
+pub mod Places
+pub mod Reading
+pub mod Reasons
+pub mod FirstReasons
+pub mod JointStates
+pub mod Waiting
+pub mod Replays

@@ -1,0 +1,72 @@
+-- Which plans are refused, and how a refusal reads.
+use Rattle.std.specs.Prelude.{◌≡◌, ◌⊎◌, ℕ, List, ◌++◌, Option, Some, None, codes}
+use Rattle.std.specs.Fmt.{decimal}
+use Rattle.core.specs.Fmt.Cut.{IsTextOrCut}
+use Rattle.std.specs.Str.{IsUtf8}
+use Rattle.dine_graph.specs.Plan.{SeenPlan}
+use Rattle.dine_draft.specs.declared.plan_fault.PlanFault.{PlanFault}
+use Rattle.dine_draft.specs.declared.plan_fault.PlanFault.TheVariants.{NotToml, BadName, SiteTwice, TooManyJobs, TurnsTooLarge, UnknownEnd, Loop, EdgeTwice, TwoActs, ActTooLarge, ValueTooLarge, UnknownPolicy, Memory}
+use Rattle.dine_draft.specs.Fault.{number_of_fault, plan_fault_words}
+use Rattle.dine_reader.specs.PlanOf.{IsPlanOf}
+use Rattle.dine_reader.specs.RefusalTests.{first_fault}
+use Rattle.dine_web.specs.declared.refusals.Refusal.{Refusal}
+use Rattle.dine_web.specs.declared.refusals.Refusal.TheVariants.{NoPlan, OutOfMemory, Closed, OpenAlready, NoEvent}
+
+-- The bytes are the text of this plan, which is not refused.
+pub record IsAccepted (bytes : List ℕ) (plan : SeenPlan) : Type 0 where
+  pub utf8 : IsUtf8 bytes
+  pub unrefused : first_fault bytes ≡ None
+  pub is_plan : IsPlanOf bytes plan
+
+-- Bytes are refused for this: they are no text, or the cause is the first of their text; or memory ran out.
+abbrev pub IsRefused : List ℕ → Refusal → Type 0
+IsRefused bytes (NoPlan fault) = (first_fault bytes ≡ Some fault) ⊎ ((IsUtf8 bytes → ⊥) × (fault ≡ NotToml))
+IsRefused bytes OutOfMemory = Unit {0}
+IsRefused bytes Closed = ⊥
+IsRefused bytes OpenAlready = ⊥
+IsRefused bytes NoEvent = ⊥
+
+-- why a plan is refused for this cause
+abbrev pub is_for : PlanFault → Refusal
+is_for Memory = OutOfMemory
+is_for fault = NoPlan fault
+
+-- memory ran out
+abbrev pub IsOfMemory : Refusal → Type 0
+IsOfMemory refusal = refusal ≡ OutOfMemory
+
+-- the site that a cause names
+abbrev pub at_site : ℕ → List ℕ
+at_site site = codes "{\"site\":" ++ decimal site ++ codes "}"
+
+-- the edge that a cause names
+abbrev pub at_edge : ℕ → List ℕ
+at_edge edge = codes "{\"edge\":" ++ decimal edge ++ codes "}"
+
+-- what a cause names
+abbrev pub named_text : PlanFault → List ℕ
+named_text (BadName site) = at_site site
+named_text (SiteTwice site) = at_site site
+named_text (TooManyJobs site) = at_site site
+named_text (TurnsTooLarge site) = at_site site
+named_text (TwoActs site) = at_site site
+named_text (ActTooLarge site) = at_site site
+named_text (UnknownPolicy site) = at_site site
+named_text (UnknownEnd edge) = at_edge edge
+named_text (Loop edge) = at_edge edge
+named_text (EdgeTwice edge) = at_edge edge
+named_text (ValueTooLarge edge) = at_edge edge
+named_text _ = codes "{}"
+
+-- a refusal as JSON
+abbrev pub refusal_text : Refusal → List ℕ
+refusal_text (NoPlan fault) = codes "{\"refused\":{\"line\":\"plan refused: " ++ plan_fault_words fault ++ codes "\",\"fault\":"
+    ++ decimal (number_of_fault fault) ++ codes ",\"at\":" ++ named_text fault ++ codes "}}"
+refusal_text OutOfMemory = codes "{\"refused\":{\"line\":\"out of memory\"}}"
+refusal_text Closed = codes "{\"refused\":{\"line\":\"the handle is closed\"}}"
+refusal_text OpenAlready = codes "{\"refused\":{\"line\":\"the handle is open\"}}"
+refusal_text NoEvent = codes "{\"refused\":{\"line\":\"no such event\"}}"
+
+-- the text is that of the refusal; one of more than 128 bytes, which there is none, would be cut off and end in dots
+abbrev pub Says : Refusal → List ℕ → Type 0
+Says refusal = IsTextOrCut 128 (refusal_text refusal)

@@ -1,0 +1,60 @@
+// A few words in the picture, in a box beside the thing that they are about.
+
+import { element } from "./marks.js";
+
+// How many letters a row of the box has at most, how wide a letter is, and how high a row is.
+const BOX = { letters: 18, wide: 8, high: 17 };
+// How far a box is from its thing, in the order in which places are tried, and in how many directions.
+const TRIED = { far: [14, 30, 55, 90], ways: 16 };
+
+function rowsOf(words) {
+  const rows = [""];
+  for (const word of words.split(" ")) {
+    if (rows.at(-1) && rows.at(-1).length + word.length >= BOX.letters) rows.push("");
+    rows.push(`${rows.pop()} ${word}`.trim());
+  }
+  return rows;
+}
+
+// How much of a box, which is so far to all sides of its middle, covers another.
+function covered(one, other) {
+  const wide = one.wide + other.wide - Math.abs(one.x - other.x);
+  const high = one.high + other.high - Math.abs(one.y - other.y);
+  return Math.max(0, wide) * Math.max(0, high);
+}
+
+// The best place for a box beside a thing: within the picture, off what is drawn there, and near.
+function bestBox(size, thing, { width, height }, others) {
+  let best = null;
+  for (const far of TRIED.far) {
+    for (let way = 0; way < TRIED.ways; way += 1) {
+      const angle = (2 * Math.PI * way) / TRIED.ways;
+      const [right, down] = [Math.cos(angle), Math.sin(angle)];
+      const out = thing.radius + far + Math.abs(right) * size.wide + Math.abs(down) * size.high;
+      const box = { ...size, x: thing.x + right * out, y: thing.y + down * out };
+      const left = Math.max(0, size.wide + 3 - box.x, box.x + size.wide + 3 - width);
+      const over = Math.max(0, size.high + 3 - box.y, box.y + size.high + 3 - height);
+      const cost = others.reduce((sum, it) => sum + covered(box, it), 0) + 1000 * (left + over) + 2 * far;
+      if (!best || cost < best.cost) best = { ...box, cost };
+    }
+  }
+  return best;
+}
+
+// Draws a box with words for a thing, which has a place and a radius. Others are what it should not cover.
+export function drawCallout(svg, thing, words, others) {
+  const group = element("g", { class: "callout" }, svg);
+  const rows = rowsOf(words);
+  const [wide, high] = [Math.max(...rows.map((it) => it.length)) * BOX.wide + 18, rows.length * BOX.high + 10];
+  const { x, y } = bestBox({ wide: wide / 2, high: high / 2 }, thing, svg.viewBox.baseVal, others);
+  const far = Math.hypot(thing.x - x, thing.y - y);
+  const [right, down] = [(x - thing.x) / far, (y - thing.y) / far];
+  const tip = `${thing.x + right * thing.radius},${thing.y + down * thing.radius}`;
+  const leader = `M${x - 7 * down},${y + 7 * right}L${tip}L${x + 7 * down},${y - 7 * right}Z`;
+  element("path", { class: "leader", d: leader }, group);
+  element("rect", { x: x - wide / 2, y: y - high / 2, width: wide, height: high, rx: 8 }, group);
+  rows.forEach((row, turn) => {
+    element("text", { x, y: y + (turn - (rows.length - 1) / 2) * BOX.high }, group).textContent = row;
+  });
+  return group;
+}
