@@ -1,0 +1,124 @@
+/* dine.h: the proved rules of Chandy and Misra's dining philosophers, for C.
+ *
+ * Link with libdine.a or libdine.so. No call starts a thread, sleeps, or reads or writes a file. In a library that is
+ * made without the kit, calls on several threads wait for each other; else no call takes a lock.
+ *
+ * HANDLES. A dine_handle is two words of your memory. It is closed if both are zero:
+ *     dine_handle world = DINE_CLOSED_HANDLE;
+ * An open call puts a plan, a world or a site into a closed handle. dine_close takes it out and frees its memory.
+ *
+ * ANSWERS. A number from 0 on is an answer. A number below 0 says why there is none, and then nothing has changed. A
+ * null pointer, a closed handle, a handle of another kind, a number out of range and bytes that are no letter are such
+ * answers.
+ *
+ * WHAT YOU PROMISE, since nothing can check it:
+ *   - a handle is set to zero before its first use, and after that only these calls write into it; no copy of an open
+ *     handle is used;
+ *   - one call at a time uses a handle. It may go to another thread, if a lock or a join orders the calls;
+ *   - a pointer that is not null leads to as many elements as the length says, and no two arguments overlap;
+ *   - no call comes from a signal handler.
+ *
+ * WHAT NO CALL CAN KNOW. A number of a site, an edge or a place that is out of range is refused. One of another plan that
+ * is in range is taken as a number of this one. A letter is refused if its edge is none of the site's, or if the fork
+ * that was kept does not explain it; a Request, a Done or a Close of another plan's edge with the same number is taken. A
+ * letter tells how many meals its sender ate and the value of the edge, and nothing else is known of them.
+ */
+#ifndef DINE_H
+#define DINE_H
+#include <stdbool.h>
+#include <stddef.h>
+#include <stdint.h>
+#ifdef __cplusplus
+extern "C" {
+#endif
+
+typedef struct dine_handle { void *at; uint32_t state; } dine_handle;
+#define DINE_CLOSED_HANDLE { 0, 0 }
+
+enum {
+    DINE_OK = 0,
+    DINE_CLOSED = -1,           /* the handle is closed */
+    DINE_OTHER_KIND = -2,       /* the handle holds a thing of another kind */
+    DINE_NOT_NOW = -3,          /* the rules do not allow the event now */
+    DINE_NO_SUCH = -4,          /* there is no such site, edge, place, event or kind */
+    DINE_MEMORY = -5,           /* an allocation failed */
+    DINE_SMALL = -6,            /* the memory for the letter has fewer than DINE_LETTER_MAX bytes */
+    DINE_EATING = -7,           /* the site eats: end the meal first; dine_site_take works during a meal */
+    DINE_OPEN_ALREADY = -8,     /* the handle to be opened is open */
+    DINE_NULL = -9,             /* a pointer is null */
+    DINE_SAME_HANDLE = -10,     /* two handles of one call are one */
+    DINE_LETTER_LENGTH = -11,   /* the bytes are no letter: too few, or too many */
+    DINE_LETTER_KIND = -12,     /* the bytes are no letter: the first is no kind */
+    DINE_LETTER_UNLAWFUL = -13, /* the other end cannot have done that with the fork */
+    DINE_LETTER_EDGE = -14,     /* the letter is of an edge that the site does not have */
+    DINE_BREACH = -20           /* -21 to -26: the rules do not allow the letter now: after Close, Request out of turn,
+                                   Fork out of turn, strange Fork, Done out of turn, closed early */
+    /* -101 to -120: the text is no plan; dine_plan_refusal writes the cause in words */
+};
+enum { DINE_LETTER_MAX = 21 }; /* no letter has more bytes */
+
+typedef enum dine_kind {
+    DINE_TAKE, DINE_GIVE, DINE_END, DINE_BEGIN, DINE_QUIT, DINE_HUNGRY, DINE_ASK, DINE_DONE, DINE_CLOSE
+} dine_kind;
+typedef struct dine_event { uint32_t site, kind, place; } dine_event;
+typedef struct dine_ends { uint32_t lower, higher; } dine_ends;
+typedef struct dine_period { uint32_t site, first, count; } dine_period;
+/* phase: 0 thinking, 1 hungry, 2 eating */
+typedef struct dine_site_now { uint32_t phase, ate, degree, finished; } dine_site_now;
+typedef struct dine_place { uint32_t edge, neighbour, has_fork, has_token; } dine_place;
+
+int64_t dine_close(dine_handle *handle);
+
+/* A plan: sites with their jobs, and edges. A world or a site that was opened from it does not need it any more. */
+int64_t dine_plan_open(const uint8_t *text, size_t text_len, dine_handle *plan);
+/* Writes why the text is no plan, as dine check prints it: "6 BadName at site 0". Returns the number of bytes, at most
+ * 40, or 0 if the text is a plan; writes no more than out_len. docs/FORMAT.md explains each cause. */
+int64_t dine_plan_refusal(const uint8_t *text, size_t text_len, uint8_t *out, size_t out_len);
+/* The version of the text's format, 1 or 2. */
+int64_t dine_plan_version(dine_handle *plan);
+int64_t dine_plan_sites(dine_handle *plan);
+int64_t dine_plan_edges(dine_handle *plan);
+int64_t dine_plan_jobs(dine_handle *plan, uint32_t site);
+/* Returns the number of bytes of the name, at most 32; writes no more than out_len. */
+int64_t dine_plan_name(dine_handle *plan, uint32_t site, uint8_t *out, size_t out_len);
+int64_t dine_plan_ends(dine_handle *plan, uint32_t edge, dine_ends *out);
+
+/* A world: all sites of a plan in one thread. */
+int64_t dine_world_open(dine_handle *plan, dine_handle *world);
+int64_t dine_world_bound(dine_handle *world);
+int64_t dine_world_count(dine_handle *world);
+int64_t dine_world_enabled(dine_handle *world, uint32_t n, dine_event *out);
+int64_t dine_world_step(dine_handle *world, const dine_event *event);
+int64_t dine_world_replay(dine_handle *world, const uint32_t *choices, size_t choices_len);
+int64_t dine_world_finish(dine_handle *world);
+int64_t dine_world_phase(dine_handle *world, uint32_t site);
+int64_t dine_world_ate(dine_handle *world, uint32_t site);
+/* Returns the number of periods; out_len counts numbers, three for a period: pass (uint32_t *)periods, 3 * n. Writes no
+ * more than out_len numbers. */
+int64_t dine_world_fork(dine_handle *world, uint32_t edge, uint32_t *out, size_t out_len);
+int64_t dine_world_value(dine_handle *world, uint32_t edge);
+
+/* One site, whose letters are bytes that you carry to the neighbour, each once and in order. A call that puts a letter
+ * returns the number of its bytes. */
+int64_t dine_site_open(dine_handle *plan, uint32_t number, dine_handle *site);
+int64_t dine_site_state(dine_handle *site, dine_site_now *out);
+int64_t dine_site_place(dine_handle *site, uint32_t i, dine_place *out);
+int64_t dine_site_next(dine_handle *site, dine_event *out);
+int64_t dine_site_hungry(dine_handle *site);
+int64_t dine_site_quit(dine_handle *site);
+int64_t dine_site_give(dine_handle *site, uint32_t i, uint8_t *out, size_t out_len);
+int64_t dine_site_ask(dine_handle *site, uint32_t i, uint8_t *out, size_t out_len);
+int64_t dine_site_done(dine_handle *site, uint32_t i, uint8_t *out, size_t out_len);
+int64_t dine_site_shut(dine_handle *site, uint32_t i, uint8_t *out, size_t out_len);
+/* Gives the link of a place up, as after the loss of its connection: the letter is Close. */
+int64_t dine_site_break(dine_handle *site, uint32_t i, uint8_t *out, size_t out_len);
+int64_t dine_site_take(dine_handle *site, const uint8_t *letter, size_t letter_len);
+int64_t dine_site_begin(dine_handle *site);
+int64_t dine_site_end(dine_handle *site, bool failed);
+int64_t dine_site_fork(dine_handle *site, uint32_t i, uint32_t *out, size_t out_len);
+int64_t dine_site_value(dine_handle *site, uint32_t i);
+
+#ifdef __cplusplus
+}
+#endif
+#endif

@@ -1,0 +1,64 @@
+"""Two processes run the two sites of a plan over a socketpair, and end by themselves."""
+
+import os
+import socket
+import struct
+import sys
+
+from dine import Kind, Site
+
+JOBS = int(sys.argv[1]) if len(sys.argv) > 1 else 3
+PLAN = "version = 2\n" + "".join(
+    f'[[site]]\nname = "{name}"\njobs = [{", ".join([act] * JOBS)}]\n'
+    for name, act in (("a", '{ name = "x", add = 1 }'), ("b", '{ name = "y", add = 100 }'))
+) + '[[edge]]\nends = ["a", "b"]\nvalue = 7\n'
+
+
+def send(sock: socket.socket, letter: bytes) -> None:
+    sock.sendall(struct.pack("<I", len(letter)) + letter)
+
+
+def receive(sock: socket.socket) -> bytes:
+    def exactly(n: int) -> bytes:
+        data = b""
+        while len(data) < n:
+            more = sock.recv(n - len(data))
+            if not more:
+                raise EOFError("the neighbour is gone")
+            data += more
+        return data
+
+    return exactly(struct.unpack("<I", exactly(4))[0])
+
+
+def run(number: int, sock: socket.socket) -> str:
+    site = Site(PLAN, number)
+    letters = 0
+    while not site.is_finished:
+        event = site.next()
+        if event is None:
+            site.take(receive(sock))
+            letters += 1
+        elif event.kind is Kind.BEGIN:
+            site.begin()  # here the process does its job
+            site.end()
+        elif letter := site.act(event):
+            send(sock, letter)
+    here = [f"edge {p.edge}: {site.log(i)}, value {site.value(i)}" for i, p in enumerate(site.places) if p.has_fork]
+    return f"process {os.getpid()}, site {number}: {site.ate} meals, took {letters} letters. {' '.join(here)}"
+
+
+def main() -> int:
+    ours, theirs = socket.socketpair()
+    child = os.fork()
+    if child == 0:
+        ours.close()
+        print(run(1, theirs), flush=True)
+        os._exit(0)
+    theirs.close()
+    print(run(0, ours), flush=True)
+    return os.waitstatus_to_exitcode(os.waitpid(child, 0)[1])
+
+
+if __name__ == "__main__":
+    sys.exit(main())

@@ -1,0 +1,36 @@
+//! Links the proved rules. The folder with libdine.a is the one that `DINE_LIB` names, by its full path, or else
+//! ../lib. If there is none, or `DINE_NOKIT` is set, ../build makes one of the rules as C, with the C compiler `CC`.
+use std::env::var;
+use std::path::{Path, PathBuf};
+use std::process::Command;
+
+fn main() {
+    for name in ["DINE_LIB", "DINE_NOKIT", "CC", "AR"] {
+        println!("cargo:rerun-if-env-changed={name}");
+    }
+    let here = Path::new("../lib");
+    let folder = match var("DINE_LIB") {
+        Ok(folder) => existing(Path::new(&folder)),
+        Err(_) if var("DINE_NOKIT").is_err() && here.join("libdine.a").is_file() => existing(here),
+        Err(_) => compiled(),
+    };
+    println!("cargo:rustc-link-search=native={}", folder.display());
+    println!("cargo:rustc-link-lib=static=dine");
+}
+
+fn existing(folder: &Path) -> PathBuf {
+    let folder = folder.canonicalize().unwrap_or_else(|_| folder.to_path_buf());
+    let library = folder.join("libdine.a");
+    assert!(library.is_file(), "no {}: DINE_LIB is the folder of libdine.a, by its full path", library.display());
+    println!("cargo:rerun-if-changed={}", library.display());
+    folder
+}
+
+fn compiled() -> PathBuf {
+    let folder = PathBuf::from(var("OUT_DIR").expect("cargo sets it"));
+    println!("cargo:rerun-if-changed=../c");
+    let ran = Command::new("sh").args(["../build", "--nokit"]).arg(&folder).output().expect("sh runs");
+    let said = String::from_utf8_lossy(&ran.stderr);
+    assert!(ran.status.success(), "the rules as C are not compiled; is there a C compiler?\n{said}");
+    folder
+}

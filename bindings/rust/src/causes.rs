@@ -1,0 +1,72 @@
+//! Written by tools/bindings from `PlanFault`: why a text is no plan.
+
+/// Why a text is no plan. The number of a cause is that of `docs/FORMAT.md`.
+#[derive(Clone, Copy, Debug, PartialEq, Eq, Hash)]
+pub enum Cause {
+    /// The text is no TOML.
+    NotToml = 1,
+    /// `version` is absent or is not the whole number 1 or 2.
+    Version = 2,
+    /// The document, a site, a job or an edge has a key that its version of the format does not name for it.
+    UnknownKey = 3,
+    /// A site or a job has no `name`, or an edge no `ends`.
+    MissingKey = 4,
+    /// A value is of another kind than the format names for its key.
+    WrongKind = 5,
+    /// The name of this site, or of one of its jobs, is no name.
+    BadName = 6,
+    /// An earlier site has the name of this site.
+    SiteTwice = 7,
+    /// There is no site.
+    NoSite = 8,
+    /// There are more than 64 sites.
+    TooManySites = 9,
+    /// This site has more than 1,000 jobs.
+    TooManyJobs = 10,
+    /// A job of this site has `turns` above 1,000,000.
+    TurnsTooLarge = 11,
+    /// An end of this edge is no site's name.
+    UnknownEnd = 12,
+    /// Both ends of this edge are one site.
+    Loop = 13,
+    /// An earlier edge joins the two sites of this one.
+    EdgeTwice = 14,
+    /// There are more than 512 edges.
+    TooManyEdges = 15,
+    /// A job of this site both adds and sets.
+    TwoActs = 17,
+    /// A job of this site adds or sets more than 1,000,000.
+    ActTooLarge = 18,
+    /// The value of this edge is above 1,000,000.
+    ValueTooLarge = 19,
+    /// `on_fault` of this site is neither `go` nor `resign`.
+    UnknownPolicy = 20,
+}
+
+impl Cause {
+    pub(crate) fn of(number: i64) -> Option<Cause> {
+        use Cause::*;
+        Some(match number {
+            1 => NotToml,
+            2 => Version,
+            3 => UnknownKey,
+            4 => MissingKey,
+            5 => WrongKind,
+            6 => BadName,
+            7 => SiteTwice,
+            8 => NoSite,
+            9 => TooManySites,
+            10 => TooManyJobs,
+            11 => TurnsTooLarge,
+            12 => UnknownEnd,
+            13 => Loop,
+            14 => EdgeTwice,
+            15 => TooManyEdges,
+            17 => TwoActs,
+            18 => ActTooLarge,
+            19 => ValueTooLarge,
+            20 => UnknownPolicy,
+            _ => return None,
+        })
+    }
+}

@@ -1,0 +1,541 @@
+//! The proved rules of Chandy and Misra's dining philosophers.
+//!
+//! - [`World`] has all sites of a plan in one thread, and is stepped event by event.
+//! - [`Site`] is one site, whose letters are bytes: carry them to the neighbour, in order, by any means.
+//! - [`Table`] is a lock manager over threads: workers share a value at each edge.
+//!
+//! The library is linked as `libdine.a`, or compiled from C: see `docs/BINDINGS.md`. Its rules are proved; this crate
+//! is only tested.
+
+mod causes;
+mod run;
+mod sys;
+pub mod table;
+
+/// No letter has more bytes.
+pub const LETTER_MAX: usize = 21;
+
+use std::cell::UnsafeCell;
+use std::fmt;
+
+pub use causes::Cause;
+pub use run::{Done, EdgeId, Meal, Table, Watch, WorkerId};
+pub use table::Values;
+
+/// Why a call has no answer.
+#[derive(Clone, Copy, Debug, PartialEq, Eq)]
+pub enum Error {
+    /// The rules do not allow the event now. Nothing changed.
+    NotNow,
+    /// There is no such site, edge, place or event.
+    NoSuch,
+    /// An allocation failed.
+    Memory,
+    /// The site eats.
+    Eating,
+    /// The bytes are no letter, for this reason.
+    NoLetter(i64),
+    /// The rules do not allow this letter now, for this reason.
+    Breach(u8),
+    /// The text is no plan, for this reason.
+    NoPlan(Refusal),
+    /// A worker is of another table.
+    OtherTable,
+    /// A neighbour is gone.
+    Gone,
+    /// The worker has meals left.
+    MealsLeft,
+    /// Another answer, which should not come.
+    Other(i64),
+}
+
+/// Why a text is no plan.
+#[derive(Clone, Copy, Debug, PartialEq, Eq)]
+pub struct Refusal {
+    /// The first cause that holds.
+    pub cause: Cause,
+    /// Where it holds, if it is about one site or edge.
+    pub position: Option<Position>,
+}
+
+/// A site or an edge of a text, by its number from 0.
+#[derive(Clone, Copy, Debug, PartialEq, Eq)]
+pub enum Position {
+    Site(u32),
+    Edge(u32),
+}
+
+// Where the cause holds for which a text is no plan, by the words of the library, such as `6 BadName at site 0`.
+fn position_in(text: &str) -> Option<Position> {
+    let mut bytes = [0u8; 40];
+    // SAFETY: both pointers lead to as many bytes as are said.
+    let len = unsafe { sys::dine_plan_refusal(text.as_ptr(), text.len(), bytes.as_mut_ptr(), bytes.len()) };
+    let words = std::str::from_utf8(bytes.get(..usize::try_from(len).ok()?)?).ok()?;
+    let (rest, number) = words.rsplit_once(' ')?;
+    let number = number.parse().ok()?;
+    match rest.rsplit_once(' ')?.1 {
+        "site" => Some(Position::Site(number)),
+        "edge" => Some(Position::Edge(number)),
+        _ => None,
+    }
+}
+
+/// What `dine check` prints behind `plan refused: `, such as `6 BadName at site 0`.
+impl fmt::Display for Refusal {
+    fn fmt(&self, f: &mut fmt::Formatter<'_>) -> fmt::Result {
+        write!(f, "{} {:?}", self.cause as u8, self.cause)?;
+        match self.position {
+            Some(Position::Site(n)) => write!(f, " at site {n}"),
+            Some(Position::Edge(n)) => write!(f, " at edge {n}"),
+            None => Ok(()),
+        }
+    }
+}
+
+impl fmt::Display for Error {
+    fn fmt(&self, f: &mut fmt::Formatter<'_>) -> fmt::Result {
+        match self {
+            Error::NotNow => f.write_str("the rules do not allow the event now"),
+            Error::NoSuch => f.write_str("there is no such site, edge, place or event"),
+            Error::Memory => f.write_str("an allocation failed"),
+            Error::Eating => f.write_str("the site eats"),
+            Error::NoLetter(n) => write!(f, "the bytes are no letter ({n})"),
+            Error::Breach(n) => write!(f, "the rules do not allow this letter now (breach {n})"),
+            Error::NoPlan(refusal) => write!(f, "the text is no plan: {refusal}"),
+            Error::OtherTable => f.write_str("a worker is of another table"),
+            Error::Gone => f.write_str("a neighbour is gone"),
+            Error::MealsLeft => f.write_str("the worker has meals left"),
+            Error::Other(n) => write!(f, "status {n}"),
+        }
+    }
+}
+
+impl std::error::Error for Error {}
+
+/// The answer, or why there is none.
+pub type Result<T> = std::result::Result<T, Error>;
+
+fn answer(status: i64) -> Result<u64> {
+    match status {
+        0.. => Ok(status as u64),
+        -3 => Err(Error::NotNow),
+        -4 => Err(Error::NoSuch),
+        -5 => Err(Error::Memory),
+        -7 => Err(Error::Eating),
+        -14..=-11 => Err(Error::NoLetter(status)),
+        -26..=-21 => Err(Error::Breach((-20 - status) as u8)),
+        _ => Err(match Cause::of(-100 - status) {
+            Some(cause) => Error::NoPlan(Refusal { cause, position: None }),
+            None => Error::Other(status),
+        }),
+    }
+}
+
+/// What a site does in an event. A number is a place.
+#[derive(Clone, Copy, Debug, PartialEq, Eq)]
+pub enum Kind {
+    Take(u32),
+    Give(u32),
+    End,
+    Begin,
+    Quit,
+    Hungry,
+    Ask(u32),
+    Done(u32),
+    Close(u32),
+}
+
+impl Kind {
+    fn numbers(self) -> (u32, u32) {
+        match self {
+            Kind::Take(i) => (0, i),
+            Kind::Give(i) => (1, i),
+            Kind::End => (2, 0),
+            Kind::Begin => (3, 0),
+            Kind::Quit => (4, 0),
+            Kind::Hungry => (5, 0),
+            Kind::Ask(i) => (6, i),
+            Kind::Done(i) => (7, i),
+            Kind::Close(i) => (8, i),
+        }
+    }
+
+    fn of(kind: u32, place: u32) -> Option<Kind> {
+        Some(match kind {
+            0 => Kind::Take(place),
+            1 => Kind::Give(place),
+            2 => Kind::End,
+            3 => Kind::Begin,
+            4 => Kind::Quit,
+            5 => Kind::Hungry,
+            6 => Kind::Ask(place),
+            7 => Kind::Done(place),
+            8 => Kind::Close(place),
+            _ => return None,
+        })
+    }
+}
+
+/// An event of a world.
+#[derive(Clone, Copy, Debug, PartialEq, Eq)]
+pub struct Event {
+    pub site: u32,
+    pub kind: Kind,
+}
+
+/// A stay of a fork at one end: the site, the number of its first meal, and the number of its meals.
+#[derive(Clone, Copy, Debug, PartialEq, Eq)]
+pub struct Period {
+    pub site: u32,
+    pub first: u32,
+    pub count: u32,
+}
+
+/// What a site is doing.
+#[derive(Clone, Copy, Debug, PartialEq, Eq)]
+pub enum Phase {
+    Thinking,
+    Hungry,
+    Eating,
+}
+
+fn phase_of(n: u64) -> Phase {
+    match n {
+        0 => Phase::Thinking,
+        1 => Phase::Hungry,
+        _ => Phase::Eating,
+    }
+}
+
+// A handle that is closed when it is dropped. It is not `Sync`.
+struct Handle(UnsafeCell<sys::Handle>);
+
+// SAFETY: the library proves `Send` of its handle, and a value of this type is on one thread at a time.
+unsafe impl Send for Handle {}
+
+impl Handle {
+    fn closed() -> Handle {
+        let at = std::ptr::null_mut();
+        Handle(UnsafeCell::new(sys::Handle { at, state: 0 }))
+    }
+
+    // Each call takes the handle for itself, and this type is on one thread.
+    fn get(&self) -> *mut sys::Handle {
+        self.0.get()
+    }
+
+    fn periods(&self, call: impl Fn(*mut sys::Handle, *mut u32, usize) -> i64) -> Result<Vec<Period>> {
+        let mut numbers = vec![0u32; 3 * 16];
+        loop {
+            let count = answer(call(self.get(), numbers.as_mut_ptr(), numbers.len()))? as usize;
+            if 3 * count <= numbers.len() {
+                let periods = numbers[..3 * count].chunks_exact(3);
+                return Ok(periods.map(|p| Period { site: p[0], first: p[1], count: p[2] }).collect());
+            }
+            numbers.resize(3 * count, 0);
+        }
+    }
+}
+
+impl Drop for Handle {
+    fn drop(&mut self) {
+        // SAFETY: the handle is ours, and closed or open.
+        unsafe { sys::dine_close(self.get()) };
+    }
+}
+
+/// A plan: sites with their jobs, and edges.
+pub struct Plan {
+    handle: Handle,
+}
+
+// SAFETY of the calls below: the handle is this value's own, no other call runs on it, since the type is not `Sync`,
+// and each pointer leads to as many elements as are said.
+impl Plan {
+    /// Reads a plan text.
+    ///
+    /// # Errors
+    ///
+    /// `NoPlan` if the text is none, and `Memory`.
+    pub fn read(text: &str) -> Result<Plan> {
+        let handle = Handle::closed();
+        match answer(unsafe { sys::dine_plan_open(text.as_ptr(), text.len(), handle.get()) }) {
+            Ok(_) => Ok(Plan { handle }),
+            Err(Error::NoPlan(it)) => Err(Error::NoPlan(Refusal { position: position_in(text), ..it })),
+            Err(error) => Err(error),
+        }
+    }
+
+    /// Returns the number of sites.
+    pub fn sites(&self) -> u32 {
+        answer(unsafe { sys::dine_plan_sites(self.handle.get()) }).unwrap_or(0) as u32
+    }
+
+    /// Returns the number of edges.
+    pub fn edges(&self) -> u32 {
+        answer(unsafe { sys::dine_plan_edges(self.handle.get()) }).unwrap_or(0) as u32
+    }
+
+    /// Returns the version of the text's format, 1 or 2.
+    pub fn version(&self) -> u32 {
+        answer(unsafe { sys::dine_plan_version(self.handle.get()) }).unwrap_or(0) as u32
+    }
+
+    /// Returns the number of jobs of a site.
+    pub fn jobs(&self, site: u32) -> Result<u32> {
+        Ok(answer(unsafe { sys::dine_plan_jobs(self.handle.get(), site) })? as u32)
+    }
+
+    /// Returns the name of a site.
+    pub fn name(&self, site: u32) -> Result<String> {
+        let mut bytes = [0u8; 32];
+        let len = answer(unsafe { sys::dine_plan_name(self.handle.get(), site, bytes.as_mut_ptr(), bytes.len()) })?;
+        Ok(String::from_utf8_lossy(&bytes[..len as usize]).into_owned())
+    }
+
+    /// Returns the site with this name.
+    pub fn site_named(&self, name: &str) -> Option<u32> {
+        (0..self.sites()).find(|site| self.name(*site).as_deref() == Ok(name))
+    }
+
+    /// Returns the two ends of an edge, the lower site first.
+    pub fn ends(&self, edge: u32) -> Result<(u32, u32)> {
+        let mut raw = sys::Ends::default();
+        answer(unsafe { sys::dine_plan_ends(self.handle.get(), edge, &mut raw) })?;
+        Ok((raw.lower, raw.higher))
+    }
+}
+
+/// All sites of a plan in one thread.
+pub struct World {
+    handle: Handle,
+}
+
+impl World {
+    /// Opens the world of a plan before its first event.
+    pub fn open(plan: &Plan) -> Result<World> {
+        let handle = Handle::closed();
+        answer(unsafe { sys::dine_world_open(plan.handle.get(), handle.get()) })?;
+        Ok(World { handle })
+    }
+
+    /// How many events there can be from the start. This is proved.
+    pub fn bound(&self) -> u64 {
+        answer(unsafe { sys::dine_world_bound(self.handle.get()) }).unwrap_or(0)
+    }
+
+    /// The enabled events, in the fixed order.
+    pub fn enabled(&self) -> Vec<Event> {
+        let count = answer(unsafe { sys::dine_world_count(self.handle.get()) }).unwrap_or(0) as u32;
+        (0..count).filter_map(|n| self.nth(n)).collect()
+    }
+
+    /// The n-th of them.
+    pub fn nth(&self, n: u32) -> Option<Event> {
+        let mut raw = sys::Event::default();
+        answer(unsafe { sys::dine_world_enabled(self.handle.get(), n, &mut raw) }).ok()?;
+        let kind = Kind::of(raw.kind, raw.place)?;
+        Some(Event { site: raw.site, kind })
+    }
+
+    /// Does the event. If it is not enabled, nothing changes.
+    pub fn step(&mut self, event: Event) -> Result<()> {
+        let (kind, place) = event.kind.numbers();
+        let raw = sys::Event { site: event.site, kind, place };
+        answer(unsafe { sys::dine_world_step(self.handle.get(), &raw) })?;
+        Ok(())
+    }
+
+    /// Does the enabled event that each choice names by its number, and returns the number of events.
+    pub fn replay(&mut self, choices: &[u32]) -> u64 {
+        answer(unsafe { sys::dine_world_replay(self.handle.get(), choices.as_ptr(), choices.len()) }).unwrap_or(0)
+    }
+
+    /// Does the first enabled event until none is enabled, and returns the number of events.
+    pub fn finish(&mut self) -> u64 {
+        answer(unsafe { sys::dine_world_finish(self.handle.get()) }).unwrap_or(0)
+    }
+
+    /// Does what sites did elsewhere, from the journal of each, and returns one order of all these events. The world
+    /// accepts each event in its turn, so what is proved of every schedule holds of this one.
+    ///
+    /// # Errors
+    ///
+    /// `NotNow` if there is no order. Then the world is where no journal goes on.
+    pub fn order(&mut self, journals: &[Vec<Event>]) -> Result<Vec<Event>> {
+        let (mut done, mut next, mut before) = (Vec::new(), vec![0; journals.len()], None);
+        while before != Some(done.len()) {
+            before = Some(done.len());
+            for (journal, at) in journals.iter().zip(&mut next) {
+                while *at < journal.len() && self.step(journal[*at]).is_ok() {
+                    done.push(journal[*at]);
+                    *at += 1;
+                }
+            }
+        }
+        let is_whole = journals.iter().zip(&next).all(|(journal, at)| *at == journal.len());
+        if is_whole { Ok(done) } else { Err(Error::NotNow) }
+    }
+
+    /// The phase of a site.
+    pub fn phase(&self, site: u32) -> Result<Phase> {
+        Ok(phase_of(answer(unsafe { sys::dine_world_phase(self.handle.get(), site) })?))
+    }
+
+    /// The number of meals that a site began.
+    pub fn ate(&self, site: u32) -> Result<u32> {
+        Ok(answer(unsafe { sys::dine_world_ate(self.handle.get(), site) })? as u32)
+    }
+
+    /// Returns the value of an edge.
+    pub fn value(&self, edge: u32) -> Result<u64> {
+        answer(unsafe { sys::dine_world_value(self.handle.get(), edge) })
+    }
+
+    /// Replays the choices and finishes. Returns what `dine replay --choices` prints. The plan is that of the world.
+    pub fn replay_text(&mut self, plan: &Plan, choices: &[u32]) -> Result<String> {
+        let events = self.replay(choices) + self.finish();
+        let names = (0..plan.sites()).map(|site| plan.name(site)).collect::<Result<Vec<_>>>()?;
+        let mut text = String::new();
+        for edge in 0..plan.edges() {
+            let (low, high) = plan.ends(edge)?;
+            let mut entries = Vec::new();
+            for (i, period) in self.log(edge)?.iter().enumerate() {
+                let name = &names[period.site as usize];
+                if i > 0 {
+                    entries.push(format!("to {name}"));
+                }
+                entries.extend((0..period.count).map(|k| format!("{name}#{}", period.first + k)));
+            }
+            let log = if entries.is_empty() { String::new() } else { format!(" {}", entries.join(", ")) };
+            let value = if plan.version() == 2 { format!(" = {}", self.value(edge)?) } else { String::new() };
+            text += &format!("edge {edge} {} {}:{log}{value}\n", names[low as usize], names[high as usize]);
+        }
+        Ok(text + &format!("events {events} of {}\n", self.bound()))
+    }
+
+    /// The log of a fork.
+    pub fn log(&self, edge: u32) -> Result<Vec<Period>> {
+        self.handle.periods(|h, out, room| unsafe { sys::dine_world_fork(h, edge, out, room) })
+    }
+}
+
+/// What a site has at a place.
+#[derive(Clone, Copy, Debug)]
+pub struct Place {
+    pub edge: u32,
+    pub neighbour: u32,
+    pub has_fork: bool,
+    pub has_token: bool,
+}
+
+/// One site. It may go to another thread, and its letters are bytes.
+pub struct Site {
+    handle: Handle,
+    room: Box<[u8]>,
+}
+
+impl Site {
+    /// Opens the site with this number before its first event.
+    pub fn open(plan: &Plan, site: u32) -> Result<Site> {
+        let handle = Handle::closed();
+        answer(unsafe { sys::dine_site_open(plan.handle.get(), site, handle.get()) })?;
+        let room = vec![0; LETTER_MAX].into_boxed_slice();
+        Ok(Site { handle, room })
+    }
+
+    fn state(&self) -> sys::SiteState {
+        let mut raw = sys::SiteState::default();
+        unsafe { sys::dine_site_state(self.handle.get(), &mut raw) };
+        raw
+    }
+
+    /// What it is doing.
+    pub fn phase(&self) -> Phase {
+        phase_of(u64::from(self.state().phase))
+    }
+
+    /// How many meals it began.
+    pub fn ate(&self) -> u32 {
+        self.state().ate
+    }
+
+    /// How many places it has.
+    pub fn degree(&self) -> u32 {
+        self.state().degree
+    }
+
+    /// Whether it has done all, and put and taken all letters.
+    pub fn is_finished(&self) -> bool {
+        self.state().finished == 1
+    }
+
+    /// What it has at a place.
+    pub fn place(&self, place: u32) -> Result<Place> {
+        let mut raw = sys::Place::default();
+        answer(unsafe { sys::dine_site_place(self.handle.get(), place, &mut raw) })?;
+        let sys::Place { edge, neighbour, has_fork, has_token } = raw;
+        Ok(Place { edge, neighbour, has_fork: has_fork == 1, has_token: has_token == 1 })
+    }
+
+    /// The first event that it may do without a letter.
+    pub fn next(&self) -> Option<Kind> {
+        let mut raw = sys::Event::default();
+        match unsafe { sys::dine_site_next(self.handle.get(), &mut raw) } {
+            1 => Kind::of(raw.kind, raw.place),
+            _ => None,
+        }
+    }
+
+    /// Does an event that is none of a meal and takes no letter. Returns the letter that it puts, empty if none.
+    pub fn act(&mut self, kind: Kind) -> Result<&[u8]> {
+        let (handle, out, room) = (self.handle.get(), self.room.as_mut_ptr(), self.room.len());
+        let len = answer(unsafe {
+            match kind {
+                Kind::Give(i) => sys::dine_site_give(handle, i, out, room),
+                Kind::Ask(i) => sys::dine_site_ask(handle, i, out, room),
+                Kind::Done(i) => sys::dine_site_done(handle, i, out, room),
+                Kind::Close(i) => sys::dine_site_shut(handle, i, out, room),
+                Kind::Hungry => sys::dine_site_hungry(handle),
+                Kind::Quit => sys::dine_site_quit(handle),
+                Kind::Take(_) | Kind::Begin | Kind::End => return Err(Error::NoSuch),
+            }
+        })?;
+        Ok(&self.room[..len as usize])
+    }
+
+    /// Gives the link of a place up, as after the loss of its connection. Returns the letter, which is Close.
+    pub fn break_off(&mut self, place: u32) -> Result<&[u8]> {
+        let (out, room) = (self.room.as_mut_ptr(), self.room.len());
+        let len = answer(unsafe { sys::dine_site_break(self.handle.get(), place, out, room) })?;
+        Ok(&self.room[..len as usize])
+    }
+
+    /// Takes a letter, also while the site eats. If the bytes are no letter that is allowed now, nothing changes.
+    pub fn take(&mut self, letter: &[u8]) -> Result<()> {
+        answer(unsafe { sys::dine_site_take(self.handle.get(), letter.as_ptr(), letter.len()) })?;
+        Ok(())
+    }
+
+    /// Begins a meal.
+    pub fn begin(&mut self) -> Result<()> {
+        answer(unsafe { sys::dine_site_begin(self.handle.get()) })?;
+        Ok(())
+    }
+
+    /// Ends the meal.
+    pub fn end(&mut self, failed: bool) -> Result<()> {
+        answer(unsafe { sys::dine_site_end(self.handle.get(), failed) })?;
+        Ok(())
+    }
+
+    /// The log of the fork in hand at a place.
+    pub fn log(&self, place: u32) -> Result<Vec<Period>> {
+        self.handle.periods(|h, out, room| unsafe { sys::dine_site_fork(h, place, out, room) })
+    }
+
+    /// The value of the fork in hand at a place.
+    pub fn value(&self, place: u32) -> Result<u64> {
+        answer(unsafe { sys::dine_site_value(self.handle.get(), place) })
+    }
+}

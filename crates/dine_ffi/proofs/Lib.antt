@@ -1,0 +1,10 @@
+pub mod Arrived
+pub mod AsBox
+pub mod FirstKept
+pub mod OfSites
+pub mod OverFront
+pub mod PutBack
+pub mod Refused
+pub mod Standing
+pub mod Told
+pub mod Words

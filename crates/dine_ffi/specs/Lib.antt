@@ -1,0 +1,9 @@
+pub mod Acts
+pub mod Answers
+pub mod Events
+pub mod OwnSites
+pub mod Shelves
+pub mod Refusals
+pub mod Things
+pub mod Written
+pub mod private

@@ -1,0 +1,150 @@
+-- A site with its plan, its meal and the forks that it keeps, as contracts see it; and what its calls do.
+use Rattle.std.specs.Prelude.{◌≡◌, ℕ, ℤ, ◌<◌, Bool, false, true, List, Option, Some, None, length, map, slice_set}
+use Rattle.dine_token.specs.Fork.{SeenFork}
+use Rattle.dine_token.specs.Meal.{SeenMeal}
+use Rattle.dine_graph.specs.Plan.{SeenPlan, edges_of}
+use Rattle.dine_rules.specs.declared.letters.Letter.{Letter}
+use Rattle.dine_rules.specs.declared.letters.Letter.TheVariants as letter
+use Rattle.dine_rules.specs.Holdings.{EatsWithAll}
+use Rattle.dine_rules.specs.Local.{LocalState, edge_at, is_eating, traffic_at}
+use Rattle.dine_rules.specs.Steps as step
+use Rattle.dine_rules.specs.Steps.{Step, after, may}
+use Rattle.dine_rules.specs.Streams.{KeepsStreams}
+use Rattle.dine_site_core.specs.Core.{SeenCore, Refines, forks_in_hand}
+use Rattle.dine_site_core.specs.Places.{IsMealOf}
+use Rattle.dine_site_core.specs.Standing.{CorePuts, CoreStep, CoreSteps, ForEachState, IsFreshFor, all_places}
+use Rattle.dine_core.specs.WorldSites.{meal_of}
+use Rattle.dine_wire.specs.Carried.{ArrivesWith, GoesOn, fork_for_next}
+use Rattle.dine_wire.specs.Notes.{fork_note}
+use Rattle.dine_wire.specs.declared.note.ForkNote.{ForkNote}
+use Rattle.dine_ffi.specs.Answers.{IsDoneOr, done}
+use Rattle.dine_ffi.specs.Shelves.{first_kept, kept_at, put_away, taken_off}
+use Rattle.dine_ffi.specs.Written.{AreWritten}
+
+-- the plan; the core of the site; its meal, if it eats; and for each place the fork that it keeps for the next Fork
+-- there, if the fork is not here
+pub record SeenOwnSite : Type 0 where
+  pub plan : SeenPlan
+  pub core : SeenCore
+  pub meal : Option SeenMeal
+  pub shelf : List (Option SeenFork)
+
+-- Each place keeps the fork from which the next Fork there goes on, by what the site put and took: the last Fork that
+-- it put, or the fork of the start. If the fork is here, none is kept.
+pub record IsShelfOf (plan : SeenPlan) (s : ℕ) (state : LocalState) (shelf : List (Option SeenFork)) : Type 0 where
+  pub count : length shelf ≡ length state.traffic
+  pub each : (i : ℕ) → i < length state.traffic → kept_at i shelf ≡ fork_for_next plan s (edge_at plan s i) (traffic_at state i)
+
+-- The site represents the state, with all letters that it put and took. The state is one to which the rules lead. The
+-- core represents it, the meal is that of the state, and the forks that are kept are those of the state.
+pub record StandsFor (state : LocalState) (own : SeenOwnSite) : Type 0 where
+  pub core : Refines own.plan state own.core
+  pub keeps : KeepsStreams own.plan own.core.site state
+  pub eats_with_all : EatsWithAll own.plan own.core.site state
+  pub meal : own.meal ≡ meal_of own.plan own.core.site state
+  pub shelf : IsShelfOf own.plan own.core.site state own.shelf
+
+-- The site did the step. The state allowed it, and the site represents the state after it. It is the same site of the
+-- same plan.
+pub record OwnStep (state : LocalState) (step : Step) (old new : SeenOwnSite) : Type 0 where
+  pub allowed : may old.plan old.core.site state step ≡ true
+  pub stands : StandsFor (after old.plan old.core.site state step) new
+  pub plan : new.plan ≡ old.plan
+  pub site : new.core.site ≡ old.core.site
+
+-- the same for each state that the site represented
+abbrev pub OwnSteps : Step → SeenOwnSite → SeenOwnSite → Type 0
+OwnSteps step old new = (state : LocalState) → StandsFor state old → OwnStep state step old new
+
+-- ---- what calls do with what is kept
+
+-- It is the site of the plan with this number, before its first event. It has no meal, and keeps of each edge whose
+-- higher end it is the fork of the start.
+pub record IsOpened (plan : SeenPlan) (number : ℕ) (own : SeenOwnSite) : Type 0 where
+  pub site : own.core.site ≡ number
+  pub plan_is : own.plan ≡ plan
+  pub fresh : IsFreshFor plan own.core
+  pub meal : own.meal ≡ None
+  pub shelf : own.shelf ≡ map (first_kept plan number) (edges_of plan number)
+
+-- The site did the step, which puts no letter and takes no Fork. Plan, meal and the forks that it keeps stay.
+pub record SiteSteps (step : Step) (old new : SeenOwnSite) : Type 0 where
+  pub core : CoreSteps step old.core new.core
+  pub shelf : new.shelf ≡ old.shelf
+  pub plan : new.plan ≡ old.plan
+  pub meal : new.meal ≡ old.meal
+
+-- The site, which does not eat, did the step, which puts the letter at place i. If the letter is the fork, it is kept
+-- as it was. Plan and meal stay.
+pub record SitePuts (i : ℕ) (step : Step) (old new : SeenOwnSite) (letter : Letter) : Type 0 where
+  pub awake : is_eating old.core.phase ≡ false
+  pub core : CorePuts i step old.core new.core letter
+  pub shelf : new.shelf ≡ put_away i letter old.shelf
+  pub plan : new.plan ≡ old.plan
+  pub meal : new.meal ≡ old.meal
+
+-- The site took the letter at place i, which arrived with these bytes. If it is the fork, it goes on from the fork that
+-- was kept there, which is kept no more. Plan and meal stay: a letter may be taken during a meal.
+pub record SiteTakes (bytes : List ℕ) (i : ℕ) (letter : Letter) (old new : SeenOwnSite) : Type 0 where
+  pub arrives : ArrivesWith old.plan (kept_at i old.shelf) (edge_at old.plan old.core.site i) bytes letter
+  pub core : CoreSteps (step.Take i letter) old.core new.core
+  pub shelf : new.shelf ≡ taken_off i letter old.shelf
+  pub plan : new.plan ≡ old.plan
+  pub meal : new.meal ≡ old.meal
+
+-- The site took this fork at place i, which arrived with the note and goes on from the fork that was kept there. That
+-- one is kept no more. Plan and meal stay.
+pub record SiteTakesFork (i : ℕ) (note : ForkNote) (fork : SeenFork) (old new : SeenOwnSite) : Type 0 where
+  pub note_is : note ≡ fork_note fork
+  pub goes_on : GoesOn old.plan (kept_at i old.shelf) fork
+  pub core : CoreSteps (step.Take i (letter.Fork fork)) old.core new.core
+  pub shelf : new.shelf ≡ slice_set old.shelf i None
+  pub plan : new.plan ≡ old.plan
+  pub meal : new.meal ≡ old.meal
+
+-- The site began a meal, which it has now, with the forks that the rules say. Plan and the forks that it keeps stay.
+pub record SiteBegins (old new : SeenOwnSite) : Type 0 where
+  pub core : CoreSteps step.Begin old.core new.core
+  pub begun : SeenMeal
+  pub meal : new.meal ≡ Some begun
+  pub fits : IsMealOf new.core begun
+  pub forks : ForEachState old.core (λ plan state. begun.forks ≡ forks_in_hand plan old.core.site (after plan old.core.site state step.Begin) (all_places state))
+  pub shelf : new.shelf ≡ old.shelf
+  pub plan : new.plan ≡ old.plan
+
+-- The site ended its meal, whose job failed or did not. If the forks of the meal were those of a state, this is the
+-- step End. Plan and the forks that it keeps stay.
+pub record SiteEnds (failed : Bool) (old new : SeenOwnSite) : Type 0 where
+  pub ended : SeenMeal
+  pub was : old.meal ≡ Some ended
+  pub core : ForEachState old.core (λ plan state. ended.forks ≡ forks_in_hand plan old.core.site state (all_places state) → CoreStep plan state (step.End failed) old.core new.core)
+  pub meal : new.meal ≡ None
+  pub shelf : new.shelf ≡ old.shelf
+  pub plan : new.plan ≡ old.plan
+
+-- ---- what calls return
+
+-- a call for a step does the step, or it refuses and nothing changes
+abbrev pub StepsOrRefuses : Step → ℤ → SeenOwnSite → SeenOwnSite → Type 0
+StepsOrRefuses step result old new = IsDoneOr result (SiteSteps step old new) (new ≡ old)
+
+-- A call that puts a letter at place i does the step, writes the bytes of its letter to the front of `out`, and returns
+-- their number; or it refuses, and neither the site nor `out` changes.
+abbrev pub PutsOrRefuses : ℕ → Step → List ℕ → List ℕ → ℤ → SeenOwnSite → SeenOwnSite → Type 0
+PutsOrRefuses i step out out_new result old new =
+    IsDoneOr result ((letter : Letter) × SitePuts i step old new letter × AreWritten letter (edge_at old.plan old.core.site i) out out_new result)
+    ((new ≡ old) × (out_new ≡ out))
+
+-- a call to begin a meal begins one, or it refuses and nothing changes
+abbrev pub BeginsOrRefuses : ℤ → SeenOwnSite → SeenOwnSite → Type 0
+BeginsOrRefuses result old new = IsDoneOr result (SiteBegins old new) (new ≡ old)
+
+-- a call to end a meal ends it, or there is none and nothing changes
+abbrev pub EndsOrRefuses : Bool → ℤ → SeenOwnSite → SeenOwnSite → Type 0
+EndsOrRefuses failed result old new = IsDoneOr result (SiteEnds failed old new) (new ≡ old)
+
+-- A call with the bytes of a letter takes the letter that arrives with them at one of the places, and returns 0; or it
+-- refuses, and a site that represents a state is as it was.
+pub record TakesOrRefuses (bytes : List ℕ) (result : ℤ) (old new : SeenOwnSite) : Type 0 where
+  pub takes : result ≡ done → (i : ℕ) × (letter : Letter) × SiteTakes bytes i letter old new
+  pub refuses : (result ≡ done → ⊥) → (state : LocalState) → StandsFor state old → new ≡ old

@@ -1,0 +1,2 @@
+pub mod OwnPlanFields
+pub mod OwnSiteFields

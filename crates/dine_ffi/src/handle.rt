@@ -1,0 +1,85 @@
+//! The handle that C holds.
+ghost use Rattle.std.specs.Prelude.{◌≡◌, ◌==◌, MatchOption, None, Some, is_some};
+
+use crate::slot::Slot;
+use crate::thing::Thing;
+use std::alloc::Global;
+use std::mem;
+
+// What `state` is in an open handle: the letters of "dine".
+const OPEN: u32 = 0x656e_6964;
+
+/// A handle, which is two words of C's memory: a pointer, and a number. All zeros is a closed handle.
+#[repr(C)]
+#[derive(Drop)]
+pub struct Handle {
+    slot: Slot,
+    state: u32,
+    ghost says: { (state == 1701734756) ≡ is_some slot.held },
+}
+
+impl Handle {
+    // A closed handle.
+    fn closed(alloc: Global) -> Handle
+        ensures { result.slot.held ≡ None }
+    {
+        Handle {
+            slot: Slot::none(alloc),
+            state: 0,
+        }
+    }
+
+    // An open handle.
+    fn of(thing: Box<Thing>) -> Handle
+        ensures { result.slot.held ≡ Some thing.value }
+    {
+        Handle {
+            slot: Slot::of(thing),
+            state: OPEN,
+        }
+    }
+
+    pub(crate) fn is_open(&self) -> bool
+        ensures { result ≡ is_some self.now.slot.held }
+    {
+        self.state == OPEN
+    }
+
+    /// Takes the thing out, if the handle is open. Then it is closed.
+    pub(crate) fn take(&mut self, alloc: Global) -> Option<Box<Thing>>
+        ensures closed { self.new.slot.held ≡ None }
+        ensures held { MatchOption result (self.old.slot.held ≡ None)
+            (λ thing. self.old.slot.held ≡ Some thing.value) }
+    {
+        mem::replace(self, Handle::closed(alloc)).into_box()
+    }
+
+    // The thing of the handle, if it is open.
+    fn into_box(self) -> Option<Box<Thing>>
+        ensures { MatchOption result (self.slot.held ≡ None) (λ thing. self.slot.held ≡ Some thing.value) }
+    {
+        let Handle { slot, state } = self;
+        if state == OPEN {
+            Some(slot.into_box())
+        } else {
+            None
+        }
+    }
+
+    /// Puts the thing back into the handle, which is closed.
+    pub(crate) fn put(&mut self, thing: Box<Thing>)
+        requires { self.old.slot.held ≡ None }
+        ensures { self.new.slot.held ≡ Some thing.value }
+    {
+        *self = Handle::of(thing);
+    }
+}
+
+/// Takes what may go to another thread: a handle may.
+pub fn may_be_sent(handle: Handle) -> Handle {
+    sent(handle)
+}
+
+fn sent<T: Send>(value: T) -> T {
+    value
+}

@@ -1,0 +1,27 @@
+//! Laws over the definitions alone. Each function does nothing: its contract is the law.
+ghost use Rattle.std.specs.Prelude.{Bool, List, ℕ};
+ghost use Rattle.dine_graph.specs.Plan.{SeenPlan};
+ghost use Rattle.dine_rules.specs.declared.letters.Letter.{Letter};
+ghost use Rattle.dine_rules.specs.Local.{start_of};
+ghost use Rattle.dine_rules.specs.Steps as step;
+ghost use Rattle.dine_ffi.specs.Acts.{put_step};
+ghost use Rattle.dine_ffi.specs.OwnSites.{IsOpened, OwnSteps, SeenOwnSite, SiteBegins, SiteEnds, SitePuts, SiteSteps};
+ghost use Rattle.dine_ffi.specs.OwnSites.{SiteTakes, StandsFor};
+ghost use Rattle.dine_ffi.specs.declared.acts.PutKind.{PutKind};
+
+/// Each call of a site that does something is a step of the rules. A site that was opened represents the state at the
+/// start. If a site represents a state, and a call does what its contract says, the state allowed the step, and the
+/// site represents the state after it: with its letters, its meal, and the forks that it keeps.
+pub fn calls_are_steps()
+    ensures opened { (plan : SeenPlan) (number : ℕ) (own : SeenOwnSite) → IsOpened plan number own
+        → StandsFor (start_of plan number) own }
+    ensures hungry { (old new : SeenOwnSite) → SiteSteps step.Hungry old new → OwnSteps step.Hungry old new }
+    ensures quit { (old new : SeenOwnSite) → SiteSteps step.Quit old new → OwnSteps step.Quit old new }
+    ensures begin { (old new : SeenOwnSite) → SiteBegins old new → OwnSteps step.Begin old new }
+    ensures end { (failed : Bool) (old new : SeenOwnSite) → SiteEnds failed old new
+        → OwnSteps (step.End failed) old new }
+    ensures puts { (kind : PutKind) (i : ℕ) (letter : Letter) (old new : SeenOwnSite)
+        → SitePuts i (put_step kind i) old new letter → OwnSteps (put_step kind i) old new }
+    ensures takes { (bytes : List ℕ) (i : ℕ) (letter : Letter) (old new : SeenOwnSite)
+        → SiteTakes bytes i letter old new → OwnSteps (step.Take i letter) old new }
+{}

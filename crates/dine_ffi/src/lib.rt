@@ -1,0 +1,19 @@
+//! The proved rules for programs that are not Rattle: a plan, a world, or one site, behind a handle that C holds.
+#![tactic(auto)]
+
+mod acts;
+mod copying;
+pub mod event;
+pub mod handle;
+pub mod laws;
+mod own_plan;
+mod own_site;
+mod own_world;
+mod periods;
+pub mod plan_calls;
+mod shelf;
+pub mod site_calls;
+pub mod slot;
+mod status;
+pub mod thing;
+pub mod world_calls;

@@ -1,0 +1,398 @@
+//! One site with its plan and its meal, which may be dropped.
+ghost use Rattle.std.specs.Prelude.{◌≡◌, ◌<◌, ◌∷◌, [], IfOk, IfSome, MatchOption, MatchResult, false, is_some, length};
+ghost use Rattle.std.specs.Prelude.{option_map, pos, true, if◌then◌else◌};
+ghost use Rattle.dine_token.specs.Fork.{SeenFork};
+ghost use Rattle.dine_graph.specs.Plan.{site_count};
+ghost use Rattle.dine_rules.specs.Letters.{forks_in};
+ghost use Rattle.dine_rules.specs.Local.{LocalState, edge_at, is_eating};
+ghost use Rattle.dine_rules.specs.Steps as step;
+ghost use Rattle.dine_site_core.specs.NextEvent.{next_of};
+ghost use Rattle.dine_site_core.specs.Places.{IsMealOf, hand_of, has_all_said, is_held, neighbour_of, place_at};
+ghost use Rattle.dine_ffi.specs.Acts.{put_step};
+ghost use Rattle.dine_ffi.specs.Answers.{IsDoneOr, Reports, done, no_such, number_of};
+ghost use Rattle.dine_ffi.specs.Events.{seen_event};
+ghost use Rattle.dine_ffi.specs.OwnSites.{BeginsOrRefuses, EndsOrRefuses, IsOpened, PutsOrRefuses, SiteSteps};
+ghost use Rattle.dine_ffi.specs.OwnSites.{SiteTakesFork, StandsFor, StepsOrRefuses, TakesOrRefuses};
+ghost use Rattle.dine_ffi.specs.Written.{ArePeriods};
+
+use crate::acts::{PutKind, put, take};
+use crate::event::{DineEvent, event_of};
+use crate::own_plan::OwnPlan;
+use crate::periods::write_periods;
+use crate::shelf::{first_shelf, put_away, refusal_of, take_back};
+use crate::status::{
+    DONE, EATING, NO_SUCH, NOT_NOW, OTHER_EDGE, SMALL, breach_status, number, phase_number,
+    wire_status,
+};
+use dine_rules::{Breach, Letter};
+use dine_site_core::SiteCore;
+use dine_site_core::site::{ForkSlot, fresh_forks, fresh_tokens};
+use dine_token::{Fork, Meal, Token};
+use dine_wire::{ForkNote, NOTE_MAX, Told, note_of, put_note, read_note};
+use std::alloc::{AllocError, Global};
+use std::marker::Model;
+use std::mem;
+
+/// How far a site is.
+#[repr(C)]
+#[derive(Clone, Copy)]
+pub struct DineSiteState {
+    /// 0 thinking, 1 hungry, 2 eating.
+    pub phase: u32,
+    /// How many meals it began.
+    pub ate: u32,
+    /// How many places it has.
+    pub degree: u32,
+    /// 1 if it has done all, and put and taken all letters; else 0.
+    pub finished: u32,
+}
+
+/// What a site has at a place.
+#[repr(C)]
+#[derive(Clone, Copy)]
+pub struct DinePlace {
+    /// The number of the edge.
+    pub edge: u32,
+    /// The site at its other end.
+    pub neighbour: u32,
+    /// 1 if the fork is here, else 0.
+    pub has_fork: u32,
+    /// 1 if the token is here, else 0.
+    pub has_token: u32,
+}
+
+/// A site, its plan, its meal if it eats, and the forks that it gave away, as they were then.
+pub struct OwnSite {
+    plan: OwnPlan,
+    core: SiteCore,
+    meal: Option<Meal>,
+    shelf: Vec<Option<Fork>>,
+}
+
+impl Model for OwnSite {
+    ghost use Rattle.dine_ffi.specs.OwnSites.{SeenOwnSite};
+
+    ghost Value = { SeenOwnSite };
+
+    ghost use Rattle.dine_ffi.specs.private.OwnSiteFields.{seen_own_site, HasOwnMeal};
+
+    ghost view = { seen_own_site };
+
+    ghost invariant = { HasOwnMeal };
+}
+
+impl Drop for OwnSite {
+    fn drop(self) {
+        let OwnSite {
+            plan: _,
+            core,
+            meal,
+            shelf: _,
+        } = self;
+        let core = at_rest(core, meal);
+        let _ = core.into_parts();
+    }
+}
+
+// What is returned of a letter: that it was taken, or why it was not.
+fn status_of(taken: Result<(), (Letter, i64)>) -> i64
+    ensures { MatchResult taken (λ _. result ≡ done) (λ e. result ≡ e.1) }
+{
+    match taken {
+        Ok(()) => DONE,
+        Err((_, status)) => status,
+    }
+}
+
+// The core after its meal, if it eats.
+fn at_rest(core: SiteCore, meal: Option<Meal>) -> SiteCore
+    requires { MatchOption meal (is_eating core.phase ≡ false)
+        (λ m. (is_eating core.phase ≡ true) × IsMealOf core m) }
+    ensures { is_eating result.phase ≡ false }
+{
+    let mut core = core;
+    match meal {
+        Some(meal) => {
+            core.end(meal, false);
+            core
+        }
+        None => core,
+    }
+}
+
+impl OwnSite {
+    /// Opens the site of the plan, before its first event.
+    pub(crate) fn open(alloc: Global, plan: OwnPlan, site: u32) -> Result<OwnSite, AllocError>
+        requires { site < site_count plan }
+        ensures { IfOk result (IsOpened plan site) }
+    {
+        let shelf = first_shelf(alloc, plan.plan(), site)?;
+        let forks = fresh_forks(alloc, plan.plan(), site)?;
+        let tokens = fresh_tokens(alloc, plan.plan(), site)?;
+        let core = SiteCore::open(alloc, plan.plan(), site, forks, tokens)?;
+        Ok(OwnSite {
+            plan,
+            core,
+            meal: None,
+            shelf,
+        })
+    }
+
+    /// Writes the first event that the site may do without a letter. Returns 1, or 0 if there is none.
+    pub(crate) fn next(&self, out: &mut DineEvent) -> i64
+        ensures { MatchOption (next_of self.now.core) ((result ≡ pos 0) × (out.new ≡ out.old))
+            (λ kind. (result ≡ pos 1) × (out.new ≡ seen_event self.now.core.site kind)) }
+    {
+        match self.core.next_event() {
+            Some(kind) => {
+                *out = event_of(self.core.site(), kind);
+                1
+            }
+            None => 0,
+        }
+    }
+
+    /// Grows hungry.
+    pub(crate) fn hungry(&mut self) -> i64
+        ensures { StepsOrRefuses step.Hungry result self.old self.new }
+    {
+        if self.meal.is_some() {
+            return EATING;
+        }
+        if !self.core.may_hungry() {
+            return NOT_NOW;
+        }
+        self.core.hungry();
+        DONE
+    }
+
+    /// Drops the jobs that are left.
+    pub(crate) fn quit(&mut self) -> i64
+        ensures { StepsOrRefuses step.Quit result self.old self.new }
+    {
+        if self.meal.is_some() {
+            return EATING;
+        }
+        if !self.core.may_quit() {
+            return NOT_NOW;
+        }
+        self.core.quit();
+        DONE
+    }
+
+    /// Puts a letter at place `i`, and writes its bytes. Returns how many there are.
+    pub(crate) fn put(&mut self, what: PutKind, i: u32, out: &mut [u8]) -> i64
+        ensures { PutsOrRefuses i (put_step what i) out.old out.new result self.old self.new }
+    {
+        if self.meal.is_some() {
+            return EATING;
+        }
+        if out.len() < NOTE_MAX {
+            return SMALL;
+        }
+        let Some(edge) = self.edge(i) else {
+            return NO_SUCH;
+        };
+        if self.shelf.len() <= i as usize {
+            return NO_SUCH;
+        }
+        match put(&mut self.core, what, i) {
+            Some(letter) => {
+                let len = put_note(note_of(&letter, edge), out);
+                put_away(&mut self.shelf, i, letter);
+                len as i64
+            }
+            None => NOT_NOW,
+        }
+    }
+
+    /// Begins a meal.
+    pub(crate) fn begin(&mut self) -> i64
+        ensures { BeginsOrRefuses result self.old self.new }
+    {
+        if self.meal.is_some() {
+            return EATING;
+        }
+        if !self.core.may_begin() {
+            return NOT_NOW;
+        }
+        let meal = self.core.begin();
+        if let Some(_) = mem::replace(&mut self.meal, Some(meal)) {
+            unreachable!();
+        }
+        DONE
+    }
+
+    /// Ends the meal. `failed` says whether its job failed.
+    pub(crate) fn end(&mut self, failed: bool) -> i64
+        ensures { EndsOrRefuses failed result self.old self.new }
+    {
+        match self.meal.take() {
+            Some(meal) => {
+                self.core.end(meal, failed);
+                DONE
+            }
+            None => NOT_NOW,
+        }
+    }
+
+    /// Takes the letter whose bytes these are.
+    pub(crate) fn take(&mut self, alloc: Global, bytes: &[u8]) -> i64
+        ensures { TakesOrRefuses bytes.now result self.old self.new }
+    {
+        let note = match read_note(bytes) {
+            Ok(note) => note,
+            Err(fault) => return wire_status(fault),
+        };
+        let Some(i) = self.place(note.edge) else {
+            return OTHER_EDGE;
+        };
+        match note.told {
+            Told::Fork(fork) => self.take_fork(alloc, i, fork),
+            Told::Request => self.take_word(i, Letter::Request(Token::open(note.edge))),
+            Told::Done => self.take_word(i, Letter::Done),
+            Told::Close => self.take_word(i, Letter::Close),
+        }
+    }
+
+    // Takes a letter other than a Fork.
+    fn take_word(&mut self, i: u32, letter: Letter) -> i64
+        requires { forks_in (letter ∷ []) ≡ 0 }
+        ensures done { result ≡ pos 0 → SiteSteps (step.Take i letter) self.old self.new }
+        ensures refused { (result ≡ pos 0 → ⊥) → self.new ≡ self.old }
+    {
+        status_of(take(&mut self.core, i, letter))
+    }
+
+    // Takes the fork that arrives at place `i` with this note. If the site represents a state, a fork that arrives is
+    // taken: what the rules ask of it was checked before, or holds since it goes on from the fork that was kept.
+    fn take_fork(&mut self, alloc: Global, i: u32, note: ForkNote) -> i64
+        ensures done { result ≡ pos 0 → (fork : SeenFork) × SiteTakesFork i note fork self.old self.new }
+        ensures refused { (result ≡ pos 0 → ⊥)
+            → (state : LocalState) → StandsFor state self.old → self.new ≡ self.old }
+    {
+        if let Some(status) = refusal_of(self.plan.plan(), &self.core, i, note) {
+            return status;
+        }
+        // A site that eats has all its forks.
+        if self.meal.is_some() {
+            return breach_status(Breach::ForkOutOfTurn);
+        }
+        let fork = match take_back(alloc, self.plan.plan(), &mut self.shelf, i, note) {
+            Ok(fork) => fork,
+            Err(status) => return status,
+        };
+        match take(&mut self.core, i, Letter::Fork(fork)) {
+            Ok(()) => DONE,
+            Err((letter, status)) => {
+                put_away(&mut self.shelf, i, letter);
+                status
+            }
+        }
+    }
+
+    // The edge of the place.
+    pub(crate) fn edge(&self, i: u32) -> Option<u32>
+        ensures { IfSome result (λ edge. edge ≡ edge_at self.now.plan self.now.core.site i) }
+    {
+        let (plan, site) = (self.plan.plan(), self.core.site());
+        if plan.sites() <= site {
+            return None;
+        }
+        Some(*plan.edges_of(site).get(i as usize)?)
+    }
+
+    // The place of the edge.
+    fn place(&self, edge: u32) -> Option<u32>
+        ensures { IfSome result (λ i. edge_at self.now.plan self.now.core.site i ≡ edge) }
+    {
+        let (plan, site) = (self.plan.plan(), self.core.site());
+        if plan.sites() <= site {
+            return None;
+        }
+        let edges = plan.edges_of(site);
+        for i in 0..edges.len() {
+            if edges[i] == edge {
+                return u32::try_from(i).ok();
+            }
+        }
+        None
+    }
+
+    /// Writes how far the site is.
+    pub(crate) fn state(&self, out: &mut DineSiteState) -> i64
+        ensures { (result ≡ done) × (out.new ≡ record {
+          phase = number_of self.now.core.phase;
+          ate = self.now.core.ate;
+          degree = length self.now.core.places;
+          finished = if has_all_said self.now.core then 1 else 0;
+        }) }
+    {
+        *out = DineSiteState {
+            phase: phase_number(self.core.phase()),
+            ate: self.core.ate(),
+            degree: self.core.degree(),
+            finished: u32::from(self.core.is_finished()),
+        };
+        DONE
+    }
+
+    /// Writes what the site has at place `i`.
+    pub(crate) fn place_state(&self, i: u32, out: &mut DinePlace) -> i64
+        ensures { IsDoneOr result ((i < length self.now.core.places) × (out.new ≡ record {
+          edge = edge_at self.now.plan self.now.core.site i;
+          neighbour = neighbour_of self.now.core.site (place_at self.now.core i);
+          has_fork = if is_held (place_at self.now.core i).fork then 1 else 0;
+          has_token = if is_some (place_at self.now.core i).token then 1 else 0;
+        })) ((result ≡ no_such) × (out.new ≡ out.old)) }
+    {
+        if self.core.degree() <= i {
+            return NO_SUCH;
+        }
+        let Some(edge) = self.edge(i) else {
+            return NO_SUCH;
+        };
+        *out = DinePlace {
+            edge,
+            neighbour: self.core.neighbour(i),
+            has_fork: u32::from(self.core.has_fork(i)),
+            has_token: u32::from(self.core.has_token(i)),
+        };
+        DONE
+    }
+
+    /// Writes the periods of the log of the fork in hand at the place, and returns how many there are.
+    pub(crate) fn periods(&self, i: u32, out: &mut [u32]) -> i64
+        ensures { MatchOption (hand_of (place_at self.now.core i).fork) ((result ≡ no_such) × (out.new ≡ out.old))
+            (λ fork. ArePeriods fork out.old out.new result) }
+    {
+        match fork_at(&self.core, i) {
+            Some(fork) => write_periods(fork, out),
+            None => NO_SUCH,
+        }
+    }
+
+    /// Returns the value of the fork in hand at the place.
+    pub(crate) fn value(&self, i: u32) -> i64
+        ensures { MatchOption (hand_of (place_at self.now.core i).fork) (result ≡ no_such)
+            (λ fork. Reports result fork.value) }
+    {
+        match fork_at(&self.core, i) {
+            Some(fork) => number(fork.value()),
+            None => NO_SUCH,
+        }
+    }
+}
+
+// The fork in hand at the place.
+fn fork_at(core: &SiteCore, i: u32) -> Option<&Fork>
+    ensures { option_map (λ fork. fork.now) result ≡ hand_of (place_at core.now i).fork }
+{
+    if core.degree() <= i {
+        return None;
+    }
+    match core.slot(i) {
+        ForkSlot::Here(fork) => Some(fork),
+        ForkSlot::Away | ForkSlot::InMeal(_) => None,
+    }
+}

@@ -1,0 +1,388 @@
+//! The calls of one site, whose letters are bytes.
+ghost use Rattle.std.specs.Prelude.{◌≡◌, ◌<◌, ◌≤◌, MatchOption, None, is_some, length, pos, if◌then◌else◌};
+ghost use Rattle.dine_rules.specs.Local.{edge_at};
+ghost use Rattle.dine_rules.specs.Steps as step;
+ghost use Rattle.dine_site_core.specs.NextEvent.{next_of};
+ghost use Rattle.dine_site_core.specs.Places.{hand_of, has_all_said, is_held, neighbour_of, place_at};
+ghost use Rattle.dine_ffi.specs.Answers.{IsDoneOr, Reports, done, no_such, number_of};
+ghost use Rattle.dine_ffi.specs.Events.{seen_event};
+ghost use Rattle.dine_ffi.specs.OwnSites.{BeginsOrRefuses, EndsOrRefuses, IsOpened, PutsOrRefuses};
+ghost use Rattle.dine_ffi.specs.OwnSites.{StepsOrRefuses, TakesOrRefuses};
+ghost use Rattle.dine_ffi.specs.Things.{HoldsPlan, HoldsSite, OfHeld, OfSite, OnPlan, SiteCall};
+ghost use Rattle.dine_ffi.specs.Written.{ArePeriods};
+
+use crate::acts::PutKind;
+use crate::event::DineEvent;
+use crate::handle::Handle;
+use crate::own_plan::OwnPlan;
+use crate::own_site::{DinePlace, DineSiteState, OwnSite};
+use crate::plan_calls::open;
+use crate::status::{CLOSED, MEMORY, NO_SUCH, OPEN_ALREADY, OTHER_KIND};
+use crate::thing::{Kept, Thing};
+use std::alloc::Global;
+
+/// Opens the site of the plan that the handle `plan` holds. The handle `site`, which is closed, holds it then.
+#[unsafe(no_mangle)]
+pub extern "C" fn dine_raw_site_open(
+    alloc: Global,
+    plan: &mut Handle,
+    number: u32,
+    site: &mut Handle,
+) -> i64
+    ensures plan { plan.new.slot.held ≡ plan.old.slot.held }
+    ensures site { IsDoneOr result
+        (HoldsPlan (λ p. HoldsSite (IsOpened p number) site.new.slot.held) plan.old.slot.held)
+        (site.new.slot.held ≡ site.old.slot.held) }
+{
+    if site.is_open() {
+        return OPEN_ALREADY;
+    }
+    let Some(thing) = plan.take(alloc) else {
+        return CLOSED;
+    };
+    let answer = open_site(alloc, &thing, number, site);
+    plan.put(thing);
+    answer
+}
+
+fn open_site(alloc: Global, thing: &Thing, number: u32, handle: &mut Handle) -> i64
+    requires { handle.old.slot.held ≡ None }
+    ensures { IsDoneOr result
+        (OnPlan (λ p. HoldsSite (IsOpened p number) handle.new.slot.held) thing.now.kept)
+        (handle.new.slot.held ≡ handle.old.slot.held) }
+{
+    match &thing.kept {
+        Kept::Plan(plan) => open_site_of(alloc, plan, number, handle),
+        Kept::World(_) | Kept::Site(_) => OTHER_KIND,
+    }
+}
+
+fn open_site_of(alloc: Global, plan: &OwnPlan, number: u32, handle: &mut Handle) -> i64
+    requires { handle.old.slot.held ≡ None }
+    ensures { IsDoneOr result
+        (HoldsSite (IsOpened plan.now number) handle.new.slot.held)
+        (handle.new.slot.held ≡ handle.old.slot.held) }
+{
+    if plan.plan().sites() <= number {
+        return NO_SUCH;
+    }
+    let Ok(plan) = plan.share() else {
+        return MEMORY;
+    };
+    match OwnSite::open(alloc, plan, number) {
+        Ok(site) => open(alloc, Kept::Site(site), handle),
+        Err(_) => MEMORY,
+    }
+}
+
+/// Writes how far the site is.
+#[unsafe(no_mangle)]
+pub extern "C" fn dine_raw_site_state(
+    alloc: Global,
+    handle: &mut Handle,
+    out: &mut DineSiteState,
+) -> i64
+    ensures same { handle.new.slot.held ≡ handle.old.slot.held }
+    ensures answer { OfHeld handle.old.slot.held result (λ kept. OfSite kept result
+        (λ own. (result ≡ done) × (out.new ≡ record {
+          phase = number_of own.core.phase;
+          ate = own.core.ate;
+          degree = length own.core.places;
+          finished = if has_all_said own.core then 1 else 0;
+        }))) }
+{
+    let Some(thing) = handle.take(alloc) else {
+        return CLOSED;
+    };
+    let answer = match &thing.kept {
+        Kept::Site(site) => site.state(out),
+        Kept::Plan(_) | Kept::World(_) => OTHER_KIND,
+    };
+    handle.put(thing);
+    answer
+}
+
+/// Writes what the site has at place `i`.
+#[unsafe(no_mangle)]
+pub extern "C" fn dine_raw_site_place(
+    alloc: Global,
+    handle: &mut Handle,
+    i: u32,
+    out: &mut DinePlace,
+) -> i64
+    ensures same { handle.new.slot.held ≡ handle.old.slot.held }
+    ensures answer { OfHeld handle.old.slot.held result (λ kept. OfSite kept result
+        (λ own. IsDoneOr result ((i < length own.core.places)
+        × (out.new ≡ record {
+          edge = edge_at own.plan own.core.site i;
+          neighbour = neighbour_of own.core.site
+              (place_at own.core i);
+          has_fork = if is_held (place_at own.core i).fork then 1 else 0;
+          has_token = if is_some (place_at own.core i).token then 1 else 0;
+        })) ((result ≡ no_such)
+        × (out.new ≡ out.old)))) }
+{
+    let Some(thing) = handle.take(alloc) else {
+        return CLOSED;
+    };
+    let answer = match &thing.kept {
+        Kept::Site(site) => site.place_state(i, out),
+        Kept::Plan(_) | Kept::World(_) => OTHER_KIND,
+    };
+    handle.put(thing);
+    answer
+}
+
+/// Writes the first event that the site may do without a letter. Returns 1, or 0 if there is none.
+#[unsafe(no_mangle)]
+pub extern "C" fn dine_raw_site_next(alloc: Global, handle: &mut Handle, out: &mut DineEvent) -> i64
+    ensures same { handle.new.slot.held ≡ handle.old.slot.held }
+    ensures answer { OfHeld handle.old.slot.held result (λ kept. OfSite kept result
+        (λ own. MatchOption (next_of own.core) ((result ≡ pos 0) × (out.new ≡ out.old)) (λ kind. (result ≡ pos 1)
+        × (out.new ≡ seen_event own.core.site kind)))) }
+{
+    let Some(thing) = handle.take(alloc) else {
+        return CLOSED;
+    };
+    let answer = match &thing.kept {
+        Kept::Site(site) => site.next(out),
+        Kept::Plan(_) | Kept::World(_) => OTHER_KIND,
+    };
+    handle.put(thing);
+    answer
+}
+
+/// The site grows hungry.
+#[unsafe(no_mangle)]
+pub extern "C" fn dine_raw_site_hungry(alloc: Global, handle: &mut Handle) -> i64
+    ensures becomes { SiteCall (StepsOrRefuses step.Hungry) result handle.old.slot.held handle.new.slot.held }
+{
+    let Some(mut thing) = handle.take(alloc) else {
+        return CLOSED;
+    };
+    let answer = match &mut thing.kept {
+        Kept::Site(site) => site.hungry(),
+        Kept::Plan(_) | Kept::World(_) => OTHER_KIND,
+    };
+    handle.put(thing);
+    answer
+}
+
+/// The site drops the jobs that it has left.
+#[unsafe(no_mangle)]
+pub extern "C" fn dine_raw_site_quit(alloc: Global, handle: &mut Handle) -> i64
+    ensures becomes { SiteCall (StepsOrRefuses step.Quit) result handle.old.slot.held handle.new.slot.held }
+{
+    let Some(mut thing) = handle.take(alloc) else {
+        return CLOSED;
+    };
+    let answer = match &mut thing.kept {
+        Kept::Site(site) => site.quit(),
+        Kept::Plan(_) | Kept::World(_) => OTHER_KIND,
+    };
+    handle.put(thing);
+    answer
+}
+
+/// Gives the fork of place `i`, and writes the letter. Returns the number of its bytes.
+#[unsafe(no_mangle)]
+pub extern "C" fn dine_raw_site_give(
+    alloc: Global,
+    handle: &mut Handle,
+    i: u32,
+    out: &mut [u8],
+) -> i64
+    ensures becomes { SiteCall (PutsOrRefuses i (step.Give i) out.old out.new) result
+        handle.old.slot.held handle.new.slot.held }
+{
+    let Some(mut thing) = handle.take(alloc) else {
+        return CLOSED;
+    };
+    let answer = match &mut thing.kept {
+        Kept::Site(site) => site.put(PutKind::Give, i, out),
+        Kept::Plan(_) | Kept::World(_) => OTHER_KIND,
+    };
+    handle.put(thing);
+    answer
+}
+
+/// Asks for the fork of place `i`, and writes the letter. Returns the number of its bytes.
+#[unsafe(no_mangle)]
+pub extern "C" fn dine_raw_site_ask(
+    alloc: Global,
+    handle: &mut Handle,
+    i: u32,
+    out: &mut [u8],
+) -> i64
+    ensures becomes { SiteCall (PutsOrRefuses i (step.Ask i) out.old out.new) result
+        handle.old.slot.held handle.new.slot.held }
+{
+    let Some(mut thing) = handle.take(alloc) else {
+        return CLOSED;
+    };
+    let answer = match &mut thing.kept {
+        Kept::Site(site) => site.put(PutKind::Ask, i, out),
+        Kept::Plan(_) | Kept::World(_) => OTHER_KIND,
+    };
+    handle.put(thing);
+    answer
+}
+
+/// Says Done at place `i`, and writes the letter. Returns the number of its bytes.
+#[unsafe(no_mangle)]
+pub extern "C" fn dine_raw_site_done(
+    alloc: Global,
+    handle: &mut Handle,
+    i: u32,
+    out: &mut [u8],
+) -> i64
+    ensures becomes { SiteCall (PutsOrRefuses i (step.Done i) out.old out.new) result
+        handle.old.slot.held handle.new.slot.held }
+{
+    let Some(mut thing) = handle.take(alloc) else {
+        return CLOSED;
+    };
+    let answer = match &mut thing.kept {
+        Kept::Site(site) => site.put(PutKind::Done, i, out),
+        Kept::Plan(_) | Kept::World(_) => OTHER_KIND,
+    };
+    handle.put(thing);
+    answer
+}
+
+/// Closes place `i` in order, and writes the letter. Returns the number of its bytes.
+#[unsafe(no_mangle)]
+pub extern "C" fn dine_raw_site_shut(
+    alloc: Global,
+    handle: &mut Handle,
+    i: u32,
+    out: &mut [u8],
+) -> i64
+    ensures becomes { SiteCall (PutsOrRefuses i (step.Close i) out.old out.new) result
+        handle.old.slot.held handle.new.slot.held }
+{
+    let Some(mut thing) = handle.take(alloc) else {
+        return CLOSED;
+    };
+    let answer = match &mut thing.kept {
+        Kept::Site(site) => site.put(PutKind::Close, i, out),
+        Kept::Plan(_) | Kept::World(_) => OTHER_KIND,
+    };
+    handle.put(thing);
+    answer
+}
+
+/// Closes place `i` out of order, as after the loss of its link, and writes the letter. Returns the number of its
+/// bytes.
+#[unsafe(no_mangle)]
+pub extern "C" fn dine_raw_site_break(
+    alloc: Global,
+    handle: &mut Handle,
+    i: u32,
+    out: &mut [u8],
+) -> i64
+    ensures becomes { SiteCall (PutsOrRefuses i (step.Break i) out.old out.new) result
+        handle.old.slot.held handle.new.slot.held }
+{
+    let Some(mut thing) = handle.take(alloc) else {
+        return CLOSED;
+    };
+    let answer = match &mut thing.kept {
+        Kept::Site(site) => site.put(PutKind::Break, i, out),
+        Kept::Plan(_) | Kept::World(_) => OTHER_KIND,
+    };
+    handle.put(thing);
+    answer
+}
+
+/// Takes the letter whose bytes these are.
+#[unsafe(no_mangle)]
+pub extern "C" fn dine_raw_site_take(alloc: Global, handle: &mut Handle, letter: &[u8]) -> i64
+    ensures becomes { SiteCall (TakesOrRefuses letter.now) result handle.old.slot.held handle.new.slot.held }
+{
+    let Some(mut thing) = handle.take(alloc) else {
+        return CLOSED;
+    };
+    let answer = match &mut thing.kept {
+        Kept::Site(site) => site.take(alloc, letter),
+        Kept::Plan(_) | Kept::World(_) => OTHER_KIND,
+    };
+    handle.put(thing);
+    answer
+}
+
+/// Begins a meal.
+#[unsafe(no_mangle)]
+pub extern "C" fn dine_raw_site_begin(alloc: Global, handle: &mut Handle) -> i64
+    ensures becomes { SiteCall BeginsOrRefuses result handle.old.slot.held handle.new.slot.held }
+{
+    let Some(mut thing) = handle.take(alloc) else {
+        return CLOSED;
+    };
+    let answer = match &mut thing.kept {
+        Kept::Site(site) => site.begin(),
+        Kept::Plan(_) | Kept::World(_) => OTHER_KIND,
+    };
+    handle.put(thing);
+    answer
+}
+
+/// Ends the meal. `failed` says whether its job failed.
+#[unsafe(no_mangle)]
+pub extern "C" fn dine_raw_site_end(alloc: Global, handle: &mut Handle, failed: bool) -> i64
+    ensures becomes { SiteCall (EndsOrRefuses failed) result handle.old.slot.held handle.new.slot.held }
+{
+    let Some(mut thing) = handle.take(alloc) else {
+        return CLOSED;
+    };
+    let answer = match &mut thing.kept {
+        Kept::Site(site) => site.end(failed),
+        Kept::Plan(_) | Kept::World(_) => OTHER_KIND,
+    };
+    handle.put(thing);
+    answer
+}
+
+/// Writes the periods of the log of the fork in hand at place `i`, three numbers for each, and returns how many
+/// periods there are.
+#[unsafe(no_mangle)]
+pub extern "C" fn dine_raw_site_fork(
+    alloc: Global,
+    handle: &mut Handle,
+    i: u32,
+    out: &mut [u32],
+) -> i64
+    ensures same { handle.new.slot.held ≡ handle.old.slot.held }
+    ensures answer { OfHeld handle.old.slot.held result (λ kept. OfSite kept result
+        (λ own. MatchOption (hand_of (place_at own.core i).fork) ((result ≡ no_such) × (out.new ≡ out.old))
+        (λ fork. ArePeriods fork out.old out.new result))) }
+{
+    let Some(thing) = handle.take(alloc) else {
+        return CLOSED;
+    };
+    let answer = match &thing.kept {
+        Kept::Site(site) => site.periods(i, out),
+        Kept::Plan(_) | Kept::World(_) => OTHER_KIND,
+    };
+    handle.put(thing);
+    answer
+}
+
+/// Returns the value of the fork in hand at place `i`.
+#[unsafe(no_mangle)]
+pub extern "C" fn dine_raw_site_value(alloc: Global, handle: &mut Handle, i: u32) -> i64
+    ensures same { handle.new.slot.held ≡ handle.old.slot.held }
+    ensures answer { OfHeld handle.old.slot.held result (λ kept. OfSite kept result
+        (λ own. MatchOption (hand_of (place_at own.core i).fork) (result ≡ no_such)
+        (λ fork. Reports result fork.value))) }
+{
+    let Some(thing) = handle.take(alloc) else {
+        return CLOSED;
+    };
+    let answer = match &thing.kept {
+        Kept::Site(site) => site.value(i),
+        Kept::Plan(_) | Kept::World(_) => OTHER_KIND,
+    };
+    handle.put(thing);
+    answer
+}

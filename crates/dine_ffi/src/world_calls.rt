@@ -1,0 +1,251 @@
+//! The calls of a world.
+ghost use Rattle.std.specs.Prelude.{◌≡◌, ℕ, MatchOption, None, length, pos, slice_get};
+ghost use Rattle.dine_rules.specs.Bound.{bound_of};
+ghost use Rattle.dine_rules.specs.Schedules.{finish_within, from_here, replay};
+ghost use Rattle.dine_rules.specs.World.{IsComplete, enabled_events, start};
+ghost use Rattle.dine_core.specs.Worlds.{ForEachWorld, IsWorldOf, RunsTo, WorldSteps, forks_seen};
+ghost use Rattle.dine_ffi.specs.Answers.{IsDoneOr, Reports, done, no_such, not_now, number_of};
+ghost use Rattle.dine_ffi.specs.Events.{kind_numbered, seen_event};
+ghost use Rattle.dine_ffi.specs.Things.{HoldsPlan, HoldsWorld, OfHeld, OfWorld, OnPlan, WorldCall};
+ghost use Rattle.dine_ffi.specs.Written.{ArePeriods};
+
+use crate::event::DineEvent;
+use crate::handle::Handle;
+use crate::own_world::OwnWorld;
+use crate::plan_calls::open;
+use crate::status::{CLOSED, MEMORY, OPEN_ALREADY, OTHER_KIND};
+use crate::thing::{Kept, Thing};
+use std::alloc::Global;
+
+/// Opens the world of the plan that the handle `plan` holds. The handle `world`, which is closed, holds it then.
+#[unsafe(no_mangle)]
+pub extern "C" fn dine_raw_world_open(alloc: Global, plan: &mut Handle, world: &mut Handle) -> i64
+    ensures plan { plan.new.slot.held ≡ plan.old.slot.held }
+    ensures world { IsDoneOr result
+        (HoldsPlan (λ p. HoldsWorld (IsWorldOf p (start p)) world.new.slot.held) plan.old.slot.held)
+        (world.new.slot.held ≡ world.old.slot.held) }
+{
+    if world.is_open() {
+        return OPEN_ALREADY;
+    }
+    let Some(thing) = plan.take(alloc) else {
+        return CLOSED;
+    };
+    let answer = open_world(alloc, &thing, world);
+    plan.put(thing);
+    answer
+}
+
+fn open_world(alloc: Global, thing: &Thing, handle: &mut Handle) -> i64
+    requires { handle.old.slot.held ≡ None }
+    ensures { IsDoneOr result
+        (OnPlan (λ p. HoldsWorld (IsWorldOf p (start p)) handle.new.slot.held) thing.now.kept)
+        (handle.new.slot.held ≡ handle.old.slot.held) }
+{
+    match &thing.kept {
+        Kept::Plan(plan) => match OwnWorld::open(alloc, plan.plan()) {
+            Ok(world) => open(alloc, Kept::World(world), handle),
+            Err(_) => MEMORY,
+        },
+        Kept::World(_) | Kept::Site(_) => OTHER_KIND,
+    }
+}
+
+/// Returns the greatest number of events of the plan.
+#[unsafe(no_mangle)]
+pub extern "C" fn dine_raw_world_bound(alloc: Global, handle: &mut Handle) -> i64
+    ensures same { handle.new.slot.held ≡ handle.old.slot.held }
+    ensures answer { OfHeld handle.old.slot.held result (λ kept. OfWorld kept result
+        (λ w. ForEachWorld w (λ plan world. Reports result (bound_of plan)))) }
+{
+    let Some(thing) = handle.take(alloc) else {
+        return CLOSED;
+    };
+    let answer = match &thing.kept {
+        Kept::World(world) => world.bound(),
+        Kept::Plan(_) | Kept::Site(_) => OTHER_KIND,
+    };
+    handle.put(thing);
+    answer
+}
+
+/// Returns the number of enabled events.
+#[unsafe(no_mangle)]
+pub extern "C" fn dine_raw_world_count(alloc: Global, handle: &mut Handle) -> i64
+    ensures same { handle.new.slot.held ≡ handle.old.slot.held }
+    ensures answer { OfHeld handle.old.slot.held result (λ kept. OfWorld kept result
+        (λ w. ForEachWorld w (λ plan world. result ≡ pos (length (enabled_events plan world))))) }
+{
+    let Some(thing) = handle.take(alloc) else {
+        return CLOSED;
+    };
+    let answer = match &thing.kept {
+        Kept::World(world) => world.count(),
+        Kept::Plan(_) | Kept::Site(_) => OTHER_KIND,
+    };
+    handle.put(thing);
+    answer
+}
+
+/// Writes the n-th enabled event, from 0.
+#[unsafe(no_mangle)]
+pub extern "C" fn dine_raw_world_enabled(
+    alloc: Global,
+    handle: &mut Handle,
+    n: u32,
+    out: &mut DineEvent,
+) -> i64
+    ensures same { handle.new.slot.held ≡ handle.old.slot.held }
+    ensures answer { OfHeld handle.old.slot.held result (λ kept. OfWorld kept result
+        (λ w. ForEachWorld w (λ plan world. MatchOption (slice_get (enabled_events plan world) n)
+        ((result ≡ no_such) × (out.new ≡ out.old)) (λ event. (result ≡ done)
+        × (out.new ≡ seen_event event.site event.kind))))) }
+{
+    let Some(thing) = handle.take(alloc) else {
+        return CLOSED;
+    };
+    let answer = match &thing.kept {
+        Kept::World(world) => world.enabled(n, out),
+        Kept::Plan(_) | Kept::Site(_) => OTHER_KIND,
+    };
+    handle.put(thing);
+    answer
+}
+
+/// Does the event.
+#[unsafe(no_mangle)]
+pub extern "C" fn dine_raw_world_step(alloc: Global, handle: &mut Handle, event: &DineEvent) -> i64
+    ensures becomes { WorldCall (λ result old new. MatchOption (kind_numbered event.now.kind event.now.place)
+        ((result ≡ no_such) × (new ≡ old))
+        (λ kind. IsDoneOr result (WorldSteps (record { site = event.now.site; kind = kind }) old new)
+        ((result ≡ not_now) × (new ≡ old)))) result
+        handle.old.slot.held handle.new.slot.held }
+{
+    let Some(mut thing) = handle.take(alloc) else {
+        return CLOSED;
+    };
+    let answer = match &mut thing.kept {
+        Kept::World(world) => world.step(*event),
+        Kept::Plan(_) | Kept::Site(_) => OTHER_KIND,
+    };
+    handle.put(thing);
+    answer
+}
+
+/// Does the enabled event that each choice names by its number. Returns the number of events.
+#[unsafe(no_mangle)]
+pub extern "C" fn dine_raw_world_replay(alloc: Global, handle: &mut Handle, choices: &[u32]) -> i64
+    ensures becomes { WorldCall (λ result old new. (events : ℕ) × Reports result events
+        × ForEachWorld old (λ plan world. RunsTo plan (replay plan (from_here world) choices.now) events new)) result
+        handle.old.slot.held handle.new.slot.held }
+{
+    let Some(mut thing) = handle.take(alloc) else {
+        return CLOSED;
+    };
+    let answer = match &mut thing.kept {
+        Kept::World(world) => world.replay(choices),
+        Kept::Plan(_) | Kept::Site(_) => OTHER_KIND,
+    };
+    handle.put(thing);
+    answer
+}
+
+/// Does the first enabled event until none is enabled. Returns the number of events.
+#[unsafe(no_mangle)]
+pub extern "C" fn dine_raw_world_finish(alloc: Global, handle: &mut Handle) -> i64
+    ensures becomes { WorldCall (λ result old new. ForEachWorld new (λ plan world. IsComplete plan world)
+        × ((events : ℕ) × Reports result events × ForEachWorld old
+        (λ plan world. RunsTo plan (finish_within (bound_of plan) plan (from_here world)) events new))) result
+        handle.old.slot.held handle.new.slot.held }
+{
+    let Some(mut thing) = handle.take(alloc) else {
+        return CLOSED;
+    };
+    let answer = match &mut thing.kept {
+        Kept::World(world) => world.finish(),
+        Kept::Plan(_) | Kept::Site(_) => OTHER_KIND,
+    };
+    handle.put(thing);
+    answer
+}
+
+/// Returns 0 if the site thinks, 1 if it is hungry, 2 if it eats.
+#[unsafe(no_mangle)]
+pub extern "C" fn dine_raw_world_phase(alloc: Global, handle: &mut Handle, site: u32) -> i64
+    ensures same { handle.new.slot.held ≡ handle.old.slot.held }
+    ensures answer { OfHeld handle.old.slot.held result (λ kept. OfWorld kept result
+        (λ w. ForEachWorld w (λ plan world. MatchOption (slice_get world site) (result ≡ no_such)
+        (λ state. result ≡ pos (number_of state.phase))))) }
+{
+    let Some(thing) = handle.take(alloc) else {
+        return CLOSED;
+    };
+    let answer = match &thing.kept {
+        Kept::World(world) => world.phase(site),
+        Kept::Plan(_) | Kept::Site(_) => OTHER_KIND,
+    };
+    handle.put(thing);
+    answer
+}
+
+/// Returns the number of meals that the site began.
+#[unsafe(no_mangle)]
+pub extern "C" fn dine_raw_world_ate(alloc: Global, handle: &mut Handle, site: u32) -> i64
+    ensures same { handle.new.slot.held ≡ handle.old.slot.held }
+    ensures answer { OfHeld handle.old.slot.held result (λ kept. OfWorld kept result
+        (λ w. ForEachWorld w (λ plan world. MatchOption (slice_get world site) (result ≡ no_such)
+        (λ state. result ≡ pos state.ate)))) }
+{
+    let Some(thing) = handle.take(alloc) else {
+        return CLOSED;
+    };
+    let answer = match &thing.kept {
+        Kept::World(world) => world.ate(site),
+        Kept::Plan(_) | Kept::Site(_) => OTHER_KIND,
+    };
+    handle.put(thing);
+    answer
+}
+
+/// Writes the periods of the log of the edge's fork, three numbers for each, and returns how many periods there are.
+#[unsafe(no_mangle)]
+pub extern "C" fn dine_raw_world_fork(
+    alloc: Global,
+    handle: &mut Handle,
+    edge: u32,
+    out: &mut [u32],
+) -> i64
+    ensures same { handle.new.slot.held ≡ handle.old.slot.held }
+    ensures answer { OfHeld handle.old.slot.held result (λ kept. OfWorld kept result
+        (λ w. ForEachWorld w (λ plan world. MatchOption (slice_get (forks_seen plan world) edge)
+        ((result ≡ no_such) × (out.new ≡ out.old)) (λ fork. ArePeriods fork out.old out.new result)))) }
+{
+    let Some(thing) = handle.take(alloc) else {
+        return CLOSED;
+    };
+    let answer = match &thing.kept {
+        Kept::World(world) => world.periods(edge, out),
+        Kept::Plan(_) | Kept::Site(_) => OTHER_KIND,
+    };
+    handle.put(thing);
+    answer
+}
+
+/// Returns the value of the edge's fork.
+#[unsafe(no_mangle)]
+pub extern "C" fn dine_raw_world_value(alloc: Global, handle: &mut Handle, edge: u32) -> i64
+    ensures same { handle.new.slot.held ≡ handle.old.slot.held }
+    ensures answer { OfHeld handle.old.slot.held result (λ kept. OfWorld kept result
+        (λ w. ForEachWorld w (λ plan world. MatchOption (slice_get (forks_seen plan world) edge)
+        (result ≡ no_such) (λ fork. Reports result fork.value)))) }
+{
+    let Some(thing) = handle.take(alloc) else {
+        return CLOSED;
+    };
+    let answer = match &thing.kept {
+        Kept::World(world) => world.value(edge),
+        Kept::Plan(_) | Kept::Site(_) => OTHER_KIND,
+    };
+    handle.put(thing);
+    answer
+}

@@ -1,0 +1,6 @@
+pub mod Arriving
+pub mod CarriedForks
+pub mod CarriedLists
+pub mod CarriedLinks
+pub mod CarriedSites
+pub mod CarriedGrowth

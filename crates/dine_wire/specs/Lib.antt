@@ -1,0 +1,4 @@
+pub mod Faults
+pub mod Notes
+pub mod Arrivals
+pub mod Carried

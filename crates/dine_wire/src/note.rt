@@ -1,0 +1,73 @@
+//! What the bytes of a letter report.
+ghost use Rattle.std.specs.Prelude.{◌≡◌};
+ghost use Rattle.dine_token.specs.Fork.{SeenFork, other_end};
+ghost use Rattle.dine_wire.specs.Notes.{fork_note, told_of};
+
+use dine_rules::Letter;
+use dine_token::Fork;
+
+/// What a letter of an edge reports.
+#[derive(Clone, Copy, Debug, PartialEq, Eq)]
+pub struct Note {
+    /// The number of the edge.
+    pub edge: u32,
+    /// The letter, without what its receiver knows.
+    pub told: Told,
+}
+
+/// A letter, without what its receiver knows.
+#[derive(Clone, Copy, Debug, PartialEq, Eq)]
+pub enum Told {
+    /// The fork of the edge, and what its sender did with it.
+    Fork(ForkNote),
+    /// The token of the edge.
+    Request,
+    /// The sender will ask no more.
+    Done,
+    /// The sender will send nothing more.
+    Close,
+}
+
+/// What its sender did with a fork.
+#[derive(Clone, Copy, Debug, PartialEq, Eq)]
+pub struct ForkNote {
+    /// The number of Moves in its log, the one to the receiver included.
+    pub moves: u32,
+    /// The number of meals of the sender in its log.
+    pub ate: u32,
+    /// Its value.
+    pub value: u64,
+}
+
+/// Returns the note of a letter of this edge.
+pub fn note_of(letter: &Letter, edge: u32) -> Note
+    ensures edge { result.edge ≡ edge }
+    ensures told { result.told ≡ told_of letter.now }
+{
+    let told = match letter {
+        Letter::Fork(fork) => Told::Fork(fork_note(fork)),
+        Letter::Request(_) => Told::Request,
+        Letter::Done => Told::Done,
+        Letter::Close => Told::Close,
+    };
+    Note { edge, told }
+}
+
+fn fork_note(fork: &Fork) -> ForkNote
+    ensures { result ≡ fork_note fork.now }
+{
+    let sender = other_end(fork, fork.at());
+    ForkNote {
+        moves: fork.moves(),
+        ate: fork.meals_of(sender),
+        value: fork.value(),
+    }
+}
+
+/// Returns the end of the fork that is not this one.
+pub(crate) fn other_end(fork: &Fork, end: u32) -> u32
+    ensures { result ≡ other_end fork.now end }
+{
+    let (lower, higher) = fork.ends();
+    if end == lower { higher } else { lower }
+}

@@ -1,0 +1,30 @@
+//! Why bytes are no letter.
+ghost use Rattle.std.specs.Prelude.{◌≡◌};
+ghost use Rattle.dine_wire.specs.Faults.{number_of};
+
+/// Why bytes are no letter that may arrive.
+#[derive(Clone, Copy, Debug, PartialEq, Eq)]
+pub enum WireFault {
+    /// There are too few bytes, or too many.
+    Length,
+    /// The first byte is no kind of letter.
+    Kind,
+    /// The other end cannot have done with the fork what the note reports.
+    Unlawful,
+    /// An allocation failed.
+    Memory,
+}
+
+impl WireFault {
+    /// Returns the number of the fault, 1 to 4.
+    pub fn number(self) -> u32
+        ensures { result ≡ number_of self }
+    {
+        match self {
+            WireFault::Length => 1,
+            WireFault::Kind => 2,
+            WireFault::Unlawful => 3,
+            WireFault::Memory => 4,
+        }
+    }
+}

@@ -1,0 +1,221 @@
+"""The exports of dine_ffi, as its sources have them, and what C, Rust and Python have to declare for each."""
+import os
+import re
+
+from trying import HOME, paths, text_of
+
+CALLS = ("plan_calls", "world_calls", "site_calls")
+# Rattle's type of a parameter, and for C, Rust and Python its declarations, one for each argument that crosses.
+TYPES = {
+    "&mut Handle": (("dine_handle *{}",), ("*mut Handle",), ("POINTER(Handle)",)),
+    "u32": (("uint32_t {}",), ("u32",), ("Number",)),
+    "bool": (("bool {}",), ("bool",), ("c_bool",)),
+    "&[u8]": (("const uint8_t *{}", "size_t {}_len"), ("*const u8", "usize"), ("POINTER(c_uint8)", "c_size_t")),
+    "&mut [u8]": (("uint8_t *{}", "size_t {}_len"), ("*mut u8", "usize"), ("POINTER(c_uint8)", "c_size_t")),
+    "&[u32]": (("const uint32_t *{}", "size_t {}_len"), ("*const u32", "usize"), ("POINTER(c_uint32)", "c_size_t")),
+    "&mut [u32]": (("uint32_t *{}", "size_t {}_len"), ("*mut u32", "usize"), ("POINTER(c_uint32)", "c_size_t")),
+    "&DineEvent": (("const dine_event *{}",), ("*const Event",), ("POINTER(Event)",)),
+    "&mut DineEvent": (("dine_event *{}",), ("*mut Event",), ("POINTER(Event)",)),
+    "&mut DineEnds": (("dine_ends *{}",), ("*mut Ends",), ("POINTER(Ends)",)),
+    "&mut DineSiteState": (("dine_site_now *{}",), ("*mut SiteState",), ("POINTER(SiteState)",)),
+    "&mut DinePlace": (("dine_place *{}",), ("*mut Place",), ("POINTER(Place)",)),
+}
+STRUCTS = {"DineEvent": ("dine_event", "Event"), "DineEnds": ("dine_ends", "Ends"),
+           "DineSiteState": ("dine_site_now", "SiteState"), "DinePlace": ("dine_place", "Place")}
+
+# For Python: a number that is taken modulo 2^32 would be that of another site.
+NUMBER = '''class Number(c_uint32):
+    """A number of a site, an edge, a place or an event. One of more than 32 bits becomes 2**32 - 1, which is none."""
+
+    @classmethod
+    def from_param(cls, number):
+        return c_uint32(number if 0 <= number < 2**32 else 2**32 - 1)
+
+'''
+
+
+def sources():
+    """Returns the sources of dine_ffi, one text."""
+    folder = f"{HOME}/crates/dine_ffi/src"
+    names = [it for it in sorted(os.listdir(folder)) if it.endswith(".rt")]
+    return "\n".join(text_of(f"crates/dine_ffi/src/{name}") for name in names)
+
+
+def exports():
+    """Returns the name of each export, without 'dine_raw_', with the names and types of what crosses."""
+    found = {}
+    for name, params in re.findall(r'pub extern "C" fn dine_raw_(\w+)\(([^)]*)\) -> i64', sources()):
+        pairs = [tuple(it.strip().split(": ", 1)) for it in params.split(",") if it.strip()]
+        found[name] = [(arg, kind) for arg, kind in pairs if kind != "Global"]
+    return found
+
+
+def structs():
+    """Returns the fields of each struct that crosses; each is a u32."""
+    text = sources()
+    bodies = {name: re.search(rf"pub struct {name} {{(.*?)\n}}", text, re.S)[1] for name in STRUCTS}
+    return {name: re.findall(r"pub (\w+): u32,", body) for name, body in bodies.items()}
+
+
+def causes():
+    """Returns why a text is no plan: for each cause its number, its name, and what the comment of PlanFault says."""
+    text = text_of(paths("crates/*/src/plan_fault.rt")[0])
+    cases = text.partition("pub enum PlanFault {")[2].partition("\n}")[0]
+    said = re.findall(r"    /// (.*)\n    (\w+)(?:\(u32\))?,", cases)
+    numbers = dict(re.findall(r"PlanFault::(\w+)(?:\(_\))? => (\d+),", text))
+    # A failed allocation is an answer of its own.
+    return sorted((int(numbers[name]), name, words) for words, name in said if name != "Memory")
+
+
+def parameters(params):
+    """Returns what C declares for the parameters of an export."""
+    return ", ".join(form.format(arg) for arg, kind in params for form in TYPES[kind][0])
+
+
+def arguments(params):
+    """Returns the names of the arguments in C."""
+    return ", ".join(re.search(r"\w+$", form.format(arg))[0] for arg, kind in params for form in TYPES[kind][0])
+
+
+def guards(params):
+    """Returns the lines of C that answer null pointers, and two handles that are one."""
+    lines = []
+    for arg, kind in params:
+        if kind.endswith("]"):
+            lines.append(f"    if (!{arg}) {{")
+            lines.append(f"        if ({arg}_len)\n            return DINE_NULL;")
+            lines.append(f"        {arg} = (void *)&nothing;\n    }}")
+        elif kind.startswith("&"):
+            lines.append(f"    if (!{arg})\n        return DINE_NULL;")
+    handles = [arg for arg, kind in params if kind == "&mut Handle"]
+    if len(handles) == 2:
+        lines.append(f"    if ({handles[0]} == {handles[1]})\n        return DINE_SAME_HANDLE;")
+    return "\n".join(lines)
+
+
+def c_text():
+    """Returns the text of dine.c."""
+    parts = ["/* Written by tools/bindings from the exports of crates/dine_ffi. Each call answers a null pointer, and",
+             " * two handles that are one, and else goes to the proved call, which is given no null pointer. */",
+             '#include "dine.h"\n', "static uint32_t nothing;\n"]
+    for name, params in exports().items():
+        parts.append(f"int64_t dine_raw_{name}({parameters(params)});")
+    for name, params in exports().items():
+        parts.append(f"\nint64_t dine_{name}({parameters(params)}) {{\n{guards(params)}")
+        parts.append(f"    return dine_raw_{name}({arguments(params)});\n}}")
+    return "\n".join(parts) + "\n"
+
+
+def loan(arg, kind):
+    """Returns how C lends an argument to the module, or nothing if it goes there as it is."""
+    if kind == "&mut Handle":
+        return f"lend_handle(&it, {arg})"
+    if kind.startswith("&"):
+        size = f"{arg}_len * sizeof *{arg}" if kind.endswith("]") else f"sizeof *{arg}"
+        return f"lend(&it, {arg}, {size}, {'true' if kind.startswith('&mut') else 'false'})"
+    return ""
+
+
+def nokit_text():
+    """Returns the text of nokit/calls.c."""
+    parts = ["/* Written by tools/bindings from the exports of crates/dine_ffi: the calls behind dine.c where the library is",
+             " * the module as C, so that a C compiler is all that it needs. */",
+             '#include "loans.h"']
+    for name, params in exports().items():
+        lent = [(arg, loan(arg, kind)) for arg, kind in params]
+        lines = "".join(f"    u64 {arg}_at = {how};\n" for arg, how in lent if how)
+        words = ["&module"]
+        for (arg, how), (_, kind) in zip(lent, params):
+            words += [f"{arg}_at" if how else arg] + [f"{arg}_len"] * kind.endswith("]")
+        words = ", ".join(words)
+        parts.append(f"\nint64_t dine_raw_{name}({parameters(params)}) {{\n    call it = begin();\n{lines}"
+                     f"    if (!it.fits)\n        return end(&it, DINE_MEMORY);\n"
+                     f"    return end(&it, (int64_t)Z_dine_ffiZ_dine_raw_{name}({words}));\n}}")
+    return "\n".join(parts) + "\n"
+
+
+def rust_text():
+    """Returns the text of sys.rs."""
+    parts = ["//! Written by tools/bindings from the exports of crates/dine_ffi: the calls of `dine.h`.\n",
+             "#[repr(C)]\npub struct Handle {\n    pub at: *mut core::ffi::c_void,\n    pub state: u32,\n}\n"]
+    for name, fields in structs().items():
+        lines = "\n".join(f"    pub {field}: u32," for field in fields)
+        parts.append(f"#[repr(C)]\n#[derive(Clone, Copy, Default)]\npub struct {STRUCTS[name][1]} {{\n{lines}\n}}\n")
+    parts.append("extern \"C\" {")
+    for name, params in exports().items():
+        forms = [(form.format(arg), rust) for arg, kind in params for form, rust in zip(TYPES[kind][0], TYPES[kind][1])]
+        args = [(re.search(r"\w+$", text)[0], rust) for text, rust in forms]
+        lines = "".join(f"\n        {arg}: {kind}," for arg, kind in args)
+        parts.append(f"    pub fn dine_{name}({lines}\n    ) -> i64;")
+    return "\n".join(parts) + "\n}\n"
+
+
+def python_text():
+    """Returns the text of _calls.py."""
+    parts = ['"""Written by tools/bindings from the exports of crates/dine_ffi: the calls of dine.h, for ctypes."""',
+             "from ctypes import POINTER, Structure, c_bool, c_int64, c_size_t, c_uint8, c_uint32, c_void_p\n\n",
+             "class Handle(Structure):\n    _fields_ = [(\"at\", c_void_p), (\"state\", c_uint32)]\n\n", NUMBER]
+    for name, fields in structs().items():
+        row = ", ".join(f'("{field}", c_uint32)' for field in fields)
+        parts.append(f"class {STRUCTS[name][1]}(Structure):\n    _fields_ = [{row}]\n\n")
+    parts.append("CALLS = {")
+    for name, params in exports().items():
+        kinds = ", ".join(kind for _, it in params for kind in TYPES[it][2])
+        parts.append(f'    "dine_{name}": [{kinds}],')
+    parts.append("}\n\n\ndef declare(library):\n    \"\"\"Declares the calls of the library.\"\"\"")
+    parts.append("    for name, kinds in CALLS.items():\n        call = getattr(library, name)")
+    parts.append("        call.argtypes, call.restype = kinds, c_int64")
+    return "\n".join(parts) + "\n"
+
+
+def rust_causes():
+    """Returns the text of causes.rs."""
+    cases = "".join(f"    /// {words}\n    {name} = {number},\n" for number, name, words in causes())
+    arms = "".join(f"            {number} => {name},\n" for number, name, _ in causes())
+    return f"""//! Written by tools/bindings from `PlanFault`: why a text is no plan.
+
+/// Why a text is no plan. The number of a cause is that of `docs/FORMAT.md`.
+#[derive(Clone, Copy, Debug, PartialEq, Eq, Hash)]
+pub enum Cause {{
+{cases}}}
+
+impl Cause {{
+    pub(crate) fn of(number: i64) -> Option<Cause> {{
+        use Cause::*;
+        Some(match number {{
+{arms}            _ => return None,
+        }})
+    }}
+}}
+"""
+
+
+def python_causes():
+    """Returns the text of _causes.py."""
+    cases = "".join(f"    #: {words}\n    {name} = {number}\n" for number, name, words in causes())
+    return f'''"""Written by tools/bindings from PlanFault: why a text is no plan."""
+from enum import IntEnum
+
+
+class Cause(IntEnum):
+    """Why a text is no plan. The number of a cause is that of docs/FORMAT.md."""
+
+{cases}'''
+
+
+def faults_of_header():
+    """Returns what dine.h declares otherwise than the exports."""
+    text = re.sub(r"/\*.*?\*/", "", text_of("bindings/c/dine.h"), flags=re.S)
+    there = {name: " ".join(params.split()) for name, params in re.findall(r"int64_t dine_(\w+)\(([^)]*)\);", text)}
+    wanted = {name: parameters(params) for name, params in exports().items()}
+    bare = lambda params: [re.sub(r"\w+$", "", it.strip()).strip() for it in params.split(",")]
+    faults = [f"dine_{name} is not declared" for name in wanted.keys() - there.keys()]
+    faults += [f"dine_{name} is no export" for name in there.keys() - wanted.keys()]
+    faults += [f"dine_{name} lends more than MOST of loans.h" for name, params in exports().items()
+               if sum(kind.startswith("&") for _, kind in params) > 3]
+    both = wanted.keys() & there.keys()
+    faults += [f"dine_{name}: {there[name]}" for name in both if bare(there[name]) != bare(wanted[name])]
+    for name, fields in structs().items():
+        if f"typedef struct {STRUCTS[name][0]} {{ uint32_t {', '.join(fields)}; }} {STRUCTS[name][0]};" not in text:
+            faults.append(f"struct {STRUCTS[name][0]}")
+    return sorted(faults)
