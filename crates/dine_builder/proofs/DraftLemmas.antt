@@ -1,9 +1,8 @@
 -- What a change of a stored site does to what is seen of the sites.
 use Rattle.std.proofs.Common.{◌≡◌, ℕ, zero, suc, ◌<◌, ◌≤◌, List, [], ◌∷◌, map, length, get_or, set, string_bytes, nat_le, IsTrue, sym, ap, ◌∙◌, arith}
 use Rattle.std.proofs.lemmas.Bool.{and_parts, leb-true}
-use Rattle.std.proofs.lemmas.List.{get_or-map, get_or_past, length-map, map-set}
+use Rattle.std.proofs.lemmas.List.{get_or-map, map-set}
 use Rattle.dine_builder.specs.Draft.{SeenDraftSite, Draft, no_draft_site, site_at, has_job}
-use Rattle.dine_builder.specs.DraftDocument.{names_of_sites}
 use Rattle.dine_builder.specs.declared.drafts.DraftSite.{DraftSite}
 use Rattle.dine_builder.specs.private.DraftFields.{seen_draft_site}
 
@@ -14,17 +13,6 @@ site_seen sites s site within is = get_or-map seen_draft_site sites s site no_dr
 pub site_changed : (f : SeenDraftSite → SeenDraftSite) (sites : List DraftSite) (s : ℕ) (old new : DraftSite) → s < length sites → old ≡ get_or sites s old → seen_draft_site new ≡ f (seen_draft_site old)
     → map seen_draft_site (set sites s new) ≡ set (map seen_draft_site sites) s (f (get_or (map seen_draft_site sites) s no_draft_site))
 site_changed f sites s old new within is same = map-set seen_draft_site sites s new ∙ ap (set (map seen_draft_site sites) s) (same ∙ ap f (sym (site_seen sites s old within is)))
-
--- the name of one site among the names that are seen
-pub name_seen : (sites : List DraftSite) (s : ℕ) (site : DraftSite) → s < length sites → site ≡ get_or sites s site → string_bytes site.name ≡ get_or (names_of_sites (map seen_draft_site sites)) s []
-name_seen sites s site within is =
-    let long : length (map seen_draft_site sites) ≡ length sites = length-map sites seen_draft_site in
-    sym (get_or-map (λ (x : SeenDraftSite). x.name) (map seen_draft_site sites) s no_draft_site [] (omega arith) ∙ ap (λ (x : SeenDraftSite). x.name) (site_seen sites s site within is))
-
-pub name_past : (sites : List DraftSite) (s : ℕ) → length sites ≤ s → [] ≡ get_or (names_of_sites (map seen_draft_site sites)) s []
-name_past sites s past =
-    let long : length (names_of_sites (map seen_draft_site sites)) ≡ length sites = length-map (map seen_draft_site sites) (λ (x : SeenDraftSite). x.name) ∙ length-map sites seen_draft_site in
-    sym (get_or_past (names_of_sites (map seen_draft_site sites)) s [] (omega arith))
 
 -- a site with a job is one of the sites
 pub has_job_within : (sites : List SeenDraftSite) (s k : ℕ) → 1 ≤ k → k ≤ length (get_or sites s no_draft_site).jobs → s < length sites

@@ -1,5 +1,2 @@
-mod TableLemmas
-mod DraftLemmas
-mod DepthLemmas
-mod DraftPlanLemmas
-mod MetLemmas
+pub mod DraftLemmas
+pub mod CauseLemmas

@@ -4,7 +4,7 @@ use Rattle.std.specs.List.{range_with_len}
 use Rattle.dine_token.specs.declared.act.Act.{Act}
 use Rattle.dine_token.specs.declared.act.Act.TheVariants.{Add}
 use Rattle.dine_builder.specs.declared.drafts.DraftJob.{DraftJob}
-use Rattle.dine_builder.specs.declared.drafts.DraftEdge.{DraftEdge}
+use Rattle.dine_draft.specs.declared.drafts.DraftEdge.{DraftEdge}
 
 -- a site: its name, which may be one that the format refuses, its jobs, and whether it drops those that it has left
 -- after one failed

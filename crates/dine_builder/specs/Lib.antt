@@ -1,4 +1,4 @@
 pub mod Draft
 pub mod DraftPlan
-pub mod DraftDocument
 pub mod private
+pub mod Missing

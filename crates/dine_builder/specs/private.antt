@@ -1,3 +1,2 @@
--- What no public contract names: what the fields of a builder say, and what private functions promise one another.
+-- What no public contract names: what the fields of a builder say.
 pub mod DraftFields
-pub mod Tables

@@ -1,20 +1,22 @@
 //! Plans that a program builds: the sites, jobs and edges that it adds, and the plan of them.
 ghost use Rattle.std.specs.Prelude.{◌≡◌, ◌≢◌, ◌≤◌, Some, None, length, map};
-ghost use Rattle.std.specs.Prelude.{IfOk, OnOk, OnErr, IfErr, IfSome, IsTrue, is_some, string_bytes};
+ghost use Rattle.std.specs.Prelude.{IfOk, OnOk, OnErr, IfErr, IfSome, IsTrue, is_some};
 ghost use Rattle.std.specs.List.{range_with_len};
 ghost use Rattle.dine_builder.specs.Draft.{empty_draft, plain_job, with_site, with_edge, has_edge, has_site};
 ghost use Rattle.dine_builder.specs.Draft.{has_job, job_at, with_value, with_resigning, with_job};
 ghost use Rattle.dine_builder.specs.Draft.{with_turns, with_failure, with_act};
-ghost use Rattle.dine_builder.specs.DraftDocument.{IsOfDraft, Says, first_fault_of};
-ghost use Rattle.dine_builder.specs.DraftPlan.{plan_of_draft};
+ghost use Rattle.dine_graph.specs.Job.{seen_job};
+ghost use Rattle.dine_graph.specs.Site.{seen_site};
+ghost use Rattle.dine_draft.specs.Draft.{seen_draft};
+ghost use Rattle.dine_builder.specs.DraftPlan.{IsOfDraft, draft_of, first_fault_of};
+ghost use Rattle.dine_builder.specs.DraftPlan.{job_of_draft, plan_of_draft, site_of_draft};
+ghost use Rattle.dine_builder.specs.private.DraftFields.{seen_draft_site};
 
-use crate::tables::document;
-use dine_graph::Plan;
-use dine_reader::{PlanFault, read_tables};
+use dine_draft::{Draft, DraftEdge, PlanFault};
+use dine_graph::{Job, JobName, Plan, Site};
 use dine_token::Act;
 use std::alloc::{AllocError, Global};
 use std::marker::Model;
-use toml::Value;
 
 // The greatest number of jobs that a draft stores for a site: one more than a site may have, so that `finish` refuses
 // it.
@@ -23,8 +25,9 @@ const MAX_KEPT_JOBS: u32 = 1_001;
 // A job of a draft. Its number, from 1, is its name.
 #[derive(Clone, Copy, Debug)]
 pub(crate) struct DraftJob {
-    pub(crate) number: u32,
     pub(crate) turns: u32,
+    // At most `MAX_KEPT_JOBS`. It is small since there are many jobs.
+    pub(crate) number: u16,
     pub(crate) fails: bool,
     pub(crate) act: Act,
 }
@@ -35,14 +38,6 @@ pub(crate) struct DraftSite {
     pub(crate) name: String,
     pub(crate) jobs: Vec<DraftJob>,
     pub(crate) resigns: bool,
-}
-
-// An edge of a draft, by the numbers of its ends.
-#[derive(Clone, Copy, Debug)]
-pub(crate) struct DraftEdge {
-    pub(crate) a: u32,
-    pub(crate) b: u32,
-    pub(crate) value: u64,
 }
 
 /// A draft of a plan, of version 2 of the format. Sites, their jobs and edges are added one by one, and `finish`
@@ -67,8 +62,6 @@ impl Model for PlanBuilder {
 }
 
 impl PlanBuilder {
-    ghost use Rattle.dine_builder.specs.private.DraftFields.{seen_draft_site};
-
     /// Makes a builder of an empty draft. It allocates nothing.
     pub fn open(alloc: Global) -> PlanBuilder
         ensures { result ≡ empty_draft }
@@ -80,14 +73,8 @@ impl PlanBuilder {
         }
     }
 
-    /// Adds a site of this name with `jobs` jobs, and returns its number. At first its jobs take no turns, do not fail
-    /// and add 0, and the site goes on after a job that failed. Of a site with more than 1,000 jobs, which `finish`
-    /// refuses, the first 1,001 are stored.
-    ///
-    /// # Errors
-    ///
-    /// Returns `AllocError` if an allocation fails, or if there are 4,294,967,295 sites. The builder stays as it is.
-    pub fn site(&mut self, name: &str, jobs: u32) -> Result<u32, AllocError>
+    // [`PlanBuilder::site`] by numbers.
+    pub(crate) fn add_site(&mut self, name: &str, jobs: u32) -> Result<u32, AllocError>
         ensures number { IfOk result (λ s. s ≡ length self.old.sites) }
         ensures changed { OnOk result (self.new ≡ with_site name.now jobs self.old) }
         ensures refused { OnErr result (self.new ≡ self.old) }
@@ -106,13 +93,8 @@ impl PlanBuilder {
         Ok(number as u32)
     }
 
-    /// Adds an edge between two sites, in either order, and returns its number. At first its value is 0. The sites may
-    /// be added later: `finish` refuses an end that is no site's number then.
-    ///
-    /// # Errors
-    ///
-    /// Returns `AllocError` if an allocation fails, or if there are 4,294,967,295 edges. The builder stays as it is.
-    pub fn edge(&mut self, a: u32, b: u32) -> Result<u32, AllocError>
+    // [`PlanBuilder::edge`] by numbers.
+    pub(crate) fn add_edge(&mut self, a: u32, b: u32) -> Result<u32, AllocError>
         ensures number { IfOk result (λ e. e ≡ length self.old.edges) }
         ensures changed { OnOk result (self.new ≡ with_edge a b self.old) }
         ensures refused { OnErr result (self.new ≡ self.old) }
@@ -125,9 +107,8 @@ impl PlanBuilder {
         Ok(number as u32)
     }
 
-    /// Sets the value of an edge before the first meal, at most 1,000,000 in a plan, and returns whether there is such
-    /// an edge. If there is none, nothing changes.
-    pub fn value(&mut self, edge: u32, value: u64) -> bool
+    // [`PlanBuilder::value`] by numbers.
+    pub(crate) fn set_value(&mut self, edge: u32, value: u64) -> bool
         ensures found { result ≡ has_edge edge self.old }
         ensures changed { self.new ≡ with_value edge value self.old }
     {
@@ -138,9 +119,8 @@ impl PlanBuilder {
         true
     }
 
-    /// Makes a site drop the jobs that it has left after one failed, and returns whether there is such a site. If there
-    /// is none, nothing changes.
-    pub fn resign(&mut self, site: u32) -> bool
+    // [`PlanBuilder::resign`] by numbers.
+    pub(crate) fn set_resigning(&mut self, site: u32) -> bool
         ensures found { result ≡ has_site site self.old }
         ensures changed { self.new ≡ with_resigning site self.old }
     {
@@ -151,9 +131,8 @@ impl PlanBuilder {
         true
     }
 
-    /// Sets the number of turns of job `k` of a site, at most 1,000,000 in a plan, and returns whether there is such a
-    /// job. If there is none, nothing changes.
-    pub fn turns(&mut self, site: u32, k: u32, turns: u32) -> bool
+    // [`PlanBuilder::turns`] by numbers.
+    pub(crate) fn set_turns(&mut self, site: u32, k: u32, turns: u32) -> bool
         ensures found { result ≡ has_job site k self.old }
         ensures changed { self.new ≡ with_turns site k turns self.old }
     {
@@ -166,8 +145,8 @@ impl PlanBuilder {
         }
     }
 
-    /// Makes job `k` of a site fail, and returns whether there is such a job. If there is none, nothing changes.
-    pub fn fails(&mut self, site: u32, k: u32) -> bool
+    // [`PlanBuilder::fails`] by numbers.
+    pub(crate) fn set_failing(&mut self, site: u32, k: u32) -> bool
         ensures found { result ≡ has_job site k self.old }
         ensures changed { self.new ≡ with_failure site k self.old }
     {
@@ -180,9 +159,8 @@ impl PlanBuilder {
         }
     }
 
-    /// Sets what the meal of job `k` of a site does to the value of each edge of the site, by an amount of at most
-    /// 1,000,000 in a plan, and returns whether there is such a job. If there is none, nothing changes.
-    pub fn act(&mut self, site: u32, k: u32, act: Act) -> bool
+    // [`PlanBuilder::act`] by numbers.
+    pub(crate) fn set_act(&mut self, site: u32, k: u32, act: Act) -> bool
         ensures found { result ≡ has_job site k self.old }
         ensures changed { self.new ≡ with_act site k act self.old }
     {
@@ -215,36 +193,84 @@ impl PlanBuilder {
         self.sites[site as usize].jobs[(k - 1) as usize] = job;
     }
 
-    /// Returns the plan of the draft. It is the plan of the text that says the same.
+    /// Returns the plan of the draft. It is the plan of a text that says the same.
     ///
     /// # Errors
     ///
-    /// Returns the first cause of `PlanFault` that holds of the text that says the same, at the least position. It is
-    /// never one in the form of a text, `TwoActs` or `UnknownPolicy`. Returns `Memory`, for no other cause, if an
-    /// allocation fails. The builder stays as it is.
+    /// Returns the first cause of `PlanFault` that holds of such a text, at the least position. It is never one in the
+    /// form of a text, `TwoActs` or `UnknownPolicy`. Returns `Memory`, for no other cause, if an allocation fails. The
+    /// builder stays as it is.
     pub fn finish(&self) -> Result<Plan, PlanFault>
         ensures unrefused { OnOk result (first_fault_of self.now ≡ None) }
         ensures plan { IfOk result (λ p. p ≡ plan_of_draft self.now) }
         ensures refused { IfErr result (λ f. f ≢ PlanFault.Memory → first_fault_of self.now ≡ Some f) }
         ensures cause { IfErr result IsOfDraft }
     {
-        let document = document(self.alloc, self.sites.as_slice(), self.edges.as_slice())?;
-        read_tables(self.alloc, &Value::Table(document))
+        let draft = self.draft()?;
+        draft.finish(self.alloc)
     }
 
-    /// Returns a text of the draft, in version 2 of the format. `read_plan` returns of it what `finish` returns.
+    /// Returns the draft, before anything of it is checked.
     ///
     /// # Errors
     ///
     /// Returns `AllocError` if an allocation fails.
-    pub fn text(&self) -> Result<String, AllocError>
-        ensures { IfOk result (λ s. Says (string_bytes s) self.now) }
+    pub fn draft(&self) -> Result<Draft, AllocError>
+        ensures { IfOk result (λ draft. seen_draft draft ≡ draft_of self.now) }
     {
-        let document = document(self.alloc, self.sites.as_slice(), self.edges.as_slice())?;
-        match toml::table_to_string_pretty(self.alloc, &document) {
-            Ok(text) => Ok(text),
-            Err(_) => Err(AllocError),
-        }
+        let sites = sites_of(self.alloc, self.sites.as_slice())?;
+        let edges = self.edges.clone()?;
+        Ok(Draft {
+            version: 2,
+            sites,
+            edges,
+            two_acts: None,
+            other_policy: None,
+        })
+    }
+}
+
+fn sites_of(alloc: Global, drafts: &[DraftSite]) -> Result<Vec<Site>, AllocError>
+    ensures { IfOk result (λ v. map seen_site v.items ≡ map site_of_draft (map seen_draft_site drafts.now)) }
+{
+    let mut sites = Vec::new(alloc);
+    for draft in drafts {
+        sites.push(site_of(alloc, draft)?)?;
+    }
+    Ok(sites)
+}
+
+fn site_of(alloc: Global, draft: &DraftSite) -> Result<Site, AllocError>
+    ensures { IfOk result (λ s. seen_site s ≡ site_of_draft (seen_draft_site draft.now)) }
+{
+    let name = String::from_str(alloc, draft.name.as_str())?;
+    let jobs = jobs_of(alloc, draft.jobs.as_slice())?;
+    Ok(Site {
+        name,
+        jobs,
+        resigns: draft.resigns,
+    })
+}
+
+fn jobs_of(alloc: Global, drafts: &[DraftJob]) -> Result<Vec<Job>, AllocError>
+    ensures { IfOk result (λ v. map seen_job v.items ≡ map job_of_draft drafts.now) }
+{
+    let mut jobs = Vec::with_capacity(alloc, drafts.len())?;
+    for draft in drafts {
+        jobs.push(job_of(*draft))?;
+    }
+    Ok(jobs)
+}
+
+// The job of a plan, which has its number as its name.
+fn job_of(draft: DraftJob) -> Job
+    ensures { seen_job result ≡ job_of_draft draft }
+{
+    Job {
+        name: JobName::Number(draft.number as u32),
+        turns: draft.turns,
+        fails: draft.fails,
+        act: draft.act,
     }
 }
 
@@ -256,8 +282,8 @@ fn plain_jobs(alloc: Global, jobs: u32) -> Result<Vec<DraftJob>, AllocError>
     let mut plain = Vec::with_capacity(alloc, jobs as usize)?;
     for i in 0..jobs {
         plain.push(DraftJob {
-            number: i + 1,
             turns: 0,
+            number: (i + 1) as u16,
             fails: false,
             act: Act::Add(0),
         })?;

@@ -1,8 +1,9 @@
 //! Plans that a program builds, site by site and edge by edge, in place of a text.
 #![tactic(auto)]
 
+mod absent;
+mod by_id;
 mod drafts;
-pub mod laws;
-mod tables;
 
+pub use absent::Missing;
 pub use drafts::PlanBuilder;

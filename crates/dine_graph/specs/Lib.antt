@@ -2,3 +2,5 @@ pub mod Plan
 pub mod Job
 pub mod Site
 pub mod private
+pub mod Dot
+pub mod Ids

@@ -92,6 +92,10 @@ hi_of p e = (ends_of p e).1
 abbrev pub is_one_of : ℕ × ℕ → ℕ → Bool
 is_one_of ends s = (ends.0 == s) || (ends.1 == s)
 
+-- the two ends are these two sites, in either order
+abbrev pub is_between : ℕ × ℕ → ℕ → ℕ → Bool
+is_between ends a b = ((ends.0 == a) && (ends.1 == b)) || ((ends.0 == b) && (ends.1 == a))
+
 -- the positions of the pairs that have the site as an end, ascending
 abbrev pub positions_at : List (ℕ × ℕ) → ℕ → List ℕ
 positions_at edges s = filter (λ e. is_one_of (slice_index_or edges e (0, 0)) s) (range_with_len 0 (length edges))

@@ -4,6 +4,7 @@ ghost use Rattle.dine_graph.specs.Plan.{IsPlan, site_count, edge_count, job_coun
 ghost use Rattle.dine_graph.specs.Plan.{ends_of, other_of, edges_of, is_end, resigns, value_of};
 ghost use Rattle.std.specs.List.Sorted.{IsStrictlyIncreasing};
 
+use crate::job_name::JobName;
 use crate::places::{lists_at, places_in};
 use dine_token::Act;
 use std::alloc::{AllocError, Global};
@@ -13,7 +14,7 @@ use std::marker::Model;
 #[derive(Debug, PartialEq, Eq, Drop)]
 pub struct Job {
     /// The name of the job. Two jobs of a site may have the same.
-    pub name: String,
+    pub name: JobName,
     /// The number of turns that the job takes, at most 1,000,000.
     pub turns: u32,
     /// Whether the job fails.

@@ -1,10 +1,12 @@
+pub mod DraftDocument
+pub mod private
 pub use Rattle.dine_graph.specs.Plan
 pub use Rattle.dine_graph.specs.Job
+pub use Rattle.dine_draft.specs.Fault
+pub use Rattle.dine_draft.specs.Refusals
 pub use Rattle.dine_reader.specs.Document
-pub use Rattle.dine_reader.specs.Fault
 pub use Rattle.dine_reader.specs.RefusalTests
 pub use Rattle.dine_reader.specs.RefusalFacts
 pub use Rattle.dine_reader.specs.PlanOf
 pub use Rattle.dine_builder.specs.Draft
 pub use Rattle.dine_builder.specs.DraftPlan
-pub use Rattle.dine_builder.specs.DraftDocument

@@ -1,6 +1,21 @@
-//! The laws of plans, from the crates below.
+//! The laws of plans: one over the definitions alone, whose function does nothing, and those of the crates below.
 
-pub use dine_builder::laws::built_is_read;
+ghost use Rattle.std.specs.Prelude.{◌≡◌, ◌↔◌, ℕ, List, None};
+ghost use Rattle.dine_graph.specs.Plan.{SeenPlan};
+ghost use Rattle.dine_reader.specs.PlanOf.{IsPlanOf};
+ghost use Rattle.dine_reader.specs.RefusalTests.{first_fault};
+ghost use Rattle.dine_builder.specs.Draft.{Draft};
+ghost use Rattle.dine_builder.specs.DraftPlan.{first_fault_of, plan_of_draft};
+ghost use Rattle.dine_plan.specs.DraftDocument.{Says};
+
 pub use dine_reader::laws::{
     first_refusal_is_first, first_version_has_no_values, loops_and_pairs_are_of_known_ends,
 };
+
+/// What a builder returns is what `read_plan` returns for any text that says the same: the same plan, or the same
+/// refusal.
+pub fn built_is_read()
+    ensures faults { (text : List ℕ) (draft : Draft) → Says text draft → first_fault text ≡ first_fault_of draft }
+    ensures plans { (text : List ℕ) (draft : Draft) (p : SeenPlan) → Says text draft → first_fault_of draft ≡ None
+        → IsPlanOf text p ↔ (p ≡ plan_of_draft draft) }
+{}

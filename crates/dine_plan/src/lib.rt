@@ -1,9 +1,11 @@
-//! Plans, under one name: `Plan` itself, the reader of plan texts with the causes to refuse one, and the builder of
-//! plans in a program. The code is in the crates below.
+//! Plans, under one name: `Plan` itself, the reader of plan texts with the causes to refuse one, the builder of plans
+//! in a program, and a text of what was built.
 #![tactic(auto)]
 
 pub mod laws;
+mod texts;
 
 pub use dine_builder::PlanBuilder;
-pub use dine_graph::{Job, Plan};
+pub use dine_graph::{EdgeId, EdgeIds, Job, JobName, Plan, SiteId, SiteIds};
 pub use dine_reader::{PlanFault, read_plan};
+pub use texts::plan_text;

@@ -9,12 +9,15 @@ use Rattle.std.proofs.lemmas.List.Sums.{fails_before_first}
 use Rattle.std.proofs.lemmas.List.FromFn.{length-range_with_len, get_or-range_with_len}
 use Rattle.std.proofs.lemmas.List.{length-map}
 use Rattle.toml.specs.Data.{Data}
-use Rattle.dine_reader.specs.Document.{sites_in, edges_in}
-use Rattle.dine_reader.specs.Fault.{number_of_fault, position_of_fault}
-use Rattle.dine_reader.specs.RefusalFacts.{no_table, PassesAt, Refuses, IsFirst, site_names, joined_pairs}
-use Rattle.dine_reader.specs.RefusalTests.{first_some, first_refusal, first_twice, stands_before, form_refusals, graph_refusals, site_refusals, end_refusals, pair_refusals, on, refuses_version, refuses_unknown_key, refuses_missing_key, refuses_wrong_kind, has_bad_name, has_many_jobs, has_many_turns, has_unknown_end, joined_by, is_loop, same_ends, act_refusals, has_two_acts, has_large_act, has_large_value, has_other_policy}
-use Rattle.dine_reader.specs.declared.plan_fault.PlanFault.{PlanFault}
-use Rattle.dine_reader.specs.declared.plan_fault.PlanFault.TheVariants.{NotToml, Version, UnknownKey, MissingKey, WrongKind, BadName, SiteTwice, NoSite, TooManySites, TooManyJobs, TurnsTooLarge, UnknownEnd, Loop, EdgeTwice, TooManyEdges, TwoActs, ActTooLarge, ValueTooLarge, UnknownPolicy, Memory}
+use Rattle.dine_graph.specs.Plan.{no_site}
+use Rattle.dine_draft.specs.Fault.{number_of_fault, position_of_fault}
+use Rattle.dine_draft.specs.Refusals.{first_some, first_twice, stands_before, draft_refusals, site_refusals, end_refusals, pair_refusals, act_refusals, on, has_bad_name, has_many_jobs, has_many_turns, has_unknown_end, joined_by, is_loop, same_ends, has_large_act, has_large_value}
+use Rattle.dine_draft.specs.declared.plan_fault.PlanFault.{PlanFault}
+use Rattle.dine_draft.specs.declared.plan_fault.PlanFault.TheVariants.{NotToml, Version, UnknownKey, MissingKey, WrongKind, BadName, SiteTwice, NoSite, TooManySites, TooManyJobs, TurnsTooLarge, UnknownEnd, Loop, EdgeTwice, TooManyEdges, TwoActs, ActTooLarge, ValueTooLarge, UnknownPolicy, Memory}
+use Rattle.dine_reader.specs.Document.{sites_in, has_two_acts, has_other_policy}
+use Rattle.dine_reader.specs.PlanOf.{draft_of}
+use Rattle.dine_reader.specs.RefusalFacts.{no_table, no_edge, PassesAt, Refuses, IsFirst, drafted_sites, drafted_edges, count_of, site_names, joined_pairs}
+use Rattle.dine_reader.specs.RefusalTests.{first_refusal, form_refusals, refuses_version, refuses_unknown_key, refuses_missing_key, refuses_wrong_kind}
 
 none_before : {A : Type 0} (os : List (Option A)) (k : ℕ) → ((j : ℕ) → j < k → slice_get os j ≡ Some None) → (j : ℕ) → j < suc k → slice_get (None ∷ os) j ≡ Some None
 none_before os k h zero before = refl
@@ -57,15 +60,15 @@ later_number i j before =
     ]
 
 abbrev entries : Data → List (Option PlanFault)
-entries doc = form_refusals doc ++ graph_refusals (sites_in doc) (edges_in doc)
+entries doc = form_refusals doc ++ draft_refusals (draft_of doc)
 
 first_entries : (doc : Data) → first_refusal doc ≡ first_some (entries doc)
 unfolding first_refusal
 first_entries doc = refl
 
 -- a position, and the least one
-passes_at : (test : Data → Bool) (items : List Data) (i : ℕ) → position test items ≡ Some i → PassesAt test items i
-passes_at test items i h = let at = position-Some test items i no_table h in (at.0, at.1)
+passes_at : {A : Type 0} (test : A → Bool) (none : A) (items : List A) (i : ℕ) → position test items ≡ Some i → PassesAt test none items i
+passes_at test none items i h = let at = position-Some test items i none h in (at.0, at.1)
 
 least : {X : Type 0} (p : X → Bool) (xs : List X) (s : ℕ) (d : X) → s < length xs → p (get_or xs s d) ≡ true → (i : ℕ) × (position p xs ≡ Some i) × (i ≤ s)
 least p xs s d within passes =
@@ -99,41 +102,41 @@ from_map doc fault f n None numbered holds h = absurd (cc)
 from_map doc fault f n (Some i) numbered holds h = subst (Describes doc n) (same_Some _ _ h) (numbered i, holds i refl)
 
 -- there are as many pairs as edges
-many_edges : (doc : Data) → 512 < length (joined_pairs doc) → 512 < length (edges_in doc)
+many_edges : (doc : Data) → 512 < length (joined_pairs doc) → 512 < length (drafted_edges doc)
 many_edges doc h =
-    let same = length-map (edges_in doc) (joined_by (site_names doc)) in
+    let same = length-map (drafted_edges doc) (joined_by (count_of doc)) in
     omega arith
 
-many_joined : (doc : Data) → 512 < length (edges_in doc) → 512 < length (joined_pairs doc)
+many_joined : (doc : Data) → 512 < length (drafted_edges doc) → 512 < length (joined_pairs doc)
 many_joined doc h =
-    let same = length-map (edges_in doc) (joined_by (site_names doc)) in
+    let same = length-map (drafted_edges doc) (joined_by (count_of doc)) in
     omega arith
 
 entry_holds : (doc : Data) (k : ℕ) (f : PlanFault) → slice_get (entries doc) k ≡ Some (Some f) → Describes doc (number_of_entry k) f
-unfolding form_refusals graph_refusals site_refusals end_refusals pair_refusals act_refusals number_of_entry
+unfolding form_refusals draft_refusals site_refusals end_refusals pair_refusals act_refusals number_of_entry
 entry_holds doc zero f at = from_on doc Version f 2 (refuses_version doc) refl (λ h. h) (same_Some _ _ at)
 entry_holds doc (suc zero) f at = from_on doc UnknownKey f 3 (refuses_unknown_key doc) refl (λ h. h) (same_Some _ _ at)
 entry_holds doc (suc (suc zero)) f at = from_on doc MissingKey f 4 (refuses_missing_key doc) refl (λ h. h) (same_Some _ _ at)
 entry_holds doc (suc (suc (suc zero))) f at = from_on doc WrongKind f 5 (refuses_wrong_kind doc) refl (λ h. h) (same_Some _ _ at)
-entry_holds doc (suc (suc (suc (suc zero)))) f at = from_map doc BadName f 6 (position has_bad_name (sites_in doc)) (λ _. refl) (passes_at has_bad_name (sites_in doc)) (same_Some _ _ at)
+entry_holds doc (suc (suc (suc (suc zero)))) f at = from_map doc BadName f 6 (position has_bad_name (drafted_sites doc)) (λ _. refl) (passes_at has_bad_name no_site (drafted_sites doc)) (same_Some _ _ at)
 entry_holds doc (suc (suc (suc (suc (suc zero))))) f at = from_map doc SiteTwice f 7 (first_twice bytes_eq [] (site_names doc)) (λ _. refl) (twice_at bytes_eq [] (site_names doc)) (same_Some _ _ at)
-entry_holds doc (suc (suc (suc (suc (suc (suc zero)))))) f at = from_on doc NoSite f 8 (length (sites_in doc) == 0) refl (eqb-true (length (sites_in doc)) 0) (same_Some _ _ at)
-entry_holds doc (suc (suc (suc (suc (suc (suc (suc zero))))))) f at = from_on doc TooManySites f 9 (ltb 64 (length (sites_in doc))) refl (ltb-true 64 (length (sites_in doc))) (same_Some _ _ at)
-entry_holds doc (suc (suc (suc (suc (suc (suc (suc (suc zero)))))))) f at = from_map doc TooManyJobs f 10 (position has_many_jobs (sites_in doc)) (λ _. refl) (passes_at has_many_jobs (sites_in doc)) (same_Some _ _ at)
-entry_holds doc (suc (suc (suc (suc (suc (suc (suc (suc (suc zero))))))))) f at = from_map doc TurnsTooLarge f 11 (position has_many_turns (sites_in doc)) (λ _. refl) (passes_at has_many_turns (sites_in doc)) (same_Some _ _ at)
-entry_holds doc (suc (suc (suc (suc (suc (suc (suc (suc (suc (suc zero)))))))))) f at = from_map doc UnknownEnd f 12 (position (has_unknown_end (site_names doc)) (edges_in doc)) (λ _. refl) (passes_at (has_unknown_end (site_names doc)) (edges_in doc)) (same_Some _ _ at)
-entry_holds doc (suc (suc (suc (suc (suc (suc (suc (suc (suc (suc (suc zero))))))))))) f at = from_map doc Loop f 13 (position (is_loop (site_names doc)) (edges_in doc)) (λ _. refl) (passes_at (is_loop (site_names doc)) (edges_in doc)) (same_Some _ _ at)
+entry_holds doc (suc (suc (suc (suc (suc (suc zero)))))) f at = from_on doc NoSite f 8 (count_of doc == 0) refl (eqb-true (count_of doc) 0) (same_Some _ _ at)
+entry_holds doc (suc (suc (suc (suc (suc (suc (suc zero))))))) f at = from_on doc TooManySites f 9 (ltb 64 (count_of doc)) refl (ltb-true 64 (count_of doc)) (same_Some _ _ at)
+entry_holds doc (suc (suc (suc (suc (suc (suc (suc (suc zero)))))))) f at = from_map doc TooManyJobs f 10 (position has_many_jobs (drafted_sites doc)) (λ _. refl) (passes_at has_many_jobs no_site (drafted_sites doc)) (same_Some _ _ at)
+entry_holds doc (suc (suc (suc (suc (suc (suc (suc (suc (suc zero))))))))) f at = from_map doc TurnsTooLarge f 11 (position has_many_turns (drafted_sites doc)) (λ _. refl) (passes_at has_many_turns no_site (drafted_sites doc)) (same_Some _ _ at)
+entry_holds doc (suc (suc (suc (suc (suc (suc (suc (suc (suc (suc zero)))))))))) f at = from_map doc UnknownEnd f 12 (position (has_unknown_end (count_of doc)) (drafted_edges doc)) (λ _. refl) (passes_at (has_unknown_end (count_of doc)) no_edge (drafted_edges doc)) (same_Some _ _ at)
+entry_holds doc (suc (suc (suc (suc (suc (suc (suc (suc (suc (suc (suc zero))))))))))) f at = from_map doc Loop f 13 (position (is_loop (count_of doc)) (drafted_edges doc)) (λ _. refl) (passes_at (is_loop (count_of doc)) no_edge (drafted_edges doc)) (same_Some _ _ at)
 entry_holds doc (suc (suc (suc (suc (suc (suc (suc (suc (suc (suc (suc (suc zero)))))))))))) f at = from_map doc EdgeTwice f 14 (first_twice same_ends None (joined_pairs doc)) (λ _. refl) (twice_at same_ends None (joined_pairs doc)) (same_Some _ _ at)
 entry_holds doc (suc (suc (suc (suc (suc (suc (suc (suc (suc (suc (suc (suc (suc zero))))))))))))) f at = from_on doc TooManyEdges f 15 (ltb 512 (length (joined_pairs doc))) refl (λ h. many_edges doc (ltb-true 512 (length (joined_pairs doc)) h)) (same_Some _ _ at)
-entry_holds doc (suc (suc (suc (suc (suc (suc (suc (suc (suc (suc (suc (suc (suc (suc zero)))))))))))))) f at = from_map doc TwoActs f 17 (position has_two_acts (sites_in doc)) (λ _. refl) (passes_at has_two_acts (sites_in doc)) (same_Some _ _ at)
-entry_holds doc (suc (suc (suc (suc (suc (suc (suc (suc (suc (suc (suc (suc (suc (suc (suc zero))))))))))))))) f at = from_map doc ActTooLarge f 18 (position has_large_act (sites_in doc)) (λ _. refl) (passes_at has_large_act (sites_in doc)) (same_Some _ _ at)
-entry_holds doc (suc (suc (suc (suc (suc (suc (suc (suc (suc (suc (suc (suc (suc (suc (suc (suc zero)))))))))))))))) f at = from_map doc ValueTooLarge f 19 (position has_large_value (edges_in doc)) (λ _. refl) (passes_at has_large_value (edges_in doc)) (same_Some _ _ at)
-entry_holds doc (suc (suc (suc (suc (suc (suc (suc (suc (suc (suc (suc (suc (suc (suc (suc (suc (suc zero))))))))))))))))) f at = from_map doc UnknownPolicy f 20 (position has_other_policy (sites_in doc)) (λ _. refl) (passes_at has_other_policy (sites_in doc)) (same_Some _ _ at)
+entry_holds doc (suc (suc (suc (suc (suc (suc (suc (suc (suc (suc (suc (suc (suc (suc zero)))))))))))))) f at = from_map doc TwoActs f 17 (position has_two_acts (sites_in doc)) (λ _. refl) (passes_at has_two_acts no_table (sites_in doc)) (same_Some _ _ at)
+entry_holds doc (suc (suc (suc (suc (suc (suc (suc (suc (suc (suc (suc (suc (suc (suc (suc zero))))))))))))))) f at = from_map doc ActTooLarge f 18 (position has_large_act (drafted_sites doc)) (λ _. refl) (passes_at has_large_act no_site (drafted_sites doc)) (same_Some _ _ at)
+entry_holds doc (suc (suc (suc (suc (suc (suc (suc (suc (suc (suc (suc (suc (suc (suc (suc (suc zero)))))))))))))))) f at = from_map doc ValueTooLarge f 19 (position has_large_value (drafted_edges doc)) (λ _. refl) (passes_at has_large_value no_edge (drafted_edges doc)) (same_Some _ _ at)
+entry_holds doc (suc (suc (suc (suc (suc (suc (suc (suc (suc (suc (suc (suc (suc (suc (suc (suc (suc zero))))))))))))))))) f at = from_map doc UnknownPolicy f 20 (position has_other_policy (sites_in doc)) (λ _. refl) (passes_at has_other_policy no_table (sites_in doc)) (same_Some _ _ at)
 entry_holds doc (suc (suc (suc (suc (suc (suc (suc (suc (suc (suc (suc (suc (suc (suc (suc (suc (suc (suc k)))))))))))))))))) f at = absurd (cc)
 
 -- the entry of a cause that holds
 entry_of : (doc : Data) (g : PlanFault) → Refuses doc g → (j : ℕ) × (h : PlanFault) × (number_of_fault g ≡ number_of_entry j) × (slice_get (entries doc) j ≡ Some (Some h)) × (position_of_fault h ≤ position_of_fault g)
-unfolding form_refusals graph_refusals site_refusals end_refusals pair_refusals act_refusals number_of_entry
+unfolding form_refusals draft_refusals site_refusals end_refusals pair_refusals act_refusals number_of_entry
 entry_of doc NotToml holds = absurd holds
 entry_of doc Version holds =
     (0, Version, refl, ap (λ b. Some (on b Version)) holds, omega arith)
@@ -144,21 +147,21 @@ entry_of doc MissingKey holds =
 entry_of doc WrongKind holds =
     (3, WrongKind, refl, ap (λ b. Some (on b WrongKind)) holds, omega arith)
 entry_of doc (BadName place) holds =
-    let found = least has_bad_name (sites_in doc) place no_table holds.0 holds.1 in (4, BadName found.0, refl, ap (λ o. Some (option_map BadName o)) found.1, found.2)
+    let found = least has_bad_name (drafted_sites doc) place no_site holds.0 holds.1 in (4, BadName found.0, refl, ap (λ o. Some (option_map BadName o)) found.1, found.2)
 entry_of doc (SiteTwice place) holds =
     let found = twice_least bytes_eq [] (site_names doc) place holds.0 holds.1 in (5, SiteTwice found.0, refl, ap (λ o. Some (option_map SiteTwice o)) found.1, found.2)
 entry_of doc NoSite holds =
-    (6, NoSite, refl, ap (λ b. Some (on b NoSite)) (eq-eqb (length (sites_in doc)) 0 holds), omega arith)
+    (6, NoSite, refl, ap (λ b. Some (on b NoSite)) (eq-eqb (count_of doc) 0 holds), omega arith)
 entry_of doc TooManySites holds =
-    (7, TooManySites, refl, ap (λ b. Some (on b TooManySites)) (lt-ltb 64 (length (sites_in doc)) holds), omega arith)
+    (7, TooManySites, refl, ap (λ b. Some (on b TooManySites)) (lt-ltb 64 (count_of doc) holds), omega arith)
 entry_of doc (TooManyJobs place) holds =
-    let found = least has_many_jobs (sites_in doc) place no_table holds.0 holds.1 in (8, TooManyJobs found.0, refl, ap (λ o. Some (option_map TooManyJobs o)) found.1, found.2)
+    let found = least has_many_jobs (drafted_sites doc) place no_site holds.0 holds.1 in (8, TooManyJobs found.0, refl, ap (λ o. Some (option_map TooManyJobs o)) found.1, found.2)
 entry_of doc (TurnsTooLarge place) holds =
-    let found = least has_many_turns (sites_in doc) place no_table holds.0 holds.1 in (9, TurnsTooLarge found.0, refl, ap (λ o. Some (option_map TurnsTooLarge o)) found.1, found.2)
+    let found = least has_many_turns (drafted_sites doc) place no_site holds.0 holds.1 in (9, TurnsTooLarge found.0, refl, ap (λ o. Some (option_map TurnsTooLarge o)) found.1, found.2)
 entry_of doc (UnknownEnd place) holds =
-    let found = least (has_unknown_end (site_names doc)) (edges_in doc) place no_table holds.0 holds.1 in (10, UnknownEnd found.0, refl, ap (λ o. Some (option_map UnknownEnd o)) found.1, found.2)
+    let found = least (has_unknown_end (count_of doc)) (drafted_edges doc) place no_edge holds.0 holds.1 in (10, UnknownEnd found.0, refl, ap (λ o. Some (option_map UnknownEnd o)) found.1, found.2)
 entry_of doc (Loop place) holds =
-    let found = least (is_loop (site_names doc)) (edges_in doc) place no_table holds.0 holds.1 in (11, Loop found.0, refl, ap (λ o. Some (option_map Loop o)) found.1, found.2)
+    let found = least (is_loop (count_of doc)) (drafted_edges doc) place no_edge holds.0 holds.1 in (11, Loop found.0, refl, ap (λ o. Some (option_map Loop o)) found.1, found.2)
 entry_of doc (EdgeTwice place) holds =
     let found = twice_least same_ends None (joined_pairs doc) place holds.0 holds.1 in (12, EdgeTwice found.0, refl, ap (λ o. Some (option_map EdgeTwice o)) found.1, found.2)
 entry_of doc TooManyEdges holds =
@@ -166,9 +169,9 @@ entry_of doc TooManyEdges holds =
 entry_of doc (TwoActs place) holds =
     let found = least has_two_acts (sites_in doc) place no_table holds.0 holds.1 in (14, TwoActs found.0, refl, ap (λ o. Some (option_map TwoActs o)) found.1, found.2)
 entry_of doc (ActTooLarge place) holds =
-    let found = least has_large_act (sites_in doc) place no_table holds.0 holds.1 in (15, ActTooLarge found.0, refl, ap (λ o. Some (option_map ActTooLarge o)) found.1, found.2)
+    let found = least has_large_act (drafted_sites doc) place no_site holds.0 holds.1 in (15, ActTooLarge found.0, refl, ap (λ o. Some (option_map ActTooLarge o)) found.1, found.2)
 entry_of doc (ValueTooLarge place) holds =
-    let found = least has_large_value (edges_in doc) place no_table holds.0 holds.1 in (16, ValueTooLarge found.0, refl, ap (λ o. Some (option_map ValueTooLarge o)) found.1, found.2)
+    let found = least has_large_value (drafted_edges doc) place no_edge holds.0 holds.1 in (16, ValueTooLarge found.0, refl, ap (λ o. Some (option_map ValueTooLarge o)) found.1, found.2)
 entry_of doc (UnknownPolicy place) holds =
     let found = least has_other_policy (sites_in doc) place no_table holds.0 holds.1 in (17, UnknownPolicy found.0, refl, ap (λ o. Some (option_map UnknownPolicy o)) found.1, found.2)
 entry_of doc Memory holds = absurd holds

@@ -9,8 +9,9 @@ use Rattle.std.proofs.lemmas.Map.Lookups.{exact_bytes}
 use Rattle.toml.specs.Data.{Data, string, integer, float, boolean, datetime, array, table, Members, no_members, member, get, get_member}
 use Rattle.dine_token.specs.declared.act.Act.TheVariants.{Add}
 use Rattle.dine_graph.specs.Plan.{SeenJob, SeenSite, no_job, no_site}
+use Rattle.dine_draft.specs.Draft.{names_of, value_of_edge}
 use Rattle.dine_reader.specs.Document.{keys_of, sites_in, edges_in, jobs_in, is_second, version_in, has_key, number_at, text_at, value_in, act_in, resigns_in}
-use Rattle.dine_reader.specs.PlanOf.{job_in, site_in, plan_of_document, IsPlain}
+use Rattle.dine_reader.specs.PlanOf.{job_in, site_in, edge_in, plan_of_document, IsPlain}
 use Rattle.dine_reader.specs.RefusalTests.{edge_keys, job_keys, site_keys, has_other_key, site_has_other_key, refuses_unknown_key}
 
 missing_at : (o : Ordering) (key l : List ℕ) (d : Data) (rest : Option Data) → slice_cmp nat_cmp key l ≡ o → (key ≡ l → ⊥) → rest ≡ None → match_ordering o rest (Some d) rest ≡ None
@@ -90,6 +91,12 @@ first_only : (b : Bool) → ◌≡◌ {A = ℕ} (cond b 2 1) 1 → b ≡ false
 first_only true one = absurd (omega (arith, one))
 first_only false one = refl
 
+-- the values of the edges of a draft
+values_in : (names : List (List ℕ)) (edges : List Data) → map value_of_edge (map (edge_in names) edges) ≡ map value_in edges
+unfolding edge_in
+values_in names [] = refl
+values_in names (edge ∷ edges) = ap (λ vs. value_in edge ∷ vs) (values_in names edges)
+
 -- a plan of version 1, if no key is unknown
 pub plain_plan : (doc : Data) → refuses_unknown_key doc ≡ false → version_in doc ≡ 1 → IsPlain (plan_of_document doc)
 unfolding refuses_unknown_key
@@ -98,7 +105,7 @@ plain_plan doc known one =
     let known_sites = (or_parts _ _ parts.0).1 in
     let site : (s : ℕ) → IsPlainSite (get_or (map site_in (sites_in doc)) s no_site) = λ s. holds_at IsPlainSite site_in (site_has_other_key false) no_site (record { adds_nothing = λ j. refl; goes_on = refl }) plain_site (sites_in doc) s known_sites in
     record {
-      valueless = λ e. holds_at (λ v. v ≡ 0) value_in (has_other_key (edge_keys false)) 0 refl edge_valueless (edges_in doc) e parts.1;
+      valueless = λ e. rw (values_in (names_of (map site_in (sites_in doc))) (edges_in doc)) (holds_at (λ v. v ≡ 0) value_in (has_other_key (edge_keys false)) 0 refl edge_valueless (edges_in doc) e parts.1);
       adds_nothing = λ s k. (site s).adds_nothing (k - 1);
       none_resigns = λ s. (site s).goes_on;
     }

@@ -1,6 +1,7 @@
 -- A plan text as data: the arrays of tables in it, and the values at their keys.
-use Rattle.std.specs.Prelude.{ℕ, ◌==◌, ℤ, pos, negsuc, Bool, false, List, [], ◌∷◌, is_some, option_and_then, unwrap_or, codes, if◌then◌else◌}
+use Rattle.std.specs.Prelude.{ℕ, ◌==◌, min, ℤ, pos, negsuc, Bool, false, not, ◌&&◌, ◌||◌, List, [], ◌∷◌, is_some, option_and_then, unwrap_or, codes, if◌then◌else◌}
 use Rattle.std.specs.Option.{option_map_or}
+use Rattle.std.specs.List.{list_any}
 use Rattle.std.specs.Str.{bytes_eq}
 use Rattle.toml.specs.Data.{Data, Items, no_items, item, Members, no_members, member, get, at, as_str, as_integer, as_bool, as_array, as_table}
 use Rattle.dine_token.specs.declared.act.Act.{Act}
@@ -69,9 +70,9 @@ is_second doc = number_at (codes "version") doc == 2
 abbrev pub version_in : Data → ℕ
 version_in doc = if is_second doc then 2 else 1
 
--- the turns of a job, 0 if it names none
-abbrev pub turns_in : Data → ℕ
-turns_in = number_at (codes "turns")
+-- the turns of a job, 0 if it names none; a number above 4,294,967,295 is read as that, and is refused too
+unfoldable pub turns_in : Data → ℕ
+turns_in job = min (number_at (codes "turns") job) 4294967295
 
 -- what a meal of a job does to a value: it sets, or else adds, and it adds 0 if the job names neither
 unfoldable pub act_in : Data → Act
@@ -96,3 +97,15 @@ fails_in job = unwrap_or (option_and_then as_bool (get (codes "fails") job)) fal
 -- the name at place i, 0 or 1, of an edge's ends
 unfoldable pub end_in : ℕ → Data → List ℕ
 end_in i edge = unwrap_or (option_and_then as_str (option_and_then (at i) (get (codes "ends") edge))) []
+
+-- the job both adds and sets
+abbrev pub has_both : Data → Bool
+has_both job = has_key (codes "add") job && has_key (codes "set") job
+
+-- cause 17: a job of the site both adds and sets
+unfoldable pub has_two_acts : Data → Bool
+has_two_acts site = list_any has_both (jobs_in site)
+
+-- cause 20: the site's `on_fault` is neither "go" nor "resign"
+unfoldable pub has_other_policy : Data → Bool
+has_other_policy site = has_key (codes "on_fault") site && not (bytes_eq (policy_in site) (codes "go") || bytes_eq (policy_in site) (codes "resign"))

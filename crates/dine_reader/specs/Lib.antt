@@ -1,5 +1,8 @@
 pub mod Document
-pub mod Fault
+pub mod PlanOf
 pub mod RefusalTests
 pub mod RefusalFacts
-pub mod PlanOf
+pub mod private
+pub use Rattle.dine_draft.specs.Draft
+pub use Rattle.dine_draft.specs.Fault
+pub use Rattle.dine_draft.specs.Refusals

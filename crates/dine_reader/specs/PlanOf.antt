@@ -1,12 +1,14 @@
--- The plan of a document.
-use Rattle.std.specs.Prelude.{◌≡◌, ℕ, min, max, false, List, map, Some}
+-- The draft of a document, and its plan.
+use Rattle.std.specs.Prelude.{◌≡◌, ℕ, false, List, map, position, Some}
 use Rattle.std.specs.List.{position_or_len}
 use Rattle.std.specs.Str.{bytes_eq}
 use Rattle.toml.specs.Data.{Data, Members, table}
 use Rattle.toml.specs.Parse.{parse_document}
 use Rattle.dine_token.specs.declared.act.Act.TheVariants.{Add}
 use Rattle.dine_graph.specs.Plan.{SeenJob, SeenSite, SeenPlan, act_of, resigns, value_of}
-use Rattle.dine_reader.specs.Document.{sites_in, edges_in, jobs_in, name_in, turns_in, fails_in, act_in, resigns_in, value_in, version_in, end_in}
+use Rattle.dine_draft.specs.Draft.{SeenDraft, names_of, plan_of}
+use Rattle.dine_draft.specs.declared.drafts.DraftEdge.{DraftEdge}
+use Rattle.dine_reader.specs.Document.{sites_in, edges_in, jobs_in, name_in, turns_in, fails_in, act_in, resigns_in, value_in, version_in, end_in, has_two_acts, has_other_policy}
 
 -- the job of a job table
 unfoldable pub job_in : Data → SeenJob
@@ -20,24 +22,28 @@ site_in site = record { name = name_in site; jobs = map job_in (jobs_in site); r
 abbrev pub number_of : List (List ℕ) → List ℕ → ℕ
 number_of names name = position_or_len (bytes_eq name) names
 
--- the numbers of an edge's two ends, the lower one first
-unfoldable pub ends_in : List (List ℕ) → Data → ℕ × ℕ
-ends_in names edge =
-    let a = number_of names (end_in 0 edge) in
-    let b = number_of names (end_in 1 edge) in
-    (min a b, max a b)
+-- an edge table as an edge between sites of these names
+unfoldable pub edge_in : List (List ℕ) → Data → DraftEdge
+edge_in names edge = record { a = number_of names (end_in 0 edge); b = number_of names (end_in 1 edge); value = value_in edge }
 
--- the plan of its version, site tables and edge tables, and of the two sites that each edge joins
-abbrev pub plan_in_pairs : ℕ → List Data → List Data → List (ℕ × ℕ) → SeenPlan
-plan_in_pairs version sites edges pairs = record { version = version; sites = map site_in sites; edges = pairs; values = map value_in edges }
+-- the draft of its version, site tables and edge tables
+abbrev pub draft_in : ℕ → List Data → List Data → SeenDraft
+draft_in version sites edges =
+    record {
+      version = version;
+      sites = map site_in sites;
+      edges = map (edge_in (names_of (map site_in sites))) edges;
+      two_acts = position has_two_acts sites;
+      other_policy = position has_other_policy sites;
+    }
 
--- the plan of its version, site tables and edge tables
-abbrev pub plan_in : ℕ → List Data → List Data → SeenPlan
-plan_in version sites edges = plan_in_pairs version sites edges (map (ends_in (map name_in sites)) edges)
+-- the draft of a document whose form is as the format says
+abbrev pub draft_of : Data → SeenDraft
+draft_of doc = draft_in (version_in doc) (sites_in doc) (edges_in doc)
 
 -- the plan of a document; if the document is refused, this means nothing
 abbrev pub plan_of_document : Data → SeenPlan
-plan_of_document doc = plan_in (version_in doc) (sites_in doc) (edges_in doc)
+plan_of_document doc = plan_of (draft_of doc)
 
 -- The text is a document, and p is the plan of its sites and edges. If the document is refused, this means nothing.
 abbrev pub IsPlanOf : List ℕ → SeenPlan → Type 0

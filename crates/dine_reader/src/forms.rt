@@ -8,10 +8,11 @@ ghost use Rattle.dine_reader.specs.RefusalTests.{lacks_key, is_wrong, is_version
 ghost use Rattle.dine_reader.specs.RefusalTests.{is_tables, is_two_texts, refuses_version, site_has_other_key};
 ghost use Rattle.dine_reader.specs.RefusalTests.{refuses_unknown_key, site_lacks_key, refuses_missing_key};
 ghost use Rattle.dine_reader.specs.RefusalTests.{job_is_wrong, site_is_wrong, edge_is_wrong, refuses_wrong_kind};
-ghost use Rattle.dine_reader.specs.RefusalTests.{first_some, form_refusals};
+ghost use Rattle.dine_draft.specs.Refusals.{first_some};
+ghost use Rattle.dine_reader.specs.RefusalTests.{form_refusals};
 
 use crate::documents::{is_second, items_at, items_in};
-use crate::plan_fault::PlanFault;
+use dine_draft::PlanFault;
 use toml::Value;
 
 /// Returns the first fault in the form of a document.

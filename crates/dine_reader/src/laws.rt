@@ -6,8 +6,8 @@ ghost use Rattle.dine_graph.specs.Plan.{SeenPlan};
 ghost use Rattle.dine_reader.specs.PlanOf.{IsPlain, IsPlanOf};
 ghost use Rattle.dine_reader.specs.RefusalTests.{first_fault, first_refusal};
 ghost use Rattle.dine_reader.specs.RefusalFacts.{Refuses, IsFirst};
-ghost use Rattle.dine_reader.specs.declared.plan_fault.PlanFault.{PlanFault};
-ghost use Rattle.dine_reader.specs.declared.plan_fault.PlanFault.TheVariants.{UnknownEnd, Loop, EdgeTwice};
+ghost use Rattle.dine_draft.specs.declared.plan_fault.PlanFault.{PlanFault};
+ghost use Rattle.dine_draft.specs.declared.plan_fault.PlanFault.TheVariants.{UnknownEnd, Loop, EdgeTwice};
 
 /// The first refusal of a document is the first cause of the list that holds of it, at the least position at which it
 /// holds. If there is no first refusal, no cause holds.

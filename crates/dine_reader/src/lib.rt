@@ -2,14 +2,11 @@
 #![tactic(auto)]
 
 mod acts;
-mod building;
 mod documents;
-mod edges;
+mod drafts;
 mod forms;
 pub mod laws;
-mod plan_fault;
 mod reading;
-mod sites;
 
-pub use plan_fault::PlanFault;
-pub use reading::{read_plan, read_tables};
+pub use dine_draft::PlanFault;
+pub use reading::read_plan;

@@ -1,18 +1,15 @@
 //! A plan from its text.
-ghost use Rattle.std.specs.Prelude.{◌≡◌, ◌≢◌, ◌⊎◌, ◌≤◌, List, ℕ, None, Some, length, map, OnOk, IfOk, IfErr};
+ghost use Rattle.std.specs.Prelude.{◌≡◌, ◌≢◌, None, Some, OnOk, IfOk, IfErr};
 ghost use Rattle.toml.specs.Data.{Members, table};
 ghost use Rattle.toml.specs.Parse.{parse_document};
 ghost use Rattle.toml.specs.View.{view};
-ghost use Rattle.dine_reader.specs.PlanOf.{IsPlanOf, plan_in, plan_of_document};
-ghost use Rattle.dine_reader.specs.RefusalTests.{first_some, graph_refusals, first_refusal, first_fault};
+ghost use Rattle.dine_reader.specs.PlanOf.{IsPlanOf, plan_of_document};
+ghost use Rattle.dine_reader.specs.RefusalTests.{first_refusal, first_fault};
 
-use crate::acts::first_act_fault;
-use crate::building::build;
 use crate::documents::{items_at, version_in};
-use crate::edges::{first_end_fault, first_pair_fault, pairs_in};
+use crate::drafts::draft_in;
 use crate::forms::first_form_fault;
-use crate::plan_fault::PlanFault;
-use crate::sites::first_site_fault;
+use dine_draft::PlanFault;
 use dine_graph::Plan;
 use std::alloc::Global;
 use toml::Value;
@@ -36,12 +33,8 @@ pub fn read_plan(alloc: Global, text: &str) -> Result<Plan, PlanFault>
     read_tables(alloc, &document)
 }
 
-/// Reads the plan of a TOML document, as `read_plan` does of a text.
-///
-/// # Errors
-///
-/// Returns those of `read_plan`, except `NotToml`.
-pub fn read_tables(alloc: Global, document: &Value) -> Result<Plan, PlanFault>
+// Reads the plan of a TOML document, as `read_plan` does of a text.
+fn read_tables(alloc: Global, document: &Value) -> Result<Plan, PlanFault>
     ensures unrefused { OnOk result (first_refusal (view document.now) ≡ None) }
     ensures plan { IfOk result (λ p. p ≡ plan_of_document (view document.now)) }
     ensures refused { IfErr result (λ f. f ≢ PlanFault.Memory → first_refusal (view document.now) ≡ Some f) }
@@ -55,8 +48,8 @@ pub fn read_tables(alloc: Global, document: &Value) -> Result<Plan, PlanFault>
     if sites.len() > MAX_TABLES || edges.len() > MAX_TABLES {
         return Err(PlanFault::Memory);
     }
-    let version = version_in(document);
-    read_graph(alloc, version, sites, edges)
+    let draft = draft_in(alloc, version_in(document), sites, edges)?;
+    draft.finish(alloc)
 }
 
 // The text as data.
@@ -70,37 +63,4 @@ fn read_document(alloc: Global, text: &str) -> Result<Value, PlanFault>
         Err(error) if error.is_memory() => Err(PlanFault::Memory),
         Err(_) => Err(PlanFault::NotToml),
     }
-}
-
-// The plan of the version, the site tables and the edge tables of a document whose form is as the format says.
-fn read_graph(
-    alloc: Global,
-    version: u32,
-    sites: &[Value],
-    edges: &[Value],
-) -> Result<Plan, PlanFault>
-    requires first { 1 ≤ version }
-    requires last { version ≤ 2 }
-    requires sites { length sites.now ≤ u32.MAX }
-    requires edges { length edges.now ≤ u32.MAX }
-    ensures unrefused { OnOk result (first_some (graph_refusals (map view sites.now) (map view edges.now)) ≡ None) }
-    ensures plan { IfOk result (λ p. p ≡ plan_in version (map view sites.now) (map view edges.now)) }
-    ensures refused { IfErr result (λ f. f ≢ PlanFault.Memory
-        → first_some (graph_refusals (map view sites.now) (map view edges.now)) ≡ Some f) }
-{
-    let site_fault = first_site_fault(alloc, sites)?;
-    if let Some(fault) = site_fault {
-        return Err(fault);
-    }
-    if let Some(fault) = first_end_fault(sites, edges) {
-        return Err(fault);
-    }
-    let pairs = pairs_in(alloc, sites, edges)?;
-    if let Some(fault) = first_pair_fault(pairs.as_slice()) {
-        return Err(fault);
-    }
-    if let Some(fault) = first_act_fault(sites, edges) {
-        return Err(fault);
-    }
-    Ok(build(alloc, version, sites, edges, pairs)?)
 }

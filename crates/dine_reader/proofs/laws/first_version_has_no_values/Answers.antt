@@ -4,7 +4,7 @@ use Rattle.toml.specs.Data.{table}
 use Rattle.dine_graph.specs.Plan.{SeenPlan}
 use Rattle.dine_reader.specs.PlanOf.{IsPlain, IsPlanOf}
 use Rattle.dine_reader.specs.RefusalTests.{fault_of, first_fault, first_refusal, refuses_unknown_key}
-use Rattle.dine_reader.specs.declared.plan_fault.PlanFault.TheVariants.{UnknownKey}
+use Rattle.dine_draft.specs.declared.plan_fault.PlanFault.TheVariants.{UnknownKey}
 use Rattle.dine_reader.proofs.FirstLemmas.{none_holds}
 use Rattle.dine_reader.proofs.VersionLemmas.{plain_plan}
 use Rattle.dine_reader.proofs.laws.first_version_has_no_values.Goals as goal

@@ -1,5 +1,5 @@
 use Rattle.std.proofs.Common.{Result, Ok, Err, OnOk, IfErr, sym, ◌∙◌}
-use Rattle.dine_reader.proofs.GraphLemmas.{first_of_document}
+use Rattle.dine_reader.proofs.DocumentLemmas.{first_of_document}
 use Rattle.dine_reader.proofs.reading.read_tables.Goals as goal
 
 ok_then : {A E : Type 0} {P Q : Type 0} (r : Result A E) → (P → Q) → OnOk r P → OnOk r Q
@@ -16,12 +16,12 @@ returns-in-Some-clause-refused c _ =
 
 pub returns-clause-unrefused : goal.returns-clause-unrefused
 returns-clause-unrefused c =
-    ok_then c.read_graph.result
-    (λ none. first_of_document _ ∙ rw (sym c.first_form_fault.ensures ∙ c.in_default.is, ← c.items_at-sites.ensures, ← c.items_at-edges.ensures) none)
-    c.read_graph.ensures.unrefused
+    ok_then c.finish.result
+    (λ none. first_of_document _ ∙ rw (sym c.first_form_fault.ensures ∙ c.in_default.is, ← c.items_at-sites.ensures, ← c.items_at-edges.ensures, ← c.version_in.ensures.is, ← c.in_ok-draft.ensures) none)
+    c.finish.ensures.unrefused
 
 pub returns-clause-refused : goal.returns-clause-refused
 returns-clause-refused c =
-    err_then _ _ c.read_graph.result
-    (λ fault first other. first_of_document _ ∙ rw (sym c.first_form_fault.ensures ∙ c.in_default.is, ← c.items_at-sites.ensures, ← c.items_at-edges.ensures) (first other))
-    c.read_graph.ensures.refused
+    err_then _ _ c.finish.result
+    (λ fault first other. first_of_document _ ∙ rw (sym c.first_form_fault.ensures ∙ c.in_default.is, ← c.items_at-sites.ensures, ← c.items_at-edges.ensures, ← c.version_in.ensures.is, ← c.in_ok-draft.ensures) (first other))
+    c.finish.ensures.refused

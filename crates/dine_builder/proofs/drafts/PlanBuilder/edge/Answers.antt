@@ -1,5 +1,0 @@
-use Rattle.std.proofs.Common.{rules}
-use Rattle.dine_builder.proofs.drafts.PlanBuilder.edge.Goals as goal
-
-pub returns-clause-changed : goal.returns-clause-changed
-returns-clause-changed c = search rules

@@ -1,0 +1,10 @@
+use Rattle.std.proofs.Common.{map, rules, tests, ap}
+use Rattle.dine_graph.specs.Job.{seen_job}
+use Rattle.dine_draft.specs.Refusals.{has_large_act, is_large}
+use Rattle.dine_draft.proofs.Searches.{any_seen}
+use Rattle.dine_draft.proofs.acts.has_large_act.Goals as goal
+
+pub returns : goal.returns
+unfolding has_large_act
+returns c =
+    any_seen seen_job is_large c.as_slice-jobs.result.now _ c.any.result c.any.ensures.ran (cc) (λ x b q k. search (rules, tests)) (ap (map seen_job) c.as_slice-jobs.ensures.value)

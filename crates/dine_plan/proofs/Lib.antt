@@ -1,0 +1,4 @@
+pub mod DepthLemmas
+pub mod MetLemmas
+pub mod ReadLemmas
+pub mod TableLemmas

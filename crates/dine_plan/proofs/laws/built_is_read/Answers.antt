@@ -1,0 +1,8 @@
+use Rattle.dine_plan.proofs.ReadLemmas.{built_fault, built_plan}
+use Rattle.dine_plan.proofs.laws.built_is_read.Goals as goal
+
+pub returns-clause-faults : goal.returns-clause-faults
+returns-clause-faults c = built_fault
+
+pub returns-clause-plans : goal.returns-clause-plans
+returns-clause-plans c = built_plan

@@ -1,0 +1,8 @@
+use Rattle.std.proofs.Common.{◌≡◌, map, take}
+use Rattle.toml.specs.View.{view}
+use Rattle.dine_graph.specs.Site.{seen_site}
+use Rattle.dine_reader.specs.PlanOf.{site_in}
+use Rattle.dine_reader.proofs.drafts.sites_in.Given as goal
+
+abbrev pub invariant-loop-table : goal.invariant-loop-table
+invariant-loop-table l = map seen_site l.sites.items ≡ map site_in (map view (take l.table-index l.tables))

@@ -1,8 +1,0 @@
-use Rattle.std.proofs.Common.{rules, tests, refl}
-use Rattle.dine_reader.specs.RefusalTests.{has_bad_name}
-use Rattle.dine_reader.proofs.Searches.{position_seen}
-use Rattle.dine_reader.proofs.sites.first_bad_name.Goals as goal
-
-pub returns : goal.returns
-returns c =
-    position_seen has_bad_name c.args.sites.now _ c.position.result c.position.ensures.ran (cc) (λ x b q k. search (rules, tests)) refl

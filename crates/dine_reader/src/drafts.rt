@@ -1,0 +1,154 @@
+//! A draft of a plan from the tables of a document whose form is as the format says.
+ghost use Rattle.std.specs.Prelude.{◌≡◌, ◌≤◌, ℕ, List, None, Some, if◌then◌else◌, length, map, IfOk, OnOk};
+ghost use Rattle.std.specs.Option.{option_or};
+ghost use Rattle.std.specs.Str.{bytes_eq};
+ghost use Rattle.toml.specs.View.{view};
+ghost use Rattle.dine_graph.specs.Job.{seen_job};
+ghost use Rattle.dine_graph.specs.Site.{seen_site};
+ghost use Rattle.dine_draft.specs.Draft.{names_of, seen_draft};
+ghost use Rattle.dine_reader.specs.Document.{turns_in};
+ghost use Rattle.dine_reader.specs.PlanOf.{draft_in, edge_in, job_in, number_of, site_in};
+ghost use Rattle.dine_reader.specs.private.Index.{IsIndex, number_under};
+
+use crate::acts::{first_other_policy, first_with_two_acts};
+use crate::documents::{act_in, end_in, fails_in, items_at, number_at, resigns_in, text_at};
+use dine_draft::{Draft, DraftEdge};
+use dine_graph::{Job, JobName, Site};
+use std::alloc::{AllocError, Global};
+use std::collections::BTreeMap;
+use toml::Value;
+
+/// Makes the draft of this version, these site tables and these edge tables.
+pub(crate) fn draft_in(
+    alloc: Global,
+    version: u32,
+    site_tables: &[Value],
+    edge_tables: &[Value],
+) -> Result<Draft, AllocError>
+    requires { length site_tables.now ≤ u32.MAX }
+    ensures { IfOk result (λ d. seen_draft d ≡ draft_in version (map view site_tables.now) (map view edge_tables.now)) }
+{
+    let sites = sites_in(alloc, site_tables)?;
+    let edges = edges_in(alloc, sites.as_slice(), edge_tables)?;
+    Ok(Draft {
+        version,
+        sites,
+        edges,
+        two_acts: first_with_two_acts(site_tables),
+        other_policy: first_other_policy(site_tables),
+    })
+}
+
+fn sites_in(alloc: Global, tables: &[Value]) -> Result<Vec<Site>, AllocError>
+    ensures { IfOk result (λ v. map seen_site v.items ≡ map site_in (map view tables.now)) }
+{
+    let mut sites = Vec::new(alloc);
+    for table in tables {
+        sites.push(site_in(alloc, table)?)?;
+    }
+    Ok(sites)
+}
+
+fn site_in(alloc: Global, site: &Value) -> Result<Site, AllocError>
+    ensures { IfOk result (λ s. seen_site s ≡ site_in (view site.now)) }
+{
+    let jobs = jobs_in(alloc, items_at(site, "jobs"))?;
+    let name = String::from_str(alloc, text_at(site, "name"))?;
+    let resigns = resigns_in(site);
+    Ok(Site {
+        name,
+        jobs,
+        resigns,
+    })
+}
+
+fn jobs_in(alloc: Global, tables: &[Value]) -> Result<Vec<Job>, AllocError>
+    ensures { IfOk result (λ v. map seen_job v.items ≡ map job_in (map view tables.now)) }
+{
+    let mut jobs = Vec::new(alloc);
+    for table in tables {
+        jobs.push(job_in(alloc, table)?)?;
+    }
+    Ok(jobs)
+}
+
+#[tactic(auto, unfolding(crate::specs::PlanOf::job_in))]
+fn job_in(alloc: Global, job: &Value) -> Result<Job, AllocError>
+    ensures { IfOk result (λ j. seen_job j ≡ job_in (view job.now)) }
+{
+    let name = String::from_str(alloc, text_at(job, "name"))?;
+    Ok(Job {
+        name: JobName::Own(name),
+        turns: turns_in(job),
+        fails: fails_in(job),
+        act: act_in(job),
+    })
+}
+
+// The turns of a job. A number that no `u32` has is read as the greatest.
+#[tactic(auto, unfolding(crate::specs::Document::turns_in))]
+fn turns_in(job: &Value) -> u32
+    ensures { result ≡ turns_in (view job.now) }
+{
+    number_at(job, "turns").min(u32::MAX as u64) as u32
+}
+
+fn edges_in(alloc: Global, sites: &[Site], tables: &[Value]) -> Result<Vec<DraftEdge>, AllocError>
+    requires { length sites.now ≤ u32.MAX }
+    ensures { IfOk result (λ v. v.items ≡ map (edge_in (names_of (map seen_site sites.now))) (map view tables.now)) }
+{
+    let index = index_of(alloc, sites)?;
+    let mut edges = Vec::new(alloc);
+    for table in tables {
+        edges.push(edge_in(&index, sites.len() as u32, table))?;
+    }
+    Ok(edges)
+}
+
+// The number of the first site of each name.
+fn index_of(alloc: Global, sites: &[Site]) -> Result<BTreeMap<&str, u32>, AllocError>
+    requires { length sites.now ≤ u32.MAX }
+    ensures { IfOk result (λ index. IsIndex index (names_of (map seen_site sites.now))) }
+{
+    let mut index = BTreeMap::new(alloc);
+    for (i, site) in sites.iter().enumerate() {
+        add_name(&mut index, site.name.as_str(), i as u32)?;
+    }
+    Ok(index)
+}
+
+// Gives a name a number, if it has none yet.
+fn add_name<'a>(
+    index: &mut BTreeMap<&'a str, u32>,
+    name: &'a str,
+    number: u32,
+) -> Result<(), AllocError>
+    ensures { OnOk result ((q : List ℕ) → number_under index.new q
+        ≡ option_or (number_under index.old q) (if bytes_eq q name.now then Some number else None)) }
+{
+    if index.get(name).is_none() {
+        index.insert(name, number)?;
+    }
+    Ok(())
+}
+
+// An edge between sites, by the index of their names and their number.
+#[tactic(auto, unfolding(crate::specs::PlanOf::edge_in))]
+fn edge_in(index: &BTreeMap<&str, u32>, sites: u32, edge: &Value) -> DraftEdge
+    ensures { (names : List (List ℕ)) → IsIndex index.now names → length names ≡ sites
+        → result ≡ edge_in names (view edge.now) }
+{
+    DraftEdge {
+        a: number_of(index, sites, end_in(edge, 0)),
+        b: number_of(index, sites, end_in(edge, 1)),
+        value: number_at(edge, "value"),
+    }
+}
+
+// The number of the first site of this name, or the number of sites if none has it.
+fn number_of(index: &BTreeMap<&str, u32>, sites: u32, name: &str) -> u32
+    ensures { (names : List (List ℕ)) → IsIndex index.now names → length names ≡ sites
+        → result ≡ number_of names name.now }
+{
+    index.get(name).copied().unwrap_or(sites)
+}
