@@ -1,3 +1,5 @@
 pub mod Calls
+pub mod Causes
 pub mod Lists
 pub mod Sites
+pub mod Tables

@@ -5,10 +5,10 @@ use Rattle.std.proofs.lemmas.List.{length-map, length-replicate}
 use Rattle.std.proofs.lemmas.Option.{none-some, same_Some, slice_get_within}
 use Rattle.std.proofs.lemmas.Simd.{map-map}
 use Rattle.dine_token.specs.Lawful.{count_from}
-use Rattle.dine_graph.specs.Plan.{SeenPlan, job_count, site_count}
+use Rattle.dine_graph.specs.Plan.{SeenPlan, job_count, resigns, site_count}
 use Rattle.dine_site.proofs.lists.Seen.{there_is}
 use Rattle.dine_site.specs.CallLogs.{SeenCallLog, no_calls}
-use Rattle.dine_site.specs.Diners.{HasLastFailed, StopsAtFailed, meals_called}
+use Rattle.dine_site.specs.Diners.{HasLastFailed, ObeysFailures, meals_called}
 use Rattle.dine_site.specs.declared.diner.Call.{Call}
 use Rattle.dine_site.specs.declared.diner.Diner as diners
 use Rattle.dine_site.specs.declared.manner.Manner.{Manner}
@@ -38,7 +38,7 @@ module _ {D J F : Type 0} (after : J → ℕ → Bool → J → Type 0) (manner 
     (failed : (d : D) → numbers_of (failures_of d).items ≡ failed_numbers (log_of d).calls)
     (eater : diners.Ghosts D) (calls_are : (d : D) → eater.calls d ≡ (log_of d).calls) (marks_are : (d : D) → eater.marks d ≡ replicate (site_of d) false) where
   abbrev pub left_by : SiteOut D → SiteDone J F
-  left_by out = record { job = job_of out.diner; log = log_of out.diner; failures = failures_of out.diner; journal = out.journal; checks = out.checks }
+  left_by out = record { site = record { 0 = site_of out.diner }; job = job_of out.diner; log = log_of out.diner; failures = failures_of out.diner; journal = out.journal; checks = out.checks }
 
   -- the diner had as many calls as its site ate meals, and they are those since the run began
   called : (s : ℕ) (diner : D) (out : SiteOut D) → log_of diner ≡ no_calls (job_count plan s) → (is : IsOutOf eater manner plan s diner out) → ((log_of out.diner).calls ≡ is.eaten.added) × (length (log_of out.diner).calls ≡ out.ate)
@@ -58,10 +58,11 @@ module _ {D J F : Type 0} (after : J → ℕ → Bool → J → Type 0) (manner 
           | inl whole ↦ inl (is_called.1 ∙ whole)
           | inr quit ↦ inr (quit.0, subst (HasLastFailed []) (calls_are out.diner) (subst (λ before. HasLastFailed before (eater.calls out.diner)) none (is.obeys.quits quit.1)))
         ];
-        stops = λ resigns. subst (StopsAtFailed []) (calls_are out.diner) (subst (λ before. StopsAtFailed before (eater.calls out.diner)) none (is.obeys.stops resigns));
+        obeys = subst (ObeysFailures (resigns plan s) out.journal.items []) (calls_are out.diner) (subst (λ before. ObeysFailures (resigns plan s) out.journal.items before (eater.calls out.diner)) none is.obeys);
         ran = ran out.diner first (ap (slice_get given) still ∙ at);
         failures = failed out.diner;
         checks = is.checks;
+        names = still;
       }
 
   module _ (diners : List D) (outs : List (SiteOut D))

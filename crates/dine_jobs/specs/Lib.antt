@@ -1,2 +1,5 @@
+pub mod EdgeValues
 pub mod JobRuns
 pub mod JobFaults
+pub mod JobSites
+pub mod Places

@@ -1,5 +1,7 @@
 //! Jobs that share values with their neighbours.
 ghost use Rattle.std.specs.Prelude.{ℕ, Bool, is_ok};
+ghost use Rattle.dine_graph.specs.Plan.{SeenPlan};
+ghost use Rattle.dine_site.specs.WholeMeals.{IsOwnMeal, IsWhole};
 
 use crate::table::Table;
 
@@ -13,13 +15,24 @@ pub trait Job<T: Drop>: Drop + Send {
     // the job after it. A job of which nothing is to be proved leaves it out.
     ghost after: { Self → ℕ → Bool → Self → Type 0 } = { λ old k ok new. Unit {0} };
 
+    // That it expects to run in this plan, at this site. If a job does not define it, it holds of each plan and site.
+    ghost expects: { Self → SeenPlan → ℕ → Type 0 } = { λ _ _ _. Unit {0} };
+
     /// Does job `table.k()` of site `table.site()`, while the site holds the forks of all its edges.
+    ///
+    /// The table has a place for each edge of the site, in the order of the edges, in a plan in which the job expects
+    /// to run at that site. Each fork is at the site, and its log has `table.k()` meals of the site, this one included.
+    ///
+    /// Each plan and site that the job expected before, it expects afterwards.
     ///
     /// # Errors
     ///
     /// The job failed, for this reason. The meal counts all the same. At a site that resigns it is the last one.
     fn run(&mut self, table: &Table<'_, T>) -> Result<(), Self::Fault>
-        ensures { after self.old table.now.k (is_ok result) self.new };
+        requires own { IsOwnMeal table.now }
+        requires whole { IsWhole expects self.old table.now }
+        ensures did { after self.old table.now.k (is_ok result) self.new }
+        ensures stays { (plan : SeenPlan) (site : ℕ) → expects self.old plan site → expects self.new plan site };
 }
 
 /// A job that failed: its number, from 1, and why.

@@ -1,7 +1,8 @@
 //! The diner that does the jobs of a site.
 ghost use Rattle.std.specs.Prelude.{◌≡◌, ◌+◌, ◌≤◌, IfOk, Some, false, true};
 ghost use Rattle.std.specs.Prelude.{replicate, slice_get, vec_capacity, vec_len};
-ghost use Rattle.dine_graph.specs.Plan.{job_count, site_count};
+ghost use Rattle.std.specs.Arc.{arc_value};
+ghost use Rattle.dine_graph.specs.Plan.{edge_count, job_count, site_count};
 ghost use Rattle.dine_site.specs.CallLogs.{no_calls};
 ghost use Rattle.dine_jobs.specs.JobRuns.{HasRun, failed_numbers, numbers_of};
 
@@ -10,7 +11,7 @@ use crate::given::Given;
 use crate::job::{Failure, Job};
 use crate::table::Table;
 use crate::values::Values;
-use dine_graph::Plan;
+use dine_graph::{Plan, SiteId};
 use dine_link::EmptyChecks;
 use dine_rules::EventKind;
 use dine_site::{CallLog, Diner, JobFault};
@@ -30,6 +31,7 @@ pub struct JobDiner<T: Drop, J: Job<T>, K: Given<J>> {
     values: Arc<Values<T>, Global>,
     given: PhantomData<K>,
     ghost room: { vec_len failures + log.room ≤ vec_capacity failures },
+    ghost sized: { vec_len (arc_value values).cells ≡ edge_count K.plan },
     ghost failed: { numbers_of failures.items ≡ failed_numbers log.calls },
     ghost ran: { (first : J) → slice_get K.given site ≡ Some first → ∥ HasRun J.after first log.calls job ∥₁ },
 }
@@ -38,6 +40,7 @@ impl<T: Drop, J: Job<T>, K: Given<J>> JobDiner<T, J, K> {
     // Returns what is left after its jobs. It drops its share of the values.
     pub(crate) fn leave(self, journal: Vec<EventKind>, checks: EmptyChecks) -> SiteDone<J, J::Fault>
         ensures { result ≡ record {
+          site = record { 0 = self.site };
           job = self.job;
           log = self.log;
           failures = self.failures;
@@ -49,15 +52,25 @@ impl<T: Drop, J: Job<T>, K: Given<J>> JobDiner<T, J, K> {
             job,
             log,
             failures,
+            site: number,
             ..
         } = self;
         SiteDone {
+            site: SiteId(number),
             job,
             log,
             failures,
             journal,
             checks,
         }
+    }
+
+    // Returns its job alone. It drops its share of the values.
+    pub(crate) fn into_job(self) -> J
+        ensures { result ≡ self.job }
+    {
+        let JobDiner { job, .. } = self;
+        job
     }
 }
 
@@ -70,9 +83,14 @@ pub(crate) fn open_diners<T: Drop, J: Job<T>, K: Given<J>>(
 ) -> Result<Vec<JobDiner<T, J, K>>, AllocError>
     requires many { vec_len jobs ≡ site_count plan.now }
     requires given { jobs.items ≡ K.given }
+    requires plan { K.plan ≡ plan.now }
+    requires sized { vec_len (arc_value values.now).cells ≡ edge_count plan.now }
+    requires expected { (s : _) (job : _) → slice_get jobs.items s ≡ Some job → J.expects job plan.now s }
     ensures many { IfOk result (λ diners. vec_len diners ≡ site_count plan.now) }
     ensures sites { IfOk result (λ diners. (s : _) (diner : _)
         → slice_get diners.items s ≡ Some diner → diner.site ≡ s) }
+    ensures expected { IfOk result (λ diners. (s : _) (diner : _)
+        → slice_get diners.items s ≡ Some diner → J.expects diner.job plan.now s) }
     ensures logs { IfOk result (λ diners. (s : _) (diner : _)
         → slice_get diners.items s ≡ Some diner → diner.log ≡ no_calls (job_count plan.now s)) }
 {
@@ -104,6 +122,9 @@ impl<T: Drop + Send, J: Job<T>, K: Given<J> + Send> Diner for JobDiner<T, J, K> 
     ghost fits = { λ marks k ok. true };
 
     ghost room_left = { λ diner. diner.log.room };
+
+    // Its own site, in the plan of the run, where its job expects to run.
+    ghost expects = { λ diner plan site. (site ≡ diner.site) × (plan ≡ K.plan) × J.expects diner.job plan site };
 
     fn room(&self) -> u32 {
         self.log.room()

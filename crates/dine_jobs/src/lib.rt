@@ -3,16 +3,22 @@
 #![tactic(auto)]
 
 mod done;
+mod edge_value;
 mod given;
-mod ids;
 mod job;
 mod job_diner;
+mod open_value;
+mod places;
+mod rounds;
 mod runs;
 mod table;
 mod values;
 
-pub use done::{Done, JobsCause, JobsFault, SiteDone};
-pub use ids::{EdgeId, Place, SiteId};
+pub use done::{JobsCause, JobsDone, JobsFault, SiteDone};
+pub use edge_value::EdgeValue;
 pub use job::{Failure, Job};
-pub use runs::{no_values, on_channels, on_rings, run_jobs};
+pub use open_value::OpenValue;
+pub use places::Place;
+pub use rounds::run_rounds;
+pub use runs::{no_values, on_channels, on_rings, run_jobs, run_jobs_with};
 pub use table::{OpenFault, Table};

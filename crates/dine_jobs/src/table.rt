@@ -1,16 +1,20 @@
 //! The table of a meal: what a job sees and opens while it runs.
-ghost use Rattle.std.specs.Prelude.{◌≡◌, ◌<◌, ◌≤◌, ◌↔◌, IfSome, IsErrOf, IsNone, OnOk, Some, length, slice_get};
+ghost use Rattle.std.specs.Prelude.{◌≡◌, ◌<◌, ◌≤◌, ◌↔◌, IfOk, IfSome, IsErrOf, IsNone, OnOk, Some, length};
+ghost use Rattle.std.specs.Prelude.{slice_get, vec_len};
 ghost use Rattle.dine_token.specs.Fork.{SeenFork, other_end};
+ghost use Rattle.dine_jobs.specs.EdgeValues.{edge_open};
 ghost use Rattle.dine_jobs.specs.JobFaults.{open_fault_words};
+ghost use Rattle.dine_jobs.specs.Places.{HasEdge, HasNeighbour};
 
-use crate::ids::{EdgeId, Place, SiteId};
+use crate::open_value::OpenValue;
+use crate::places::Place;
 use crate::values::Values;
+use dine_graph::{EdgeId, SiteId};
 use dine_site::JobFault;
 use dine_token::Meal;
 use std::error::Error;
 use std::fmt;
 use std::marker::Model;
-use std::sync::MutexGuard;
 
 /// Why a value was not opened.
 #[derive(Clone, Copy, Debug, PartialEq, Eq)]
@@ -50,6 +54,8 @@ impl From<OpenFault> for JobFault {
 pub struct Table<'a, T: Drop> {
     meal: &'a Meal,
     values: &'a Values<T>,
+    ghost within: { (i : _) (fork : SeenFork)
+        → slice_get meal.now.forks i ≡ Some fork → fork.edge < vec_len values.now.cells },
 }
 
 impl<'a, T: Drop> Model for Table<'a, T> {
@@ -61,8 +67,10 @@ impl<'a, T: Drop> Model for Table<'a, T> {
 }
 
 impl<'a, T: Drop> Table<'a, T> {
-    // Returns the table of a meal.
+    // Returns the table of a meal. There is a value for each edge of the meal.
     pub(crate) fn new(meal: &'a Meal, values: &'a Values<T>) -> Table<'a, T>
+        requires { (i : _) (fork : SeenFork)
+            → slice_get meal.now.forks i ≡ Some fork → fork.edge < vec_len values.now.cells }
         ensures { result ≡ meal.now }
     {
         Table { meal, values }
@@ -118,14 +126,16 @@ impl<'a, T: Drop> Table<'a, T> {
         }))
     }
 
-    /// Opens the value of the edge at a place, until the guard is dropped, and at most for this meal. It never waits.
+    /// Opens the value of the edge at a place, until what is returned is dropped, and at most for this meal. It never
+    /// waits.
     ///
     /// # Errors
     ///
     /// `NoEdge` if the site has no such place. `Open` if the value is open already.
-    pub fn open(&self, place: Place) -> Result<MutexGuard<'_, T>, OpenFault>
-        ensures within { OnOk result (place.0 < length self.now.forks) }
-        ensures outside { length self.now.forks ≤ place.0 → IsErrOf result OpenFault.NoEdge }
+    pub fn open(&self, place: Place) -> Result<OpenValue<'_, T>, OpenFault>
+        ensures edge { IfOk result (λ lent. (fork : SeenFork)
+            × (slice_get self.now.forks place.0 ≡ Some fork) × (edge_open lent ≡ fork.edge)) }
+        ensures outside { length self.now.forks ≤ place.0 ↔ IsErrOf result OpenFault.NoEdge }
     {
         let Some(edge) = self.edge(place) else {
             return Err(OpenFault::NoEdge);
@@ -138,9 +148,10 @@ impl<'a, T: Drop> Table<'a, T> {
     /// # Errors
     ///
     /// `NoEdge` if it is no edge of the site. `Open` if the value is open already.
-    pub fn open_edge(&self, edge: EdgeId) -> Result<MutexGuard<'_, T>, OpenFault>
-        ensures { OnOk result ((place : _) × (fork : SeenFork)
-            × (slice_get self.now.forks place ≡ Some fork) × (fork.edge ≡ edge.0)) }
+    pub fn open_edge(&self, edge: EdgeId) -> Result<OpenValue<'_, T>, OpenFault>
+        ensures edge { IfOk result (λ lent. edge_open lent ≡ edge.0) }
+        ensures forked { OnOk result (HasEdge self.now.forks edge.0) }
+        ensures none { IsErrOf result OpenFault.NoEdge ↔ (HasEdge self.now.forks edge.0 → ⊥) }
     {
         for place in 0..self.meal.len() {
             if self.meal.fork(place).edge() == edge.0 {
@@ -155,9 +166,11 @@ impl<'a, T: Drop> Table<'a, T> {
     /// # Errors
     ///
     /// `NoEdge` if the site has no edge to that one. `Open` if the value is open already.
-    pub fn open_with(&self, neighbour: SiteId) -> Result<MutexGuard<'_, T>, OpenFault>
-        ensures { OnOk result ((place : _) × (fork : SeenFork)
-            × (slice_get self.now.forks place ≡ Some fork) × (neighbour.0 ≡ other_end fork self.now.site)) }
+    pub fn open_with(&self, neighbour: SiteId) -> Result<OpenValue<'_, T>, OpenFault>
+        ensures edge { IfOk result (λ lent. (place : _) × (fork : SeenFork)
+            × (slice_get self.now.forks place ≡ Some fork) × (neighbour.0 ≡ other_end fork self.now.site)
+            × (edge_open lent ≡ fork.edge)) }
+        ensures none { IsErrOf result OpenFault.NoEdge ↔ (HasNeighbour self.now.forks self.now.site neighbour.0 → ⊥) }
     {
         for place in 0..self.meal.len() {
             if self.neighbour(Place(place)) == Some(neighbour) {

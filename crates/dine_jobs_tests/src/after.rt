@@ -4,7 +4,7 @@ ghost use Rattle.dine_jobs_tests.specs.Refused.{HaveNotedLast};
 
 use crate::plans::band_of;
 use dine_run::{
-    Done, Job, JobFault, JobsFault, Plan, SiteDone, Table, no_values, on_channels, on_rings,
+    Job, JobFault, JobsDone, JobsFault, Plan, SiteDone, Table, no_values, on_channels, on_rings,
 };
 use std::alloc::Global;
 use std::process::Abort;
@@ -55,7 +55,7 @@ fn run_refusers<R: Threads + Wait + Copy + Send + 'static>(
     links: Links,
     values: Vec<()>,
     jobs: Vec<Refuser>,
-) -> Result<Done<(), Refuser>, JobsFault<(), Refuser>>
+) -> Result<JobsDone<(), Refuser>, JobsFault<(), Refuser>>
     ensures { IfOk result (λ done. HaveNotedLast (λ job. job.refused) jobs.items done.sites.items) }
 {
     match links {

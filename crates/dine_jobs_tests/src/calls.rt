@@ -1,7 +1,8 @@
 // Each job is done once, with its own number, and its result is kept unchanged.
 use crate::plans::{band_of, resigning};
 use dine_run::{
-    Done, EventKind, Job, Plan, SiteDone, SiteId, Table, no_values, on_channels, on_rings, order,
+    EventKind, Job, JobsDone, Plan, SiteDone, SiteId, Table, no_values, on_channels, on_rings,
+    order,
 };
 use std::alloc::Global;
 use std::process::Abort;
@@ -61,7 +62,10 @@ fn is_right(rt: &impl Abort, alloc: Global, n: u32, site: &SiteDone<Witness, Thi
         }
     }
     assert_eq!(rt; site.job.seen.as_slice(), seen.as_slice());
-    assert_eq!(rt; site.calls().len(), meals as usize);
+    assert_eq!(rt;
+        (site.site, site.calls().len()),
+        (SiteId(n), meals as usize)
+    );
     for (call, k) in site.calls().iter().zip(1..1_001u32) {
         assert_eq!(rt; (call.k, call.ok), (k, k % 3 != 0));
     }
@@ -72,12 +76,15 @@ fn is_right(rt: &impl Abort, alloc: Global, n: u32, site: &SiteDone<Witness, Thi
 }
 
 // Checks that all sites did all their jobs, except site 0, which did a given number, and that an order has each meal.
-fn are_right(rt: &impl Abort, alloc: Global, plan: &Plan, done: Done<(), Witness>, first: u32) {
+fn are_right(rt: &impl Abort, alloc: Global, plan: &Plan, done: JobsDone<(), Witness>, first: u32) {
     assert_eq!(rt;
         (done.sites.len(), done.values.len()),
         (plan.sites() as usize, plan.edges() as usize)
     );
-    assert_eq!(rt; (done.forks.len(), done.missed), (plan.edges() as usize, 0));
+    assert_eq!(rt;
+        (done.forks.len(), done.found_open),
+        (plan.edges() as usize, 0)
+    );
     for (n, site) in (0..64u32).zip(done.sites.as_slice()) {
         is_right(rt, alloc, n, site, if n == 0 { first } else { JOBS });
     }

@@ -1,6 +1,6 @@
 // Runs of jobs that are refused, and what they return.
 use crate::plans::band_of;
-use dine_run::{Job, JobFault, JobsCause, JobsFault, Table, on_rings};
+use dine_run::{Job, JobFault, JobsCause, JobsFault, Table, run_jobs};
 use std::alloc::Global;
 use std::process::Abort;
 use std::test::Fail;
@@ -45,23 +45,46 @@ fn hands_back(
     }
 }
 
+fn values_differ(given: usize) -> JobsCause {
+    JobsCause::ValuesDiffer { given, edges: 3 }
+}
+
+fn jobs_differ(given: usize) -> JobsCause {
+    JobsCause::JobsDiffer { given, sites: 3 }
+}
+
 #[test]
 fn values_and_jobs_that_are_not_as_many_are_handed_back(rt: HostRuntime) -> Result<(), Fail> {
     let alloc = rt.alloc();
     // Three sites with three edges.
     let plan = band_of(&rt, alloc, 3, 2);
     for (values, jobs, cause, text) in [
-        (2, 3, JobsCause::ValuesDiffer, "run refused: values differ"),
-        (4, 3, JobsCause::ValuesDiffer, "run refused: values differ"),
-        (0, 0, JobsCause::ValuesDiffer, "run refused: values differ"),
-        (3, 2, JobsCause::JobsDiffer, "run refused: jobs differ"),
-        (3, 4, JobsCause::JobsDiffer, "run refused: jobs differ"),
+        (
+            2,
+            3,
+            values_differ(2),
+            "run refused: values given 2, wanted 3",
+        ),
+        (
+            4,
+            3,
+            values_differ(4),
+            "run refused: values given 4, wanted 3",
+        ),
+        (
+            0,
+            0,
+            values_differ(0),
+            "run refused: values given 0, wanted 3",
+        ),
+        (3, 2, jobs_differ(2), "run refused: jobs given 2, wanted 3"),
+        (3, 4, jobs_differ(4), "run refused: jobs given 4, wanted 3"),
     ] {
         let mut idle = Vec::new(alloc);
         for n in 0..jobs {
             idle.push(Idle(n))?;
         }
-        match on_rings(&rt, alloc, &plan, numbers(&rt, alloc, values), idle) {
+        match run_jobs(&rt, alloc, &plan, numbers(&rt, alloc, values), idle) {
             Ok(_done) => panic!(rt; "it ran"),
             Err(fault) => hands_back(&rt, alloc, fault, cause, text, (values, jobs)),
         }

@@ -6,12 +6,18 @@ mod after;
 #[cfg(test)]
 mod calls;
 #[cfg(test)]
+mod cancelling;
+#[cfg(test)]
 mod faults;
 #[cfg(test)]
 mod manners;
 #[cfg(test)]
 mod plans;
 #[cfg(test)]
+mod rounds;
+#[cfg(test)]
 mod sharing;
 #[cfg(test)]
 mod tables;
+#[cfg(test)]
+mod watching;

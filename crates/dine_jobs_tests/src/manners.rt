@@ -1,6 +1,8 @@
 // Polite runs of jobs over values.
 use crate::plans::band_of;
-use dine_run::{ChannelLane, Done, Job, JobFault, Place, RingLane, RunOptions, Table, run_jobs};
+use dine_run::{
+    ChannelLane, Job, JobFault, JobsDone, Place, RingLane, RunOptions, Table, run_jobs_with,
+};
 use std::alloc::Global;
 use std::process::Abort;
 use std::sync::Wait;
@@ -51,14 +53,16 @@ fn adds_up<R: Threads + Wait + Abort + Copy + Send + 'static>(
         jobs.push(Counter)?;
     }
     let polite = RunOptions::polite();
-    let done: Done<u64, Counter> = match links {
-        Links::Channels => run_jobs::<ChannelLane, u64, Counter>(
+    let done: JobsDone<u64, Counter> = match links {
+        Links::Channels => run_jobs_with::<ChannelLane, u64, Counter>(
             rt, alloc, &plan, values, jobs, polite,
         )?,
-        Links::Rings => run_jobs::<RingLane, u64, Counter>(rt, alloc, &plan, values, jobs, polite)?,
+        Links::Rings => run_jobs_with::<RingLane, u64, Counter>(
+            rt, alloc, &plan, values, jobs, polite,
+        )?,
     };
     for value in done.values.iter() {
-        assert_eq!(rt; *value, 2 * u64::from(JOBS));
+        assert_eq!(rt; value.value, 2 * u64::from(JOBS));
     }
     for site in done.sites.iter() {
         assert_eq!(rt;
@@ -67,7 +71,7 @@ fn adds_up<R: Threads + Wait + Abort + Copy + Send + 'static>(
         );
     }
     assert_eq!(rt;
-        (done.values.len(), done.missed),
+        (done.values.len(), done.found_open),
         (plan.edges() as usize, 0)
     );
     Ok(())

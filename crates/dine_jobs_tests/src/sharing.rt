@@ -1,7 +1,7 @@
 // No two jobs have a value open at the same time: many runs over each kind of links, and one way to share that is
 // broken, in which they do.
 use crate::plans::band_of;
-use dine_run::{Done, Job, JobFault, Place, Plan, Table, on_channels, on_rings};
+use dine_run::{Job, JobFault, JobsDone, Place, Plan, Table, on_channels, on_rings};
 use std::alloc::{AllocError, Global};
 use std::sync::atomic::{AtomicU64, Ordering};
 use std::sync::{Arc, Mutex};
@@ -48,10 +48,10 @@ fn fresh(alloc: Global, plan: &Plan) -> Result<(Vec<Vec<u64>>, Vec<Adder>), Allo
 }
 
 // How many numbers are not what all jobs of both ends add, how many jobs failed, and how often a value was not free.
-fn wrong(done: Done<Vec<u64>, Adder>) -> (usize, usize, u64) {
+fn wrong(done: JobsDone<Vec<u64>, Adder>) -> (usize, usize, u64) {
     let mut wrong = 0usize;
     for value in done.values.iter() {
-        for number in value.iter() {
+        for number in value.value.iter() {
             if *number != 2 * JOBS as u64 {
                 wrong = wrong.wrapping_add(1);
             }
@@ -61,7 +61,7 @@ fn wrong(done: Done<Vec<u64>, Adder>) -> (usize, usize, u64) {
     for site in done.sites.iter() {
         failed = failed.wrapping_add(site.failures.len());
     }
-    (wrong, failed, done.missed)
+    (wrong, failed, done.found_open)
 }
 
 #[test]

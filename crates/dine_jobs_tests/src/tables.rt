@@ -39,7 +39,10 @@ fn opens(
     let by_place = *table.open(place)?;
     let by_edge = *table.open_edge(edge)?;
     let by_neighbour = *table.open_with(neighbour)?;
-    let _held = table.open(place)?;
+    let held = table.open(place)?;
+    if held.edge() != edge {
+        return Ok(false);
+    }
     let is_held = is_refused(table.open(place), OpenFault::Open)
         && is_refused(table.open_edge(edge), OpenFault::Open)
         && is_refused(table.open_with(neighbour), OpenFault::Open);
@@ -89,7 +92,10 @@ fn a_job_sees_its_own_edges_and_opens_no_other(rt: HostRuntime) -> Result<(), Fa
         assert_eq!(rt; (site.calls().len(), site.failures.len()), (3, 0));
     }
     // Each of ten places was opened thrice while it was open, in three meals.
-    assert_eq!(rt; done.missed, 90);
-    assert_eq!(rt; done.values.as_slice(), [0, 1, 2, 3, 4].as_slice());
+    assert_eq!(rt; done.found_open, 90);
+    assert_eq!(rt; done.values.len(), 5);
+    for (edge, it) in (0..5u32).zip(done.values.iter()) {
+        assert_eq!(rt; (it.edge(), it.value), (EdgeId(edge), edge));
+    }
     Ok(())
 }

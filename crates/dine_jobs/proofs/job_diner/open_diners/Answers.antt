@@ -8,7 +8,7 @@ use Rattle.dine_threads.proofs.lists.Zips.{mapped_split}
 use Rattle.dine_threads.proofs.all_sites.Collected.{each_more}
 use Rattle.dine_jobs.specs.JobRuns.{HasRun, failed_numbers, numbers_of}
 use Rattle.dine_jobs.specs.declared.job_diner.JobDiner.{JobDiner}
-use Rattle.dine_jobs.proofs.Lists.{at_place}
+use Rattle.dine_jobs.proofs.Lists.{at_place, there_at}
 use Rattle.dine_jobs.proofs.job_diner.open_diners.Goals as goal
 
 pub invariant_of-push_reserved-clause-room : goal.invariant_of-push_reserved-clause-room
@@ -38,10 +38,13 @@ loop-site-preserved g c =
     let grown = c.push_reserved.ensures.items in
     let next = rw c.unwrap-job.ensures at c.next.ensures.cases in
     let number : c.loop-site.site ≡ length old = omega (arith, was.number, c.loop-site.diners.ok.0) in
+    let job_of : Diner → g.row.J.Denot = λ d. d.job in
+    let there = there_at (map job_of old) (into_iter_items c.loop-site.waiting) (into_iter_items c.next.new.self) (vec_items c.args.jobs) c.unwrap-job.result (length old) was.jobs next.0 (length-map old job_of) in
     record {
       number = omega (arith, was.number, c.push_reserved.ensures.len);
       room = omega (arith, was.room, c.push_reserved.ensures.capacity);
       jobs = mapped_split (λ (d : Diner). d.job) old new _ c.unwrap-job.result (into_iter_items c.loop-site.waiting) (into_iter_items c.next.new.self) (vec_items c.args.jobs) grown next.0 refl was.jobs;
       sites = each_more (λ s (d : Diner). d.site ≡ s) old new _ grown was.sites number;
+      expected = each_more (λ s (d : Diner). g.J.Job.expects d.job plan s) old new _ grown was.expected (c.requires.expected _ c.unwrap-job.result there);
       logs = each_more (λ s (d : Diner). d.log ≡ no_calls (job_count plan s)) old new _ grown was.logs (c.in_ok-log.ensures ∙ ap no_calls (c.jobs.ensures.count ∙ ap (job_count plan) number));
     }

@@ -12,5 +12,6 @@ invariant-loop-site g l = record {
   room : site_count l.plan ≤ vec_capacity l.diners;
   jobs : map (λ (diner : JobDiner g.row.T.Denot g.row.J.Denot g.row.K.Denot g.row.J-Fault.Denot g.J.Job g.K.Given). diner.job) (vec_items l.diners) ++ into_iter_items l.waiting ≡ vec_items l.fn.jobs;
   sites : (s : ℕ) (diner : JobDiner g.row.T.Denot g.row.J.Denot g.row.K.Denot g.row.J-Fault.Denot g.J.Job g.K.Given) → slice_get (vec_items l.diners) s ≡ Some diner → diner.site ≡ s;
+  expected : (s : ℕ) (diner : JobDiner g.row.T.Denot g.row.J.Denot g.row.K.Denot g.row.J-Fault.Denot g.J.Job g.K.Given) → slice_get (vec_items l.diners) s ≡ Some diner → g.J.Job.expects diner.job l.plan s;
   logs : (s : ℕ) (diner : JobDiner g.row.T.Denot g.row.J.Denot g.row.K.Denot g.row.J-Fault.Denot g.J.Job g.K.Given) → slice_get (vec_items l.diners) s ≡ Some diner → diner.log ≡ no_calls (job_count l.plan s);
 }

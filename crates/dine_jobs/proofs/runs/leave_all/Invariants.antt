@@ -9,7 +9,7 @@ use Rattle.dine_jobs.proofs.runs.leave_all.Given as goal
 abbrev pub invariant-loop-out : goal.invariant-loop-out
 invariant-loop-out g l =
     let left : SiteOut (JobDiner g.row.T.Denot g.row.J.Denot g.row.K.Denot g.row.J-Fault.Denot g.J.Job g.K.Given) → SiteDone g.row.J.Denot g.row.J-Fault.Denot =
-    λ out. record { job = out.diner.job; log = out.diner.log; failures = out.diner.failures; journal = out.journal; checks = out.checks } in
+    λ out. record { site = record { 0 = out.diner.site }; job = out.diner.job; log = out.diner.log; failures = out.diner.failures; journal = out.journal; checks = out.checks } in
     record {
       room : vec_len l.sites + into_iter_len l.out-iterator ≤ vec_capacity l.sites;
       split : vec_items l.sites ++ map left (into_iter_items l.out-iterator) ≡ map left (vec_items l.fn.outs);
