@@ -5,3 +5,4 @@ pub mod Forks
 pub mod Inboxes
 pub mod Found
 pub mod WorldFields
+pub mod StepsOfSites

@@ -176,6 +176,13 @@ impl World {
         Some(core.ate())
     }
 
+    /// Returns whether the event is enabled.
+    pub fn is_enabled(&self, event: Event) -> bool
+        ensures { ForEachWorld self.now (λ plan world. result ≡ is_enabled plan world event) }
+    {
+        self.can_happen(event)
+    }
+
     /// Does the event.
     ///
     /// # Errors

@@ -7,7 +7,7 @@ use Rattle.atomic_table.proofs.Lists.{at_set, at_snoc}
 use Rattle.dine_link.specs.declared.stamped.Stamped.{Stamped}
 use Rattle.dine_link.specs.declared.rule.Known.{Known}
 use Rattle.dine_link.proofs.Passes.{Each, each_set}
-use Rattle.dine_link.specs.private.Rule.{Fits, IsInOrder, fresh, spent, putting, taking, joined, after_put, after_take}
+use Rattle.dine_link.specs.private.Rule.{Fits, IsInOrder, fresh_pass, spent_pass, putting_part, taking_part, joined_parts, after_put, after_take}
 
 -- the view just after the end of a list is the one that was added
 at_end : (views : List Known) (a b : Known) (j : ℕ) → get_elem? views j ≢ some b → get_elem? (views ++ a ∷ []) j ≡ some b → j ≡ length views
@@ -17,14 +17,14 @@ at_end (x ∷ xs) a b zero n e = absurd (n e)
 at_end (x ∷ xs) a b (suc j) n e = ap suc (at_end xs a b j n e)
 
 -- a new channel
-pub begins : IsInOrder [] (fresh ∷ [])
+pub begins : IsInOrder [] (fresh_pass ∷ [])
 begins = record {
   putter = 0;
   taker = 0;
   put = [];
   taken = [];
   in_order = refl;
-  fits = each_set (Fits 0 0 [] []) (fresh ∷ []) 0 fresh (record { puts = λ _. (refl, refl); takes = λ _. (refl, refl) }) (λ j u other e. absurd (other (at_end [] _ u j (λ x. some-ne-none u (sym x)) e)));
+  fits = each_set (Fits 0 0 [] []) (fresh_pass ∷ []) 0 fresh_pass (record { puts = λ _. (refl, refl); takes = λ _. (refl, refl) }) (λ j u other e. absurd (other (at_end [] _ u j (λ x. some-ne-none u (sym x)) e)));
 }
 
 -- a send
@@ -62,10 +62,10 @@ takes pass v may x items views h at = let mine = h.fits pass v at in let taken =
 )
 
 -- a pass cut in two
-pub forks : (pass : ℕ) (v : Known) → v.puts ≡ true → v.takes ≡ true → Forks IsInOrder pass v (putting v) (taking v)
+pub forks : (pass : ℕ) (v : Known) → v.puts ≡ true → v.takes ≡ true → Forks IsInOrder pass v (putting_part v) (taking_part v)
 forks pass v a b items views h at =
-    let l : Known = putting v in
-    let r : Known = taking v in
+    let l : Known = putting_part v in
+    let r : Known = taking_part v in
     let mine = h.fits pass v at in
     let vs : List Known = set views pass l in
     let Old : ℕ → Known → Type 0 = λ j u. (u.puts ≡ true → (j ≡ h.putter) × (u.put ≡ h.put)) × (u.takes ≢ true) in
@@ -81,9 +81,9 @@ forks pass v a b items views h at =
     }
 
 -- two passes made one
-pub merges : (pass : ℕ) (v : Known) (other : ℕ) (u : Known) → v.puts ≡ true → u.takes ≡ true → Merges IsInOrder pass v other u (joined v u) spent
+pub merges : (pass : ℕ) (v : Known) (other : ℕ) (u : Known) → v.puts ≡ true → u.takes ≡ true → Merges IsInOrder pass v other u (joined_parts v u) spent_pass
 merges pass v other u a b items views h at two at' =
-    let one : Known = joined v u in
+    let one : Known = joined_parts v u in
     let mine = h.fits pass v at in
     let vs : List Known = set views pass one in
     let was : get_elem? views other ≡ some u = ⊎_elim (λ x. absurd (two x.0)) (λ x. x.1) (at_set views pass other one u at') in
@@ -95,7 +95,7 @@ merges pass v other u a b items views h at two at' =
       put = h.put;
       taken = h.taken;
       in_order = h.in_order;
-      fits = each_set (Fits h.putter pass h.put h.taken) vs other spent (record { puts = λ p. absurd (true≢false (sym p)); takes = λ p. absurd (true≢false (sym p)) }) (λ j y apart e. now j y e apart);
+      fits = each_set (Fits h.putter pass h.put h.taken) vs other spent_pass (record { puts = λ p. absurd (true≢false (sym p)); takes = λ p. absurd (true≢false (sym p)) }) (λ j y apart e. now j y e apart);
     }
 
 -- what the pass of both ends learns

@@ -1,5 +1,4 @@
 -- The ends of a link that refuses after a number of steps, as contracts see them: those of the channel beneath.
-use Rattle.std.specs.Prelude.{ℕ, ◌-◌, Bool, true, nat_lt, Option, None, Some}
 use Rattle.dine_link.specs.declared.testing.fault_lane.FaultTx.{FaultTx}
 use Rattle.dine_link.specs.declared.testing.fault_lane.FaultRx.{FaultRx}
 use Rattle.dine_link.specs.Links.{SeenEnd}
@@ -12,13 +11,3 @@ seen_tx end = channels.seen_tx end.tx
 -- the end that letters are taken from: that of the channel
 abbrev pub seen_rx : FaultRx → SeenEnd channels.Channel
 seen_rx end = channels.seen_rx end.rx
-
--- one further step is let through: always if there is no limit, and else if some steps are left
-abbrev pub lets_through : Option ℕ → Bool
-lets_through None = true
-lets_through (Some left) = nat_lt 0 left
-
--- the number of steps that are left after one: one less, but never below 0
-abbrev pub spent : Option ℕ → Option ℕ
-spent None = None
-spent (Some left) = Some (left - 1)

@@ -1,7 +1,7 @@
 -- Links and their ends, as contracts see them. A link leads from one site of an edge to the other. Contracts do not say
 -- that a letter arrives, how many letters a link holds, or when a letter was put or taken. They say that a step was
 -- refused, but not how often or before which letter. The lists of two ends do not say in which order two sites acted.
-use Rattle.std.specs.Prelude.{◌≡◌, ℕ, Bool, true, List, [], ◌∷◌, ◌++◌, map, ◌||◌, false}
+use Rattle.std.specs.Prelude.{◌≡◌, ℕ, Bool, true, List, [], ◌∷◌, ◌++◌, map, false}
 use mathlib.Core.List.{IsPrefix}
 use Rattle.dine_rules.specs.declared.letters.Letter.{Letter}
 
@@ -64,7 +64,3 @@ IsLink link = IsPrefix link.taken link.put
 -- the link of these two ends: the first is the end that letters were put in, the second the end they were taken from
 abbrev pub link_of : {Identity : Type 0} → SeenEnd Identity → SeenEnd Identity → SeenLink
 link_of tx rx = record { edge = tx.link.edge; from = tx.link.from; put = tx.letters; taken = rx.letters; put_at = tx.moments; taken_at = rx.moments; put_refused = tx.refused; take_refused = rx.refused }
-
--- the link with these refusals noted too: of a put, and of a take
-abbrev pub also_refused : Bool → Bool → SeenLink → SeenLink
-also_refused put take link = record { edge = link.edge; from = link.from; put = link.put; taken = link.taken; put_at = link.put_at; taken_at = link.taken_at; put_refused = link.put_refused || put; take_refused = link.take_refused || take }

@@ -1,8 +1,9 @@
 -- What wakes a bell that sleeps.
-use Rattle.std.specs.Prelude.{ℕ, nat_le, ◌||◌, Bool, true, Option, None, Some}
+use Rattle.std.specs.Prelude.{◌≡◌, ℕ, ◌-◌, nat_le, ◌&&◌, ◌||◌, not, Bool, true, Option, None, Some}
 use Rattle.std.specs.Option.{option_map}
 use Rattle.dine_rules.specs.declared.letters.Kind4.{Kind4}
 use Rattle.dine_rules.specs.Wants.{SeenWants, is_wanted, still_wanted}
+use Rattle.dine_link.specs.declared.sleeper.SleepState.{SleepState}
 use Rattle.dine_link.specs.declared.wants.Wants.{Wants}
 use Rattle.dine_link.specs.declared.wants.Awaited.{Awaited}
 
@@ -24,3 +25,12 @@ wakes (Some wants) number kind = nat_le 64 number || is_wanted wants number kind
 abbrev pub still_wants : Option SeenWants → Kind4 → Option SeenWants
 still_wants None kind = None
 still_wants (Some wants) kind = Some (still_wanted wants kind)
+
+-- The state of a bell notes a ring by the ringer of that number for a letter of that kind. A bell that sleeps is woken
+-- if it wants the letter, or if it has capacity for only one ring. If it sleeps on, it still wants what was not noted
+-- yet, and it has capacity for one ring fewer.
+pub record NotesRing (number : ℕ) (kind : Kind4) (old new : SleepState) (woken : Bool) : Type 0 where
+  pub wakes : woken ≡ (old.asleep && (wakes (seen_wants old.wants) number kind || nat_le old.room 1))
+  pub asleep : new.asleep ≡ (old.asleep && not woken)
+  pub wants : new.asleep ≡ true → seen_wants new.wants ≡ still_wants (seen_wants old.wants) kind
+  pub room : new.asleep ≡ true → new.room ≡ old.room - 1

@@ -2,3 +2,4 @@
 pub mod BellFields
 pub mod BellRule
 pub mod Rule
+pub mod Refusals

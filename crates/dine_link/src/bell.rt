@@ -1,9 +1,11 @@
 // A bell: its owner waits for rings, and each of its ringers rings with a number of its own.
-ghost use Rattle.std.specs.Prelude.{◌≡◌, ◌<◌, [], IfOk, IfSome, MatchOption, MatchResult, length, map};
+ghost use Rattle.std.specs.Prelude.{◌≡◌, ◌<◌, ◌*◌, [], IfOk, IfSome, MatchOption, MatchResult, length, map, max};
+ghost use Rattle.std.specs.Prelude.{true};
 ghost use Rattle.std.specs.List.{range_with_len};
 ghost use Rattle.crossbeam_channel.specs.Claims.{view, IsSeatAt};
-ghost use Rattle.crossbeam_channel.specs.Ends.{sends_on};
-ghost use Rattle.dine_link.specs.private.BellRule.{no_ringers};
+ghost use Rattle.crossbeam_channel.specs.Ends.{receives_on, sends_on};
+ghost use Rattle.dine_link.specs.private.BellRule.{HasHeard, IsOfRinger, after_sound, no_ringers};
+ghost use Rattle.dine_link.specs.Waking.{NotesRing};
 ghost use Rattle.dine_link.specs.Bells.{BellId, new_ringer, after_ring, after_refused_ring, new_bell, after_report};
 ghost use Rattle.dine_link.specs.Bells.{after_empty_check, after_refused_wait};
 ghost use Rattle.dine_link.specs.declared.bell_rule.Part.TheVariants.{Waits};
@@ -11,7 +13,7 @@ ghost use Rattle.dine_link.specs.declared.bell_rule.Part.TheVariants.{Waits};
 use crate::bell_rule::{Hears, NextRinger, OfRingers, Part, Sounds};
 use crate::empty_checks::EmptyChecks;
 use crate::faults::{LinkFault, Lost};
-use crate::sleeper::{Sleeper, Waker};
+use crate::sleeper::{SleepState, Sleeper, Waker};
 use crate::wants::Wants;
 use crossbeam_channel::{Pass, RuledReceiver, RuledSender, TrySendError, bounded_with};
 use dine_rules::{Clock, Kind4};
@@ -137,7 +139,7 @@ impl Bell {
             (λ number. self.new ≡ after_report number self.old)
             (λ _. self.new ≡ after_refused_wait self.old) }
     {
-        if let Some(number) = self.hear(rt) {
+        if let Some(number) = self.next_ring(rt) {
             return Ok(number);
         }
         if let Some(number) = self.fall_asleep(rt, wants) {
@@ -158,7 +160,7 @@ impl Bell {
             (self.new ≡ self.old)
             (λ number. self.new ≡ after_report number self.old) }
     {
-        self.hear(rt)
+        self.next_ring(rt)
     }
 
     /// The same, by the site of the bell, which has a clock. Contracts then see of each check that found no ring left
@@ -169,7 +171,7 @@ impl Bell {
             (self.new ≡ after_empty_check (length clock.now.events) self.old)
             (λ number. self.new ≡ after_report number self.old) }
     {
-        let number = self.hear(rt);
+        let number = self.next_ring(rt);
         if number.is_none() {
             self.empty_checks = self.empty_checks.after(clock);
         }
@@ -184,7 +186,7 @@ impl Bell {
     }
 
     // Returns the number of a ringer that rang, if a ring is left to report.
-    fn hear<R: Wait>(&mut self, rt: &R) -> Option<u32>
+    fn next_ring<R: Wait>(&mut self, rt: &R) -> Option<u32>
         ensures below { IfSome result (λ number. number < self.new.degree) }
         ensures reported { MatchOption result
             (self.new ≡ self.old)
@@ -203,21 +205,39 @@ impl Bell {
             (self.new ≡ self.old)
             (λ number. self.new ≡ after_report number self.old) }
     {
+        let room = room_of(self.degree);
         let mut state = self.sleeper.state.lock(rt);
-        let heard = self
-            .receiver
-            .try_recv_as::<Hears, R>(rt, &mut self.pass)
-            .ok();
-        if heard.is_none() {
-            state.fall_asleep(wants, room_of(self.degree));
-        }
-        heard
+        next_ring_or_sleep(rt, &self.receiver, &mut self.pass, &mut state, wants, room)
     }
+}
+
+// Returns the number of a ringer that rang, if a ring is left to report. Only if none is left, the state notes that the
+// bell falls asleep, with these wants and with capacity for `room` rings.
+fn next_ring_or_sleep<R: Wait>(
+    rt: &R,
+    receiver: &RuledReceiver<u32, Part, OfRingers>,
+    pass: &mut Pass<u32, Part>,
+    state: &mut SleepState,
+    wants: Wants,
+    room: usize,
+) -> Option<u32>
+    requires seated { IsSeatAt (receives_on receiver.now) pass.old }
+    ensures seated { IsSeatAt (receives_on receiver.now) pass.new }
+    ensures heard { HasHeard result (view pass.old) (view pass.new) }
+    ensures noted { MatchOption result
+        (state.new ≡ record { asleep = true; wants = wants; room = room })
+        (λ _. state.new ≡ state.old) }
+{
+    let heard = receiver.try_recv_as::<Hears, R>(rt, pass).ok();
+    if heard.is_none() {
+        state.fall_asleep(wants, room);
+    }
+    heard
 }
 
 // Returns for how many rings that it has not reported yet a bell of that degree has capacity.
 fn room_of(degree: u32) -> usize
-    ensures { 0 < result }
+    ensures { result ≡ max (4 * degree) 1 }
 {
     (RINGS_EACH * degree as usize).max(1)
 }
@@ -316,8 +336,30 @@ impl Ringer {
     {
         let number = self.number;
         let mut state = self.waker.sleeper.state.lock(rt);
-        self.sender
-            .try_send_as::<Sounds, R>(rt, &mut self.pass, number)?;
-        Ok(state.note(number, kind))
+        send_and_note(rt, &self.sender, &mut self.pass, &mut state, number, kind)
     }
+}
+
+// Sends the ringer's number if there is capacity, notes the ring, and returns whether it wakes the bell. If nothing is
+// sent, nothing is noted.
+fn send_and_note<R: Wait>(
+    rt: &R,
+    sender: &RuledSender<u32, Part, OfRingers>,
+    pass: &mut Pass<u32, Part>,
+    state: &mut SleepState,
+    number: u32,
+    kind: Kind4,
+) -> Result<bool, TrySendError<u32>>
+    requires seated { IsSeatAt (sends_on sender.now) pass.old }
+    requires own { IsOfRinger number (view pass.old) }
+    ensures seated { IsSeatAt (sends_on sender.now) pass.new }
+    ensures sent { MatchResult result
+        (λ _. view pass.new ≡ after_sound (view pass.old))
+        (λ _. view pass.new ≡ view pass.old) }
+    ensures noted { MatchResult result
+        (λ woken. NotesRing number kind state.old state.new woken)
+        (λ _. state.new ≡ state.old) }
+{
+    sender.try_send_as::<Sounds, R>(rt, pass, number)?;
+    Ok(state.note(number, kind))
 }

@@ -2,7 +2,7 @@
 ghost use Rattle.std.specs.Prelude.{◌≡◌, true, false, length};
 ghost use Rattle.dine_rules.specs.Streams.{is_close_last};
 ghost use Rattle.dine_link.specs.Closing.{ends_in_close};
-ghost use Rattle.dine_link.specs.Links.{also_refused};
+ghost use Rattle.dine_link.specs.private.Refusals.{also_refused};
 ghost use mathlib.Core.List.{IsPrefix};
 
 use crate::channel::ChannelEnds;

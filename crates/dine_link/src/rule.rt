@@ -17,30 +17,30 @@ pub struct Known {
 pub struct InOrder;
 
 impl Protocol<Stamped, Known> for InOrder {
-    ghost use Rattle.dine_link.specs.private.Rule.{IsInOrder, fresh};
+    ghost use Rattle.dine_link.specs.private.Rule.{IsInOrder, fresh_pass};
 
     ghost holds = { IsInOrder };
 
-    ghost first = { fresh };
+    ghost first = { fresh_pass };
 }
 
 // How one pass is split in two, one that puts and one that takes, and how these are joined again.
 pub struct Ends;
 
 impl Split<Known> for Ends {
-    ghost use Rattle.dine_link.specs.private.Rule.{putting, taking};
+    ghost use Rattle.dine_link.specs.private.Rule.{putting_part, taking_part};
 
-    ghost left = { putting };
+    ghost left = { putting_part };
 
-    ghost right = { taking };
+    ghost right = { taking_part };
 }
 
 impl Join<Known> for Ends {
-    ghost use Rattle.dine_link.specs.private.Rule.{joined, spent};
+    ghost use Rattle.dine_link.specs.private.Rule.{joined_parts, spent_pass};
 
-    ghost both = { joined };
+    ghost both = { joined_parts };
 
-    ghost spent = { spent };
+    ghost spent = { spent_pass };
 }
 
 // A send adds its letter to what was put.

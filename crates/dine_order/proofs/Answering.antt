@@ -11,7 +11,8 @@ use Rattle.dine_rules.specs.World.{IsComplete, Reaches, WorldState, enabled_even
 use Rattle.dine_core.specs.Worlds.{SeenWorld}
 use Rattle.dine_order.specs.declared.orders.OrderFault.{OrderFault}
 use Rattle.dine_order.specs.declared.orders.OrderFault.TheVariants.{Memory}
-use Rattle.dine_order.specs.Orders.{FirstLeft, HasNoOrder, IsNotClosed, IsSearched, IsStuckAt}
+use Rattle.dine_order.specs.Orders.{HasNoOrder, IsNotClosed, IsStuckAt}
+use Rattle.dine_order.specs.private.Searching.{FirstLeft, IsSearched}
 
 -- what the laws say of a world at the end of a search
 abbrev pub FindsAll : Type 0

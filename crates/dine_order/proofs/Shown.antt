@@ -7,7 +7,7 @@ use Rattle.std.proofs.lemmas.List.FromFn.{get_or-map-range_with_len, length-map-
 use Rattle.dine_token.specs.declared.log_entry.Entry.{Entry}
 use Rattle.dine_token.specs.declared.log_entry.Entry.TheVariants.{Meal, Move}
 use Rattle.dine_token.specs.declared.act.Act.{Act}
-use Rattle.dine_token.specs.Values.{applied}
+use Rattle.dine_token.specs.Values.{value_after_act}
 use Rattle.dine_graph.specs.Plan.{SeenPlan, act_of, hi_of, lo_of, site_count, value_of}
 use Rattle.dine_rules.specs.declared.events.Event.{Event}
 use Rattle.dine_rules.specs.declared.events.EventKind.{EventKind}
@@ -20,7 +20,7 @@ use Rattle.dine_rules.proofs.journals.Shown.{all_long, own_is, own_long}
 pub use Rattle.dine_rules.proofs.journals.Shown.{sites_shown}
 use Rattle.dine_core.specs.Worlds.{AreOutcomesFor}
 use Rattle.dine_rules.specs.Shown.{plan_shown, shown_by, shown_in}
-use Rattle.dine_order.specs.Orders.{noted, receiver_by, receiver_of}
+use Rattle.dine_order.specs.private.Searching.{outcomes_after, receiver_by, receiver_of}
 
 -- ---- an event more of a journal
 
@@ -64,26 +64,26 @@ fails_before-quit (Quit ∷ kinds) = quit_already (outcomes_in false kinds)
 fails_before-quit (End ∷ kinds) = refl
 fails_before-quit (kind ∷ kinds) = fails_before-quit kinds
 
-noted-first : (outcomes : List Bool) (failed : Bool) → quit_behind outcomes failed ∷ noted (length outcomes) outcomes ≡ noted (suc (length outcomes)) (failed ∷ outcomes)
-noted-first [] failed = refl
-noted-first (next ∷ outcomes) failed = refl
+outcomes_after-first : (outcomes : List Bool) (failed : Bool) → quit_behind outcomes failed ∷ outcomes_after (length outcomes) outcomes ≡ outcomes_after (suc (length outcomes)) (failed ∷ outcomes)
+outcomes_after-first [] failed = refl
+outcomes_after-first (next ∷ outcomes) failed = refl
 
-outcomes-quit : (kinds : List EventKind) → outcomes_in false (kinds ++ Quit ∷ []) ≡ noted (length (outcomes_in false kinds)) (outcomes_in false kinds)
+outcomes-quit : (kinds : List EventKind) → outcomes_in false (kinds ++ Quit ∷ []) ≡ outcomes_after (length (outcomes_in false kinds)) (outcomes_in false kinds)
 outcomes-quit [] = refl
 outcomes-quit (End ∷ kinds) =
-    ap₂ (λ (b : Bool) (rest : List Bool). b ∷ rest) (fails_before-quit kinds) (outcomes-quit kinds) ∙ noted-first (outcomes_in false kinds) (fails_before false kinds)
+    ap₂ (λ (b : Bool) (rest : List Bool). b ∷ rest) (fails_before-quit kinds) (outcomes-quit kinds) ∙ outcomes_after-first (outcomes_in false kinds) (fails_before false kinds)
 outcomes-quit (kind ∷ kinds) = outcomes-quit kinds
 
 -- the number of meals that ended
 pub ended-end : (kinds : List EventKind) → length (outcomes_in false (kinds ++ End ∷ [])) ≡ length (outcomes_in false kinds) + 1
 ended-end kinds = ap length (outcomes-end kinds) ∙ length-append (outcomes_in false kinds) (false ∷ [])
 
-noted-length : (n : ℕ) (outcomes : List Bool) → length (noted n outcomes) ≡ length outcomes
-noted-length zero outcomes = refl
-noted-length (suc k) outcomes = length-set outcomes k true
+outcomes_after-length : (n : ℕ) (outcomes : List Bool) → length (outcomes_after n outcomes) ≡ length outcomes
+outcomes_after-length zero outcomes = refl
+outcomes_after-length (suc k) outcomes = length-set outcomes k true
 
 pub ended-quit : (kinds : List EventKind) → length (outcomes_in false (kinds ++ Quit ∷ [])) ≡ length (outcomes_in false kinds)
-ended-quit kinds = ap length (outcomes-quit kinds) ∙ noted-length (length (outcomes_in false kinds)) (outcomes_in false kinds)
+ended-quit kinds = ap length (outcomes-quit kinds) ∙ outcomes_after-length (length (outcomes_in false kinds)) (outcomes_in false kinds)
 
 pub ended-other : (kinds : List EventKind) (kind : EventKind) → kind ≢ End → kind ≢ Quit → length (outcomes_in false (kinds ++ kind ∷ [])) ≡ length (outcomes_in false kinds)
 ended-other kinds kind not_end not_quit = ap length (outcomes-other kinds kind not_end not_quit)
@@ -105,9 +105,9 @@ none_more (first ∷ outcomes) zero = refl
 none_more (first ∷ outcomes) (suc k) = none_more outcomes k
 
 -- to note in the list of the jobs is to note in that of the meals
-listed-noted : (jobs n : ℕ) (outcomes : List Bool) → n ≤ length outcomes → noted n (listed jobs outcomes) ≡ listed jobs (noted n outcomes)
-listed-noted jobs zero outcomes few = refl
-listed-noted jobs (suc k) outcomes few =
+listed-outcomes_after : (jobs n : ℕ) (outcomes : List Bool) → n ≤ length outcomes → outcomes_after n (listed jobs outcomes) ≡ listed jobs (outcomes_after n outcomes)
+listed-outcomes_after jobs zero outcomes few = refl
+listed-outcomes_after jobs (suc k) outcomes few =
     let long : length (listed jobs outcomes) ≡ jobs = length-map-range_with_len (λ j. get_or outcomes j false) 0 jobs in
     ext_get_or false (set (listed jobs outcomes) k true) (listed jobs (set outcomes k true)) (length-set (listed jobs outcomes) k true ∙ long ∙ sym (length-map-range_with_len (λ j. get_or (set outcomes k true) j false) 0 jobs))
     (λ j within.
@@ -126,8 +126,8 @@ listed-noted jobs (suc k) outcomes few =
 pub shown-end : (jobs : ℕ) (kinds : List EventKind) → shown_in jobs (kinds ++ End ∷ []) ≡ shown_in jobs kinds
 shown-end jobs kinds = ap (listed jobs) (outcomes-end kinds) ∙ listed-same (outcomes_in false kinds ++ false ∷ []) (outcomes_in false kinds) 0 jobs (none_more (outcomes_in false kinds))
 
-pub shown-quit : (jobs : ℕ) (kinds : List EventKind) → shown_in jobs (kinds ++ Quit ∷ []) ≡ noted (length (outcomes_in false kinds)) (shown_in jobs kinds)
-shown-quit jobs kinds = ap (listed jobs) (outcomes-quit kinds) ∙ sym (listed-noted jobs (length (outcomes_in false kinds)) (outcomes_in false kinds) (omega arith))
+pub shown-quit : (jobs : ℕ) (kinds : List EventKind) → shown_in jobs (kinds ++ Quit ∷ []) ≡ outcomes_after (length (outcomes_in false kinds)) (shown_in jobs kinds)
+shown-quit jobs kinds = ap (listed jobs) (outcomes-quit kinds) ∙ sym (listed-outcomes_after jobs (length (outcomes_in false kinds)) (outcomes_in false kinds) (omega arith))
 
 pub shown-other : (jobs : ℕ) (kinds : List EventKind) (kind : EventKind) → kind ≢ End → kind ≢ Quit → shown_in jobs (kinds ++ kind ∷ []) ≡ shown_in jobs kinds
 shown-other jobs kinds kind not_end not_quit = ap (listed jobs) (outcomes-other kinds kind not_end not_quit)
@@ -169,7 +169,7 @@ module _ (plan : SeenPlan) (journals : List (List EventKind)) where
   -- a log gives the same fork
   value-same : (log : List Entry) (value : ℕ) → value_along plan log value ≡ value_along other log value
   value-same [] value = refl
-  value-same (Meal s k ∷ log) value = ap (λ (act : Act). value_along plan log (applied act value)) (sym (acts-same plan fails s k)) ∙ value-same log (applied (act_of other s k) value)
+  value-same (Meal s k ∷ log) value = ap (λ (act : Act). value_along plan log (value_after_act act value)) (sym (acts-same plan fails s k)) ∙ value-same log (value_after_act (act_of other s k) value)
   value-same (Move to ∷ log) value = value-same log value
 
   pub fork_shown : (edge : ℕ) (log : List Entry) → fork_by plan edge log ≡ fork_by other edge log

@@ -4,7 +4,8 @@ ghost use Rattle.dine_graph.specs.Plan.{site_count};
 ghost use Rattle.dine_rules.specs.Journals.{IsLowestFirst, IsWholeOrder};
 ghost use Rattle.dine_rules.specs.Outcomes.{NoSiteResigns};
 ghost use Rattle.dine_rules.specs.Shown.{plan_shown};
-ghost use Rattle.dine_order.specs.Orders.{FirstLeft, OrderFaultIs, order_fault_words};
+ghost use Rattle.dine_order.specs.Orders.{OrderFaultIs, order_fault_words};
+ghost use Rattle.dine_order.specs.private.Searching.{FirstLeft};
 ghost use Rattle.dine_order.specs.declared.orders.OrderFault.TheVariants.{CountDiffers, Memory};
 
 mod outcomes;

@@ -7,3 +7,7 @@ pub mod OneOrder
 pub mod OtherOutcomes
 pub mod Shown
 pub mod EatingApart
+pub mod Going
+pub mod Asked
+pub mod Quitting
+pub mod OwnOutcomes

@@ -27,8 +27,8 @@ pair a b = record { version = 1; sites = site_with (codes "a") a ∷ site_with (
 
 -- two sites with an edge between them: the lower one resigns, and the second of its three jobs fails; the higher one
 -- has one job
-abbrev pub resigning : SeenPlan
-resigning = record {
+abbrev pub resigning_pair : SeenPlan
+resigning_pair = record {
   version = 2;
   sites = record { name = codes "a"; jobs = no_job ∷ record no_job { fails = true } ∷ no_job ∷ []; resigns = true } ∷ site_with (codes "b") 1 ∷ [];
   edges = (0, 1) ∷ [];
@@ -36,8 +36,8 @@ resigning = record {
 }
 
 -- one site alone, with two jobs
-abbrev pub alone : SeenPlan
-alone = record { version = 1; sites = site_with (codes "a") 2 ∷ []; edges = []; values = [] }
+abbrev pub lone_site : SeenPlan
+lone_site = record { version = 1; sites = site_with (codes "a") 2 ∷ []; edges = []; values = [] }
 
 -- three sites in a row, with these numbers of jobs
 abbrev pub row : ℕ → ℕ → ℕ → SeenPlan
@@ -105,5 +105,5 @@ abbrev pub breach_of_done : SeenPlan → Option Breach
 breach_of_done plan = first_breach plan 1 (after plan 1 (asker plan) (Take 0 (Fork (fork_after_one plan)))) 0 Done
 
 -- the higher site of a pair with a job each, which did a Break at the start
-abbrev pub broken_off : LocalState
-broken_off = after (pair 1 1) 1 (start_of (pair 1 1) 1) (Break 0)
+abbrev pub broken_off_site : LocalState
+broken_off_site = after (pair 1 1) 1 (start_of (pair 1 1) 1) (Break 0)

@@ -16,28 +16,28 @@ abbrev pub from_here : WorldState → Counted
 from_here world = record { world = world; events = 0 }
 
 -- the run after this event; if there is none, the run as it was
-abbrev pub chosen : SeenPlan → Counted → Option Event → Counted
-chosen plan now None = now
-chosen plan now (Some e) = record { world = unwrap_or (world_after plan now.world e) now.world; events = now.events + 1 }
+abbrev pub run_after : SeenPlan → Counted → Option Event → Counted
+run_after plan now None = now
+run_after plan now (Some e) = record { world = unwrap_or (world_after plan now.world e) now.world; events = now.events + 1 }
 
 -- the run after the n-th of the enabled events, from 0; if there is no such event, the run as it was
-abbrev pub choose : SeenPlan → Counted → ℕ → Counted
-choose plan now n = chosen plan now (slice_get (enabled_events plan now.world) n)
+abbrev pub run_after_choice : SeenPlan → Counted → ℕ → Counted
+run_after_choice plan now n = run_after plan now (slice_get (enabled_events plan now.world) n)
 
 -- the run after the choices, one after the other
 abbrev pub replay : SeenPlan → Counted → List ℕ → Counted
 replay plan now [] = now
-replay plan now (n ∷ choices) = replay plan (choose plan now n) choices
+replay plan now (n ∷ choices) = replay plan (run_after_choice plan now n) choices
 
 -- the rest of a run after this event; if there is none, the run as it was
-abbrev pub carried_on : (Counted → Counted) → SeenPlan → Counted → Option Event → Counted
-carried_on rest plan now None = now
-carried_on rest plan now (Some e) = rest (chosen plan now (Some e))
+abbrev pub rest_after : (Counted → Counted) → SeenPlan → Counted → Option Event → Counted
+rest_after rest plan now None = now
+rest_after rest plan now (Some e) = rest (run_after plan now (Some e))
 
 -- the run after the first enabled event, again and again, until no event is enabled, with at most n events
 abbrev pub finish_within : ℕ → SeenPlan → Counted → Counted
 finish_within zero plan now = now
-finish_within (suc n) plan now = carried_on (finish_within n plan) plan now (slice_get (enabled_events plan now.world) 0)
+finish_within (suc n) plan now = rest_after (finish_within n plan) plan now (slice_get (enabled_events plan now.world) 0)
 
 -- the run of the choices, and then of the first enabled events to its end, which takes at most `bound_of` events
 abbrev pub whole_run : SeenPlan → List ℕ → Counted

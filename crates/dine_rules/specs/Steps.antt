@@ -2,7 +2,7 @@
 use Rattle.std.specs.Prelude.{◌≡◌, ℕ, ◌+◌, ◌<◌, ◌==◌, ◌&&◌, ◌||◌, not, Bool, true, false, List, [], ◌∷◌, ◌++◌, length, nat_lt, slice_set, Option, Some, option_map}
 use Rattle.std.specs.List.{list_all, range_with_len}
 use Rattle.dine_token.specs.declared.log_entry.Entry.{Entry}
-use Rattle.dine_token.specs.Fork.{SeenFork, moved}
+use Rattle.dine_token.specs.Fork.{SeenFork, after_move}
 use Rattle.dine_token.specs.Log.{is_dirty}
 use Rattle.dine_graph.specs.Plan.{SeenPlan, job_count, lo_of, hi_of, resigns, value_of}
 use Rattle.dine_rules.specs.declared.events.EventKind.{EventKind}
@@ -60,7 +60,7 @@ hand_fork_at plan s state i = hand_fork plan s (edge_at plan s i) state.ate (tra
 
 -- the fork that a Give at place i sends: the fork in hand, with a Move to the other end [paper: release rule]
 abbrev pub given_fork : SeenPlan → ℕ → LocalState → ℕ → SeenFork
-given_fork plan s state i = moved (neighbour_at plan s i) (hand_fork_at plan s state i)
+given_fork plan s state i = after_move (neighbour_at plan s i) (hand_fork_at plan s state i)
 
 -- the state after one more letter is put at place i
 abbrev pub with_put : ℕ → Letter → LocalState → LocalState

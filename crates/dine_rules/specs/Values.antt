@@ -10,7 +10,7 @@ use Rattle.dine_token.specs.Log.{meals_of}
 use Rattle.dine_token.specs.declared.act.Act.{Act}
 use Rattle.dine_token.specs.declared.act.Act.TheVariants.{Add, Set}
 use Rattle.dine_token.specs.Lawful.{count_from}
-use Rattle.dine_token.specs.Values.{amount_of, applied}
+use Rattle.dine_token.specs.Values.{amount_of, value_after_act}
 use Rattle.dine_graph.specs.Plan.{SeenPlan, SeenSite, SeenJob, act_of, lo_of, hi_of, value_of}
 use Rattle.dine_rules.specs.declared.letters.Letter.{Letter}
 use Rattle.dine_rules.specs.declared.letters.Letter.TheVariants.{Fork}
@@ -21,7 +21,7 @@ use Rattle.dine_rules.specs.Local.{Traffic}
 -- a value after n meals of a site, numbered from `first`
 abbrev pub after_meals : SeenPlan → ℕ → ℕ → ℕ → ℕ → ℕ
 after_meals plan s first zero value = value
-after_meals plan s first (suc n) value = after_meals plan s (first + 1) n (applied (act_of plan s first) value)
+after_meals plan s first (suc n) value = after_meals plan s (first + 1) n (value_after_act (act_of plan s first) value)
 
 -- the value that goes with a log, after those meals of the site up to meal `ate` that the log lacks
 abbrev pub value_to : SeenPlan → ℕ → ℕ → List Entry → ℕ → ℕ
@@ -34,7 +34,7 @@ hand_value plan s edge ate traffic = value_to plan s ate (last_log_or [] traffic
 -- a value after all meals of a log, in order; a Move changes nothing
 abbrev pub value_along : SeenPlan → List Entry → ℕ → ℕ
 value_along plan [] value = value
-value_along plan (Meal s k ∷ log) value = value_along plan log (applied (act_of plan s k) value)
+value_along plan (Meal s k ∷ log) value = value_along plan log (value_after_act (act_of plan s k) value)
 value_along plan (Move to ∷ log) value = value_along plan log value
 
 -- the value that a log gives to an edge: the value of the plan, after all meals of the log
@@ -56,8 +56,8 @@ amounts_of plan s [] = 0
 amounts_of plan s (k ∷ numbers) = amount_of (act_of plan s k) + amounts_of plan s numbers
 
 -- if all jobs add: the value of an edge after these numbers of meals of its lower and its higher end, in any order
-abbrev pub added_up : SeenPlan → ℕ → ℕ → ℕ → ℕ
-added_up plan edge low_ate high_ate = value_of plan edge + amounts_of plan (lo_of plan edge) (count_from 1 low_ate) + amounts_of plan (hi_of plan edge) (count_from 1 high_ate)
+abbrev pub value_by_amounts : SeenPlan → ℕ → ℕ → ℕ → ℕ
+value_by_amounts plan edge low_ate high_ate = value_of plan edge + amounts_of plan (lo_of plan edge) (count_from 1 low_ate) + amounts_of plan (hi_of plan edge) (count_from 1 high_ate)
 
 -- each Fork among the letters has the value that its log gives
 abbrev pub HaveValuesOfLogs : SeenPlan → ℕ → List Letter → Type 0

@@ -6,11 +6,12 @@ ghost use Rattle.std.specs.List.{list_any};
 ghost use Rattle.dine_graph.specs.Plan.{IsPlan, SeenPlan, edge_count, hi_of, job_count, lo_of, site_count};
 ghost use Rattle.dine_token.specs.Fork.{SeenFork};
 ghost use Rattle.dine_token.specs.Lawful.{IsLawful};
+ghost use Rattle.dine_token.specs.Log.{is_dirty};
 ghost use Rattle.dine_token.specs.declared.log_entry.Entry.TheVariants.{Meal, Move};
 ghost use Rattle.dine_rules.specs.Bound.{bound_of, effects_of};
-ghost use Rattle.dine_rules.specs.Examples.{alone, breach_of_done, breach_of_fork, enabled_after, ends_complete};
+ghost use Rattle.dine_rules.specs.Examples.{lone_site, breach_of_done, breach_of_fork, enabled_after, ends_complete};
 ghost use Rattle.dine_rules.specs.Examples.{next_after, outcome_of, pair, path, preferred_after, preferred_at_end};
-ghost use Rattle.dine_rules.specs.Examples.{resigning, row};
+ghost use Rattle.dine_rules.specs.Examples.{resigning_pair, row};
 ghost use Rattle.dine_rules.specs.Breach.{first_breach, is_allowed, number_of};
 ghost use Rattle.dine_rules.specs.BreachCauses.{Applies};
 ghost use Rattle.dine_rules.specs.declared.breach.Breach.{Breach};
@@ -48,9 +49,11 @@ pub use joined::{
     values_are_those_of_the_logs,
 };
 pub use journals::{
-    disabled_events_wait_for_a_letter, journals_and_links_fix_the_logs, journals_fix_the_world,
-    journals_go_as_worked, journals_grow_by_each_event, journals_stand_for_other_outcomes,
-    neighbours_eat_apart_in_each_order, order_between_sites_does_not_matter,
+    askers_wait_as_worked, askers_wait_for_one_meal, disabled_events_wait_for_a_letter,
+    journals_and_links_fix_the_logs, journals_fix_the_world, journals_go_as_worked,
+    journals_grow_by_each_event, journals_show_a_failure_by_quitting,
+    journals_stand_for_other_outcomes, neighbours_eat_apart_in_each_order,
+    order_between_sites_does_not_matter, orders_are_of_the_plan_if_sites_resign_as_planned,
     orders_grow_by_each_event, orders_that_exist_are_found,
     outcomes_matter_only_to_sites_that_resign, timed_journals_have_an_order,
 };
@@ -80,13 +83,13 @@ pub fn small_plans_run_as_worked()
     ensures lower_alone { outcome_of (pair 3 0) []
         ≡ record { logs = (Meal 0 1 ∷ Meal 0 2 ∷ Meal 0 3 ∷ []) ∷ []; events = 17 } }
     ensures higher_alone { outcome_of (pair 0 1) [] ≡ record { logs = (Move 1 ∷ Meal 1 1 ∷ []) ∷ []; events = 15 } }
-    ensures alone { outcome_of alone [] ≡ record { logs = []; events = 6 } }
+    ensures alone { outcome_of lone_site [] ≡ record { logs = []; events = 6 } }
     ensures path { outcome_of path []
         ≡ record {
           logs = (Meal 0 1 ∷ Move 1 ∷ Meal 1 1 ∷ []) ∷ (Meal 1 1 ∷ Move 2 ∷ Meal 2 1 ∷ []) ∷ [];
           events = 33;
         } }
-    ensures resigning { outcome_of resigning []
+    ensures resigning { outcome_of resigning_pair []
         ≡ record { logs = (Meal 0 1 ∷ Meal 0 2 ∷ Move 1 ∷ Meal 1 1 ∷ []) ∷ []; events = 22 } }
 {}
 
@@ -95,9 +98,9 @@ pub fn small_plans_have_these_bounds()
     ensures pair { bound_of (pair 1 1) ≡ 22 }
     ensures lower_alone { bound_of (pair 3 0) ≡ 29 }
     ensures higher_alone { bound_of (pair 0 1) ≡ 15 }
-    ensures alone { bound_of alone ≡ 6 }
+    ensures alone { bound_of lone_site ≡ 6 }
     ensures path { bound_of path ≡ 41 }
-    ensures resigning { bound_of resigning ≡ 36 }
+    ensures resigning { bound_of resigning_pair ≡ 36 }
 {}
 
 /// At the start both sites of a pair may grow hungry, and nothing else is enabled. After six events of the second
@@ -129,15 +132,15 @@ pub fn events_are_ordered_as_worked()
 /// grow hungry. Then it says Done. Its neighbour takes a Fork with one of its meals, and then Done. If the lower site
 /// did not resign, that Done would be a breach.
 pub fn resigning_goes_as_worked()
-    ensures after_one { enabled_after resigning (0 ∷ 0 ∷ 0 ∷ [])
+    ensures after_one { enabled_after resigning_pair (0 ∷ 0 ∷ 0 ∷ [])
         ≡ record { site = 0; kind = Hungry } ∷ record { site = 1; kind = Hungry } ∷ [] }
-    ensures after_two { enabled_after resigning (0 ∷ 0 ∷ 0 ∷ 0 ∷ 0 ∷ 0 ∷ [])
+    ensures after_two { enabled_after resigning_pair (0 ∷ 0 ∷ 0 ∷ 0 ∷ 0 ∷ 0 ∷ [])
         ≡ record { site = 0; kind = Quit } ∷ record { site = 1; kind = Hungry } ∷ [] }
-    ensures after_quit { enabled_after resigning (0 ∷ 0 ∷ 0 ∷ 0 ∷ 0 ∷ 0 ∷ 0 ∷ [])
+    ensures after_quit { enabled_after resigning_pair (0 ∷ 0 ∷ 0 ∷ 0 ∷ 0 ∷ 0 ∷ 0 ∷ [])
         ≡ record { site = 0; kind = Done 0 } ∷ record { site = 1; kind = Hungry } ∷ [] }
-    ensures end { ends_complete resigning ≡ 2 ∷ 1 ∷ [] }
-    ensures fork { breach_of_fork resigning ≡ None }
-    ensures done { breach_of_done resigning ≡ None }
+    ensures end { ends_complete resigning_pair ≡ 2 ∷ 1 ∷ [] }
+    ensures fork { breach_of_fork resigning_pair ≡ None }
+    ensures done { breach_of_done resigning_pair ≡ None }
     ensures other_fork { breach_of_fork (pair 3 1) ≡ None }
     ensures other_done { breach_of_done (pair 3 1) ≡ Some DoneOutOfTurn }
 {}
@@ -251,12 +254,17 @@ pub fn breaches_are_numbered()
 {}
 
 /// A neighbour that asked gets precedence. Take a state that steps lead to from the start, whatever letters arrived. If
-/// the site holds the fork and the token of a place, it begins at most one meal more before it gives that fork.
+/// the site holds the fork and the token of a place, it begins at most one meal more before it gives that fork. If that
+/// fork is dirty, it begins none: it gives the fork before its next meal.
 pub fn asker_has_precedence()
-    ensures { (plan : SeenPlan) (s i : ℕ) (state new : LocalState) (before steps : List Step)
+    ensures at_most_one { (plan : SeenPlan) (s i : ℕ) (state new : LocalState) (before steps : List Step)
         → LeadTo plan s (start_of plan s) before state → i < length state.traffic
         → fork_at plan s state i ≡ 1 → token_at plan s state i ≡ 1
         → LeadTo plan s state steps new → list_any (is_give_at i) steps ≡ false → begins_in steps ≤ 1 }
+    ensures none_if_dirty { (plan : SeenPlan) (s i : ℕ) (state new : LocalState) (before steps : List Step)
+        → LeadTo plan s (start_of plan s) before state → i < length state.traffic
+        → fork_at plan s state i ≡ 1 → token_at plan s state i ≡ 1 → is_dirty (hand_at s state i) ≡ true
+        → LeadTo plan s state steps new → list_any (is_give_at i) steps ≡ false → begins_in steps ≡ 0 }
 {}
 
 /// In every world that events reach from the start: there is one state for each site, each site keeps its streams, and

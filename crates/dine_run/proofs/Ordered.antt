@@ -1,5 +1,6 @@
 -- An order of the journals of a run leads to the forks that were gathered.
-use Rattle.std.proofs.Common.{◌≡◌, ◌≢◌, ℕ, ◌+◌, ◌<◌, ◌==◌, List, length, get_or, refl, sym, ◌∙◌, ap, inl, inr, arith}
+use Rattle.std.proofs.Common.{◌≡◌, ◌≢◌, ℕ, ◌+◌, ◌<◌, ◌==◌, List, length, map, get_or, refl, sym, ◌∙◌, ap, inl, inr, arith}
+use Rattle.std.specs.List.{range_with_len}
 use Rattle.std.proofs.lemmas.Bool.{cases_eq, cond-false, cond-true, eq-eqb, ne_eqb}
 use Rattle.std.proofs.lemmas.List.{ext_get_or, length-map}
 use Rattle.std.proofs.lemmas.List.FromFn.{get_or-map-range_with_len, length-map-range_with_len, length-range_with_len}
@@ -48,7 +49,8 @@ module _ (known : Known) (plan : SeenPlan) (ates : List ℕ) (links : List SeenL
     is_plan_too : IsPlan other
     is_plan_too = plan-stays plan (shown_by plan journals) is_plan
 
-    world_is : world ≡ states
+    -- the world has the states that the links show
+    pub world_is : world ≡ states
     world_is =
         known.fixed other journals states world events is_plan_too (states-stay plan (shown_by plan journals) journals states (states_after plan ates links is_plan forks headline journals are_journals))
         (fail_as_shown plan journals states (none_must plan ates links)) holds reached
@@ -81,11 +83,18 @@ module _ (known : Known) (plan : SeenPlan) (ates : List ℕ) (links : List SeenL
               ∙ log_is high (place_of plan high edge) edge (high_traffic links edge) top ends.within_there (ends.same_edge ∙ known.edge plan edge is_plan within) (of_high plan links high edge far) (omega (arith, one, away))
         ]
 
-    pub forks_of_order : forks ≡ forks_seen other world
-    forks_of_order =
+    -- so the forks are these, if each is the fork that the log gives
+    forks_are : (seen : ℕ → SeenFork) → ((edge : ℕ) → fork_by plan edge (fork_log other world edge) ≡ seen edge) → forks ≡ map seen (range_with_len 0 (edge_count plan))
+    forks_are seen same =
         let count : length forks ≡ edge_count plan = sym (length-map forks (λ (x : SeenFork). x.edge)) ∙ ap length headline.one_fork_an_edge ∙ length-range_with_len 0 (edge_count plan) in
-        let past : SeenFork = fork_seen other world 0 in
-        ext_get_or past forks (forks_seen other world) (count ∙ sym (length-map-range_with_len (fork_seen other world) 0 (edge_count plan))) (λ edge below.
+        let past : SeenFork = seen 0 in
+        ext_get_or past forks (map seen (range_with_len 0 (edge_count plan))) (count ∙ sym (length-map-range_with_len seen 0 (edge_count plan))) (λ edge below.
         let within : edge < edge_count plan = omega (arith, count, below) in
         let the = headline.each_fork edge (get_or forks edge past) (slice_get-get_or forks edge past below) in
-        the.in_hand ∙ ap (fork_by plan edge) (log_of edge within the.one) ∙ fork_shown plan journals edge (fork_log other world edge) ∙ sym (get_or-map-range_with_len (fork_seen other world) 0 (edge_count plan) edge edge past within (omega arith)))
+        the.in_hand ∙ ap (fork_by plan edge) (log_of edge within the.one) ∙ same edge ∙ sym (get_or-map-range_with_len seen 0 (edge_count plan) edge edge past within (omega arith)))
+
+    pub forks_of_order : forks ≡ forks_seen other world
+    forks_of_order = forks_are (fork_seen other world) (λ edge. fork_shown plan journals edge (fork_log other world edge))
+
+    pub forks_of_plan : forks ≡ forks_seen plan world
+    forks_of_plan = forks_are (fork_seen plan world) (λ edge. refl)

@@ -5,8 +5,8 @@ ghost use Rattle.dine_rules.specs.Journals.{IsLowestFirst, IsWholeOrder};
 ghost use Rattle.dine_rules.specs.Shown.{plan_shown};
 ghost use Rattle.dine_threads.specs.Journals.{HaveOrder};
 
+use dine_graph::Plan;
 use dine_order::{OrderFault, order};
-use dine_plan::Plan;
 use dine_rules::{Event, laws};
 use dine_site::Diner;
 use dine_threads::Gathered;

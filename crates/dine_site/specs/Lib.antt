@@ -9,5 +9,4 @@ pub mod Endings
 pub mod SiteEnds
 pub mod SiteRuns
 pub mod FaultWords
-pub mod Running
 pub mod private

@@ -1,20 +1,17 @@
 -- The two link ends of a site at a place, as contracts see them, whatever lane they are of. Rings are counted, and not
 -- ordered among the letters.
-use Rattle.std.specs.Prelude.{◌≡◌, ◌⊎◌, ℕ, ◌+◌, ◌≤◌, Bool, true, false, List, [], ◌∷◌, ◌++◌, length, map, slice_get, slice_set, Option, IfSome, option_to_list}
+use Rattle.std.specs.Prelude.{◌≡◌, ◌⊎◌, ℕ, ◌+◌, ◌≤◌, Bool, true, false, List, [], ◌∷◌, ◌++◌, length, map, Option, option_to_list}
 use Rattle.std.specs.List.{list_any}
 use Rattle.dine_rules.specs.declared.events.EventKind.{EventKind}
 use Rattle.dine_rules.specs.declared.letters.Letter.{Letter}
 use Rattle.dine_rules.specs.declared.letters.Letter.TheVariants.{Close}
 use Rattle.dine_site.specs.declared.port.Port.{Port}
-use Rattle.dine_site.specs.declared.port.Sent.{Sent}
-use Rattle.dine_site.specs.declared.port.Sent.TheVariants.{Heard, Refused, Unheard}
 use Rattle.dine_site.specs.declared.port.Closed.{Closed}
-use Rattle.dine_site.specs.declared.port.Closed.TheVariants as closed
 use Rattle.dine_link.specs.declared.lane.TxEnd.{TxEnd}
 use Rattle.dine_link.specs.declared.lane.TxEnd.TheVariants.{Live, Shut}
 use Rattle.dine_link.specs.Lanes.{seen_end}
-use Rattle.dine_link.specs.Bells.{SeenRinger, after_refused_ring, after_ring}
-use Rattle.dine_link.specs.Links.{SeenEnd, after_refusal, with_letter_at}
+use Rattle.dine_link.specs.Bells.{SeenRinger}
+use Rattle.dine_link.specs.Links.{SeenEnd}
 use Rattle.dine_link.specs.declared.lane.Lane.{Ghosts}
 use Rattle.dine_site.specs.Doings.{is_close_at}
 
@@ -40,60 +37,6 @@ module _ {Lane Tx Closed Rx : Type 0} (lane : Ghosts Lane Tx Closed Rx) where
   -- the ports of all places, in order
   abbrev pub seen_ports : List (Port Lane Tx Closed Rx) → List (SeenPort lane.Identity)
   seen_ports ports = map seen_port ports
-
-module _ {Identity : Type 0} where
-  -- the port after a letter was put and the bell rung
-  abbrev pub put_on : ℕ → Letter → SeenPort Identity → SeenPort Identity
-  put_on m letter port = record { tx = with_letter_at letter m port.tx; is_live = port.is_live; rx = port.rx; ringer = after_ring port.ringer }
-
-  -- the port after a letter was put and the ring refused
-  abbrev pub put_unheard_on : ℕ → Letter → SeenPort Identity → SeenPort Identity
-  put_unheard_on m letter port = record { tx = with_letter_at letter m port.tx; is_live = port.is_live; rx = port.rx; ringer = after_refused_ring port.ringer }
-
-  -- the port after Close was put and the bell rung; no more can be put
-  abbrev pub closed_on : ℕ → SeenPort Identity → SeenPort Identity
-  closed_on m port = record { tx = with_letter_at Close m port.tx; is_live = false; rx = port.rx; ringer = after_ring port.ringer }
-
-  -- the port after Close was put and the ring refused; no more can be put
-  abbrev pub closed_unheard_on : ℕ → SeenPort Identity → SeenPort Identity
-  closed_unheard_on m port = record { tx = with_letter_at Close m port.tx; is_live = false; rx = port.rx; ringer = after_refused_ring port.ringer }
-
-  -- the port after the link refused a letter or Close
-  abbrev pub refused_on : SeenPort Identity → SeenPort Identity
-  refused_on port = record { tx = after_refusal port.tx; is_live = port.is_live; rx = port.rx; ringer = port.ringer }
-
-  -- the port after a letter was taken
-  abbrev pub taken_on : ℕ → Letter → SeenPort Identity → SeenPort Identity
-  taken_on m letter port = record { tx = port.tx; is_live = port.is_live; rx = with_letter_at letter m port.rx; ringer = port.ringer }
-
-  -- the port after the link refused to give a letter
-  abbrev pub untaken_on : SeenPort Identity → SeenPort Identity
-  untaken_on port = record { tx = port.tx; is_live = port.is_live; rx = after_refusal port.rx; ringer = port.ringer }
-
-  -- the port after the bell was rung
-  abbrev pub rung_on : SeenPort Identity → SeenPort Identity
-  rung_on port = record { tx = port.tx; is_live = port.is_live; rx = port.rx; ringer = after_ring port.ringer }
-
-  -- the port after the bell refused the ring
-  abbrev pub unrung_on : SeenPort Identity → SeenPort Identity
-  unrung_on port = record { tx = port.tx; is_live = port.is_live; rx = port.rx; ringer = after_refused_ring port.ringer }
-
-  -- a letter was sent: it was put and the bell rung, or the link refused it and it is handed back, or the bell refused
-  -- the ring
-  abbrev pub Sends : ℕ → Letter → SeenPort Identity → SeenPort Identity → Sent → Type 0
-  Sends m letter old new Heard = new ≡ put_on m letter old
-  Sends m letter old new Unheard = new ≡ put_unheard_on m letter old
-  Sends m letter old new (Refused back) = (back ≡ letter) × (new ≡ refused_on old)
-
-  -- Close was sent: it was put and the bell rung, or it was put and the ring refused, or the link refused it
-  abbrev pub SendsClose : ℕ → SeenPort Identity → SeenPort Identity → Closed → Type 0
-  SendsClose m old new closed.Heard = new ≡ closed_on m old
-  SendsClose m old new closed.Unheard = new ≡ closed_unheard_on m old
-  SendsClose m old new closed.Refused = new ≡ refused_on old
-
-  -- one of the ports changed, in this way
-  abbrev pub ChangesAt : ℕ → (SeenPort Identity → SeenPort Identity → Type 0) → List (SeenPort Identity) → List (SeenPort Identity) → Type 0
-  ChangesAt i Way olds news = IfSome (slice_get olds i) (λ (old : SeenPort Identity). (new : SeenPort Identity) × Way old new × (news ≡ slice_set olds i new))
 
 -- no step at the port was refused
 pub record IsUnrefused {Identity : Type 0} (port : SeenPort Identity) : Type 0 where

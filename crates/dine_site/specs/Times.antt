@@ -1,5 +1,5 @@
 -- The moments of a site's events, and how they fit its link ends.
-use Rattle.std.specs.Prelude.{◌≡◌, ℕ, ◌<◌, ◌==◌, List, [], ◌∷◌, ◌++◌, map, length, slice_get, Some, if◌then◌else◌}
+use Rattle.std.specs.Prelude.{◌≡◌, ℕ, ◌<◌, List, [], ◌++◌, map, length, slice_get, Some}
 use Rattle.dine_rules.specs.declared.events.EventKind.{EventKind}
 use Rattle.dine_rules.specs.Timed.{Rise, is_put_at, is_take_at, moments_of}
 use Rattle.dine_site.specs.Ports.{SeenPort}
@@ -7,10 +7,6 @@ use Rattle.dine_site.specs.Ports.{SeenPort}
 -- each of these moments is later than that at its place in the other list
 abbrev pub AreLater : List ℕ → List ℕ → Type 0
 AreLater later sooner = (n put taken : ℕ) → slice_get sooner n ≡ Some put → slice_get later n ≡ Some taken → put < taken
-
--- the moment of a letter at place k whose event was done, and which is not put yet
-abbrev pub late_at : ℕ → ℕ → ℕ → List ℕ
-late_at k m i = if i == k then m ∷ [] else []
 
 -- no letter whose event was done is left to put
 abbrev pub none_late : ℕ → List ℕ

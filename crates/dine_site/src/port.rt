@@ -2,8 +2,9 @@
 ghost use Rattle.std.specs.Prelude.{◌≡◌, ◌<◌, ◌^◌, true, false, length, MatchResult};
 ghost use Rattle.dine_rules.specs.Letters.{has_close};
 ghost use Rattle.dine_link.specs.Closing.{is_close};
-ghost use Rattle.dine_site.specs.Ports.{Sends, SendsClose, is_live_end, rung_on, seen_port, taken_on, unrung_on};
-ghost use Rattle.dine_site.specs.Ports.{untaken_on};
+ghost use Rattle.dine_site.specs.Ports.{is_live_end, seen_port};
+ghost use Rattle.dine_site.specs.private.PortSteps.{EndsIn, Sends, SendsClose, port_after_ring, port_after_take};
+ghost use Rattle.dine_site.specs.private.PortSteps.{port_after_refused_ring, port_after_refused_take};
 
 use dine_link::{Lane, Lost, Ringer, TxEnd};
 use dine_rules::{Kind4, Letter, Stamp};
@@ -88,17 +89,18 @@ impl<L: Lane> Port<L> {
         requires open { has_close (seen_port L.Lane self.old).rx.letters ≡ false }
         requires few_letters { length (seen_port L.Lane self.old).rx.letters < 2 ^ 61 }
         ensures { MatchResult result
-            (λ got. seen_port L.Lane self.new ≡ taken_on got.1.at got.0 (seen_port L.Lane self.old))
-            (λ _. seen_port L.Lane self.new ≡ untaken_on (seen_port L.Lane self.old)) }
+            (λ got. seen_port L.Lane self.new ≡ port_after_take got.1.at got.0 (seen_port L.Lane self.old))
+            (λ _. seen_port L.Lane self.new ≡ port_after_refused_take (seen_port L.Lane self.old)) }
     {
         L::take_at(rt, &mut self.rx)
     }
 
-    // Rings the neighbour's bell for a letter of that kind.
+    // Rings the neighbour's bell for the letter of that kind which was put last.
     fn ring<R: Wait>(&mut self, rt: &R, kind: Kind4) -> Result<(), Lost>
+        requires put { EndsIn kind (seen_port L.Lane self.old).tx.letters }
         ensures { MatchResult result
-            (λ _. seen_port L.Lane self.new ≡ rung_on (seen_port L.Lane self.old))
-            (λ _. seen_port L.Lane self.new ≡ unrung_on (seen_port L.Lane self.old)) }
+            (λ _. seen_port L.Lane self.new ≡ port_after_ring (seen_port L.Lane self.old))
+            (λ _. seen_port L.Lane self.new ≡ port_after_refused_ring (seen_port L.Lane self.old)) }
     {
         self.ringer.ring_for(rt, kind)
     }

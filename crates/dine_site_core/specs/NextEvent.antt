@@ -1,38 +1,21 @@
 -- The events that a site does without a letter.
-use Rattle.std.specs.Prelude.{ℕ, ◌&&◌, not, nat_lt, Bool, false, List, ◌++◌, length, map, find, Option, None, option_map}
+use Rattle.std.specs.Prelude.{ℕ, ◌&&◌, nat_lt, Bool, false, List, ◌++◌, length, map, find, Option, None}
 use Rattle.std.specs.List.{range_with_len}
-use Rattle.std.specs.Option.{option_map_or, option_or}
+use Rattle.std.specs.Option.{option_map_or}
 use Rattle.dine_graph.specs.Plan.{SeenPlan}
 use Rattle.dine_rules.specs.declared.events.EventKind.{EventKind}
 use Rattle.dine_rules.specs.declared.events.EventKind.TheVariants as event
-use Rattle.dine_rules.specs.Local.{LocalState, is_eating, is_hungry, is_thinking}
+use Rattle.dine_rules.specs.Local.{LocalState, is_eating}
 use Rattle.dine_rules.specs.Steps.{may, step_by}
 use Rattle.dine_rules.specs.World.{placeless_kinds}
-use Rattle.dine_site_core.specs.declared.site.places.Place.{Place}
 use Rattle.dine_site_core.specs.Core.{SeenCore}
-use Rattle.dine_site_core.specs.Places.{can_give, can_give_at, can_ask, can_ask_at, can_hunger, can_quit, can_begin, can_say_done, can_say_done_at, can_close, has_nothing_due}
+use Rattle.dine_site_core.specs.Places.{can_give, can_ask, can_hunger, can_quit, can_begin, can_say_done, can_close}
 use Rattle.dine_site_core.specs.Standing.{all_places}
 
 -- all events except Take of a site with these places, in the fixed order
 abbrev pub own_kinds : List ℕ → List EventKind
 own_kinds places = map event.Give places ++ placeless_kinds
     ++ map event.Ask places ++ map event.Done places ++ map event.Close places
-
--- the Asks, Dones and Closes alone, each by place
-abbrev pub own_words : List ℕ → List EventKind
-own_words places = map event.Ask places ++ map event.Done places ++ map event.Close places
-
--- the core may now send the fork of this place [paper: release rule]
-abbrev pub may_give_at : SeenCore → Place → Bool
-may_give_at core place = not (is_eating core.phase) && can_give_at place
-
--- the core may now ask for the fork of this place [paper: request rule]
-abbrev pub may_ask_at : SeenCore → Place → Bool
-may_ask_at core place = is_hungry core.phase && can_ask_at place
-
--- the core may now say Done at this place
-abbrev pub may_say_done_at : SeenCore → Place → Bool
-may_say_done_at core place = is_thinking core.phase && has_nothing_due core && can_say_done_at place
 
 -- the rules allow the event, even if no letter has arrived; an End is allowed whether its job failed or not
 abbrev pub may_by_itself : SeenPlan → ℕ → LocalState → EventKind → Bool
@@ -57,10 +40,3 @@ can_by_itself core (event.Close i) = nat_lt i (length core.places) && can_close 
 -- the first event, in the fixed order, that the core can do without a letter
 abbrev pub next_of : SeenCore → Option EventKind
 next_of core = find (can_by_itself core) (own_kinds (range_with_len 0 (length core.places)))
-
--- the first Ask, Done or Close that the core can do
-abbrev pub next_word_of : SeenCore → Option EventKind
-next_word_of core =
-    let places = range_with_len 0 (length core.places) in
-    option_or (option_or (option_map event.Ask (find (can_ask core) places)) (option_map event.Done (find (can_say_done core) places)))
-    (option_map event.Close (find (can_close core) places))

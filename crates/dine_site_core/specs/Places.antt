@@ -6,7 +6,7 @@ use Rattle.dine_token.specs.declared.act.Act.{Act}
 use Rattle.dine_token.specs.declared.act.Act.TheVariants.{Add}
 use Rattle.dine_token.specs.Log.{is_dirty, location_of, meals_of}
 use Rattle.dine_token.specs.Lawful.{due_at}
-use Rattle.dine_token.specs.Fork.{SeenFork, IsEnd}
+use Rattle.dine_token.specs.Fork.{SeenFork}
 use Rattle.dine_token.specs.Meal.{SeenMeal}
 use Rattle.dine_token.specs.Values.{IsAct}
 use Rattle.dine_rules.specs.declared.phase.Phase.TheVariants as phase
@@ -177,11 +177,11 @@ breach_at s ate place letter.Done = if place.close_taken then Some AfterClose el
 breach_at s ate place letter.Close = if place.close_taken then Some AfterClose else breach_of_close place
 
 -- the place after the letter was taken: its fork or its token is here, or Done or Close was taken [paper: arrival]
-abbrev pub noted : Letter → Place → Place
-noted (letter.Fork fork) place = record place { fork = Here fork }
-noted (letter.Request edge) place = record place { token = Some edge }
-noted letter.Done place = record place { done_taken = true }
-noted letter.Close place = record place { close_taken = true }
+abbrev pub place_after_take : Letter → Place → Place
+place_after_take (letter.Fork fork) place = record place { fork = Here fork }
+place_after_take (letter.Request edge) place = record place { token = Some edge }
+place_after_take letter.Done place = record place { done_taken = true }
+place_after_take letter.Close place = record place { close_taken = true }
 
 -- the fork of a slot, if it is in hand
 abbrev pub hand_of : ForkSlot → Option SeenFork
@@ -210,8 +210,8 @@ abbrev pub in_meal : ℕ → ForkSlot → ForkSlot
 in_meal end slot = InMeal (meals_in end slot)
 
 -- the place after its fork went into the meal, with the number of meals of the other end in the fork
-abbrev pub lifted : ℕ → Place → Place
-lifted s place = record place { fork = in_meal (neighbour_of s place) place.fork }
+abbrev pub place_in_meal : ℕ → Place → Place
+place_in_meal s place = record place { fork = in_meal (neighbour_of s place) place.fork }
 
 -- the place with another fork
 abbrev pub with_fork : ForkSlot → Place → Place
@@ -233,30 +233,11 @@ has_all_closed core = list_all is_closed_at core.places
 abbrev pub has_all_said : SeenCore → Bool
 has_all_said core = is_thinking core.phase && has_nothing_due core && list_all is_over_at core.places
 
--- the slot with the fork in hand, or away if there is none
-abbrev pub slot_from : Option SeenFork → ForkSlot
-slot_from None = Away
-slot_from (Some fork) = Here fork
-
--- a place before the first step, with its fork and its token, if they are there
-abbrev pub opened : ℕ → ℕ × ℕ → ℕ × ℕ → Bool → Option SeenFork → Option ℕ → Place
-opened edge ends due neighbour_resigns fork token = record { edge = edge; ends = ends; due = due; neighbour_resigns = neighbour_resigns; fork = slot_from fork; token = token; done_put = false; done_taken = false; close_put = false; close_taken = false }
-
--- if a fork is in hand in the slot, the number is one of its ends
-abbrev pub EndsOf : ForkSlot → ℕ → Type 0
-EndsOf Away end = Unit {0}
-EndsOf (Here fork) end = IsEnd fork end
-EndsOf (InMeal meals) end = Unit {0}
-
 -- the slot has a fork in hand, and P holds of it
 abbrev pub OnHere : (SeenFork → Type 0) → ForkSlot → Type 0
 OnHere P Away = ⊥
 OnHere P (Here fork) = P fork
 OnHere P (InMeal meals) = ⊥
-
--- the fork is in hand, and the site is an end of it
-abbrev pub IsLiftable : ℕ → Place → Type 0
-IsLiftable s place = OnHere (λ fork. IsEnd fork (neighbour_of s place)) place.fork
 
 -- the core with another place i
 abbrev pub with_place : ℕ → Place → SeenCore → SeenCore
@@ -310,26 +291,26 @@ pub record IsMealOf (core : SeenCore) (meal : SeenMeal) : Type 0 where
   pub forks : (i : ℕ) (past : SeenFork) → i < length core.places → FitsMeal core i (slice_index_or meal.forks i past)
 
 -- the places with these forks in hand, in order
-abbrev pub put_back : List Place → List SeenFork → List Place
-put_back [] forks = []
-put_back (place ∷ places) [] = place ∷ places
-put_back (place ∷ places) (fork ∷ forks) = with_fork (Here fork) place ∷ put_back places forks
+abbrev pub places_with_forks : List Place → List SeenFork → List Place
+places_with_forks [] forks = []
+places_with_forks (place ∷ places) [] = place ∷ places
+places_with_forks (place ∷ places) (fork ∷ forks) = with_fork (Here fork) place ∷ places_with_forks places forks
 
 -- after Hungry: the core is hungry
-abbrev pub hungered : SeenCore → SeenCore
-hungered core = record core { phase = phase.Hungry }
+abbrev pub after_hungry : SeenCore → SeenCore
+after_hungry core = record core { phase = phase.Hungry }
 
 -- after Ask at place i: the token is gone
-abbrev pub asked : ℕ → SeenCore → SeenCore
-asked i core = let place = place_at core i in with_place i (record place { token = None }) core
+abbrev pub after_ask : ℕ → SeenCore → SeenCore
+after_ask i core = let place = place_at core i in with_place i (record place { token = None }) core
 
 -- after Give at place i: the fork is gone
-abbrev pub gave : ℕ → SeenCore → SeenCore
-gave i core = let place = place_at core i in with_place i (record place { fork = Away }) core
+abbrev pub after_give : ℕ → SeenCore → SeenCore
+after_give i core = let place = place_at core i in with_place i (record place { fork = Away }) core
 
 -- after Begin: the core eats, its meal is counted, and its forks are in the meal
-abbrev pub begun : SeenCore → SeenCore
-begun core = record core { phase = phase.Eating; ate = core.ate + 1; places = map (lifted core.site) core.places }
+abbrev pub after_begin : SeenCore → SeenCore
+after_begin core = record core { phase = phase.Eating; ate = core.ate + 1; places = map (place_in_meal core.site) core.places }
 
 -- the core drops the meals that it has left, after one that failed: it resigns, and has meals left
 abbrev pub drops_jobs : Bool → SeenCore → Bool
@@ -337,21 +318,21 @@ drops_jobs failed core = failed && core.resigns && nat_lt core.ate core.due
 
 -- after End: the core thinks, the forks of the meal are back in hand, and if the core drops the meals that it has left,
 -- it has to quit
-abbrev pub ended : Bool → List SeenFork → SeenCore → SeenCore
-ended failed forks core = record core { phase = phase.Thinking; must_quit = drops_jobs failed core; places = put_back core.places forks }
+abbrev pub after_end : Bool → List SeenFork → SeenCore → SeenCore
+after_end failed forks core = record core { phase = phase.Thinking; must_quit = drops_jobs failed core; places = places_with_forks core.places forks }
 
 -- after Quit: the core has quit
-abbrev pub quitted : SeenCore → SeenCore
-quitted core = record core { must_quit = false; has_quit = true }
+abbrev pub after_quit : SeenCore → SeenCore
+after_quit core = record core { must_quit = false; has_quit = true }
 
 -- after Done at place i: Done was put there
-abbrev pub said_done : ℕ → SeenCore → SeenCore
-said_done i core = let place = place_at core i in with_place i (record place { done_put = true }) core
+abbrev pub after_done : ℕ → SeenCore → SeenCore
+after_done i core = let place = place_at core i in with_place i (record place { done_put = true }) core
 
 -- after Close at place i: Close was put there
-abbrev pub closed : ℕ → SeenCore → SeenCore
-closed i core = let place = place_at core i in with_place i (record place { close_put = true }) core
+abbrev pub after_close : ℕ → SeenCore → SeenCore
+after_close i core = let place = place_at core i in with_place i (record place { close_put = true }) core
 
 -- after a letter was taken at place i: it is noted there
-abbrev pub took : ℕ → Letter → SeenCore → SeenCore
-took i l core = with_place i (noted l (place_at core i)) core
+abbrev pub after_take : ℕ → Letter → SeenCore → SeenCore
+after_take i l core = with_place i (place_after_take l (place_at core i)) core

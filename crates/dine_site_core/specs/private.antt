@@ -3,3 +3,5 @@ pub mod HandsFields
 pub mod MarkedFields
 pub mod PackedFields
 pub mod SiteFields
+pub mod OwnEvents
+pub mod PlaceSteps

@@ -3,7 +3,7 @@
 ghost use Rattle.std.specs.Prelude.{◌≡◌, ◌≢◌, ℕ, ◌<◌, ◌==◌, Bool, Some, None, is_some, true, false, length, map};
 ghost use Rattle.std.specs.Prelude.{count_by, IfOk, MatchOption, MatchResult};
 ghost use Rattle.std.specs.List.{list_all};
-ghost use Rattle.dine_token.specs.Fork.{eaten, moved};
+ghost use Rattle.dine_token.specs.Fork.{after_meal, after_move};
 ghost use Rattle.dine_set.specs.Marks.{marks_of};
 ghost use Rattle.dine_graph.specs.Plan.{SeenPlan, site_count, edges_of};
 ghost use Rattle.dine_rules.specs.Breach.{first_breach};
@@ -17,8 +17,9 @@ ghost use Rattle.dine_site_core.specs.Core.{SeenCore, Refines, forks_in_hand, fr
 ghost use Rattle.dine_site_core.specs.Places.{place_at, hand_of, is_held, is_away_at, is_dirty_at, can_give, can_ask};
 ghost use Rattle.dine_site_core.specs.Places.{can_hunger, can_quit, can_begin, next_act, can_say_done, can_close};
 ghost use Rattle.dine_site_core.specs.Places.{drops_jobs, is_ready_at, is_over_at, is_closed_at, neighbour_of, OnHere};
-ghost use Rattle.dine_site_core.specs.Places.{has_all_said, has_nothing_due, has_all_closed, breach_at, hungered};
-ghost use Rattle.dine_site_core.specs.Places.{asked, gave, begun, ended, quitted, said_done, closed, took, forks_of};
+ghost use Rattle.dine_site_core.specs.Places.{has_all_said, has_nothing_due, has_all_closed, breach_at, after_hungry};
+ghost use Rattle.dine_site_core.specs.Places.{after_ask, after_give, after_begin, after_end, after_quit, after_done};
+ghost use Rattle.dine_site_core.specs.Places.{after_close, after_take, forks_of};
 ghost use Rattle.dine_site_core.specs.Places.{tokens_of, IsMealOf};
 ghost use Rattle.dine_site_core.specs.LinkNumbers.{link_to, link_from};
 ghost use Rattle.dine_site_core.specs.Standing.{ForEachState, IsFreshFor, ReportsMay, CoreStep, CoreSteps, CorePuts};
@@ -86,9 +87,9 @@ impl Model for SiteCore {
 
     ghost Value = { SeenCore };
 
-    ghost use Rattle.dine_site_core.specs.private.SiteFields.{seen, IsKept};
+    ghost use Rattle.dine_site_core.specs.private.SiteFields.{seen_core, IsKept};
 
-    ghost view = { seen };
+    ghost view = { seen_core };
 
     ghost invariant = { IsKept };
 }
@@ -289,14 +290,14 @@ impl SiteCore {
         &self.places.at(i).fork
     }
 
-    // Takes the fork of place `i`, by no step of the rules. None if it is not in hand. Only `Hands` calls it.
-    fn take_fork(&mut self, i: u32) -> Option<Fork>
+    // Removes the fork of place `i`, by no step of the rules. None if it is not in hand. Only `Hands` calls it.
+    fn remove_fork(&mut self, i: u32) -> Option<Fork>
         requires place { i < length self.old.places }
         requires not_eating { is_eating self.old.phase ≡ false }
         ensures fork { result ≡ hand_of (place_at self.old i).fork }
-        ensures away { self.new ≡ gave i self.old }
+        ensures away { self.new ≡ after_give i self.old }
     {
-        self.places.take_fork(i)
+        self.places.remove_fork(i)
     }
 
     /// Returns whether the site may quit: it thinks, and it has to quit.
@@ -376,7 +377,7 @@ impl SiteCore {
     /// Quits: the site drops the meals that it has left.
     pub fn quit(&mut self)
         requires { can_quit self.old ≡ true }
-        ensures quit { self.new ≡ quitted self.old }
+        ensures quit { self.new ≡ after_quit self.old }
         ensures step { CoreSteps step.Quit self.old self.new }
     {
         self.must_quit = false;
@@ -386,7 +387,7 @@ impl SiteCore {
     /// Grows hungry.
     pub fn hungry(&mut self)
         requires { can_hunger self.old ≡ true }
-        ensures hungry { self.new ≡ hungered self.old }
+        ensures hungry { self.new ≡ after_hungry self.old }
         ensures step { CoreSteps step.Hungry self.old self.new }
     {
         self.phase = Phase::Hungry;
@@ -396,20 +397,20 @@ impl SiteCore {
     pub fn ask(&mut self, i: u32) -> Letter
         requires place { i < length self.old.places }
         requires may { can_ask self.old i ≡ true }
-        ensures core { self.new ≡ asked i self.old }
+        ensures core { self.new ≡ after_ask i self.old }
         ensures letter { result ≡ Letter.Request (place_at self.old i).edge }
         ensures step { CorePuts i (step.Ask i) self.old self.new result }
     {
-        Letter::Request(self.places.take_token(i))
+        Letter::Request(self.places.remove_token(i))
     }
 
     /// Gives the fork of place `i`, clean, and returns the letter. The token stays.
     pub fn give(&mut self, i: u32) -> Letter
         requires place { i < length self.old.places }
         requires may { can_give self.old i ≡ true }
-        ensures core { self.new ≡ gave i self.old }
+        ensures core { self.new ≡ after_give i self.old }
         ensures letter { OnHere
-            (λ fork. result ≡ Letter.Fork (moved (neighbour_of self.old.site (place_at self.old i)) fork))
+            (λ fork. result ≡ Letter.Fork (after_move (neighbour_of self.old.site (place_at self.old i)) fork))
             (place_at self.old i).fork }
         ensures step { CorePuts i (step.Give i) self.old self.new result }
     {
@@ -421,10 +422,10 @@ impl SiteCore {
     /// value of each.
     pub fn begin(&mut self) -> Meal
         requires { can_begin self.old ≡ true }
-        ensures core { self.new ≡ begun self.old }
+        ensures core { self.new ≡ after_begin self.old }
         ensures meal { IsMealOf self.new result }
         ensures forks { result.forks
-            ≡ map (eaten self.new.site self.new.ate (next_act self.old)) (forks_of self.old.places) }
+            ≡ map (after_meal self.new.site self.new.ate (next_act self.old)) (forks_of self.old.places) }
         ensures step { CoreSteps step.Begin self.old self.new }
         ensures in_hand { ForEachState self.old
             (λ plan state. result.forks
@@ -443,7 +444,7 @@ impl SiteCore {
     pub fn end(&mut self, meal: Meal, failed: bool)
         requires eating { is_eating self.old.phase ≡ true }
         requires meal { IsMealOf self.old meal }
-        ensures core { self.new ≡ ended failed meal.forks self.old }
+        ensures core { self.new ≡ after_end failed meal.forks self.old }
         ensures step { ForEachState self.old
             (λ plan state. meal.forks ≡ forks_in_hand plan self.old.site state (all_places state)
             → CoreStep plan state (step.End failed) self.old self.new) }
@@ -460,7 +461,7 @@ impl SiteCore {
     pub fn done(&mut self, i: u32) -> Letter
         requires place { i < length self.old.places }
         requires may { can_say_done self.old i ≡ true }
-        ensures core { self.new ≡ said_done i self.old }
+        ensures core { self.new ≡ after_done i self.old }
         ensures letter { result ≡ Letter.Done }
         ensures step { CorePuts i (step.Done i) self.old self.new result }
     {
@@ -472,7 +473,7 @@ impl SiteCore {
     pub fn close(&mut self, i: u32) -> Letter
         requires place { i < length self.old.places }
         requires may { can_close self.old i ≡ true }
-        ensures core { self.new ≡ closed i self.old }
+        ensures core { self.new ≡ after_close i self.old }
         ensures letter { result ≡ Letter.Close }
         ensures step { CorePuts i (step.Close i) self.old self.new result }
     {
@@ -488,7 +489,7 @@ impl SiteCore {
         ensures may { ReportsMay self.old (step.Break i) (is_some result) }
         ensures none { MatchOption result ((place_at self.old i).close_put ≡ true)
             (λ _. (place_at self.old i).close_put ≡ false) }
-        ensures core { self.new ≡ closed i self.old }
+        ensures core { self.new ≡ after_close i self.old }
         ensures letter { MatchOption result (self.new ≡ self.old) (λ l. l ≡ Letter.Close) }
         ensures step { MatchOption result
             (ForEachState self.old (λ plan state. has_close (traffic_at state i).put ≡ true))
@@ -515,7 +516,7 @@ impl SiteCore {
             (λ plan state. breach_at self.old.site self.old.ate (place_at self.old i) letter
             ≡ first_breach plan self.old.site state i letter) }
         ensures proper { MatchResult result (λ _. IsProper (step.Take i letter)) (λ _. Unit {0}) }
-        ensures core { MatchResult result (λ _. self.new ≡ took i letter self.old)
+        ensures core { MatchResult result (λ _. self.new ≡ after_take i letter self.old)
             (λ e. (self.new ≡ self.old) × (e.0 ≡ letter)) }
         ensures taken { MatchResult result
             (λ _. ForEachState self.old (λ plan state. step.may plan self.old.site state (step.Take i letter) ≡ true))
@@ -535,7 +536,7 @@ impl SiteCore {
     pub fn take_in_turn(&mut self, i: u32, letter: Letter)
         requires place { i < length self.old.places }
         requires in_turn { breach_at self.old.site self.old.ate (place_at self.old i) letter ≡ None }
-        ensures core { self.new ≡ took i letter self.old }
+        ensures core { self.new ≡ after_take i letter self.old }
         ensures proper { IsProper (step.Take i letter) }
         ensures taken { ForEachState self.old
             (λ plan state. step.may plan self.old.site state (step.Take i letter) ≡ true) }

@@ -6,14 +6,14 @@ ghost use Rattle.dine_rules.specs.Letters.{kind_of};
 ghost use Rattle.dine_rules.specs.Wants.{still_wanted};
 ghost use Rattle.dine_site_core.specs.Core.{SeenCore};
 ghost use Rattle.dine_site_core.specs.NextEvent.{next_of};
-ghost use Rattle.dine_site_core.specs.Places.{took};
+ghost use Rattle.dine_site_core.specs.Places.{after_take};
 ghost use Rattle.dine_site_core.specs.CoreWants.{TakesUnwanted, wants_of};
 
 /// If a site takes a letter that it does not wait for, its next event without a letter is the same as before; if it had
 /// none, it has none. It waits for the same letters as before, except that after a Fork it lacks one fork fewer.
 pub fn unwanted_letters_enable_nothing()
     ensures next { (core : SeenCore) (i : ℕ) (l : Letter) → TakesUnwanted core i l
-        → next_of (took i l core) ≡ next_of core }
+        → next_of (after_take i l core) ≡ next_of core }
     ensures wants { (core : SeenCore) (i : ℕ) (l : Letter) → TakesUnwanted core i l
-        → wants_of (took i l core) ≡ still_wanted (wants_of core) (kind_of l) }
+        → wants_of (after_take i l core) ≡ still_wanted (wants_of core) (kind_of l) }
 {}

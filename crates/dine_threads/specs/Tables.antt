@@ -6,7 +6,7 @@ use Rattle.dine_token.specs.Fork.{SeenFork, no_fork}
 use Rattle.dine_token.specs.Log.{meals_of}
 use Rattle.dine_graph.specs.Plan.{SeenPlan, site_count, edge_count, job_count, lo_of, hi_of}
 use Rattle.dine_rules.specs.JoinedEnds.{IsWholeLog}
-use Rattle.dine_rules.specs.Values.{added_up, has_no_set, value_by}
+use Rattle.dine_rules.specs.Values.{value_by_amounts, has_no_set, value_by}
 use Rattle.dine_threads.specs.declared.gathered.SiteOut.{SiteOut}
 use Rattle.dine_threads.specs.declared.tables.EdgeRow.{EdgeRow}
 use Rattle.dine_threads.specs.declared.tables.SiteRow.{SiteRow}
@@ -49,7 +49,7 @@ pub record IsDueValue (plan : SeenPlan) (meals : ℕ → ℕ) (edge value : ℕ)
   pub log : List Entry
   pub whole : IsWholeLog plan edge (meals (lo_of plan edge)) (meals (hi_of plan edge)) log
   pub by_log : value ≡ value_by plan edge log
-  pub added : has_no_set plan ≡ true → value ≡ added_up plan edge (meals (lo_of plan edge)) (meals (hi_of plan edge))
+  pub added : has_no_set plan ≡ true → value ≡ value_by_amounts plan edge (meals (lo_of plan edge)) (meals (hi_of plan edge))
 
 -- a value for each edge after these meals, in order
 pub record AreDueValues (plan : SeenPlan) (meals : ℕ → ℕ) (values : List ℕ) : Type 0 where

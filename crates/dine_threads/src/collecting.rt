@@ -3,7 +3,7 @@ ghost use Rattle.std.specs.Prelude.{◌≡◌, ◌<◌, ◌≤◌, ◌*◌, ◌^
 ghost use Rattle.std.specs.Prelude.{replicate, slice_get, vec_len, vec_capacity};
 ghost use Rattle.dine_graph.specs.Plan.{edge_count, edges_of, site_count};
 ghost use Rattle.dine_threads.specs.private.Collecting.{AreForksOf, AreJoined, AreLinksLeft, AreWholeEnds, IsRoomFor};
-ghost use Rattle.dine_threads.specs.private.Collecting.{IsTakenToClose, forks_left, found, in_slots, links_left};
+ghost use Rattle.dine_threads.specs.private.Collecting.{IsTakenToClose, forks_left, forks_found, in_slots, links_left};
 ghost use Rattle.dine_threads.specs.private.Collecting.{out_of, rows_left};
 ghost use Rattle.dine_threads.specs.Gathered.{IsTakenInOrder};
 ghost use Rattle.dine_threads.specs.private.Wirings.{AreWired};
@@ -138,9 +138,9 @@ fn place_forks(forks: Vec<Fork>, slots: &mut Vec<Option<Fork>>)
     }
 }
 
-// Takes apart what a site left: its ports go into an empty row, its forks into the slots of their edges, and the rest
+// Splits what a site left: its ports go into an empty row, its forks into the slots of their edges, and the rest
 // is returned.
-fn take_out<L: Lane, D: Diner>(
+fn split_end<L: Lane, D: Diner>(
     end: SiteEnd<L, D>,
     row: &mut Vec<Option<Port<L>>>,
     slots: &mut Vec<Option<Fork>>,
@@ -181,9 +181,9 @@ fn take_out<L: Lane, D: Diner>(
     }
 }
 
-/// Takes apart what the sites left: the ports go into rows by site, the forks into slots by edge, and the rest into a
+/// Splits what the sites left: the ports go into rows by site, the forks into slots by edge, and the rest into a
 /// list by site.
-fn take_apart<L: Lane, D: Diner>(
+fn split_ends<L: Lane, D: Diner>(
     plan: &Plan,
     ends: Vec<SiteEnd<L, D>>,
     empty: Vec<Vec<Option<Port<L>>>>,
@@ -208,7 +208,7 @@ fn take_apart<L: Lane, D: Diner>(
     let mut empty = empty.into_iter();
     for end in ends {
         let mut row = empty.next().unwrap();
-        sites.push_reserved(take_out(end, &mut row, slots));
+        sites.push_reserved(split_end(end, &mut row, slots));
         rows.push_reserved(row);
     }
 }
@@ -233,7 +233,7 @@ fn reconcile_all<L: Lane>(pairs: Vec<EdgePair<Port<L>>>, links: &mut Vec<LinkEnd
 fn pick_forks(slots: Vec<Option<Fork>>, forks: &mut Vec<Fork>)
     requires room { vec_len slots ≤ vec_capacity forks.old }
     requires none { vec_len forks.old ≡ 0 }
-    ensures { forks.new.items ≡ found slots.items }
+    ensures { forks.new.items ≡ forks_found slots.items }
 {
     for slot in slots {
         if let Some(fork) = slot {
@@ -251,7 +251,8 @@ pub fn collect<L: Lane, D: Diner>(
     requires room { IsRoomFor plan.now room }
     requires whole { AreWholeEnds plan.now ends.items }
     requires wired { AreWired plan.now (rows_left L.Lane ends.items) }
-    ensures forks { result.0.items ≡ found (in_slots (forks_left ends.items) (replicate (edge_count plan.now) None)) }
+    ensures forks { result.0.items
+        ≡ forks_found (in_slots (forks_left ends.items) (replicate (edge_count plan.now) None)) }
     ensures sites { result.1.items ≡ map out_of ends.items }
     ensures links { AreLinksLeft plan.now (rows_left L.Lane ends.items) result.2.items }
     ensures in_order { All IsTakenInOrder result.2.items }
@@ -266,7 +267,7 @@ pub fn collect<L: Lane, D: Diner>(
         mut slots,
         mut forks,
     } = room;
-    take_apart(plan, ends, empty, &mut sites, &mut rows, &mut slots);
+    split_ends(plan, ends, empty, &mut sites, &mut rows, &mut slots);
     pair_up(plan, &mut rows, &mut pairs);
     reconcile_all(pairs, &mut links);
     pick_forks(slots, &mut forks);

@@ -1,4 +1,4 @@
-// Things that are taken by site and place, from one row for each site.
+// Things that are removed by site and place, from one row for each site.
 ghost use Rattle.std.specs.Prelude.{◌≡◌, ◌≢◌, ◌≤◌, Some, map, vec_capacity, vec_len};
 ghost use Rattle.dine_graph.specs.Plan.{edge_count};
 ghost use Rattle.dine_threads.specs.private.Spots.{ArePairsAt, AreFull, slot_at};
@@ -20,8 +20,8 @@ pub struct Spot {
     pub at: u32,
 }
 
-// Takes the thing at the place, if there is one.
-pub fn take_slot<P: Drop>(rows: &mut Vec<Vec<Option<P>>>, spot: Spot) -> Option<P>
+// Removes the thing at the place and returns it, if there is one.
+pub fn remove_at<P: Drop>(rows: &mut Vec<Vec<Option<P>>>, spot: Spot) -> Option<P>
     ensures value { result ≡ slot_at rows.old.items spot }
     ensures others { (other : _) → other ≢ spot → slot_at rows.new.items other ≡ slot_at rows.old.items other }
 {
@@ -59,7 +59,7 @@ pub fn pair_up<P: Drop>(plan: &Plan, rows: &mut Vec<Vec<Option<P>>>, pairs: &mut
     laws::edges_have_a_place_at_each_end();
     for edge in 0..plan.edges() {
         let (lower, higher) = plan.ends(edge);
-        let low = take_slot(
+        let low = remove_at(
             rows,
             Spot {
                 site: lower,
@@ -67,7 +67,7 @@ pub fn pair_up<P: Drop>(plan: &Plan, rows: &mut Vec<Vec<Option<P>>>, pairs: &mut
             },
         )
         .unwrap();
-        let high = take_slot(
+        let high = remove_at(
             rows,
             Spot {
                 site: higher,

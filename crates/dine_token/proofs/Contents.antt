@@ -9,12 +9,12 @@ use Rattle.dine_token.specs.declared.log_period.Period.{Period}
 use Rattle.dine_token.specs.Log.{is_dirty, location_of, meals_of}
 use Rattle.dine_token.specs.Lawful.{IsLawful}
 use Rattle.dine_token.specs.Periods.{periods_of, entries_of}
-use Rattle.dine_token.specs.Fork.{SeenFork, IsFork, MayMove, MayEat, moved, eaten}
+use Rattle.dine_token.specs.Fork.{SeenFork, IsFork, MayMove, MayEat, after_move, after_meal}
 use Rattle.dine_token.specs.private.Fields.{seen_contents, MatchesLog}
 use Rattle.dine_token.proofs.Logs.{is_dirty-push_meal, is_dirty-push_move, location_of-push_meal, location_of-push_move, meals_of-push_own, meals_of-push_other, meals_of-push_move}
 use Rattle.dine_token.proofs.Lawfulness.{IsLawful-none}
 use Rattle.dine_token.proofs.Periods.{period, length-periods_of, one_more, last_one_more, last_one_more-append, set-last, periods_of-push_move, periods_of-push_meal, entries_of-opened, entries_of-one_more}
-use Rattle.dine_token.proofs.Forks.{IsFork-moved, IsFork-eaten, IsEnd-location, fork_has_periods}
+use Rattle.dine_token.proofs.Forks.{IsFork-after_move, IsFork-after_meal, IsEnd-location, fork_has_periods}
 
 -- a fork that was just opened
 pub opened_matches : (fork : Contents) → fork.periods.items ≡ period fork.lower 1 0 ∷ [] → fork.lower < fork.higher → fork.lower_due ≤ 1000 → fork.higher_due ≤ 1000
@@ -68,7 +68,7 @@ items_eaten fork items len last site k contents may same is count =
     (more, ap entries_of more ∙ log_eaten fork site k contents may)
 
 -- the fork moved
-pub moved_matches : (old new : Contents) (to : ℕ) → MatchesLog old → MayMove to (seen_contents old) → seen_contents new ≡ moved to (seen_contents old)
+pub moved_matches : (old new : Contents) (to : ℕ) → MatchesLog old → MayMove to (seen_contents old) → seen_contents new ≡ after_move to (seen_contents old)
     → new.location ≡ to → new.dirty ≡ false → new.lower_meals ≡ old.lower_meals → new.higher_meals ≡ old.higher_meals → new.periods.items ≡ old.periods.items ++ period to (meals_of to (seen_contents old).log + 1) 0 ∷ [] → vec_capacity new.periods ≡ vec_capacity old.periods
     → MatchesLog new
 moved_matches old new to contents may change there clean lower_same higher_same opened same_room =
@@ -78,7 +78,7 @@ moved_matches old new to contents may change there clean lower_same higher_same 
     let lower_due_is : new.lower_due ≡ old.lower_due = ap (λ (f : SeenFork). f.due.0) change in
     let higher_due_is : new.higher_due ≡ old.higher_due = ap (λ (f : SeenFork). f.due.1) change in
     record {
-      proper = subst IsFork (sym change) (IsFork-moved (seen_contents old) to contents.proper may);
+      proper = subst IsFork (sym change) (IsFork-after_move (seen_contents old) to contents.proper may);
       location = there ∙ sym (ap (λ (l : List Entry). location_of new.lower l) log_is ∙ location_of-push_move new.lower (entries_of old.periods.items) to);
       dirty = clean ∙ sym (ap is_dirty log_is ∙ is_dirty-push_move (entries_of old.periods.items) to);
       lower_meals = lower_same ∙ contents.lower_meals ∙ sym (at new.lower old.lower lower_is log_is);
@@ -92,13 +92,13 @@ moved_matches old new to contents may change there clean lower_same higher_same 
     at new_end old_end end_is log_is = ap (λ (l : List Entry). meals_of new_end l) log_is ∙ ap (λ (e : ℕ). meals_of e (entries_of old.periods.items ++ Move to ∷ [])) end_is ∙ meals_of-push_move old_end (entries_of old.periods.items) to
 
 -- the fork was eaten with, by one end or the other
-pub eaten_matches : (old new : Contents) (site k : ℕ) (act : Act) → MatchesLog old → MayEat site k (seen_contents old) → IsAct act → seen_contents new ≡ eaten site k act (seen_contents old)
+pub eaten_matches : (old new : Contents) (site k : ℕ) (act : Act) → MatchesLog old → MayEat site k (seen_contents old) → IsAct act → seen_contents new ≡ after_meal site k act (seen_contents old)
     → new.location ≡ old.location → new.dirty ≡ true → new.periods.items ≡ last_one_more old.periods.items → vec_capacity new.periods ≡ vec_capacity old.periods
     → ((site ≡ old.lower) × (new.lower_meals ≡ k) × (new.higher_meals ≡ old.higher_meals)) ⊎ ((site ≡ old.lower → ⊥) × (new.lower_meals ≡ old.lower_meals) × (new.higher_meals ≡ k))
     → MatchesLog new
 eaten_matches old new site k act contents may small change there dirty more same_room which =
     record {
-      proper = subst IsFork (sym change) (IsFork-eaten (seen_contents old) site k act contents.proper may small);
+      proper = subst IsFork (sym change) (IsFork-after_meal (seen_contents old) site k act contents.proper may small);
       location = there ∙ contents.location ∙ sym (ap (λ (l : List Entry). location_of new.lower l) log_is ∙ location_of-push_meal new.lower (entries_of old.periods.items) site k ∙ ap (λ (e : ℕ). location_of e (entries_of old.periods.items)) lower_is);
       dirty = dirty ∙ sym (ap is_dirty log_is ∙ is_dirty-push_meal (entries_of old.periods.items) site k);
       lower_meals = elim which [

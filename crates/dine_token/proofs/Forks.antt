@@ -7,11 +7,11 @@ use Rattle.dine_token.specs.declared.act.Act.{Act}
 use Rattle.dine_token.specs.declared.act.Act.TheVariants.{Add, Set}
 use Rattle.dine_token.specs.declared.log_entry.Entry.TheVariants.{Meal}
 use Rattle.dine_token.specs.declared.log_period.Period.{Period}
-use Rattle.dine_token.specs.Values.{IsAct, applied}
+use Rattle.dine_token.specs.Values.{IsAct, value_after_act}
 use Rattle.dine_token.specs.Log.{meals_of, moves_of}
 use Rattle.dine_token.specs.Lawful.{due_at}
 use Rattle.dine_token.specs.Periods.{periods_of}
-use Rattle.dine_token.specs.Fork.{SeenFork, IsFork, IsEnd, MayMove, MayEat, location, other_end, moved, eaten}
+use Rattle.dine_token.specs.Fork.{SeenFork, IsFork, IsEnd, MayMove, MayEat, location, other_end, after_move, after_meal}
 use Rattle.dine_token.proofs.Logs.{turn, meals_of-push_own, meals_of-push_other, meals_of-push_move}
 use Rattle.dine_token.proofs.Lawfulness.{at_an_end, IsLawful-push_meal, IsLawful-push_move}
 use Rattle.dine_token.proofs.Bounds.{length-lawful, moves-lawful, counted_lawful}
@@ -29,8 +29,8 @@ other_end-turn fork proper = elim (at_an_end fork.ends fork.due fork.log proper.
   | inr w ↦ cond-false (eqb (location fork) fork.ends.0) fork.ends.1 fork.ends.0 (ne_eqb _ _ (λ e. omega (arith, proper.ordered, w.0))) ∙ sym w.1
 ]
 
-pub IsFork-moved : (fork : SeenFork) (to : ℕ) → IsFork fork → MayMove to fork → IsFork (moved to fork)
-IsFork-moved fork to proper may = record {
+pub IsFork-after_move : (fork : SeenFork) (to : ℕ) → IsFork fork → MayMove to fork → IsFork (after_move to fork)
+IsFork-after_move fork to proper may = record {
   ordered = proper.ordered;
   lower_due = proper.lower_due;
   higher_due = proper.higher_due;
@@ -50,12 +50,12 @@ both_meals fork site k proper may = elim (IsEnd-location fork proper) [
     own end same = ap (λ (e : ℕ). meals_of e (fork.log ++ Meal site k ∷ [])) (sym same) ∙ meals_of-push_own site fork.log k ∙ ap (λ (e : ℕ). meals_of e fork.log + 1) same
 
 -- an act adds at most 1,000,000 to the bound of a value
-pub applied_bounded : (act : Act) (value meals : ℕ) → IsAct act → value ≤ 1000000 * (meals + 1) → applied act value ≤ 1000000 * (meals + 1 + 1)
+pub applied_bounded : (act : Act) (value meals : ℕ) → IsAct act → value ≤ 1000000 * (meals + 1) → value_after_act act value ≤ 1000000 * (meals + 1 + 1)
 applied_bounded (Add amount) value meals small within = omega (arith, small, within)
 applied_bounded (Set amount) value meals small within = omega (arith, small)
 
-pub IsFork-eaten : (fork : SeenFork) (site k : ℕ) (act : Act) → IsFork fork → MayEat site k fork → IsAct act → IsFork (eaten site k act fork)
-IsFork-eaten fork site k act proper may small = record {
+pub IsFork-after_meal : (fork : SeenFork) (site k : ℕ) (act : Act) → IsFork fork → MayEat site k fork → IsAct act → IsFork (after_meal site k act fork)
+IsFork-after_meal fork site k act proper may small = record {
   ordered = proper.ordered;
   lower_due = proper.lower_due;
   higher_due = proper.higher_due;
@@ -74,7 +74,7 @@ length-periods fork proper = omega (arith, length-periods_of fork.ends.0 fork.lo
 -- so if a Move may be made, there is capacity for the period that it opens
 pub room_to_move : (fork : SeenFork) (to : ℕ) → IsFork fork → MayMove to fork → length (periods_of fork.ends.0 fork.log) < fork.due.0 + fork.due.1 + 1
 room_to_move fork to proper may =
-    omega (arith, length-periods (moved to fork) (IsFork-moved fork to proper may), ap length (periods_of-push_move fork.ends.0 fork.log to), length_push (periods_of fork.ends.0 fork.log) (period to (meals_of to fork.log + 1) 0))
+    omega (arith, length-periods (after_move to fork) (IsFork-after_move fork to proper may), ap length (periods_of-push_move fork.ends.0 fork.log to), length_push (periods_of fork.ends.0 fork.log) (period to (meals_of to fork.log + 1) 0))
 
 -- what its periods are
 pub fork_has_periods : (fork : SeenFork) → IsFork fork → HasPeriods fork.ends.0 1000 fork.log

@@ -3,7 +3,7 @@ use Rattle.std.specs.Prelude.{◌≡◌, ◌==◌, ◌⊎◌, ℕ, ◌+◌, ◌*
 use Rattle.dine_token.specs.declared.log_entry.Entry.{Entry}
 use Rattle.dine_token.specs.declared.log_entry.Entry.TheVariants.{Meal, Move}
 use Rattle.dine_token.specs.declared.act.Act.{Act}
-use Rattle.dine_token.specs.Values.{applied}
+use Rattle.dine_token.specs.Values.{value_after_act}
 use Rattle.dine_token.specs.Log.{is_dirty, location_of, meals_of}
 use Rattle.dine_token.specs.Lawful.{IsLawful, due_at}
 
@@ -33,12 +33,12 @@ abbrev pub other_end : SeenFork → ℕ → ℕ
 other_end fork site = if site == fork.ends.0 then fork.ends.1 else fork.ends.0
 
 -- the fork after a Move to an end, written behind its log [paper: release rule]
-abbrev pub moved : ℕ → SeenFork → SeenFork
-moved to fork = record fork { log = fork.log ++ Move to ∷ [] }
+abbrev pub after_move : ℕ → SeenFork → SeenFork
+after_move to fork = record fork { log = fork.log ++ Move to ∷ [] }
 
 -- the fork after meal k of a site, written behind its log, and after the act of that meal [paper: clean and dirty]
-abbrev pub eaten : ℕ → ℕ → Act → SeenFork → SeenFork
-eaten site k act fork = record fork { log = fork.log ++ Meal site k ∷ []; value = applied act fork.value }
+abbrev pub after_meal : ℕ → ℕ → Act → SeenFork → SeenFork
+after_meal site k act fork = record fork { log = fork.log ++ Meal site k ∷ []; value = value_after_act act fork.value }
 
 -- the fork was eaten with since it arrived, or has not moved yet [paper: clean and dirty]
 abbrev pub IsDirty : SeenFork → Type 0

@@ -13,6 +13,6 @@ abbrev pub IsAct : Act → Type 0
 IsAct act = amount_of act ≤ 1000000
 
 -- a value after an act: Add adds its amount, and Set makes the amount the value
-abbrev pub applied : Act → ℕ → ℕ
-applied (Add amount) value = value + amount
-applied (Set amount) value = amount
+abbrev pub value_after_act : Act → ℕ → ℕ
+value_after_act (Add amount) value = value + amount
+value_after_act (Set amount) value = amount

@@ -1,6 +1,6 @@
 //! What a meal does to the value of an edge.
 ghost use Rattle.std.specs.Prelude.{◌≡◌, ◌<◌, ◌^◌};
-ghost use Rattle.dine_token.specs.Values.{applied};
+ghost use Rattle.dine_token.specs.Values.{value_after_act};
 
 /// What a meal does to the value of each edge of its site. The amount is at most 1,000,000.
 #[derive(Clone, Copy, Debug, PartialEq, Eq)]
@@ -14,8 +14,8 @@ pub enum Act {
 impl Act {
     // The value after the act.
     pub(crate) fn apply(self, value: u64) -> u64
-        requires fits { applied self value < 2 ^ 64 }
-        ensures { result ≡ applied self value }
+        requires fits { value_after_act self value < 2 ^ 64 }
+        ensures { result ≡ value_after_act self value }
     {
         match self {
             Act::Add(amount) => value + amount,

@@ -3,7 +3,7 @@ ghost use Rattle.std.specs.Prelude.{◌≡◌, ◌<◌, ◌≤◌, ◌+◌, [], 
 ghost use Rattle.dine_token.specs.Log.{is_dirty, meals_of, moves_of};
 ghost use Rattle.dine_token.specs.Lawful.{due_at};
 ghost use Rattle.dine_token.specs.Periods.{periods_of, entries_of};
-ghost use Rattle.dine_token.specs.Fork.{SeenFork, IsFork, IsEnd, MayMove, MayEat, location, moved, eaten};
+ghost use Rattle.dine_token.specs.Fork.{SeenFork, IsFork, IsEnd, MayMove, MayEat, location, after_move, after_meal};
 ghost use Rattle.dine_token.specs.Values.{IsAct};
 
 use crate::act::Act;
@@ -42,9 +42,9 @@ impl Model for Fork {
 
     ghost Value = { SeenFork };
 
-    ghost use Rattle.dine_token.specs.private.Fields.{seen, IsSound};
+    ghost use Rattle.dine_token.specs.private.Fields.{seen_fork, IsSound};
 
-    ghost view = { seen };
+    ghost view = { seen_fork };
 
     ghost invariant = { IsSound };
 }
@@ -262,7 +262,7 @@ impl Fork {
     // Writes a Move to the other end, which opens a period there. It allocates nothing.
     pub(crate) fn move_to(&mut self, to: u32)
         requires { MayMove to self.old }
-        ensures moved { self.new ≡ moved to self.old }
+        ensures moved { self.new ≡ after_move to self.old }
         ensures proper { IsFork self.new }
     {
         let first = self.meals_of(to) + 1;
@@ -281,7 +281,7 @@ impl Fork {
     pub(crate) fn eat(&mut self, site: u32, k: u32, act: Act)
         requires may_eat { MayEat site k self.old }
         requires act { IsAct act }
-        ensures eaten { self.new ≡ eaten site k act self.old }
+        ensures eaten { self.new ≡ after_meal site k act self.old }
         ensures proper { IsFork self.new }
     {
         let value = act.apply(self.contents.value);

@@ -1,6 +1,6 @@
 //! A fork in the hand of a site.
 ghost use Rattle.std.specs.Prelude.{◌≡◌};
-ghost use Rattle.dine_token.specs.Fork.{IsFork, MayMove, MayEat, moved, eaten};
+ghost use Rattle.dine_token.specs.Fork.{IsFork, MayMove, MayEat, after_move, after_meal};
 ghost use Rattle.dine_token.specs.Values.{IsAct};
 
 use crate::act::Act;
@@ -39,7 +39,7 @@ impl Held {
     /// the fork is dirty, and the other end must have meals left.
     pub fn give(self, to: u32) -> Fork
         requires { MayMove to self }
-        ensures moved { result ≡ moved to self }
+        ensures moved { result ≡ after_move to self }
         ensures proper { IsFork result }
     {
         let Held { mut fork } = self;
@@ -59,7 +59,7 @@ impl Held {
     pub(crate) fn eat(&mut self, site: u32, k: u32, act: Act)
         requires may_eat { MayEat site k self.old }
         requires act { IsAct act }
-        ensures eaten { self.new ≡ eaten site k act self.old }
+        ensures eaten { self.new ≡ after_meal site k act self.old }
     {
         self.fork.eat(site, k, act);
     }

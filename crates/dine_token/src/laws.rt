@@ -8,7 +8,7 @@ ghost use Rattle.dine_token.specs.Values.{IsAct};
 ghost use Rattle.dine_token.specs.Log.{is_dirty, location_of, meals_of};
 ghost use Rattle.dine_token.specs.Lawful.{IsLawful};
 ghost use Rattle.dine_token.specs.Periods.{periods_of, entries_of};
-ghost use Rattle.dine_token.specs.Fork.{SeenFork, IsFork, IsEnd, MayMove, MayEat, location, moved, eaten};
+ghost use Rattle.dine_token.specs.Fork.{SeenFork, IsFork, IsEnd, MayMove, MayEat, location, after_move, after_meal};
 
 /// A lawful log has at most twice as many entries as meals are due to both ends.
 pub fn lawful_log_is_bounded()
@@ -52,8 +52,8 @@ pub fn move_cleans_and_sends()
 pub fn forks_stay_lawful()
     ensures opened { (ends due : ℕ × ℕ) → IsLawful ends due [] }
     ensures eaten { (fork : SeenFork) (site k : ℕ) (act : Act)
-        → IsFork fork → MayEat site k fork → IsAct act → IsFork (eaten site k act fork) }
+        → IsFork fork → MayEat site k fork → IsAct act → IsFork (after_meal site k act fork) }
     ensures moved { (fork : SeenFork) (to : ℕ)
-        → IsFork fork → MayMove to fork → IsFork (moved to fork) }
+        → IsFork fork → MayMove to fork → IsFork (after_move to fork) }
     ensures end { (fork : SeenFork) → IsFork fork → IsEnd fork (location fork) }
 {}

@@ -1,6 +1,6 @@
 //! A meal of a site, with all its forks.
 ghost use Rattle.std.specs.Prelude.{◌≡◌, ◌<◌, ◌^◌, All, Some, length, map, slice_get, vec_len};
-ghost use Rattle.dine_token.specs.Fork.{IsDirty, MayEat, eaten};
+ghost use Rattle.dine_token.specs.Fork.{IsDirty, MayEat, after_meal};
 ghost use Rattle.dine_token.specs.Values.{IsAct};
 
 use crate::act::Act;
@@ -37,7 +37,7 @@ impl Meal {
         requires countable { vec_len hands < 2 ^ 32 }
         ensures site { result.site ≡ site }
         ensures k { result.k ≡ k }
-        ensures forks { result.forks ≡ map (eaten site k act) hands.items }
+        ensures forks { result.forks ≡ map (after_meal site k act) hands.items }
     {
         let mut hands = hands;
         for hand in hands.iter_mut() {

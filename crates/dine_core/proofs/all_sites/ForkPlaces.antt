@@ -27,7 +27,8 @@ use Rattle.dine_rules.proofs.two_ends.ValuesByLogs.{world_tells}
 use Rattle.dine_rules.specs.Streams.{KeepsStreams}
 use Rattle.dine_site_core.specs.Core.{forks_in_hand}
 use Rattle.dine_site_core.specs.Places.{no_place, place_at}
-use Rattle.dine_core.specs.WorldSites.{IsSiteOf, HasOwnMeal, letters_in}
+use Rattle.dine_core.specs.WorldSites.{IsSiteOf, letters_in}
+use Rattle.dine_core.specs.private.StepsOfSites.{HasOwnMeal}
 use Rattle.dine_site_core.specs.Standing.{all_places}
 use Rattle.dine_rules.specs.World.{WorldState, state_of, place_of, put_to}
 use Rattle.dine_rules.specs.Links.{queue_to}

@@ -10,9 +10,9 @@ use Rattle.dine_site_core.specs.declared.site.places.ForkSlot.TheVariants.{Away}
 use Rattle.dine_core.specs.declared.world.sites.WorldSite.{WorldSite}
 use Rattle.dine_core.specs.declared.world.EdgeEnds.{EdgeEnds}
 use Rattle.dine_site_core.specs.Core.{SeenCore}
-use Rattle.dine_site_core.specs.Places.{no_place, place_at, gave}
+use Rattle.dine_site_core.specs.Places.{no_place, place_at, after_give}
 use Rattle.dine_core.specs.WorldSites.{letters_in}
-use Rattle.dine_core.specs.private.Forks.{absent_site, site_at, edge_ends, fork_in_slot, fork_at_site, first_fork, behind_fork, fork_of_edge, IsPlaceOf, IsEdgeAt, HasAllForks, AreForksOf, emptied_at, without_fork}
+use Rattle.dine_core.specs.private.Forks.{absent_site, site_at, edge_ends, fork_in_slot, fork_at_site, first_fork, behind_fork, fork_of_edge, IsPlaceOf, IsEdgeAt, HasAllForks, AreForksOf, without_fork_at, without_fork}
 
 -- ---- one place is emptied
 
@@ -21,17 +21,17 @@ abbrev place_without : Place → Place
 place_without place = record place { fork = Away }
 
 module _ (core : SeenCore) (i : ℕ) where
-  other_place : (j : ℕ) → j ≢ i → place_at (gave i core) j ≡ place_at core j
+  other_place : (j : ℕ) → j ≢ i → place_at (after_give i core) j ≡ place_at core j
   other_place j differs = get_or-set_other core.places i j (place_without (place_at core i)) no_place differs
 
-  same_place : i < length core.places → place_at (gave i core) i ≡ place_without (place_at core i)
+  same_place : i < length core.places → place_at (after_give i core) i ≡ place_without (place_at core i)
   same_place within = get_or-set_same core.places i (place_without (place_at core i)) no_place within
 
   -- each place stays that of its edge
-  same_edges : (j : ℕ) → j < length core.places → (place_at (gave i core) j).edge ≡ (place_at core j).edge
+  same_edges : (j : ℕ) → j < length core.places → (place_at (after_give i core) j).edge ≡ (place_at core j).edge
   same_edges j within = elim (cases_eq j i) [
     | inl same ↦
-        let P : ℕ → Type 0 = λ k. k < length core.places → (place_at (gave i core) k).edge ≡ (place_at core k).edge in
+        let P : ℕ → Type 0 = λ k. k < length core.places → (place_at (after_give i core) k).edge ≡ (place_at core k).edge in
         subst P (sym same) (λ h. ap (λ (p : Place). p.edge) (same_place h)) within
     | inr differs ↦ ap (λ (p : Place). p.edge) (other_place j differs)
   ]
@@ -40,22 +40,22 @@ module _ (core : SeenCore) (i : ℕ) where
 
 -- the site, when its fork is out
 abbrev world_site_without : ℕ → WorldSite → WorldSite
-world_site_without i world_site = record world_site { core = gave i world_site.core }
+world_site_without i world_site = record world_site { core = after_give i world_site.core }
 
 module _ (sites : List WorldSite) (s i : ℕ) (site : s < length sites) where
-  other_world_site : (t : ℕ) (d : WorldSite) → t ≢ s → get_or (emptied_at s i sites) t d ≡ get_or sites t d
+  other_world_site : (t : ℕ) (d : WorldSite) → t ≢ s → get_or (without_fork_at s i sites) t d ≡ get_or sites t d
   other_world_site t d differs = get_or-set_other sites s t (world_site_without i (site_at sites s)) d differs
 
-  same_world_site : (d : WorldSite) → get_or (emptied_at s i sites) s d ≡ world_site_without i (site_at sites s)
+  same_world_site : (d : WorldSite) → get_or (without_fork_at s i sites) s d ≡ world_site_without i (site_at sites s)
   same_world_site d = get_or-set_same sites s (world_site_without i (site_at sites s)) d site
 
-  length-emptied : length (emptied_at s i sites) ≡ length sites
+  length-emptied : length (without_fork_at s i sites) ≡ length sites
   length-emptied = length-set sites s (world_site_without i (site_at sites s))
 
   -- each place is there as before
-  pub place-emptied : (t j e : ℕ) → IsPlaceOf sites t j e → IsPlaceOf (emptied_at s i sites) t j e
+  pub place-emptied : (t j e : ℕ) → IsPlaceOf sites t j e → IsPlaceOf (without_fork_at s i sites) t j e
   place-emptied t j e is = elim (cases_eq t s) [
-    | inl same ↦ subst (λ (x : ℕ). IsPlaceOf sites x j e → IsPlaceOf (emptied_at s i sites) x j e) (sym same) here is
+    | inl same ↦ subst (λ (x : ℕ). IsPlaceOf sites x j e → IsPlaceOf (without_fork_at s i sites) x j e) (sym same) here is
     | inr differs ↦ record {
       site = omega (arith, is.site, length-emptied);
       place = subst (λ (x : WorldSite). j < length x.core.places) (sym (other_world_site t absent_site differs)) is.place;
@@ -63,7 +63,7 @@ module _ (sites : List WorldSite) (s i : ℕ) (site : s < length sites) where
     }
   ]
     where
-      here : IsPlaceOf sites s j e → IsPlaceOf (emptied_at s i sites) s j e
+      here : IsPlaceOf sites s j e → IsPlaceOf (without_fork_at s i sites) s j e
       here is = record {
         site = omega (arith, is.site, length-emptied);
         place = subst (λ (x : WorldSite). j < length x.core.places) (sym (same_world_site absent_site)) (omega (arith, is.place, length-set (site_at sites s).core.places i (place_without (place_at (site_at sites s).core i))));
@@ -71,9 +71,9 @@ module _ (sites : List WorldSite) (s i : ℕ) (site : s < length sites) where
       }
 
   -- the forks of other places stay
-  pub fork-emptied : (t j : ℕ) → (t ≡ s → j ≡ i → ⊥) → fork_at_site (site_at (emptied_at s i sites) t) j ≡ fork_at_site (site_at sites t) j
+  pub fork-emptied : (t j : ℕ) → (t ≡ s → j ≡ i → ⊥) → fork_at_site (site_at (without_fork_at s i sites) t) j ≡ fork_at_site (site_at sites t) j
   fork-emptied t j apart = elim (cases_eq t s) [
-    | inl same ↦ subst (λ (x : ℕ). fork_at_site (site_at (emptied_at s i sites) x) j ≡ fork_at_site (site_at sites x) j) (sym same)
+    | inl same ↦ subst (λ (x : ℕ). fork_at_site (site_at (without_fork_at s i sites) x) j ≡ fork_at_site (site_at sites x) j) (sym same)
         (ap (λ (x : WorldSite). fork_at_site x j) (same_world_site absent_site) ∙ ap (λ (p : Place). fork_in_slot (site_at sites s).meal j p.fork) (other_place (site_at sites s).core i j (apart same)))
     | inr differs ↦ ap (λ (x : WorldSite). fork_at_site x j) (other_world_site t absent_site differs)
   ]
@@ -149,10 +149,10 @@ module _ (first : List WorldSite) (first_links : List (List Letter)) (edges : Li
 
   -- the sites when the fork of the lower end is out, and when that of the higher is
   abbrev after_lower : List WorldSite
-  after_lower = emptied_at ends.lower ends.lower_place sites
+  after_lower = without_fork_at ends.lower ends.lower_place sites
 
   abbrev pub after_both : List WorldSite
-  after_both = emptied_at ends.higher ends.higher_place after_lower
+  after_both = without_fork_at ends.higher ends.higher_place after_lower
 
   here : IsEdgeAt sites links ends k
   here = edge_there k within

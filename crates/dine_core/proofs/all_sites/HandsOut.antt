@@ -4,10 +4,10 @@ use Rattle.std.proofs.Math.ListN.{get_or-map}
 use Rattle.std.proofs.lemmas.List.{get_or_default, length-map, map-set, map_push, append_assoc, reverse-append}
 use Rattle.dine_core.specs.declared.world.sites.WorldSite.{WorldSite}
 use Rattle.dine_site_core.specs.Core.{SeenCore}
-use Rattle.dine_site_core.specs.Places.{gave, hand_of, place_at}
+use Rattle.dine_site_core.specs.Places.{after_give, hand_of, place_at}
 use Rattle.dine_site_core.specs.declared.site.places.ForkSlot.{ForkSlot}
 use Rattle.dine_site_core.specs.declared.site.places.ForkSlot.TheVariants.{Away, Here, InMeal}
-use Rattle.dine_core.specs.private.Forks.{absent_core, at_rest, core_ended, emptied_at, fork_at_site, fork_in_slot, meal_ended, site_at}
+use Rattle.dine_core.specs.private.Forks.{absent_core, at_rest, core_ended, without_fork_at, fork_at_site, fork_in_slot, meal_ended, site_at}
 
 -- a core at rest has its forks in hand
 in_hand : (i : ℕ) (slot : ForkSlot) → hand_of slot ≡ fork_in_slot None i slot
@@ -28,8 +28,8 @@ module _ (cores : List SeenCore) (s i : ℕ) (past : SeenCore) (within : s < len
   pub fork_read : hand_of (place_at (get_or cores s past) i).fork ≡ fork_at_site (site_at (map at_rest cores) s) i
   fork_read = in_hand i (place_at (get_or cores s past) i).fork ∙ ap (λ (x : WorldSite). fork_at_site x i) rest_read
 
-  pub emptied_read : map at_rest (set cores s (gave i (get_or cores s past))) ≡ emptied_at s i (map at_rest cores)
-  emptied_read = map-set at_rest cores s (gave i (get_or cores s past)) ∙ ap (λ (x : WorldSite). set (map at_rest cores) s (record x { core = gave i x.core })) rest_read
+  pub emptied_read : map at_rest (set cores s (after_give i (get_or cores s past))) ≡ without_fork_at s i (map at_rest cores)
+  emptied_read = map-set at_rest cores s (after_give i (get_or cores s past)) ∙ ap (λ (x : WorldSite). set (map at_rest cores) s (record x { core = after_give i x.core })) rest_read
 
 -- the cores of all sites, ended, are the sites after their meals
 pub all_ended : (sites : List WorldSite) → map at_rest (map core_ended sites) ≡ map meal_ended sites

@@ -7,7 +7,8 @@ use Rattle.dine_rules.specs.declared.letters.Letter.{Letter}
 use Rattle.dine_rules.specs.Local.{LocalState, Traffic, no_traffic, traffic_at, edge_at, neighbour_at}
 use Rattle.dine_rules.specs.World.{WorldState, no_state, state_of, place_of, put_to}
 use Rattle.dine_rules.specs.Links.{queue_to}
-use Rattle.dine_core.specs.WorldSites.{letters_in, with_letter, without_next}
+use Rattle.dine_core.specs.WorldSites.{letters_in}
+use Rattle.dine_core.specs.private.StepsOfSites.{with_letter, without_next}
 use Rattle.dine_core.specs.Worlds.{AreLinksOf, number_to}
 use Rattle.dine_rules.proofs.links.Across.{across}
 use Rattle.dine_rules.proofs.links.WorldStreams.{WorldKeeps, prefix_short}

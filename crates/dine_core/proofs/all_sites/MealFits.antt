@@ -15,7 +15,8 @@ use Rattle.dine_rules.specs.Steps.{hand_fork_at}
 use Rattle.dine_rules.specs.Streams.{KeepsStreams}
 use Rattle.dine_site_core.specs.Core.{SeenCore, Refines, forks_in_hand, kept_at}
 use Rattle.dine_site_core.specs.Places.{no_place, neighbour_of, meals_in, FitsPlace, FitsMeal, IsMealOf}
-use Rattle.dine_core.specs.WorldSites.{IsSiteOf, HasOwnMeal}
+use Rattle.dine_core.specs.WorldSites.{IsSiteOf}
+use Rattle.dine_core.specs.private.StepsOfSites.{HasOwnMeal}
 use Rattle.dine_site_core.specs.Standing.{all_places}
 use Rattle.dine_rules.proofs.one_site.InHand.{hand-here, hand-meals}
 use Rattle.dine_site_core.proofs.one_site.Ending.{hands_at}

@@ -13,7 +13,7 @@ use Rattle.dine_rules.specs.Holdings.{EatsWithAll, fork_at}
 use Rattle.dine_rules.specs.Steps.{hand_fork_at}
 use Rattle.dine_rules.specs.Streams.{KeepsStreams}
 use Rattle.dine_site_core.specs.Core.{SeenCore, forks_in_hand}
-use Rattle.dine_site_core.specs.Places.{no_place, place_at, put_back, IsMealOf}
+use Rattle.dine_site_core.specs.Places.{no_place, place_at, places_with_forks, IsMealOf}
 use Rattle.dine_core.specs.WorldSites.{IsSiteOf}
 use Rattle.dine_site_core.specs.Standing.{all_places}
 use Rattle.dine_rules.specs.World.{WorldState, state_of}
@@ -27,7 +27,7 @@ use Rattle.dine_core.proofs.all_sites.ForksOut.{same_four}
 -- ---- a site
 
 -- the places stay those of their edges
-put_back_edge : (places : List Place) (forks : List SeenFork) (i : ℕ) → (get_or (put_back places forks) i no_place).edge ≡ (get_or places i no_place).edge
+put_back_edge : (places : List Place) (forks : List SeenFork) (i : ℕ) → (get_or (places_with_forks places forks) i no_place).edge ≡ (get_or places i no_place).edge
 put_back_edge [] forks i = refl
 put_back_edge (place ∷ places) [] i = refl
 put_back_edge (place ∷ places) (fork ∷ forks) zero = refl

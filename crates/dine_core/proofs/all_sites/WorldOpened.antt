@@ -14,7 +14,8 @@ use Rattle.dine_core.specs.declared.world.sites.WorldSite.{WorldSite}
 use Rattle.dine_core.specs.declared.world.EdgeEnds.{EdgeEnds}
 use Rattle.dine_rules.specs.Local.{LocalState, Traffic, no_traffic, traffic_at, start_of, edge_at, neighbour_at}
 use Rattle.dine_site_core.specs.Core.{Refines}
-use Rattle.dine_core.specs.WorldSites.{IsNotEating, IsSiteOf, letters_in}
+use Rattle.dine_core.specs.WorldSites.{IsSiteOf, letters_in}
+use Rattle.dine_core.specs.private.StepsOfSites.{IsNotEating}
 use Rattle.dine_rules.specs.World.{WorldState, no_state, state_of, start, place_of, put_to}
 use Rattle.dine_core.specs.Worlds.{SeenWorld, AreSitesOf, AreLinksOf, IsReached, IsWorldOf, number_to, ends_seen}
 use Rattle.dine_rules.specs.Bound.{bound_of, meals_due}

@@ -4,7 +4,7 @@ use Rattle.std.proofs.lemmas.List.{length_push}
 use Rattle.dine_graph.specs.Plan.{SeenPlan}
 use Rattle.dine_rules.specs.declared.events.Event.{Event}
 use Rattle.dine_rules.specs.Bound.{bound_of, effects_of}
-use Rattle.dine_rules.specs.Schedules.{Counted, carried_on, chosen, choose, finish_within, replay, from_here}
+use Rattle.dine_rules.specs.Schedules.{Counted, rest_after, run_after, run_after_choice, finish_within, replay, from_here}
 use Rattle.dine_rules.specs.World.{WorldState, enabled_events, is_enabled, start, world_after}
 use Rattle.dine_core.specs.Worlds.{WorldSteps, IsReached, IsWorldOf, RunsTo, SeenWorld, can_happen}
 use Rattle.dine_core.proofs.all_sites.CanHappen.{can_happen_is}
@@ -53,7 +53,7 @@ pub under_way_next : (plan : SeenPlan) (world : WorldState) (left rest : ℕ) (s
 under_way_next plan world left rest seen new e way is_left first happens =
     let did = happens plan way.now.world way.stands in
     let next : Counted = record { world = did.after; events = way.now.events + 1 } in
-    let step : finish_within (suc rest) plan way.now ≡ finish_within rest plan next = ap (carried_on (finish_within rest plan) plan way.now) (sym first)
+    let step : finish_within (suc rest) plan way.now ≡ finish_within rest plan next = ap (rest_after (finish_within rest plan) plan way.now) (sym first)
     ∙ ap (λ (w : WorldState). finish_within rest plan (record { world = w; events = way.now.events + 1 })) (ap (λ (o : Option WorldState). unwrap_or o way.now.world) did.happens) in
     record {
       now = next;
@@ -66,7 +66,7 @@ under_way_next plan world left rest seen new e way is_left first happens =
 -- it ends where nothing is enabled
 pub finished : (plan : SeenPlan) (n : ℕ) (now : Counted) → None ≡ slice_get (enabled_events plan now.world) 0 → finish_within n plan now ≡ now
 finished plan zero now h = refl
-finished plan (suc n) now h = ap (carried_on (finish_within n plan) plan now) (sym h)
+finished plan (suc n) now h = ap (rest_after (finish_within n plan) plan now) (sym h)
 
 pub runs_to : (plan : SeenPlan) (world : WorldState) (left events : ℕ) (seen : SeenWorld) → (way : IsUnderWay plan world left seen) → None ≡ slice_get (enabled_events plan way.now.world) 0
     → events + left ≡ bound_of plan → RunsTo plan (finish_within (bound_of plan) plan (from_here world)) events seen
@@ -93,7 +93,7 @@ pub replaying_next : (plan : SeenPlan) (world : WorldState) (choices rest : List
 replaying_next plan world choices rest n events seen new e way is happens =
     let did = happens plan way.now.world way.stands in
     let next : Counted = record { world = did.after; events = way.now.events + 1 } in
-    let step : choose plan way.now n ≡ next = ap (chosen plan way.now) (sym is) ∙ ap (λ (w : WorldState). record { world = w; events = way.now.events + 1 }) (ap (λ (o : Option WorldState). unwrap_or o way.now.world) did.happens) in
+    let step : run_after_choice plan way.now n ≡ next = ap (run_after plan way.now) (sym is) ∙ ap (λ (w : WorldState). record { world = w; events = way.now.events + 1 }) (ap (λ (o : Option WorldState). unwrap_or o way.now.world) did.happens) in
     record { now = next; run = way.run ∙ ap (λ (x : Counted). replay plan x rest) step; counted = omega (arith, way.counted); stands = did.stands }
 
 -- a choice with none is passed over
@@ -101,7 +101,7 @@ pub replaying_on : (plan : SeenPlan) (world : WorldState) (choices rest : List �
     → None ≡ slice_get (enabled_events plan way.now.world) n → IsReplaying plan world choices rest events seen
 replaying_on plan world choices rest n events seen way none = record {
   now = way.now;
-  run = way.run ∙ ap (λ (o : Option Event). replay plan (chosen plan way.now o) rest) (sym none);
+  run = way.run ∙ ap (λ (o : Option Event). replay plan (run_after plan way.now o) rest) (sym none);
   counted = way.counted;
   stands = way.stands;
 }

@@ -7,7 +7,8 @@ use Rattle.dine_rules.specs.declared.events.Event.{Event}
 use Rattle.dine_core.specs.declared.world.sites.WorldSite.{WorldSite}
 use Rattle.dine_rules.specs.World.{WorldState, state_of, world_after}
 use Rattle.dine_rules.specs.Steps.{Step, shape_of}
-use Rattle.dine_core.specs.WorldSites.{SiteSteps, HasOwnMeal, HasRoomFor, MovesLetters, TakesAllowed, can_do}
+use Rattle.dine_core.specs.WorldSites.{can_do}
+use Rattle.dine_core.specs.private.StepsOfSites.{SiteSteps, HasOwnMeal, HasRoomFor, MovesLetters, TakesAllowed}
 use Rattle.dine_core.specs.Worlds.{WorldStep, IsWorldOf, SeenWorld, can_happen}
 use Rattle.dine_rules.proofs.links.WorldStreams.{some_of}
 use Rattle.dine_core.proofs.all_sites.CanHappen.{can_happen_is}

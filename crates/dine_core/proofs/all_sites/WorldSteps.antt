@@ -20,7 +20,8 @@ use Rattle.dine_site_core.specs.LinkNumbers.{link_to, link_from}
 use Rattle.dine_site_core.specs.Places.{place_at}
 use Rattle.dine_rules.specs.World.{WorldState, no_state, place_of, state_of, next_letter, step_of, world_after, start}
 use Rattle.dine_rules.specs.Links.{queue_to}
-use Rattle.dine_core.specs.WorldSites.{SiteSteps, PutsAt, HasRoomAt, HasRoomFor, IsSiteOf, MovesLetters, TakesAllowed, can_do, has_failed, has_place, meets_no_breach, letters_in, next_in, step_in, with_letter, without_next}
+use Rattle.dine_core.specs.WorldSites.{IsSiteOf, can_do, has_place, letters_in, next_in}
+use Rattle.dine_core.specs.private.StepsOfSites.{SiteSteps, PutsAt, HasRoomAt, HasRoomFor, MovesLetters, TakesAllowed, has_failed, meets_no_breach, step_in, with_letter, without_next}
 use Rattle.dine_core.specs.Worlds.{IsReached, IsWorldOf, AreLinksOf, AreSitesOf, SeenWorld, can_at, number_to}
 use Rattle.dine_rules.proofs.links.Across.{across}
 use Rattle.dine_core.proofs.all_sites.CanHappen.{next_here}

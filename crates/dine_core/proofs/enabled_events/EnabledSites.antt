@@ -22,7 +22,8 @@ use Rattle.dine_core.specs.private.Counts.{HasCounts, kinds_now}
 use Rattle.dine_core.specs.private.Inboxes.{has_letter}
 use Rattle.dine_site_core.specs.LinkNumbers.{link_from, link_to}
 use Rattle.dine_site_core.specs.Places.{neighbour_of, place_at}
-use Rattle.dine_core.specs.WorldSites.{MovesLetters, can_do, has_place, next_in}
+use Rattle.dine_core.specs.WorldSites.{can_do, has_place, next_in}
+use Rattle.dine_core.specs.private.StepsOfSites.{MovesLetters}
 use Rattle.dine_core.specs.Worlds.{IsWorldOf, SeenWorld, can_at, can_happen, number_to}
 use Rattle.dine_rules.proofs.links.Across.{across}
 use Rattle.dine_core.proofs.all_sites.LinkNumbers.{from_is_to, same_place}

@@ -16,10 +16,11 @@ use Rattle.dine_rules.specs.World.{WorldState, place_of, state_of}
 use Rattle.dine_core.specs.declared.world.sites.WorldSite.{WorldSite}
 use Rattle.dine_core.specs.declared.world.EdgeEnds.{EdgeEnds}
 use Rattle.dine_site_core.specs.Core.{SeenCore}
-use Rattle.dine_core.specs.private.Inboxes.{HasInboxes, LeadsToSet, changed_link, end_of, end_of_link, has_letter, no_ends, noted}
+use Rattle.dine_core.specs.private.Inboxes.{HasInboxes, LeadsToSet, changed_link, end_of, end_of_link, has_letter, no_ends, inboxes_after}
 use Rattle.dine_site_core.specs.LinkNumbers.{link_from, link_to}
 use Rattle.dine_site_core.specs.Places.{place_at}
-use Rattle.dine_core.specs.WorldSites.{MovesLetters, can_do, has_place, next_in}
+use Rattle.dine_core.specs.WorldSites.{can_do, has_place, next_in}
+use Rattle.dine_core.specs.private.StepsOfSites.{MovesLetters}
 use Rattle.dine_core.specs.Worlds.{IsWorldOf, SeenWorld, can_at, can_happen, ends_seen, number_to}
 use Rattle.dine_rules.proofs.links.Across.{across, place_of-edge_at}
 use Rattle.dine_rules.proofs.one_place.Placed.{placed}
@@ -231,7 +232,7 @@ module _ (plan : SeenPlan) (world next : WorldState) (seen after : SeenWorld) (i
     }
 
   -- the sets stay right
-  pub heard_after : (link : Option ℕ) → IsChange plan seen.links after.links link → HasInboxes after (noted after.links seen.edges link nonempty_inboxes)
+  pub heard_after : (link : Option ℕ) → IsChange plan seen.links after.links link → HasInboxes after (inboxes_after after.links seen.edges link nonempty_inboxes)
   heard_after None change = record {
     every_site = has.every_site ∙ sym as_many;
     size = λ s h. has.size s (omega (arith, h, as_many));

@@ -11,7 +11,7 @@ use Rattle.dine_site_core.specs.declared.site.places.ForkSlot.TheVariants.{Away,
 use Rattle.dine_core.specs.declared.world.sites.WorldSite.{WorldSite}
 use Rattle.dine_core.specs.declared.world.EdgeEnds.{EdgeEnds}
 use Rattle.dine_site_core.specs.Core.{SeenCore}
-use Rattle.dine_site_core.specs.Places.{place_at, gave, ended}
+use Rattle.dine_site_core.specs.Places.{place_at, after_give, after_end}
 use Rattle.dine_core.specs.WorldSites.{letters_in}
 
 -- a default, for a core that is not there
@@ -96,7 +96,7 @@ pub record AreForksOf (sites : List WorldSite) (links : List (List Letter)) (edg
 -- fail.
 abbrev pub meal_ended_by : Option SeenMeal → SeenCore → SeenCore
 meal_ended_by None core = core
-meal_ended_by (Some meal) core = ended false meal.forks core
+meal_ended_by (Some meal) core = after_end false meal.forks core
 
 -- the core of the site after the end of its meal, if it eats
 abbrev pub core_ended : WorldSite → SeenCore
@@ -107,8 +107,8 @@ abbrev pub meal_ended : WorldSite → WorldSite
 meal_ended world_site = at_rest (core_ended world_site)
 
 -- the sites, after the fork of place i of one was taken out
-abbrev pub emptied_at : ℕ → ℕ → List WorldSite → List WorldSite
-emptied_at s i sites = let world_site = site_at sites s in slice_set sites s (record world_site { core = gave i world_site.core })
+abbrev pub without_fork_at : ℕ → ℕ → List WorldSite → List WorldSite
+without_fork_at s i sites = let world_site = site_at sites s in slice_set sites s (record world_site { core = after_give i world_site.core })
 
 -- the links, after the letters of one were taken up to its first fork
 abbrev pub without_fork : ℕ → List (List Letter) → List (List Letter)

@@ -44,8 +44,8 @@ LeadsToSet edges nonempty_inboxes None = Unit {0}
 LeadsToSet edges nonempty_inboxes (Some n) = (n / 2 < length edges) × ((end_of_link edges n).0 < length nonempty_inboxes) × ((end_of_link edges n).1 < 64)
 
 -- the sets, after it was noted at the place to which the link leads whether the link has a letter
-abbrev pub noted : List (List Letter) → List EdgeEnds → Option ℕ → List (List Bool) → List (List Bool)
-noted links edges None nonempty_inboxes = nonempty_inboxes
-noted links edges (Some n) nonempty_inboxes =
+abbrev pub inboxes_after : List (List Letter) → List EdgeEnds → Option ℕ → List (List Bool) → List (List Bool)
+inboxes_after links edges None nonempty_inboxes = nonempty_inboxes
+inboxes_after links edges (Some n) nonempty_inboxes =
     let end = end_of_link edges n in
     slice_set nonempty_inboxes end.0 (slice_set (slice_index_or nonempty_inboxes end.0 []) end.1 (has_letter links n))

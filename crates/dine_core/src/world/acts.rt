@@ -11,9 +11,11 @@ ghost use Rattle.dine_core.specs.private.Counts.{own_kinds_now};
 ghost use Rattle.dine_set.specs.Marks.{nth_position};
 ghost use Rattle.dine_rules.specs.Steps.{Begin, End, Puts, Step, Take, after, shape_of, step_by};
 ghost use Rattle.dine_site_core.specs.Core.{forks_in_hand};
-ghost use Rattle.dine_site_core.specs.Places.{begun, can_begin, ended, place_at, took};
-ghost use Rattle.dine_core.specs.WorldSites.{SiteSteps, HasOwnMeal, HasRoomAt, HasRoomFor, TakesAllowed, can_do};
-ghost use Rattle.dine_core.specs.WorldSites.{has_failed, meets_no_breach, next_in, without_next};
+ghost use Rattle.dine_site_core.specs.Places.{after_begin, can_begin, after_end, place_at, after_take};
+ghost use Rattle.dine_core.specs.WorldSites.{can_do};
+ghost use Rattle.dine_core.specs.private.StepsOfSites.{SiteSteps, HasOwnMeal, HasRoomAt, HasRoomFor, TakesAllowed};
+ghost use Rattle.dine_core.specs.WorldSites.{next_in};
+ghost use Rattle.dine_core.specs.private.StepsOfSites.{has_failed, meets_no_breach, without_next};
 ghost use Rattle.dine_site_core.specs.Standing.{ForEachState, CorePuts, CoreStep, CoreSteps, all_places};
 
 use super::queue::Queue;
@@ -87,7 +89,7 @@ fn take(world_site: &mut WorldSite, links: &mut [Queue], i: u32)
     ensures links { links.new
         ≡ without_next links.old (link_to world_site.old.core.site (place_at world_site.old.core i)) }
     ensures core { MatchOption (next_in links.old world_site.old.core i) ⊥
-        (λ letter. (world_site.new.core ≡ took i letter world_site.old.core)
+        (λ letter. (world_site.new.core ≡ after_take i letter world_site.old.core)
         × CoreSteps (Take i letter) world_site.old.core world_site.new.core) }
 {
     let link = world_site.core.link_to(i);
@@ -100,7 +102,7 @@ fn begin(world_site: &mut WorldSite)
     requires can { can_begin world_site.old.core ≡ true }
     requires none { world_site.old.meal ≡ None }
     ensures outcomes { world_site.new.outcomes ≡ world_site.old.outcomes }
-    ensures core { world_site.new.core ≡ begun world_site.old.core }
+    ensures core { world_site.new.core ≡ after_begin world_site.old.core }
     ensures step { CoreSteps Begin world_site.old.core world_site.new.core }
     ensures meal { MatchOption world_site.new.meal ⊥
         (λ meal. (meal.site ≡ world_site.old.core.site) × (meal.k ≡ world_site.old.core.ate + 1)
@@ -122,7 +124,7 @@ fn end(world_site: &mut WorldSite)
     ensures none { world_site.new.meal ≡ None }
     ensures outcomes { world_site.new.outcomes ≡ world_site.old.outcomes }
     ensures core { let failed = has_failed world_site.old.outcomes world_site.old.core.ate in
-        IfSome world_site.old.meal (λ meal. world_site.new.core ≡ ended failed meal.forks world_site.old.core) }
+        IfSome world_site.old.meal (λ meal. world_site.new.core ≡ after_end failed meal.forks world_site.old.core) }
     ensures step { let failed = has_failed world_site.old.outcomes world_site.old.core.ate in
         IfSome world_site.old.meal
         (λ meal. ForEachState world_site.old.core

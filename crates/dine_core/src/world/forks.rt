@@ -1,8 +1,9 @@
 // The forks of the world: at the sites, in meals and in links.
 ghost use Rattle.std.specs.Prelude.{◌≡◌, ◌+◌, ◌*◌, ◌<◌, ◌≤◌, [], All, length, map, option_map, slice_get, vec_capacity};
-ghost use Rattle.dine_core.specs.private.Forks.{AreForksOf, HasAllForks, IsEdgeAt, at_rest, core_ended, emptied_at};
+ghost use Rattle.dine_core.specs.private.Forks.{AreForksOf, HasAllForks, IsEdgeAt, at_rest, core_ended};
+ghost use Rattle.dine_core.specs.private.Forks.{without_fork_at};
 ghost use Rattle.dine_core.specs.private.Forks.{fork_of_edge, without_fork};
-ghost use Rattle.dine_core.specs.WorldSites.{HasOwnMeal};
+ghost use Rattle.dine_core.specs.private.StepsOfSites.{HasOwnMeal};
 
 use super::queue::Queue;
 use super::sites::WorldSite;
@@ -88,7 +89,7 @@ fn end_site(world_site: WorldSite) -> Hands
     core.into_hands()
 }
 
-// Takes the forks of all edges out, in edge order.
+// Moves the forks of all edges into a list, in edge order.
 fn collect(hands: &mut [Hands], links: &mut [Queue], edges: &[EdgeEnds], forks: &mut Vec<Fork>)
     requires all { HasAllForks (map at_rest hands.old) links.old edges.now }
     requires none { forks.old.items ≡ [] }
@@ -96,23 +97,28 @@ fn collect(hands: &mut [Hands], links: &mut [Queue], edges: &[EdgeEnds], forks: 
     ensures { AreForksOf (map at_rest hands.old) links.old edges.now forks.new.items }
 {
     for (edge, ends) in edges.iter().enumerate() {
-        let fork = take_out(hands, links, ends, edge).unwrap();
+        let fork = remove_edge_fork(hands, links, ends, edge).unwrap();
         forks.push_reserved(fork);
     }
 }
 
-// Takes the fork of an edge out of the site or the link that has it.
-fn take_out(hands: &mut [Hands], links: &mut [Queue], ends: &EdgeEnds, edge: usize) -> Option<Fork>
+// Removes the fork of an edge from the site or the link that has it.
+fn remove_edge_fork(
+    hands: &mut [Hands],
+    links: &mut [Queue],
+    ends: &EdgeEnds,
+    edge: usize,
+) -> Option<Fork>
     requires { IsEdgeAt (map at_rest hands.old) links.old ends.now edge }
     ensures fork { result ≡ fork_of_edge (map at_rest hands.old) links.old ends.now edge }
     ensures hands { map at_rest hands.new
-        ≡ emptied_at ends.now.higher ends.now.higher_place
-        (emptied_at ends.now.lower ends.now.lower_place (map at_rest hands.old)) }
+        ≡ without_fork_at ends.now.higher ends.now.higher_place
+        (without_fork_at ends.now.lower ends.now.lower_place (map at_rest hands.old)) }
     ensures links { links.new ≡ without_fork (2 * edge) (without_fork (2 * edge + 1) links.old) }
 {
-    let at_lower = hands[ends.lower as usize].take_fork(ends.lower_place);
-    let to_lower = links[2 * edge + 1].take_fork();
-    let at_higher = hands[ends.higher as usize].take_fork(ends.higher_place);
-    let to_higher = links[2 * edge].take_fork();
+    let at_lower = hands[ends.lower as usize].remove_fork(ends.lower_place);
+    let to_lower = links[2 * edge + 1].remove_fork();
+    let at_higher = hands[ends.higher as usize].remove_fork(ends.higher_place);
+    let to_higher = links[2 * edge].remove_fork();
     at_lower.or(to_lower).or(at_higher).or(to_higher)
 }

@@ -1,7 +1,7 @@
 // For each site, the places with a letter in the link to the site.
 ghost use Rattle.std.specs.Prelude.{◌≡◌, ◌<◌, ◌/◌, length, true};
 ghost use Rattle.dine_rules.specs.Steps.{shape_of};
-ghost use Rattle.dine_core.specs.private.Inboxes.{LeadsToSet, changed_link, end_of_link, has_letter, noted};
+ghost use Rattle.dine_core.specs.private.Inboxes.{LeadsToSet, changed_link, end_of_link, has_letter, inboxes_after};
 ghost use Rattle.dine_core.specs.WorldSites.{has_place};
 
 use super::EdgeEnds;
@@ -33,7 +33,7 @@ pub(super) fn note(
 )
     requires { LeadsToSet edges.now nonempty_inboxes.old link }
     ensures count { length nonempty_inboxes.new ≡ length nonempty_inboxes.old }
-    ensures noted { nonempty_inboxes.new ≡ noted links.now edges.now link nonempty_inboxes.old }
+    ensures noted { nonempty_inboxes.new ≡ inboxes_after links.now edges.now link nonempty_inboxes.old }
 {
     if let Some(link) = link {
         let (site, place) = end_of_link(edges, link);

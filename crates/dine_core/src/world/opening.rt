@@ -6,7 +6,8 @@ ghost use Rattle.dine_graph.specs.Plan.{edge_count, edges_of, job_count, job_of,
 ghost use Rattle.dine_rules.specs.Bound.{bound_of, meals_due};
 ghost use Rattle.dine_rules.specs.declared.letters.Letter.{Letter};
 ghost use Rattle.dine_rules.specs.Local.{start_of};
-ghost use Rattle.dine_core.specs.WorldSites.{IsNotEating, IsSiteOf, outcomes_of};
+ghost use Rattle.dine_core.specs.WorldSites.{IsSiteOf, outcomes_of};
+ghost use Rattle.dine_core.specs.private.StepsOfSites.{IsNotEating};
 ghost use Rattle.dine_rules.specs.World.{start};
 ghost use Rattle.dine_core.specs.Worlds.{AreSitesOf, ends_seen, lists_of};
 ghost use Rattle.dine_rules.specs.Outcomes.{with_outcomes};

@@ -1,6 +1,6 @@
 // How the meals of a site turn out.
 ghost use Rattle.std.specs.Prelude.{◌≡◌};
-ghost use Rattle.dine_core.specs.WorldSites.{has_failed};
+ghost use Rattle.dine_core.specs.private.StepsOfSites.{has_failed};
 
 use std::marker::Model;
 

@@ -114,8 +114,8 @@ impl Queue {
         false
     }
 
-    /// Takes letters up to the first fork, and returns that fork.
-    pub(crate) fn take_fork(&mut self) -> Option<Fork>
+    /// Removes the letters up to the first fork, and returns that fork.
+    pub(crate) fn remove_fork(&mut self) -> Option<Fork>
         ensures fork { result ≡ first_fork self.old }
         ensures rest { self.new ≡ behind_fork self.old }
     {

@@ -15,7 +15,7 @@ pub(crate) struct WorldSite {
 
 impl WorldSite {
     ghost use Rattle.dine_core.specs.private.Forks.{fork_at_site};
-    ghost use Rattle.dine_core.specs.WorldSites.{HasOwnMeal};
+    ghost use Rattle.dine_core.specs.private.StepsOfSites.{HasOwnMeal};
 
     /// Returns the fork of place `i`, in hand or in the meal.
     pub(crate) fn fork(&self, i: u32) -> Option<&Fork>

@@ -1,5 +1,5 @@
 -- The rule of a bell's channel.
-use Rattle.std.specs.Prelude.{◌≡◌, ◌<◌, ◌+◌, ℕ, ⊤, List, [], ◌∷◌, ◌++◌, All}
+use Rattle.std.specs.Prelude.{◌≡◌, ◌<◌, ◌+◌, ℕ, ⊤, List, [], ◌∷◌, ◌++◌, All, Option, Some, None}
 use mathlib.Core.Option.{some}
 use lib.ListN.{get_elem?}
 use Rattle.dine_link.specs.declared.bell_rule.Part.{Part}
@@ -66,3 +66,9 @@ after_sound (Rings own rings) = Rings own (rings + 1)
 abbrev pub after_hearing : Part → ℕ → Part
 after_hearing (Waits count reported) number = Waits count (reported ++ number ∷ [])
 after_hearing (Rings own rings) number = Rings own rings
+
+-- what a check for a ring does to the bell's pass: if it found this number, the bell reports it; if it found none, the
+-- pass stays as it was
+abbrev pub HasHeard : Option ℕ → Part → Part → Type 0
+HasHeard None old new = new ≡ old
+HasHeard (Some number) old new = IsKnown number old × (new ≡ after_hearing old number)

@@ -7,8 +7,8 @@ use Rattle.dine_link.specs.declared.rule.Known.{Known}
 
 -- what a pass knows: whether it may put, whether it may take, all that was put if it may put, and all that was taken if
 -- it may take
-abbrev pub known : Bool → Bool → List Stamped → List Stamped → Known
-known puts takes put taken = record { puts = puts; takes = takes; put = put; taken = taken }
+abbrev pub knowledge_of : Bool → Bool → List Stamped → List Stamped → Known
+knowledge_of puts takes put taken = record { puts = puts; takes = takes; put = put; taken = taken }
 
 -- Only one pass may put, and it knows all that was put. Only one pass may take, and it knows all that was taken.
 pub record Fits (putter taker : ℕ) (put taken : List Stamped) (pass : ℕ) (view : Known) : Type 0 where
@@ -26,29 +26,29 @@ pub record IsInOrder (queue : List Stamped) (views : List Known) : Type 0 where
   pub fits : (pass : ℕ) (view : Known) → get_elem? views pass ≡ some view → Fits putter taker put taken pass view
 
 -- the pass that may put and take, before any letter
-abbrev pub fresh : Known
-fresh = known true true [] []
+abbrev pub fresh_pass : Known
+fresh_pass = knowledge_of true true [] []
 
 -- a pass that was joined to another one: it may do nothing
-abbrev pub spent : Known
-spent = known false false [] []
+abbrev pub spent_pass : Known
+spent_pass = knowledge_of false false [] []
 
 -- the part of a pass that puts
-abbrev pub putting : Known → Known
-putting view = known true false view.put []
+abbrev pub putting_part : Known → Known
+putting_part view = knowledge_of true false view.put []
 
 -- the part of a pass that takes
-abbrev pub taking : Known → Known
-taking view = known false true [] view.taken
+abbrev pub taking_part : Known → Known
+taking_part view = knowledge_of false true [] view.taken
 
 -- the two parts joined into one pass
-abbrev pub joined : Known → Known → Known
-joined putter taker = known true true putter.put taker.taken
+abbrev pub joined_parts : Known → Known → Known
+joined_parts putter taker = knowledge_of true true putter.put taker.taken
 
 -- what a pass knows after it put a letter
 abbrev pub after_put : Known → Stamped → Known
-after_put view letter = known view.puts view.takes (view.put ++ letter ∷ []) view.taken
+after_put view letter = knowledge_of view.puts view.takes (view.put ++ letter ∷ []) view.taken
 
 -- what a pass knows after it took a letter
 abbrev pub after_take : Known → Stamped → Known
-after_take view letter = known view.puts view.takes view.put (view.taken ++ letter ∷ [])
+after_take view letter = knowledge_of view.puts view.takes view.put (view.taken ++ letter ∷ [])

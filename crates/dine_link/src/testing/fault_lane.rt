@@ -2,7 +2,7 @@
 ghost use Rattle.std.specs.Prelude.{◌≡◌, true, false, [], None, IfOk};
 ghost use Rattle.dine_rules.specs.Letters.{has_close};
 ghost use Rattle.dine_rules.specs.Streams.{is_close_last};
-ghost use Rattle.dine_link.specs.FaultLanes.{lets_through, spent};
+ghost use Rattle.dine_link.specs.private.Refusals.{lets_through, steps_left_after_one};
 ghost use mathlib.Core.List.{IsPrefix};
 
 use crate::channel::{ChannelClosedTx, ChannelLane, ChannelRx, ChannelTx};
@@ -31,7 +31,7 @@ pub struct FaultRx {
 
 // Counts a step if there is a limit, and returns whether it is let through.
 fn spend(left: &mut Option<u32>) -> bool
-    ensures counted { left.new ≡ spent left.old }
+    ensures counted { left.new ≡ steps_left_after_one left.old }
     ensures reported { result ≡ lets_through left.old }
 {
     match *left {

@@ -3,7 +3,7 @@ ghost use Rattle.std.specs.Prelude.{◌≡◌, IfOk, length, map};
 ghost use Rattle.dine_graph.specs.Plan.{site_count};
 ghost use Rattle.dine_core.specs.Worlds.{lists_of};
 ghost use Rattle.dine_rules.specs.Shown.{shown_by, shown_in};
-ghost use Rattle.dine_order.specs.Orders.{noted};
+ghost use Rattle.dine_order.specs.private.Searching.{outcomes_after};
 
 use dine_core::EventKind;
 use dine_graph::Plan;
@@ -47,7 +47,7 @@ fn shown_in(alloc: Global, jobs: u32, journal: &[EventKind]) -> Result<Vec<bool>
 // Notes that the site quits after `ended` meals, so that the last one failed. It notes nothing if no meal ended, or if
 // the site has no job of that number.
 fn note(fails: &mut Vec<bool>, ended: usize)
-    ensures { fails.new.items ≡ noted ended fails.old.items }
+    ensures { fails.new.items ≡ outcomes_after ended fails.old.items }
 {
     if 1 <= ended && ended <= fails.len() {
         fails[ended - 1] = true;

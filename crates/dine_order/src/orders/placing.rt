@@ -7,7 +7,7 @@ ghost use Rattle.dine_rules.specs.declared.events.Event.{Event};
 ghost use Rattle.dine_rules.specs.declared.events.EventKind.{EventKind};
 ghost use Rattle.dine_core.specs.Worlds.{IsWorldOf, SeenWorld};
 ghost use Rattle.dine_rules.specs.Shown.{plan_shown};
-ghost use Rattle.dine_order.specs.Orders.{FindsNext, IsFound, IsSearched, IsSearching, kind_at, receiver_of};
+ghost use Rattle.dine_order.specs.private.Searching.{FindsNext, IsFound, IsSearched, IsSearching, kind_at, receiver_of};
 
 use dine_core::{Event, EventKind, World};
 use dine_graph::Plan;

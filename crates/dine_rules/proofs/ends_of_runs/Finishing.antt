@@ -5,7 +5,7 @@ use Rattle.dine_graph.specs.Plan.{SeenPlan, IsPlan, site_count}
 use Rattle.dine_rules.specs.declared.events.Event.{Event}
 use Rattle.dine_rules.specs.World.{WorldState, start, world_after, is_enabled, events_at, enabled_events, Reaches, IsComplete}
 use Rattle.dine_rules.specs.Bound.{bound_of}
-use Rattle.dine_rules.specs.Schedules.{Counted, chosen, choose, replay, carried_on, finish_within, whole_run}
+use Rattle.dine_rules.specs.Schedules.{Counted, run_after, run_after_choice, replay, rest_after, finish_within, whole_run}
 use Rattle.dine_rules.proofs.precedence.Acyclic.{precedence_acyclic}
 use Rattle.dine_rules.proofs.counting.EffectBounds.{events_bounded}
 use Rattle.dine_rules.proofs.counting.Enabled.{passes_at, still}
@@ -36,7 +36,7 @@ pub record LeadsTo (plan : SeenPlan) (events : List Event) (world : WorldState) 
   pub event : Event
   pub reaches : Reaches plan (events ++ event ∷ []) world
 
-pub choice_leads : (plan : SeenPlan) (now : Counted) (events : List Event) (k : ℕ) (e : Event) → Reaches plan events now.world → slice_get (enabled_events plan now.world) k ≡ Some e → LeadsTo plan events (chosen plan now (Some e)).world
+pub choice_leads : (plan : SeenPlan) (now : Counted) (events : List Event) (k : ℕ) (e : Event) → Reaches plan events now.world → slice_get (enabled_events plan now.world) k ≡ Some e → LeadsTo plan events (run_after plan now (Some e)).world
 choice_leads plan now events k e reached is =
     let w = some_of (world_after plan now.world e) (passes_at (is_enabled plan now.world) (flat_map (events_at plan) (range_with_len 0 (site_count plan))) k e is) in
     record {
@@ -52,14 +52,14 @@ pub record IsReachedBy (plan : SeenPlan) (world : WorldState) : Type 0 where
   pub reaches : Reaches plan events world
 
 -- a choice leads from such a world to such a world
-choice_reaches : (plan : SeenPlan) (now : Counted) (k : ℕ) (o : Option Event) → IsReachedBy plan now.world → slice_get (enabled_events plan now.world) k ≡ o → IsReachedBy plan (chosen plan now o).world
+choice_reaches : (plan : SeenPlan) (now : Counted) (k : ℕ) (o : Option Event) → IsReachedBy plan now.world → slice_get (enabled_events plan now.world) k ≡ o → IsReachedBy plan (run_after plan now o).world
 choice_reaches plan now k None reached is = reached
 choice_reaches plan now k (Some e) reached is = let w = choice_leads plan now reached.events k e reached.reaches is in record { events = reached.events ++ w.event ∷ []; reaches = w.reaches }
 
 -- and so do choices one after the other
 replay_reaches : (plan : SeenPlan) (now : Counted) (choices : List ℕ) → IsReachedBy plan now.world → IsReachedBy plan (replay plan now choices).world
 replay_reaches plan now [] reached = reached
-replay_reaches plan now (k ∷ choices) reached = replay_reaches plan (choose plan now k) choices (choice_reaches plan now k (slice_get (enabled_events plan now.world) k) reached refl)
+replay_reaches plan now (k ∷ choices) reached = replay_reaches plan (run_after_choice plan now k) choices (choice_reaches plan now k (slice_get (enabled_events plan now.world) k) reached refl)
 
 -- a world that some events reach, and in which no event is enabled
 pub record IsHalted (plan : SeenPlan) (world : WorldState) : Type 0 where
@@ -72,11 +72,11 @@ module _ (plan : SeenPlan) (is_plan : IsPlan plan) where
   none_left : (now : Counted) (events : List Event) → Reaches plan events now.world → bound_of plan ≤ length events → enabled_events plan now.world ≡ []
   none_left now events reached full = none_first (enabled_events plan now.world) (get_cases (slice_get (enabled_events plan now.world) 0) (λ e is.
       let w = choice_leads plan now events 0 e reached is in
-      omega (arith, events_bounded plan (events ++ w.event ∷ []) (chosen plan now (Some e)).world is_plan w.reaches, length-append events (w.event ∷ []))))
+      omega (arith, events_bounded plan (events ++ w.event ∷ []) (run_after plan now (Some e)).world is_plan w.reaches, length-append events (w.event ∷ []))))
 
   -- with no enabled event a run has halted, and with one it goes on
   goes_on : (rest : Counted → Counted) (now : Counted) (events : List Event) (o : Option Event) → Reaches plan events now.world → slice_get (enabled_events plan now.world) 0 ≡ o
-      → ((e : Event) → LeadsTo plan events (chosen plan now (Some e)).world → IsHalted plan (rest (chosen plan now (Some e))).world) → IsHalted plan (carried_on rest plan now o).world
+      → ((e : Event) → LeadsTo plan events (run_after plan now (Some e)).world → IsHalted plan (rest (run_after plan now (Some e))).world) → IsHalted plan (rest_after rest plan now o).world
   goes_on rest now events None reached is further = record { events = events; reaches = reached; none = none_first (enabled_events plan now.world) is }
   goes_on rest now events (Some e) reached is further = further e (choice_leads plan now events 0 e reached is)
 
@@ -84,7 +84,7 @@ module _ (plan : SeenPlan) (is_plan : IsPlan plan) where
   halts : (n : ℕ) (now : Counted) (events : List Event) → Reaches plan events now.world → bound_of plan ≤ length events + n → IsHalted plan (finish_within n plan now).world
   halts zero now events reached enough = record { events = events; reaches = reached; none = none_left now events reached (omega arith) }
   halts (suc n) now events reached enough = goes_on (finish_within n plan) now events (slice_get (enabled_events plan now.world) 0) reached refl
-      (λ e w. halts n (chosen plan now (Some e)) (events ++ w.event ∷ []) w.reaches (omega (arith, length-append events (w.event ∷ []))))
+      (λ e w. halts n (run_after plan now (Some e)) (events ++ w.event ∷ []) w.reaches (omega (arith, length-append events (w.event ∷ []))))
 
   -- within the bound it halts from each world that events reach
   pub finish_halts : (now : Counted) (events : List Event) → Reaches plan events now.world → IsHalted plan (finish_within (bound_of plan) plan now).world

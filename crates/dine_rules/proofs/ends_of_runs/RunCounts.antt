@@ -8,7 +8,7 @@ use Rattle.dine_graph.specs.Plan.{SeenPlan, IsPlan, site_count, edge_count, job_
 use Rattle.dine_rules.specs.declared.events.Event.{Event}
 use Rattle.dine_rules.specs.World.{WorldState, start, world_after, enabled_events, Reaches}
 use Rattle.dine_rules.specs.Bound.{bound_of, effects_of, meals_due}
-use Rattle.dine_rules.specs.Schedules.{Counted, chosen, choose, replay, carried_on, finish_within, from_here, whole_run, after_choices}
+use Rattle.dine_rules.specs.Schedules.{Counted, run_after, run_after_choice, replay, rest_after, finish_within, from_here, whole_run, after_choices}
 use Rattle.dine_rules.proofs.counting.Effects.{events_counted}
 use Rattle.dine_rules.proofs.counting.EffectBounds.{events_bounded}
 use Rattle.dine_rules.proofs.ends_of_runs.Finishing.{choice_leads}
@@ -21,7 +21,7 @@ pub record IsCountedRun (plan : SeenPlan) (now : Counted) : Type 0 where
   pub reaches : Reaches plan events now.world
   pub count : length events ≡ now.events
 
-choice_counts : (plan : SeenPlan) (now : Counted) (k : ℕ) (o : Option Event) → IsCountedRun plan now → slice_get (enabled_events plan now.world) k ≡ o → IsCountedRun plan (chosen plan now o)
+choice_counts : (plan : SeenPlan) (now : Counted) (k : ℕ) (o : Option Event) → IsCountedRun plan now → slice_get (enabled_events plan now.world) k ≡ o → IsCountedRun plan (run_after plan now o)
 choice_counts plan now k None run is = run
 choice_counts plan now k (Some e) run is =
     let w = choice_leads plan now run.events k e run.reaches is in
@@ -29,13 +29,13 @@ choice_counts plan now k (Some e) run is =
 
 replay_counts : (plan : SeenPlan) (now : Counted) (choices : List ℕ) → IsCountedRun plan now → IsCountedRun plan (replay plan now choices)
 replay_counts plan now [] run = run
-replay_counts plan now (k ∷ choices) run = replay_counts plan (choose plan now k) choices (choice_counts plan now k (slice_get (enabled_events plan now.world) k) run refl)
+replay_counts plan now (k ∷ choices) run = replay_counts plan (run_after_choice plan now k) choices (choice_counts plan now k (slice_get (enabled_events plan now.world) k) run refl)
 
 -- with an enabled event the rest of the run counts on from it
 carried_counts : (plan : SeenPlan) (rest : Counted → Counted) (now : Counted) (o : Option Event) → IsCountedRun plan now → slice_get (enabled_events plan now.world) 0 ≡ o
-    → ((next : Counted) → IsCountedRun plan next → IsCountedRun plan (rest next)) → IsCountedRun plan (carried_on rest plan now o)
+    → ((next : Counted) → IsCountedRun plan next → IsCountedRun plan (rest next)) → IsCountedRun plan (rest_after rest plan now o)
 carried_counts plan rest now None run is further = run
-carried_counts plan rest now (Some e) run is further = further (chosen plan now (Some e)) (choice_counts plan now 0 (Some e) run is)
+carried_counts plan rest now (Some e) run is further = further (run_after plan now (Some e)) (choice_counts plan now 0 (Some e) run is)
 
 finish_counts : (plan : SeenPlan) (n : ℕ) (now : Counted) → IsCountedRun plan now → IsCountedRun plan (finish_within n plan now)
 finish_counts plan zero now run = run
@@ -60,7 +60,7 @@ pub record CountsOn (a : ℕ) (run from_none : Counted) : Type 0 where
   pub events : run.events ≡ a + from_none.events
 
 carried_counts_on : (rest : Counted → Counted) (plan : SeenPlan) (world : WorldState) (a b : ℕ) (o : Option Event) → ((new : WorldState) → CountsOn a (rest (record { world = new; events = a + b + 1 })) (rest (record { world = new; events = b + 1 })))
-    → CountsOn a (carried_on rest plan (record { world = world; events = a + b }) o) (carried_on rest plan (record { world = world; events = b }) o)
+    → CountsOn a (rest_after rest plan (record { world = world; events = a + b }) o) (rest_after rest plan (record { world = world; events = b }) o)
 carried_counts_on rest plan world a b None further = record { world = refl; events = refl }
 carried_counts_on rest plan world a b (Some e) further = further (unwrap_or (world_after plan world e) world)
 
@@ -75,10 +75,10 @@ finish_counts_on (suc n) plan world a b =
 -- a whole run counts on from where the choices end
 pub whole_run_goes_on : (plan : SeenPlan) (choices : List ℕ) → CountsOn (replay plan (from_here (start plan)) choices).events (whole_run plan choices) (after_choices plan choices)
 whole_run_goes_on plan choices =
-    let chosen : Counted = replay plan (from_here (start plan)) choices in
-    let same : chosen.events + 0 ≡ chosen.events = omega arith in
-    subst (λ (n : ℕ). CountsOn chosen.events (finish_within (bound_of plan) plan (record { world = chosen.world; events = n })) (after_choices plan choices)) same
-    (finish_counts_on (bound_of plan) plan chosen.world chosen.events 0)
+    let replayed : Counted = replay plan (from_here (start plan)) choices in
+    let same : replayed.events + 0 ≡ replayed.events = omega arith in
+    subst (λ (n : ℕ). CountsOn replayed.events (finish_within (bound_of plan) plan (record { world = replayed.world; events = n })) (after_choices plan choices)) same
+    (finish_counts_on (bound_of plan) plan replayed.world replayed.events 0)
 
 -- ---- the bound is small
 

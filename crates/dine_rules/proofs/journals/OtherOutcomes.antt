@@ -3,9 +3,9 @@ use Rattle.std.proofs.Common.{◌≡◌, ℕ, zero, suc, ◌+◌, ◌-◌, ◌<�
 use Rattle.std.specs.List.{range_with_len, slice_index_or}
 use Rattle.std.proofs.lemmas.Bool.{false≢true}
 use Rattle.std.specs.Option.{option_and_then}
-use Rattle.dine_token.specs.Fork.{SeenFork, moved}
+use Rattle.dine_token.specs.Fork.{SeenFork, after_move}
 use Rattle.dine_token.specs.Log.{meals_of}
-use Rattle.dine_token.specs.Values.{IsAct, applied}
+use Rattle.dine_token.specs.Values.{IsAct, value_after_act}
 use Rattle.dine_token.specs.declared.act.Act.{Act}
 use Rattle.dine_token.specs.declared.log_entry.Entry.{Entry}
 use Rattle.dine_graph.specs.Plan.{SeenPlan, SeenSite, SeenJob, IsPlan, act_of, is_name, job_count, job_of, lo_of, hi_of, name_of, no_job, no_site, resigns, site_count, value_of}
@@ -165,15 +165,15 @@ module _ (plan : SeenPlan) (fails : List (List Bool)) where
 
   values-same : (s first n value : ℕ) → after_meals other s first n value ≡ after_meals plan s first n value
   values-same s first zero value = refl
-  values-same s first (suc n) value = values-same s (first + 1) n (applied (act_of other s first) value) ∙ ap (λ (act : Act). after_meals plan s (first + 1) n (applied act value)) (acts-same s first)
+  values-same s first (suc n) value = values-same s (first + 1) n (value_after_act (act_of other s first) value) ∙ ap (λ (act : Act). after_meals plan s (first + 1) n (value_after_act act value)) (acts-same s first)
 
   given-same : (s : ℕ) (state : LocalState) (i : ℕ) → given_fork other s state i ≡ given_fork plan s state i
   given-same s state i =
       let edge : ℕ = edge_at plan s i in
       let traffic : Traffic = traffic_at state i in
       let log : List Entry = hand s state.ate traffic in
-      ap (λ (value : ℕ). moved (neighbour_at plan s i) (fork_with other edge log value)) (values-same s (meals_of s (last_log_or [] traffic.taken) + 1) (state.ate - meals_of s (last_log_or [] traffic.taken)) (last_value_or (value_of plan edge) traffic.taken))
-      ∙ ap₂ (λ (a b : ℕ). moved (neighbour_at plan s i) (record { edge = edge; ends = (lo_of plan edge, hi_of plan edge); due = (a, b); log = log; value = hand_value plan s edge state.ate traffic }))
+      ap (λ (value : ℕ). after_move (neighbour_at plan s i) (fork_with other edge log value)) (values-same s (meals_of s (last_log_or [] traffic.taken) + 1) (state.ate - meals_of s (last_log_or [] traffic.taken)) (last_value_or (value_of plan edge) traffic.taken))
+      ∙ ap₂ (λ (a b : ℕ). after_move (neighbour_at plan s i) (record { edge = edge; ends = (lo_of plan edge, hi_of plan edge); due = (a, b); log = log; value = hand_value plan s edge state.ate traffic }))
       (jobs-same (lo_of plan edge)) (jobs-same (hi_of plan edge))
 
   after-same : (s : ℕ) (state : LocalState) (step : Step) → after other s state step ≡ after plan s state step
@@ -182,7 +182,7 @@ module _ (plan : SeenPlan) (fails : List (List Bool)) where
   after-same s state step = refl
 
   -- so a site is in the same state after an event
-  step-same : (s : ℕ) (state : LocalState) (o : Option Step) → option_and_then (local_after other s state) o ≡ option_and_then (local_after plan s state) o
+  pub step-same : (s : ℕ) (state : LocalState) (o : Option Step) → option_and_then (local_after other s state) o ≡ option_and_then (local_after plan s state) o
   step-same s state None = refl
   step-same s state (Some step) = ap₂ (λ (b : Bool) (new : LocalState). if b then Some new else None) (may-same s state step) (after-same s state step)
 
@@ -203,6 +203,24 @@ module _ (plan : SeenPlan) (fails : List (List Bool)) where
     each = λ s h. journal-stays s _ _ (after.each s (omega (arith, sites-same)));
     links = λ s i h within. after.links s i (omega (arith, sites-same)) within;
   }
+
+-- ---- the two worlds
+
+module _ (plan : SeenPlan) (fails : List (List Bool)) where
+  pub start-same : start (with_outcomes plan fails) ≡ start plan
+  start-same = ap (λ (n : ℕ). map (start_of plan) (range_with_len 0 n)) (sites-same plan fails)
+
+  pub complete-same : (world : WorldState) → IsComplete (with_outcomes plan fails) world → IsComplete plan world
+  complete-same world is = record {
+    all_think = λ s h. is.all_think s (omega (arith, h, sites-same plan fails));
+    all_ate = λ s h. ap (λ (n : ℕ). (state_of world s).ate == n || (state_of world s).has_quit) (sym (jobs-same plan fails s)) ∙ is.all_ate s (omega (arith, h, sites-same plan fails));
+    all_closed = λ s i h within. is.all_closed s i (omega (arith, h, sites-same plan fails)) within;
+    all_taken = λ s i h within. is.all_taken s i (omega (arith, h, sites-same plan fails)) within;
+  }
+
+  -- the world is the same after an event if the state of its site is
+  pub world_by_site : (world : WorldState) (e : Event) → site_after (with_outcomes plan fails) world e.site e.kind ≡ site_after plan world e.site e.kind → world_after (with_outcomes plan fails) world e ≡ world_after plan world e
+  world_by_site world e same = ap₂ (λ (n : ℕ) (o : Option LocalState). if nat_lt e.site n then option_map (slice_set world e.site) o else None) (sites-same plan fails) same
 
 -- ---- no site resigns: outcomes do not matter
 
@@ -233,7 +251,7 @@ module _ (plan : SeenPlan) (fails : List (List Bool)) (none : NoSiteResigns plan
       ∙ heeds-none plan none s (state_of world s) (meal_fails (with_outcomes plan fails) s (state_of world s)) (meal_fails plan s (state_of world s)) (next_letter plan world s) kind
 
   world_after-same : (world : WorldState) (e : Event) → world_after (with_outcomes plan fails) world e ≡ world_after plan world e
-  world_after-same world e = ap₂ (λ (n : ℕ) (o : Option LocalState). if nat_lt e.site n then option_map (slice_set world e.site) o else None) (sites-same plan fails) (site_after-same world e.site e.kind)
+  world_after-same world e = world_by_site plan fails world e (site_after-same world e.site e.kind)
 
   after_events-same : (events : List Event) (world : WorldState) → after_events (with_outcomes plan fails) world events ≡ after_events plan world events
   after_events-same [] world = refl
@@ -241,24 +259,13 @@ module _ (plan : SeenPlan) (fails : List (List Bool)) (none : NoSiteResigns plan
       ap (option_and_then (λ (x : WorldState). after_events (with_outcomes plan fails) x events)) (world_after-same world e)
       ∙ then-world (λ (x : WorldState). after_events (with_outcomes plan fails) x events) (λ (x : WorldState). after_events plan x events) (λ x. after_events-same events x) (world_after plan world e)
 
-  start-same : start (with_outcomes plan fails) ≡ start plan
-  start-same = ap (λ (n : ℕ). map (start_of plan) (range_with_len 0 n)) (sites-same plan fails)
-
   pub worlds-same : (events : List Event) → after_events (with_outcomes plan fails) (start (with_outcomes plan fails)) events ≡ after_events plan (start plan) events
-  worlds-same events = after_events-same events (start (with_outcomes plan fails)) ∙ ap (λ (world : WorldState). after_events plan world events) start-same
-
-  pub complete-same : (world : WorldState) → IsComplete (with_outcomes plan fails) world → IsComplete plan world
-  complete-same world is = record {
-    all_think = λ s h. is.all_think s (omega (arith, h, sites-same plan fails));
-    all_ate = λ s h. ap (λ (n : ℕ). (state_of world s).ate == n || (state_of world s).has_quit) (sym (jobs-same plan fails s)) ∙ is.all_ate s (omega (arith, h, sites-same plan fails));
-    all_closed = λ s i h within. is.all_closed s i (omega (arith, h, sites-same plan fails)) within;
-    all_taken = λ s i h within. is.all_taken s i (omega (arith, h, sites-same plan fails)) within;
-  }
+  worlds-same events = after_events-same events (start (with_outcomes plan fails)) ∙ ap (λ (world : WorldState). after_events plan world events) (start-same plan fails)
 
   pub order-same : (journals : List (List EventKind)) (events : List Event) → IsWholeOrder (with_outcomes plan fails) journals events → IsWholeOrder plan journals events
   order-same journals events is = record {
     world = is.world;
     holds_journals = is.holds_journals;
     accepted = sym (worlds-same events) ∙ is.accepted;
-    complete = complete-same is.world is.complete;
+    complete = complete-same plan fails is.world is.complete;
   }

@@ -2,7 +2,7 @@
 use Rattle.std.proofs.Common.{◌≡◌, ℕ, ◌+◌, ◌≤◌, true, List, [], ◌∷◌, ◌++◌, sym, ◌∙◌, ap₂}
 use Rattle.std.proofs.lemmas.Bool.{false≢true}
 use Rattle.dine_token.specs.declared.log_entry.Entry.{Entry}
-use Rattle.dine_token.specs.Fork.{SeenFork, eaten}
+use Rattle.dine_token.specs.Fork.{SeenFork, after_meal}
 use Rattle.dine_token.specs.Log.{meals_of}
 use Rattle.dine_graph.specs.Plan.{SeenPlan, act_of, value_of}
 use Rattle.dine_rules.specs.declared.letters.Letter.{Letter}
@@ -26,7 +26,7 @@ module _ (plan : SeenPlan) (s edge ate : ℕ) (t : Traffic) where
   by_last l same_log same_value = ap₂ (λ (log : List Entry) (value : ℕ). fork_with plan edge (with_meals_to s ate log) (value_to plan s ate log value)) same_log same_value
 
   -- the next meal of the site is written behind it, and its act done
-  pub hand_fork-more : meals_of s (last_log_or [] t.taken) ≤ ate → eaten s (ate + 1) (act_of plan s (ate + 1)) (hand_fork plan s edge ate t) ≡ hand_fork plan s edge (ate + 1) t
+  pub hand_fork-more : meals_of s (last_log_or [] t.taken) ≤ ate → after_meal s (ate + 1) (act_of plan s (ate + 1)) (hand_fork plan s edge ate t) ≡ hand_fork plan s edge (ate + 1) t
   hand_fork-more last = ap₂ (fork_with plan edge) (sym (hand-more s ate (last_log_or [] t.taken) last))
       (sym (value_to-more plan s ate (last_log_or [] t.taken) (last_value_or (value_of plan edge) t.taken) last))
 

@@ -5,7 +5,7 @@ use Rattle.std.proofs.lemmas.Option.{slice_get-get_or}
 use Rattle.dine_token.specs.declared.log_entry.Entry.{Entry}
 use Rattle.dine_token.specs.Fork.{SeenFork, no_fork}
 use Rattle.dine_token.specs.Log.{meals_of}
-use Rattle.dine_token.specs.Values.{applied}
+use Rattle.dine_token.specs.Values.{value_after_act}
 use Rattle.dine_graph.specs.Plan.{SeenPlan, act_of, lo_of, value_of}
 use Rattle.dine_rules.specs.declared.letters.Letter.{Letter}
 use Rattle.dine_rules.specs.declared.letters.Letter.TheVariants.{Fork, Request, Done, Close}
@@ -30,20 +30,20 @@ no_more_forks Close xs h = forks_among-append xs (Close ∷ []) ∙ append-nil (
 
 -- ---- the value in hand
 
-after_meals-push : (plan : SeenPlan) (s first n value : ℕ) → after_meals plan s first (suc n) value ≡ applied (act_of plan s (first + n)) (after_meals plan s first n value)
-after_meals-push plan s first zero value = ap (λ (k : ℕ). applied (act_of plan s k) value) (let e : first ≡ first + 0 = omega arith in e)
+after_meals-push : (plan : SeenPlan) (s first n value : ℕ) → after_meals plan s first (suc n) value ≡ value_after_act (act_of plan s (first + n)) (after_meals plan s first n value)
+after_meals-push plan s first zero value = ap (λ (k : ℕ). value_after_act (act_of plan s k) value) (let e : first ≡ first + 0 = omega arith in e)
 after_meals-push plan s first (suc n) value =
-    after_meals-push plan s (first + 1) n (applied (act_of plan s first) value)
-    ∙ ap (λ (k : ℕ). applied (act_of plan s k) (after_meals plan s first (suc n) value)) (let e : first + 1 + n ≡ first + suc n = omega arith in e)
+    after_meals-push plan s (first + 1) n (value_after_act (act_of plan s first) value)
+    ∙ ap (λ (k : ℕ). value_after_act (act_of plan s k) (after_meals plan s first (suc n) value)) (let e : first + 1 + n ≡ first + suc n = omega arith in e)
 
 -- after one meal more it has its act
-pub value_to-more : (plan : SeenPlan) (s ate : ℕ) (log : List Entry) (value : ℕ) → meals_of s log ≤ ate → value_to plan s (ate + 1) log value ≡ applied (act_of plan s (ate + 1)) (value_to plan s ate log value)
+pub value_to-more : (plan : SeenPlan) (s ate : ℕ) (log : List Entry) (value : ℕ) → meals_of s log ≤ ate → value_to plan s (ate + 1) log value ≡ value_after_act (act_of plan s (ate + 1)) (value_to plan s ate log value)
 value_to-more plan s ate log value last =
     let longer : ate + 1 - meals_of s log ≡ suc (ate - meals_of s log) = omega arith in
     let number : meals_of s log + 1 + (ate - meals_of s log) ≡ ate + 1 = omega arith in
     ap (λ (n : ℕ). after_meals plan s (meals_of s log + 1) n value) longer
     ∙ after_meals-push plan s (meals_of s log + 1) (ate - meals_of s log) value
-    ∙ ap (λ (k : ℕ). applied (act_of plan s k) (value_to plan s ate log value)) number
+    ∙ ap (λ (k : ℕ). value_after_act (act_of plan s k) (value_to plan s ate log value)) number
 
 -- a log with all meals has it already
 pub value_to-same : (plan : SeenPlan) (s ate : ℕ) (log : List Entry) (value : ℕ) → meals_of s log ≡ ate → value_to plan s ate log value ≡ value

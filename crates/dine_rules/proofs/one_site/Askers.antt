@@ -12,7 +12,7 @@ use Rattle.dine_rules.specs.declared.letters.Letter.TheVariants as letter
 use Rattle.dine_rules.specs.Letters.{forks_in, requests_in, last_log_or}
 use Rattle.dine_rules.specs.Local.{LocalState, Traffic, no_traffic, traffic_at, start_of, edge_at}
 use Rattle.dine_rules.specs.Holdings.{forks_held, tokens_held, fork_at, token_at, hand_at, with_meals_to}
-use Rattle.dine_rules.specs.Steps.{Step, Give, Ask, Hungry, Begin, End, Quit, Done, Close, Break, Take, IsPlaceWithin, after, may, is_ready}
+use Rattle.dine_rules.specs.Steps.{Step, Give, Ask, Hungry, Begin, End, Quit, Done, Close, Break, Take, IsPlaceWithin, after, may, is_ready, with_put}
 use Rattle.dine_rules.specs.StepLists.{LeadTo, begins_in, is_give_at}
 use Rattle.dine_rules.proofs.lists.Counting.{none_is_not_one, forks_in-append, requests_in-append, last_log_or-append}
 use Rattle.dine_rules.proofs.one_place.Hands.{hand-more}
@@ -224,10 +224,95 @@ module _ (plan : SeenPlan) (s i : ℕ) where
             omega (arith, other.1 steps)
       ]
 
+-- ---- the requests
+
+module _ (plan : SeenPlan) (s : ℕ) where
+  -- how many tokens the site has at place i at the start
+  abbrev first_token : ℕ → ℕ
+  first_token i = cond (hi_of plan (edge_at plan s i) == s) 1 0
+
+  -- at each place no more Requests were put than the site had tokens for
+  abbrev HadTokens : ℕ → Traffic → Type 0
+  HadTokens i traffic = requests_in traffic.put ≤ first_token i + requests_in traffic.taken
+
+  abbrev IsCounted : LocalState → Type 0
+  IsCounted state = (i : ℕ) → HadTokens i (traffic_at state i)
+
+  counted_set : (state : LocalState) (j : ℕ) (traffic : Traffic) → IsCounted state → j < length state.traffic → HadTokens j traffic → IsCounted (record state { traffic = slice_set state.traffic j traffic })
+  counted_set state j traffic counted within here i = elim (cases_eq i j) [
+    | inl same ↦ subst (HadTokens i) (sym (ap (λ (k : ℕ). get_or (slice_set state.traffic j traffic) k no_traffic) same ∙ get_or-set_same state.traffic j traffic no_traffic within))
+        (subst (λ (k : ℕ). HadTokens k traffic) (sym same) here)
+    | inr other ↦ subst (HadTokens i) (sym (get_or-set_other state.traffic j i traffic no_traffic other)) (counted i)
+  ]
+
+  -- a letter that is no Request is put
+  counted_put : (state : LocalState) (j : ℕ) (l : Letter) → IsCounted state → j < length state.traffic → requests_in (l ∷ []) ≡ 0 → IsCounted (with_put j l state)
+  counted_put state j l counted within none = counted_set state j _ counted within (omega (arith, counted j, requests_in-append (traffic_at state j).put (l ∷ []), none))
+
+  step_counted : (state : LocalState) (step : Step) → IsCounted state → may plan s state step ≡ true → IsCounted (after plan s state step)
+  step_counted state (Give j) counted h = counted_put state j _ counted (ltb-true _ _ (and_parts _ _ h).0) refl
+  step_counted state (Ask j) counted h =
+      let parts = and_parts _ _ h in
+      let numbers = and_parts _ _ (and_parts _ _ (and_parts _ _ parts.1).0).1 in
+      let one : token_at plan s state j ≡ 1 = eqb-true _ _ numbers.0 in
+      counted_set state j _ counted (ltb-true _ _ parts.0) (omega (arith, one, requests_in-append (traffic_at state j).put (letter.Request (edge_at plan s j) ∷ [])))
+  step_counted state (Done j) counted h = counted_put state j letter.Done counted (ltb-true _ _ (and_parts _ _ h).0) refl
+  step_counted state (Close j) counted h = counted_put state j letter.Close counted (ltb-true _ _ (and_parts _ _ h).0) refl
+  step_counted state (Break j) counted h = counted_put state j letter.Close counted (ltb-true _ _ (and_parts _ _ h).0) refl
+  step_counted state (Take j l) counted h = counted_set state j _ counted (ltb-true _ _ (and_parts _ _ h).0) (omega (arith, counted j, requests_in-append (traffic_at state j).taken (l ∷ [])))
+  step_counted state Hungry counted h = counted
+  step_counted state Begin counted h = counted
+  step_counted state (End failed) counted h = counted
+  step_counted state Quit counted h = counted
+
+  steps_counted : (state new : LocalState) (steps : List Step) → IsCounted state → LeadTo plan s state steps new → IsCounted new
+  steps_counted state new [] counted run = subst IsCounted run counted
+  steps_counted state new (step ∷ steps) counted run = steps_counted (after plan s state step) new steps (step_counted state step counted run.0) run.1
+
+  start_counted : IsCounted (start_of plan s)
+  start_counted i = subst (HadTokens i) (sym (no_traffic_yet (edges_of plan s) i)) (omega arith)
+
+  -- The site takes a Request at place i. It holds fork and token then, and the log in hand is as it was.
+  abbrev pub with_request : LocalState → ℕ → ℕ → LocalState
+  with_request state i edge = after plan s state (Take i (letter.Request edge))
+
+  pub record IsAskedNow (state : LocalState) (i edge : ℕ) : Type 0 where
+    pub within : i < length (with_request state i edge).traffic
+    pub one_fork : fork_at plan s (with_request state i edge) i ≡ 1
+    pub one_token : token_at plan s (with_request state i edge) i ≡ 1
+    pub same_hand : hand_at s (with_request state i edge) i ≡ hand_at s state i
+
+  pub asked_now : (state : LocalState) (before : List Step) (i edge : ℕ) → LeadTo plan s (start_of plan s) before state → may plan s state (Take i (letter.Request edge)) ≡ true → IsAskedNow state i edge
+  asked_now state before i edge run h =
+      let parts = and_parts _ _ h in
+      let allowed = and_parts _ _ (and_parts _ _ parts.1).1 in
+      let numbers = and_parts (token_at plan s state i == 0) (fork_at plan s state i == 1) (and_parts (edge == edge_at plan s i) _ allowed.0).1 in
+      let none : token_at plan s state i ≡ 0 = eqb-true _ _ numbers.0 in
+      let one : fork_at plan s state i ≡ 1 = eqb-true _ _ numbers.1 in
+      let had : HadTokens i (traffic_at state i) = steps_counted (start_of plan s) state before start_counted run i in
+      let taken : List Letter = (traffic_at state i).taken in
+      let new : Traffic = record (traffic_at state i) { taken = taken ++ letter.Request edge ∷ [] } in
+      let here : traffic_at (with_request state i edge) i ≡ new = get_or-set_same state.traffic i new no_traffic (ltb-true i (length state.traffic) parts.0) in
+      let forks : forks_in new.taken ≡ forks_in taken = omega (arith, forks_in-append taken (letter.Request edge ∷ [])) in
+      let requests : requests_in new.taken ≡ requests_in taken + 1 = requests_in-append taken (letter.Request edge ∷ []) in
+      let is_place : i < length state.traffic = ltb-true _ _ parts.0 in
+      let tokens : tokens_held plan s (edge_at plan s i) new ≡ 1 = omega (arith, none, had, requests) in
+      record {
+        within = omega (arith, is_place, length-set state.traffic i new);
+        one_fork = ap (forks_held plan s (edge_at plan s i)) here ∙ ap (λ (n : ℕ). cond (lo_of plan (edge_at plan s i) == s) 1 0 + n - forks_in (traffic_at state i).put) forks ∙ one;
+        one_token = ap (tokens_held plan s (edge_at plan s i)) here ∙ tokens;
+        same_hand = ap (λ (t : Traffic). with_meals_to s state.ate (last_log_or [] t.taken)) here ∙ ap (with_meals_to s state.ate) (last_log_or-append [] taken (letter.Request edge ∷ []));
+      }
+
 -- The precedence of the asker: from a state that steps reach from the start, where the fork and the token are both held
--- at a place, steps without a Give there have at most one Begin.
-pub asker_first : (plan : SeenPlan) (s i : ℕ) (state new : LocalState) (before steps : List Step)
-    → LeadTo plan s (start_of plan s) before state → i < length state.traffic → fork_at plan s state i ≡ 1 → token_at plan s state i ≡ 1
-    → LeadTo plan s state steps new → list_any (is_give_at i) steps ≡ false → begins_in steps ≤ 1
-asker_first plan s i state new before steps reached within one_fork one_token run no_give =
-    one_meal_at_most plan s i state new steps (record { within = within; one_fork = one_fork; one_token = one_token; last_within = reached_within plan s state before reached i }) run no_give
+-- at a place, steps without a Give there have at most one Begin, and none if the fork is dirty.
+module _ (plan : SeenPlan) (s i : ℕ) (state new : LocalState) (before steps : List Step) (reached : LeadTo plan s (start_of plan s) before state) (within : i < length state.traffic)
+    (one_fork : fork_at plan s state i ≡ 1) (one_token : token_at plan s state i ≡ 1) where
+  asked : IsAsked plan s i state
+  asked = record { within = within; one_fork = one_fork; one_token = one_token; last_within = reached_within plan s state before reached i }
+
+  pub asker_first : LeadTo plan s state steps new → list_any (is_give_at i) steps ≡ false → begins_in steps ≤ 1
+  asker_first = one_meal_at_most plan s i state new steps asked
+
+  pub asker_next : is_dirty (hand_at s state i) ≡ true → LeadTo plan s state steps new → list_any (is_give_at i) steps ≡ false → begins_in steps ≡ 0
+  asker_next = none_more plan s i state new steps asked

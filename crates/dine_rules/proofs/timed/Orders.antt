@@ -18,7 +18,7 @@ use Rattle.dine_rules.proofs.links.WorldStreams.{WorldKeeps, event_keeps, prefix
 use Rattle.dine_rules.proofs.one_site.Site.{no_traffic_yet}
 use Rattle.dine_rules.proofs.lists.Options.{and_then_parts, option_map_parts}
 use Rattle.dine_rules.proofs.journals.Parts.{part-same}
-use Rattle.dine_rules.proofs.journals.JournalStates.{AgreesEach, LeadsEach, agrees_on, ended, journals_fix, leads_on, own_step, same_letter, taken_in}
+use Rattle.dine_rules.proofs.journals.JournalStates.{AgreesEach, LeadsEach, FailsSo, ended, journals_fix, leads_on, own_step, same_letter, shows_on, taken_in}
 use Rattle.dine_rules.specs.Timed.{AreTimed, is_put_at, is_take_at, moments_of, timed_at}
 use Rattle.dine_rules.proofs.timed.Merging.{AtLeast, Sorted, TimedEvent, events_in, merge, merge_own, merge_sorted, own, own_append, own_part, own_same}
 use Rattle.dine_rules.proofs.timed.Counts.{count, moments_append, moments_count, puts_counted, takes_counted}
@@ -213,7 +213,7 @@ module _ (plan : SeenPlan) (is_plan : IsPlan plan) (journals : List (List EventK
   accepted (x ∷ rest) placed world split sorted kept leads agrees =
       let next = goes_on placed x rest split world kept leads sorted.0 in
       let later = accepted rest (placed ++ x ∷ []) next.0 (split ∙ sym (append_assoc placed (x ∷ []) rest)) sorted.1 (event_keeps plan world next.0 x.0 is_plan kept next.1)
-      (leads_on plan is_plan states done.links world next.0 x.0 (events_in rest) kept next.1 agrees leads) (agrees_on plan is_plan states done.links world next.0 x.0 (events_in rest) kept next.1 agrees) in
+      (leads_on plan is_plan states done.links world next.0 x.0 (events_in rest) kept next.1 agrees leads) (shows_on plan (FailsSo plan) (λ s. (state_of states s).must_quit) world next.0 x.0 (events_in rest) kept next.1 agrees) in
       (later.0, ap (option_and_then (λ (z : WorldState). after_events plan z (events_in rest))) next.1 ∙ later.1)
 
   module _ (outcomes : FailAsShown plan journals states) (complete : IsComplete plan states) where
@@ -222,9 +222,9 @@ module _ (plan : SeenPlan) (is_plan : IsPlan plan) (journals : List (List EventK
         ∙ ap (state_after_all plan s (taken_in states s) (state_of states s).must_quit (start_of plan s)) (all_parts s) ∙ done.each s here
 
     agrees_first : AgreesEach plan is_plan states done.links (start plan) (events_in all)
-    agrees_first s here k failed few is =
+    agrees_first s here k failed is few =
         let number : ended (start_of plan s) + k + 1 ≡ k + 1 = omega arith in
-        let fewer : k < job_count plan s = let e : ended (start_of plan s) + k < job_count plan s = subst (λ (z : LocalState). ended z + k < job_count plan s) (start_state plan s here) few in omega arith in
+        let fewer : k < job_count plan s = let e : ended (start_of plan s) + k + 1 ≤ job_count plan s = subst (λ (z : LocalState). ended z + k + 1 ≤ job_count plan s) (start_state plan s here) few in omega arith in
         ap (λ (z : LocalState). (job_of plan s (ended z + k + 1)).fails) (start_state plan s here) ∙ ap (λ (n : ℕ). (job_of plan s n).fails) number
         ∙ outcomes s k failed here fewer (ap (λ (z : List EventKind). slice_get (outcomes_in (state_of states s).must_quit z) k) (sym (all_parts s)) ∙ is)
 

@@ -10,7 +10,7 @@ use Rattle.dine_token.specs.declared.log_entry.Entry.TheVariants.{Meal, Move}
 use Rattle.dine_token.specs.Fork.{SeenFork, no_fork}
 use Rattle.dine_token.specs.Lawful.{IsLawful, count_from}
 use Rattle.dine_token.specs.Log.{location_of, meals_of, numbers_of}
-use Rattle.dine_token.specs.Values.{amount_of, applied}
+use Rattle.dine_token.specs.Values.{amount_of, value_after_act}
 use Rattle.dine_token.proofs.Bounds.{IsLawful-front}
 use Rattle.dine_token.proofs.Lawfulness.{at_an_end}
 use Rattle.dine_token.proofs.Logs.{meals_of-push_move}
@@ -20,7 +20,7 @@ use Rattle.dine_rules.specs.JoinedEnds.{AccountsForFork, AreForksLinked, AreLink
 use Rattle.dine_rules.specs.Letters.{forks_among, forks_in, last_log_or, last_value_or}
 use Rattle.dine_rules.specs.Local.{Traffic, edge_at, neighbour_at, traffic_at}
 use Rattle.dine_rules.specs.Streams.{CarriesOnTaken, logs_of}
-use Rattle.dine_rules.specs.Values.{CarriesValue, KeepsValuesOfLogs, added_up, after_meals, amounts_of, hand_value, has_no_set, is_add, value_along, value_by, value_to}
+use Rattle.dine_rules.specs.Values.{CarriesValue, KeepsValuesOfLogs, value_by_amounts, after_meals, amounts_of, hand_value, has_no_set, is_add, value_along, value_by, value_to}
 use Rattle.dine_rules.specs.World.{WorldState, place_of, state_of}
 use Rattle.dine_rules.proofs.links.Across.{IsAcross, across}
 use Rattle.dine_rules.proofs.links.WorldStreams.{WorldKeeps}
@@ -35,12 +35,12 @@ use Rattle.dine_rules.proofs.two_ends.TwoEnds.{world_linked}
 
 value_along-append : (plan : SeenPlan) (xs ys : List Entry) (value : ℕ) → value_along plan (xs ++ ys) value ≡ value_along plan ys (value_along plan xs value)
 value_along-append plan [] ys value = refl
-value_along-append plan (Meal s k ∷ xs) ys value = value_along-append plan xs ys (applied (act_of plan s k) value)
+value_along-append plan (Meal s k ∷ xs) ys value = value_along-append plan xs ys (value_after_act (act_of plan s k) value)
 value_along-append plan (Move to ∷ xs) ys value = value_along-append plan xs ys value
 
 value_along-meals : (plan : SeenPlan) (s first n value : ℕ) → value_along plan (meals_from s first n) value ≡ after_meals plan s first n value
 value_along-meals plan s first zero value = refl
-value_along-meals plan s first (suc n) value = value_along-meals plan s (first + 1) n (applied (act_of plan s first) value)
+value_along-meals plan s first (suc n) value = value_along-meals plan s (first + 1) n (value_after_act (act_of plan s first) value)
 
 module _ (plan : SeenPlan) (edge : ℕ) where
   -- a log with meals of a site more
@@ -164,9 +164,9 @@ acts_add plan all s k =
     let adds : SeenJob → Bool = λ (job : SeenJob). is_add job.act in
     all_at adds (jobs_of plan s) (k - 1) no_job (all_at (λ (site : SeenSite). list_all adds site.jobs) plan.sites s no_site all refl) refl
 
-applied-add : (act : Act) (value : ℕ) → is_add act ≡ true → applied act value ≡ value + amount_of act
-applied-add (Add amount) value h = refl
-applied-add (Set amount) value h = absurd (false≢true h)
+value_after_act-add : (act : Act) (value : ℕ) → is_add act ≡ true → value_after_act act value ≡ value + amount_of act
+value_after_act-add (Add amount) value h = refl
+value_after_act-add (Set amount) value h = absurd (false≢true h)
 
 module _ (plan : SeenPlan) (all : has_no_set plan ≡ true) (lo hi : ℕ) (ordered : lo < hi) where
   adds_along : (log : List Entry) (value : ℕ) → ((before after : List Entry) (site k : ℕ) → log ≡ before ++ Meal site k ∷ after → (site ≡ lo) ⊎ (site ≡ hi))
@@ -174,8 +174,8 @@ module _ (plan : SeenPlan) (all : has_no_set plan ≡ true) (lo hi : ℕ) (order
   adds_along [] value eaten = omega arith
   adds_along (Move to ∷ log) value eaten = adds_along log value (λ before after site k is. eaten (Move to ∷ before) after site k (ap (λ (l : List Entry). Move to ∷ l) is))
   adds_along (Meal s k ∷ log) value eaten =
-      let rest = adds_along log (applied (act_of plan s k) value) (λ before after site n is. eaten (Meal s k ∷ before) after site n (ap (λ (l : List Entry). Meal s k ∷ l) is)) in
-      let more = applied-add (act_of plan s k) value (acts_add plan all s k) in
+      let rest = adds_along log (value_after_act (act_of plan s k) value) (λ before after site n is. eaten (Meal s k ∷ before) after site n (ap (λ (l : List Entry). Meal s k ∷ l) is)) in
+      let more = value_after_act-add (act_of plan s k) value (acts_add plan all s k) in
       elim (eaten [] log s k refl) [
         | inl low ↦
             let act : amount_of (act_of plan s k) ≡ amount_of (act_of plan lo k) = ap (λ (x : ℕ). amount_of (act_of plan x k)) low in
@@ -190,7 +190,7 @@ module _ (plan : SeenPlan) (all : has_no_set plan ≡ true) (lo hi : ℕ) (order
       ]
 
 pub whole_adds_up : (plan : SeenPlan) (edge low_ate high_ate : ℕ) (log : List Entry) → lo_of plan edge < hi_of plan edge → has_no_set plan ≡ true → IsWholeLog plan edge low_ate high_ate log
-    → value_by plan edge log ≡ added_up plan edge low_ate high_ate
+    → value_by plan edge log ≡ value_by_amounts plan edge low_ate high_ate
 whole_adds_up plan edge low_ate high_ate log ordered all whole =
     let lo : ℕ = lo_of plan edge in
     let hi : ℕ = hi_of plan edge in

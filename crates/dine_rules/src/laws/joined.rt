@@ -5,7 +5,7 @@ ghost use mathlib.Core.List.{IsPrefix};
 ghost use Rattle.dine_token.specs.declared.log_entry.Entry.{Entry};
 ghost use Rattle.dine_graph.specs.Plan.{IsPlan, SeenPlan, edge_count, edges_of, hi_of, lo_of, site_count};
 ghost use Rattle.dine_rules.specs.Breach.{first_breach, is_allowed};
-ghost use Rattle.dine_rules.specs.Examples.{broken_off, pair};
+ghost use Rattle.dine_rules.specs.Examples.{broken_off_site, pair};
 ghost use Rattle.dine_rules.specs.Holdings.{forks_held, tokens_held};
 ghost use Rattle.dine_rules.specs.JoinedEnds.{AccountsForFork, AccountsForToken, AreEndsOfEdge, AreForksLinked};
 ghost use Rattle.dine_rules.specs.JoinedEnds.{AreLinked, AreWhollyTaken, HaveOneWholeFork, IsWholeLog, next_between};
@@ -14,7 +14,7 @@ ghost use Rattle.dine_rules.specs.Letters.{has_close};
 ghost use Rattle.dine_rules.specs.Links.{ForEachLink};
 ghost use Rattle.dine_rules.specs.Local.{LocalState, Traffic, edge_at, neighbour_at, start_of, traffic_at};
 ghost use Rattle.dine_rules.specs.Streams.{IsLawfulStream, KeepsStreams};
-ghost use Rattle.dine_rules.specs.Values.{KeepsValuesOfLogs, added_up, has_no_set, value_by};
+ghost use Rattle.dine_rules.specs.Values.{KeepsValuesOfLogs, value_by_amounts, has_no_set, value_by};
 ghost use Rattle.dine_rules.specs.World.{IsComplete, WorldState, next_letter, place_of, state_of};
 ghost use Rattle.dine_rules.specs.declared.breach.Breach.{Breach};
 ghost use Rattle.dine_rules.specs.declared.breach.Breach.TheVariants.{ClosedEarly};
@@ -75,7 +75,7 @@ pub fn refused_letters_are_closes()
 /// A site that does a Break at the start puts a Close. It is the next letter at the other end, and its breach is that
 /// it is early.
 pub fn early_close_comes_as_worked()
-    ensures next { next_between (traffic_at (start_of (pair 1 1) 0) 0) (traffic_at broken_off 0) ≡ Some Close }
+    ensures next { next_between (traffic_at (start_of (pair 1 1) 0) 0) (traffic_at broken_off_site 0) ≡ Some Close }
     ensures told { first_breach (pair 1 1) 0 (start_of (pair 1 1) 0) 0 Close ≡ Some ClosedEarly }
 {}
 
@@ -121,7 +121,8 @@ pub fn values_are_those_of_the_logs()
     ensures linked { (low high : Traffic) → AreLinked low high → AreForksLinked low high }
     ensures added_up { (plan : SeenPlan) (edge low_ate high_ate : ℕ) (log : List Entry) → IsPlan plan
         → edge < edge_count plan → has_no_set plan ≡ true
-        → IsWholeLog plan edge low_ate high_ate log → value_by plan edge log ≡ added_up plan edge low_ate high_ate }
+        → IsWholeLog plan edge low_ate high_ate log
+        → value_by plan edge log ≡ value_by_amounts plan edge low_ate high_ate }
 {}
 
 /// In every world that events reach from the start, the values at each place of each site are those that the logs give.

@@ -1,27 +1,31 @@
 //! Laws on journals, which are the events of each site in its order, and on lists that merge the events of all sites.
 
-ghost use Rattle.std.specs.Prelude.{◌≡◌, ◌≢◌, ◌<◌, ◌+◌, ◌++◌, Bool, List, None, Option, Some, [], ◌∷◌, false, length};
-ghost use Rattle.std.specs.Prelude.{slice_get, true, ℕ};
-ghost use Rattle.dine_graph.specs.Plan.{IsPlan, SeenPlan, act_of, edges_of, job_count, job_of, name_of, resigns};
-ghost use Rattle.dine_graph.specs.Plan.{site_count};
+ghost use Rattle.std.specs.Prelude.{◌≡◌, ◌≢◌, ◌↔◌, ◌<◌, ◌+◌, ◌++◌, Bool, List, None, Option, Some, [], ◌∷◌, false};
+ghost use Rattle.std.specs.Prelude.{length, map, slice_get, true, ℕ};
+ghost use Rattle.dine_graph.specs.Plan.{IsPlan, SeenPlan, act_of, edges_of, job_count, job_of, jobs_of, name_of};
+ghost use Rattle.dine_graph.specs.Plan.{resigns, site_count};
 ghost use Rattle.dine_rules.specs.Outcomes.{NoSiteResigns, with_outcomes};
+ghost use Rattle.dine_token.specs.Log.{is_dirty};
 ghost use Rattle.dine_token.specs.declared.log_entry.Entry.TheVariants.{Meal, Move};
-ghost use Rattle.dine_rules.specs.Examples.{pair, resigning};
+ghost use Rattle.dine_rules.specs.Examples.{pair, resigning_pair};
 ghost use Rattle.dine_rules.specs.Holdings.{fork_at, hand_at};
-ghost use Rattle.dine_rules.specs.JournalExamples.{accepted_as, higher_journal, left_by, lower_journal, merged};
+ghost use Rattle.dine_rules.specs.JournalExamples.{accepted_as, asked_early, end_in, fork_and_request, higher_journal};
+ghost use Rattle.dine_rules.specs.JournalExamples.{left_by, left_in, lower_journal, merge_of};
 ghost use Rattle.dine_rules.specs.JournalExamples.{quit_by, ready_after};
 ghost use Rattle.dine_rules.specs.Journals.{AreStatesAfter, FailAsShown, IsFrontOf, IsJournal, IsOrderOf};
-ghost use Rattle.dine_rules.specs.Journals.{IsPlacedToEnd, IsWholeOrder, OrdersGrow, outcomes_in, part_of};
+ghost use Rattle.dine_rules.specs.Journals.{IsPlacedToEnd, IsWholeOrder, OrdersGrow, journal_of, outcomes_in, part_of};
 ghost use Rattle.dine_rules.specs.Local.{LocalState, edge_at, neighbour_at, start_of};
 ghost use Rattle.dine_rules.specs.Precedence.{fork_log};
+ghost use Rattle.dine_rules.specs.Askers.{AskersWaitForOneMeal, NeighbourWaits, log_after};
 ghost use Rattle.dine_rules.specs.EatingApart.{NeighboursEatApart};
-ghost use Rattle.dine_rules.specs.Shown.{plan_shown};
+ghost use Rattle.dine_rules.specs.Shown.{ResignAsPlanned, plan_shown, shown_in};
 ghost use Rattle.dine_rules.specs.Timed.{AreTimed};
 ghost use Rattle.dine_rules.specs.Steps.{Puts, Step, after, may, shape_of, step_by};
 ghost use Rattle.dine_rules.specs.World.{IsComplete, Reaches, WorldState, is_enabled, state_of, world_after};
 ghost use Rattle.dine_rules.specs.declared.events.Event.{Event};
 ghost use Rattle.dine_rules.specs.declared.events.EventKind.{EventKind};
-ghost use Rattle.dine_rules.specs.declared.events.EventKind.TheVariants.{Ask, Begin, Done, End, Hungry, Quit, Take};
+ghost use Rattle.dine_rules.specs.declared.events.EventKind.TheVariants.{Ask, Begin, Done, End, Give, Hungry, Quit};
+ghost use Rattle.dine_rules.specs.declared.events.EventKind.TheVariants.{Take};
 ghost use Rattle.dine_rules.specs.declared.letters.Kind4.TheVariants as kind;
 ghost use Rattle.dine_rules.specs.declared.letters.Letter.{Letter};
 ghost use Rattle.dine_rules.specs.declared.letters.Letter.TheVariants as letter;
@@ -109,6 +113,20 @@ pub fn neighbours_eat_apart_in_each_order()
         → NeighboursEatApart plan events }
 {}
 
+/// A neighbour that asked waits for at most one meal: after a site takes a Request it begins at most one meal before it
+/// gives the fork of that place, and none if the fork was dirty. That holds in each journal, of the events of a site in
+/// each list that the world accepts, and so of the journals that such a list merges. That the site gives the fork, the
+/// law does not say.
+pub fn askers_wait_for_one_meal()
+    ensures journal { (plan : SeenPlan) (s : ℕ) (journal : List EventKind) (state : LocalState)
+        → IsJournal plan s journal state → AskersWaitForOneMeal s state journal }
+    ensures list { (plan : SeenPlan) (events : List Event) (world : WorldState) (s : ℕ) → s < site_count plan
+        → Reaches plan events world → AskersWaitForOneMeal s (state_of world s) (part_of s events) }
+    ensures order { (plan : SeenPlan) (journals : List (List EventKind)) (events : List Event) (s : ℕ)
+        (order : IsWholeOrder plan journals events) → s < site_count plan
+        → AskersWaitForOneMeal s (state_of order.world s) (journal_of journals s) }
+{}
+
 /// A plan with other outcomes of its jobs is a plan. It has these outcomes, and otherwise the same sites, jobs and
 /// edges. Journals lead to the same states by both plans, since journals show their own outcomes: the outcomes of the
 /// plan matter only in a world.
@@ -156,6 +174,28 @@ pub fn outcomes_matter_only_to_sites_that_resign()
         → IsWholeOrder (with_outcomes plan fails) journals events → IsWholeOrder plan journals events }
 {}
 
+/// The journal of a site shows at most one outcome for each of its meals. It shows that a meal failed exactly if this
+/// meal is the last one and the site has quit.
+pub fn journals_show_a_failure_by_quitting()
+    ensures { (plan : SeenPlan) (s : ℕ) (journal : List EventKind) (state : LocalState) (k : ℕ) (failed : Bool)
+        → IsJournal plan s journal state
+        → slice_get (outcomes_in false journal) k ≡ Some failed
+        → (k < state.ate) × ((failed ≡ true) ↔ ((k + 1 ≡ state.ate) × (state.has_quit ≡ true))) }
+{}
+
+/// If the sites that resign did so as the plan says, an order of the journals for the plan that the journals show is
+/// one for the plan itself: the same list, accepted by a world of the plan. It leads to the same world by both plans.
+pub fn orders_are_of_the_plan_if_sites_resign_as_planned()
+    ensures order { (plan : SeenPlan) (journals : List (List EventKind)) (events : List Event) → IsPlan plan
+        → ResignAsPlanned plan journals → IsWholeOrder (plan_shown plan journals) journals events
+        → IsWholeOrder plan journals events }
+    ensures world { (plan : SeenPlan) (journals : List (List EventKind)) (events : List Event) (world : WorldState)
+        → IsPlan plan
+        → ResignAsPlanned plan journals → IsWholeOrder (plan_shown plan journals) journals events
+        → Reaches (plan_shown plan journals) events world
+        → Reaches plan events world }
+{}
+
 /// In a world as in `journals_fix_the_world`, the log of the fork of an edge is the log in the hand of the site that
 /// holds the fork.
 pub fn journals_and_links_fix_the_logs()
@@ -176,29 +216,53 @@ pub fn journals_and_links_fix_the_logs()
 /// that is not its last.
 pub fn journals_go_as_worked()
     ensures lowest_first { accepted_as
-        (merged (0 ∷ 0 ∷ 0 ∷ 0 ∷ 1 ∷ 1 ∷ 0 ∷ 0 ∷ 1 ∷ 1 ∷ 1 ∷ 1 ∷ 1 ∷ 0 ∷ 0 ∷ 1 ∷ 0 ∷ 1
+        (merge_of (0 ∷ 0 ∷ 0 ∷ 0 ∷ 1 ∷ 1 ∷ 0 ∷ 0 ∷ 1 ∷ 1 ∷ 1 ∷ 1 ∷ 1 ∷ 0 ∷ 0 ∷ 1 ∷ 0 ∷ 1
         ∷ []) lower_journal higher_journal)
         ≡ Some (18, Meal 0 1 ∷ Move 1 ∷ Meal 1 1 ∷ []) }
     ensures higher_first { accepted_as
-        (merged (1 ∷ 0 ∷ 0 ∷ 1 ∷ 0 ∷ 0 ∷ 1 ∷ 0 ∷ 0 ∷ 1 ∷ 1 ∷ 1 ∷ 1 ∷ 0 ∷ 0 ∷ 1 ∷ 0 ∷ 1
+        (merge_of (1 ∷ 0 ∷ 0 ∷ 1 ∷ 0 ∷ 0 ∷ 1 ∷ 0 ∷ 0 ∷ 1 ∷ 1 ∷ 1 ∷ 1 ∷ 0 ∷ 0 ∷ 1 ∷ 0 ∷ 1
         ∷ []) lower_journal higher_journal)
         ≡ Some (18, Meal 0 1 ∷ Move 1 ∷ Meal 1 1 ∷ []) }
-    ensures parts { part_of 1 (merged (1 ∷ 0 ∷ 0 ∷ 1 ∷ []) lower_journal higher_journal) ≡ Hungry ∷ Ask 0 ∷ [] }
+    ensures parts { part_of 1 (merge_of (1 ∷ 0 ∷ 0 ∷ 1 ∷ []) lower_journal higher_journal) ≡ Hungry ∷ Ask 0 ∷ [] }
     ensures ready { ready_after (lower_journal ∷ higher_journal ∷ []) [] ≡ Some (true, true) }
     ensures stuck { ready_after ((Hungry ∷ Begin ∷ End ∷ Done 0 ∷ []) ∷ (Take 0 ∷ Take 0 ∷ []) ∷ [])
-        (merged (0 ∷ 0 ∷ 0 ∷ 0 ∷ 1 ∷ []) (Hungry ∷ Begin ∷ End ∷ Done 0 ∷ []) (Take 0 ∷ Take 0 ∷ []))
+        (merge_of (0 ∷ 0 ∷ 0 ∷ 0 ∷ 1 ∷ []) (Hungry ∷ Begin ∷ End ∷ Done 0 ∷ []) (Take 0 ∷ Take 0 ∷ []))
         ≡ Some (false, false) }
     ensures left { left_by 0 (letter.Request 0 ∷ letter.Done ∷ letter.Close ∷ []) lower_journal
         ≡ Some (1, kind.Done ∷ kind.Fork ∷ kind.Close ∷ []) }
     ensures outcomes { outcomes_in false (Hungry ∷ Begin ∷ End ∷ Hungry ∷ Begin ∷ End ∷ Quit ∷ Done 0 ∷ [])
         ≡ false ∷ true ∷ [] }
-    ensures quits { quit_by resigning 0 (Hungry ∷ Begin ∷ End ∷ Hungry ∷ Begin ∷ End ∷ Quit ∷ Done 0 ∷ [])
+    ensures shown { shown_in 3 (Hungry ∷ Begin ∷ End ∷ Hungry ∷ Begin ∷ End ∷ Quit ∷ Done 0 ∷ [])
+        ≡ map (λ job. job.fails) (jobs_of resigning_pair 0) }
+    ensures quits { quit_by resigning_pair 0 (Hungry ∷ Begin ∷ End ∷ Hungry ∷ Begin ∷ End ∷ Quit ∷ Done 0 ∷ [])
         ≡ Some (2, true) }
-    ensures quits_early { quit_by resigning 0 (Hungry ∷ Begin ∷ End ∷ Quit ∷ []) ≡ Some (1, true) }
-    ensures quits_unfed { quit_by resigning 0 (Quit ∷ []) ≡ None }
-    ensures quits_twice { quit_by resigning 0 (Hungry ∷ Begin ∷ End ∷ Quit ∷ Quit ∷ []) ≡ None }
-    ensures hungry_behind { quit_by resigning 0 (Hungry ∷ Begin ∷ End ∷ Quit ∷ Hungry ∷ []) ≡ None }
-    ensures quits_late { quit_by resigning 0
+    ensures quits_early { quit_by resigning_pair 0 (Hungry ∷ Begin ∷ End ∷ Quit ∷ []) ≡ Some (1, true) }
+    ensures quits_unfed { quit_by resigning_pair 0 (Quit ∷ []) ≡ None }
+    ensures quits_twice { quit_by resigning_pair 0 (Hungry ∷ Begin ∷ End ∷ Quit ∷ Quit ∷ []) ≡ None }
+    ensures hungry_behind { quit_by resigning_pair 0 (Hungry ∷ Begin ∷ End ∷ Quit ∷ Hungry ∷ []) ≡ None }
+    ensures quits_late { quit_by resigning_pair 0
         (Hungry ∷ Begin ∷ End ∷ Hungry ∷ Begin ∷ End ∷ Hungry ∷ Begin ∷ End ∷ Quit ∷ []) ≡ None }
     ensures never_quits { quit_by (pair 3 1) 0 (Hungry ∷ Begin ∷ End ∷ Quit ∷ []) ≡ None }
+{}
+
+/// Waits of a neighbour that asked, in a pair with two jobs each. The higher site takes the Request while its fork is
+/// clean: it may eat once before it gives the fork, and not twice. The lower site takes it while its fork is dirty: it
+/// gives the fork before it eats again.
+pub fn askers_wait_as_worked()
+    ensures clean { is_dirty (log_after (end_in (pair 2 2) 1 fork_and_request asked_early) 0 1
+        (Hungry ∷ Ask 0 ∷ Take 0 ∷ [])) ≡ false }
+    ensures eats_once { left_in (pair 2 2) 1 fork_and_request (asked_early ++ Begin ∷ End ∷ Give 0 ∷ [])
+        ≡ Some (1, kind.Request ∷ kind.Fork ∷ []) }
+    ensures waits { NeighbourWaits
+        (end_in (pair 2 2) 1 fork_and_request (asked_early ++ Begin ∷ End ∷ Give 0 ∷ [])) 0
+        (asked_early ++ Begin ∷ End ∷ Give 0 ∷ []) (Hungry ∷ Ask 0 ∷ Take 0 ∷ []) (Begin ∷ End ∷ []) }
+    ensures not_twice { left_in (pair 2 2) 1 fork_and_request (asked_early ++ Begin ∷ End ∷ Hungry ∷ Begin ∷ [])
+        ≡ None }
+    ensures dirty { is_dirty (log_after
+        (end_in (pair 2 2) 0 (letter.Request 0 ∷ []) (Hungry ∷ Begin ∷ End ∷ Take 0 ∷ [])) 0 0
+        (Hungry ∷ Begin ∷ End ∷ [])) ≡ true }
+    ensures gives { left_in (pair 2 2) 0 (letter.Request 0 ∷ []) (Hungry ∷ Begin ∷ End ∷ Take 0 ∷ Hungry ∷ Give 0 ∷ [])
+        ≡ Some (1, kind.Fork ∷ []) }
+    ensures not_before { left_in (pair 2 2) 0 (letter.Request 0 ∷ [])
+        (Hungry ∷ Begin ∷ End ∷ Take 0 ∷ Hungry ∷ Begin ∷ []) ≡ None }
 {}

@@ -5,7 +5,8 @@ use Rattle.std.proofs.lemmas.Bool.{cases_eq}
 use Rattle.std.proofs.lemmas.Option.{same_Some, slice_get-map}
 use Rattle.std.proofs.lemmas.List.{get_or-set_same, get_or-set_other, get_or-take, get_or_append_left, get_or_at, ext_get_or, length-take-le, map-set}
 use Rattle.std.proofs.lemmas.List.Edits.{length-swap, swapped_from_swap}
-use Rattle.dine_site.specs.Ports.{ChangesAt, SeenPort}
+use Rattle.dine_site.specs.Ports.{SeenPort}
+use Rattle.dine_site.specs.private.PortSteps.{ChangesAt}
 use Rattle.dine_site.proofs.lists.Seen.{if_there}
 
 module _ {A : Type 0} (xs : List A) (i last : ℕ) (p d : A) (within : i < length xs) (count : last + 1 ≡ length xs) where

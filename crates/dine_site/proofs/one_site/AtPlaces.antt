@@ -17,7 +17,7 @@ use Rattle.dine_site_core.specs.Core.{SeenCore, Refines}
 use Rattle.dine_site_core.specs.Standing.{CoreStep, CorePuts}
 use Rattle.dine_site.specs.Endings.{links_at, nothing_on_links, on_links}
 use Rattle.dine_site.specs.Ports.{SeenPort, SameLinks}
-use Rattle.dine_site.specs.Running.{SeenRun, AtEach, HasState, IsNext, IsRunning, IsPutting}
+use Rattle.dine_site.specs.private.Running.{SeenRun, AtEach, HasState, IsNext, IsRunning, IsPutting}
 use Rattle.dine_site.proofs.lists.Lists.{get-set, set-get}
 use Rattle.dine_site.proofs.one_site.Turns.{JournalsGrow, acted_more, own_turn}
 

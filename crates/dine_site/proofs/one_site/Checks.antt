@@ -8,7 +8,7 @@ use Rattle.dine_site.specs.declared.manner.Manner.{Manner}
 use Rattle.dine_site.specs.declared.manner.Manner.TheVariants.{Eager, Polite}
 use Rattle.dine_site.specs.Doings.{begins_from, empty_checks_of, is_begin}
 use Rattle.dine_site_core.specs.Core.{SeenCore}
-use Rattle.dine_site.specs.Running.{AreChecks, IsNext, MayTakeNow, checked_by}
+use Rattle.dine_site.specs.private.Running.{AreChecks, IsNext, MayTakeNow, checked_by}
 
 -- ---- one event more at the end of a journal
 
@@ -83,10 +83,14 @@ may_take_quiet Polite core quiet = λ plan state keeps stands. inl (quiet plan s
 pub may_take_before_meal : (manner : Manner) (core : SeenCore) → manner ≡ Polite → IsNext (Some event.Begin) core → MayTakeNow manner core
 may_take_before_meal manner core polite next = subst (λ (m : Manner). MayTakeNow m core) (sym polite) (λ plan state keeps stands. inr (next plan state keeps stands))
 
--- a check changes neither the degree of the bell nor that it was refused
+-- a check changes neither the bell's identity nor its degree, nor that it was refused
 pub same_degree : (manner : Manner) (events : ℕ) (bell : SeenBell) → (checked_by manner events bell).degree ≡ bell.degree
 same_degree Eager events bell = refl
 same_degree Polite events bell = refl
+
+pub same_identity : (manner : Manner) (events : ℕ) (bell : SeenBell) → (checked_by manner events bell).identity ≡ bell.identity
+same_identity Eager events bell = refl
+same_identity Polite events bell = refl
 
 pub same_refused : (manner : Manner) (events : ℕ) (bell : SeenBell) → (checked_by manner events bell).refused ≡ bell.refused
 same_refused Eager events bell = refl

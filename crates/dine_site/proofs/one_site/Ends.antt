@@ -10,7 +10,7 @@ use Rattle.dine_rules.specs.Letters.{has_close}
 use Rattle.dine_rules.specs.Local.{LocalState, traffic_at}
 use Rattle.dine_site_core.specs.declared.site.places.Place.{Place}
 use Rattle.dine_site_core.specs.Core.{SeenCore, Refines}
-use Rattle.dine_site_core.specs.Places.{closed, no_place, place_at}
+use Rattle.dine_site_core.specs.Places.{after_close, no_place, place_at}
 use Rattle.dine_site_core.specs.Standing.{AreForksInHand, AreTokensInHand, all_places, has_closed, has_finished}
 use Rattle.dine_site.specs.declared.site_end.SiteFault.{SiteFault}
 use Rattle.dine_site.specs.declared.site_end.SiteFault.TheVariants as fault
@@ -18,7 +18,7 @@ use Rattle.dine_site.specs.declared.site_end.Stray.{Stray}
 use Rattle.dine_site.specs.Endings.{OnLinks, breached_at, links_at, on_links, refused_at, traffic_on}
 use Rattle.dine_site.specs.Ports.{SeenPort, PutsFit}
 use Rattle.dine_site.specs.SiteEnds.{IsSiteEnd}
-use Rattle.dine_site.specs.Running.{SeenRun, ClosedBelow, HasState, MayEnd}
+use Rattle.dine_site.specs.private.Running.{SeenRun, ClosedBelow, HasState, MayEnd}
 use Rattle.dine_site.proofs.lists.Lists.{list_all-weaker, list_all-each}
 use Rattle.dine_site.proofs.one_site.Letters.{ClosedFrontsAreInOrder, FrontsAreInOrder, fit_in_order, puts_fit-same, rang_same}
 use Rattle.dine_site.proofs.lists.Seen.{there_is}
@@ -26,9 +26,9 @@ use Rattle.dine_site.proofs.one_site.AtPlaces.{links_there}
 use Rattle.dine_site.proofs.one_site.Stops.{just_did}
 
 -- one place more is closed
-pub closed_more : (core : SeenCore) (i : ℕ) → i < length core.places → ClosedBelow i core → ClosedBelow (i + 1) (closed i core)
+pub closed_more : (core : SeenCore) (i : ℕ) → i < length core.places → ClosedBelow i core → ClosedBelow (i + 1) (after_close i core)
 closed_more core i within below j h = elim (cases_eq j i) [
-  | inl same ↦ ap (λ (n : ℕ). (place_at (closed i core) n).close_put) same
+  | inl same ↦ ap (λ (n : ℕ). (place_at (after_close i core) n).close_put) same
       ∙ ap (λ (place : Place). place.close_put) (get_or-set_same core.places i (record (place_at core i) { close_put = true }) no_place within)
   | inr ne ↦ ap (λ (place : Place). place.close_put) (get_or-set_other core.places i j (record (place_at core i) { close_put = true }) no_place ne) ∙ below j (omega (arith, h, ne))
 ]

@@ -8,8 +8,9 @@ use Rattle.dine_rules.specs.Local.{LocalState, Traffic, traffic_at}
 use Rattle.dine_rules.specs.Streams.{IsPutInOrder, KeepsStreams}
 use Rattle.dine_graph.specs.Plan.{SeenPlan}
 use Rattle.dine_link.specs.Closing.{is_close}
-use Rattle.dine_site.specs.Ports.{HasRung, IsUnrefused, SeenPort, PutsFit, closed_on, closed_unheard_on, put_on, put_unheard_on, refused_on, taken_on, untaken_on}
-use Rattle.dine_site.specs.Running.{RunsAt, StopsAt}
+use Rattle.dine_site.specs.Ports.{HasRung, IsUnrefused, SeenPort, PutsFit}
+use Rattle.dine_site.specs.private.PortSteps.{port_after_close, port_after_unheard_close, port_after_put, port_after_unheard_put, port_after_refusal, port_after_take, port_after_refused_take}
+use Rattle.dine_site.specs.private.Running.{RunsAt, StopsAt}
 
 -- ---- one letter more
 
@@ -171,7 +172,7 @@ module _ {Identity : Type 0} (traffic : Traffic) (port : SeenPort Identity) (run
   still : IsUnrefused port
   still = record { put = runs.unrefused.put; take = runs.unrefused.take; ring = runs.unrefused.ring }
 
-  pub runs-put : (m : ℕ) (l : Letter) → has_close traffic.put ≡ false → is_close l ≡ false → RunsAt (record traffic { put = traffic.put ++ l ∷ [] }) (put_on m l port)
+  pub runs-put : (m : ℕ) (l : Letter) → has_close traffic.put ≡ false → is_close l ≡ false → RunsAt (record traffic { put = traffic.put ++ l ∷ [] }) (port_after_put m l port)
   runs-put m l h other = record {
     puts = ap (λ (xs : List Letter). xs ++ l ∷ []) runs.puts;
     takes = runs.takes;
@@ -180,7 +181,7 @@ module _ {Identity : Type 0} (traffic : Traffic) (port : SeenPort Identity) (run
     unrefused = record { put = still.put; take = still.take; ring = still.ring };
   }
 
-  pub runs-closed : (m : ℕ) → RunsAt (record traffic { put = traffic.put ++ Close ∷ [] }) (closed_on m port)
+  pub runs-closed : (m : ℕ) → RunsAt (record traffic { put = traffic.put ++ Close ∷ [] }) (port_after_close m port)
   runs-closed m = record {
     puts = ap (λ (xs : List Letter). xs ++ Close ∷ []) runs.puts;
     takes = runs.takes;
@@ -189,7 +190,7 @@ module _ {Identity : Type 0} (traffic : Traffic) (port : SeenPort Identity) (run
     unrefused = record { put = still.put; take = still.take; ring = still.ring };
   }
 
-  pub runs-taken : (m : ℕ) (l : Letter) → RunsAt (record traffic { taken = traffic.taken ++ l ∷ [] }) (taken_on m l port)
+  pub runs-taken : (m : ℕ) (l : Letter) → RunsAt (record traffic { taken = traffic.taken ++ l ∷ [] }) (port_after_take m l port)
   runs-taken m l = record {
     puts = runs.puts;
     takes = ap (λ (xs : List Letter). xs ++ l ∷ []) runs.takes;
@@ -209,7 +210,7 @@ module _ {Identity : Type 0} (traffic : Traffic) (port : SeenPort Identity) (run
     rang_open = λ open_still. omega (arith, runs.rang);
   }
 
-  pub stops-refused : (l : Letter) → has_close traffic.put ≡ false → StopsAt (Some l) None (record traffic { put = traffic.put ++ l ∷ [] }) (refused_on port)
+  pub stops-refused : (l : Letter) → has_close traffic.put ≡ false → StopsAt (Some l) None (record traffic { put = traffic.put ++ l ∷ [] }) (port_after_refusal port)
   stops-refused l h = record {
     puts = puts_fit-refused true traffic.put port.tx.letters l runs.puts;
     takes = runs.takes ∙ sym (append-nil traffic.taken);
@@ -218,7 +219,7 @@ module _ {Identity : Type 0} (traffic : Traffic) (port : SeenPort Identity) (run
     rang_open = λ open_still. omega (arith, runs.rang);
   }
 
-  pub stops-unheard : (m : ℕ) (l : Letter) → has_close traffic.put ≡ false → StopsAt None None (record traffic { put = traffic.put ++ l ∷ [] }) (put_unheard_on m l port)
+  pub stops-unheard : (m : ℕ) (l : Letter) → has_close traffic.put ≡ false → StopsAt None None (record traffic { put = traffic.put ++ l ∷ [] }) (port_after_unheard_put m l port)
   stops-unheard m l h = record {
     puts = puts_fit-same port.tx.refused (traffic.put ++ l ∷ []) (port.tx.letters ++ l ∷ []) (ap (λ (xs : List Letter). xs ++ l ∷ []) runs.puts);
     takes = runs.takes ∙ sym (append-nil traffic.taken);
@@ -227,7 +228,7 @@ module _ {Identity : Type 0} (traffic : Traffic) (port : SeenPort Identity) (run
     rang_open = λ open_still. omega (arith, longer l);
   }
 
-  pub stops-unclosed : has_close traffic.put ≡ false → StopsAt None None (record traffic { put = traffic.put ++ Close ∷ [] }) (refused_on port)
+  pub stops-unclosed : has_close traffic.put ≡ false → StopsAt None None (record traffic { put = traffic.put ++ Close ∷ [] }) (port_after_refusal port)
   stops-unclosed h = record {
     puts = puts_fit-unclosed traffic.put port.tx.letters runs.puts;
     takes = runs.takes ∙ sym (append-nil traffic.taken);
@@ -236,7 +237,7 @@ module _ {Identity : Type 0} (traffic : Traffic) (port : SeenPort Identity) (run
     rang_open = λ open_still. omega (arith, runs.rang);
   }
 
-  pub stops-closed_unheard : (m : ℕ) → StopsAt None None (record traffic { put = traffic.put ++ Close ∷ [] }) (closed_unheard_on m port)
+  pub stops-closed_unheard : (m : ℕ) → StopsAt None None (record traffic { put = traffic.put ++ Close ∷ [] }) (port_after_unheard_close m port)
   stops-closed_unheard m = record {
     puts = puts_fit-same port.tx.refused (traffic.put ++ Close ∷ []) (port.tx.letters ++ Close ∷ []) (ap (λ (xs : List Letter). xs ++ Close ∷ []) runs.puts);
     takes = runs.takes ∙ sym (append-nil traffic.taken);
@@ -245,7 +246,7 @@ module _ {Identity : Type 0} (traffic : Traffic) (port : SeenPort Identity) (run
     rang_open = λ open_still. omega (arith, longer Close);
   }
 
-  pub stops-untaken : StopsAt None None traffic (untaken_on port)
+  pub stops-untaken : StopsAt None None traffic (port_after_refused_take port)
   stops-untaken = record {
     puts = puts_fit-same port.tx.refused traffic.put port.tx.letters runs.puts;
     takes = runs.takes ∙ sym (append-nil traffic.taken);
@@ -254,7 +255,7 @@ module _ {Identity : Type 0} (traffic : Traffic) (port : SeenPort Identity) (run
     rang_open = λ open_still. omega (arith, runs.rang);
   }
 
-  pub stops-breached : (m : ℕ) (l : Letter) → StopsAt None (Some l) traffic (taken_on m l port)
+  pub stops-breached : (m : ℕ) (l : Letter) → StopsAt None (Some l) traffic (port_after_take m l port)
   stops-breached m l = record {
     puts = puts_fit-same port.tx.refused traffic.put port.tx.letters runs.puts;
     takes = ap (λ (xs : List Letter). xs ++ l ∷ []) runs.takes;
@@ -266,7 +267,7 @@ module _ {Identity : Type 0} (traffic : Traffic) (port : SeenPort Identity) (run
 -- ---- Close is put after the stop
 
 module _ {Identity : Type 0} (refused breached : Option Letter) (traffic : Traffic) (port : SeenPort Identity) (stops : StopsAt refused breached traffic port) (h : has_close traffic.put ≡ false) where
-  pub stops-closed : (m : ℕ) → StopsAt refused breached (record traffic { put = traffic.put ++ Close ∷ [] }) (closed_on m port)
+  pub stops-closed : (m : ℕ) → StopsAt refused breached (record traffic { put = traffic.put ++ Close ∷ [] }) (port_after_close m port)
   stops-closed m = record {
     puts = puts_fit-closing port.tx.refused port.tx.refused refused traffic.put port.tx.letters (port.tx.letters ++ Close ∷ []) h stops.puts (inl refl);
     takes = stops.takes;
@@ -279,7 +280,7 @@ module _ {Identity : Type 0} (refused breached : Option Letter) (traffic : Traff
     rang_open = λ open_still. absurd (false≢true (sym open_still ∙ has_close-closed traffic.put));
   }
 
-  pub stops-close_refused : StopsAt refused breached (record traffic { put = traffic.put ++ Close ∷ [] }) (refused_on port)
+  pub stops-close_refused : StopsAt refused breached (record traffic { put = traffic.put ++ Close ∷ [] }) (port_after_refusal port)
   stops-close_refused = record {
     puts = puts_fit-closing port.tx.refused true refused traffic.put port.tx.letters port.tx.letters h stops.puts (inr (refl, refl));
     takes = stops.takes;
@@ -288,7 +289,7 @@ module _ {Identity : Type 0} (refused breached : Option Letter) (traffic : Traff
     rang_open = λ open_still. absurd (false≢true (sym open_still ∙ has_close-closed traffic.put));
   }
 
-  pub stops-close_unheard : (m : ℕ) → StopsAt refused breached (record traffic { put = traffic.put ++ Close ∷ [] }) (closed_unheard_on m port)
+  pub stops-close_unheard : (m : ℕ) → StopsAt refused breached (record traffic { put = traffic.put ++ Close ∷ [] }) (port_after_unheard_close m port)
   stops-close_unheard m = record {
     puts = puts_fit-closing port.tx.refused port.tx.refused refused traffic.put port.tx.letters (port.tx.letters ++ Close ∷ []) h stops.puts (inl refl);
     takes = stops.takes;

@@ -13,7 +13,7 @@ use Rattle.dine_site_core.specs.Core.{SeenCore, Refines}
 use Rattle.dine_site_core.specs.Standing.{IsFreshFor}
 use Rattle.dine_site.specs.declared.diner.Call.{Call}
 use Rattle.dine_site.specs.Diners.{HasLastFailed, ObeysFailures, StopsAtFailed, shows_quit}
-use Rattle.dine_site.specs.Running.{IsObeying, last_failed, only_last_failed}
+use Rattle.dine_site.specs.private.Running.{IsObeying, last_failed, only_last_failed}
 
 -- ---- lists of calls
 

@@ -4,7 +4,7 @@ use Rattle.dine_link.specs.Bells.{SeenBell}
 use Rattle.dine_link.specs.declared.lane.Lane as lanes
 use Rattle.dine_site.specs.declared.diner.Diner as diners
 use Rattle.dine_site.specs.declared.site_loop.running.Running.{Running}
-use Rattle.dine_site.specs.Running.{IsReady, IsRunning, Leads, MayProceed, Proceeds, SameMeals, Way, seen_run}
+use Rattle.dine_site.specs.private.Running.{IsReady, IsRunning, Leads, MayProceed, Proceeds, SameMeals, Way, seen_run}
 use Rattle.dine_site.proofs.one_site.Ways.{heard_runs}
 use Rattle.dine_site.proofs.one_site.Same.{ready_same, eats_same, obeys_same}
 
@@ -18,6 +18,7 @@ module _ {Lane Tx Closed Rx Diner : Type 0} (lane : lanes.Ghosts Lane Tx Closed 
     manner = refl;
     resigns = refl;
     site = refl;
+    same_bell = refl;
     expects = λ plan site is. is;
   }
 
@@ -31,6 +32,7 @@ module _ {Lane Tx Closed Rx Diner : Type 0} (lane : lanes.Ghosts Lane Tx Closed 
       manner = did.manner ∙ was.manner;
       resigns = did.resigns ∙ was.resigns;
       site = did.site ∙ was.site;
+      same_bell = did.same_bell ∙ was.same_bell;
       expects = λ plan site is. did.expects plan site (was.expects plan site is);
     }
 
@@ -43,6 +45,7 @@ module _ {Lane Tx Closed Rx Diner : Type 0} (lane : lanes.Ghosts Lane Tx Closed 
       manner = same.manner;
       resigns = same.resigns;
       site = same.site;
+      same_bell = same.same_bell;
       expects = λ plan site is. subst (λ (one : Diner). diner.expects one plan site) (sym same.diner) is;
     }
 
@@ -55,6 +58,7 @@ module _ {Lane Tx Closed Rx Diner : Type 0} (lane : lanes.Ghosts Lane Tx Closed 
       manner = did.manner;
       resigns = did.resigns;
       site = did.site;
+      same_bell = did.same_bell;
       expects = did.expects;
     }
 
@@ -68,9 +72,9 @@ module _ {Lane Tx Closed Rx Diner : Type 0} (lane : lanes.Ghosts Lane Tx Closed 
       }
 
 -- a site goes on when its bell was checked, or reported a number
-pub proceeds_heard : {Lane Tx Closed Rx Diner : Type 0} (lane : lanes.Ghosts Lane Tx Closed Rx) (diner : diners.Ghosts Diner) (old : Running Lane Diner Tx Closed Rx) (bell : SeenBell) → bell.refused ≡ old.bell.refused → bell.degree ≡ old.bell.degree
+pub proceeds_heard : {Lane Tx Closed Rx Diner : Type 0} (lane : lanes.Ghosts Lane Tx Closed Rx) (diner : diners.Ghosts Diner) (old : Running Lane Diner Tx Closed Rx) (bell : SeenBell) → bell.refused ≡ old.bell.refused → bell.degree ≡ old.bell.degree → bell.identity ≡ old.bell.identity
     → IsReady diner old → Proceeds lane diner IsRunning old (record old { bell = bell })
-proceeds_heard lane diner old bell unrefused degree ready = record {
+proceeds_heard lane diner old bell unrefused degree identity ready = record {
   way = λ plan given running. heard_runs plan given (seen_run lane old) bell unrefused running;
   ready = record { bell = degree ∙ ready.bell; room = ready.room; failed = ready.failed };
   eats = λ first eaten. eaten;
@@ -78,5 +82,6 @@ proceeds_heard lane diner old bell unrefused degree ready = record {
   manner = refl;
   resigns = refl;
   site = refl;
+  same_bell = identity;
   expects = λ plan site is. is;
 }

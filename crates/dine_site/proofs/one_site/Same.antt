@@ -11,7 +11,7 @@ use Rattle.dine_rules.specs.declared.phase.Phase.{Phase}
 use Rattle.dine_site.specs.declared.diner.Diner as diners
 use Rattle.dine_site.specs.declared.port.Port.{Port}
 use Rattle.dine_site.specs.declared.site_loop.running.Running.{Running}
-use Rattle.dine_site.specs.Running.{EatsOn, ObeysOn, IsReady, SameMeals}
+use Rattle.dine_site.specs.private.Running.{EatsOn, ObeysOn, IsReady, SameMeals}
 use Rattle.dine_site.proofs.one_site.Obeying.{obeying_as}
 use Rattle.dine_site.proofs.one_site.Meals.{eaten_same}
 
@@ -46,6 +46,7 @@ module _ {Lane Tx Closed Rx Diner : Type 0} (old new : Running Lane Diner Tx Clo
     diner = same.diner;
     failed = same.failed;
     bell = same.bell;
+    same_bell = same.same_bell;
     count = same.count;
   }
 
@@ -62,6 +63,7 @@ same_then was is = record {
   diner = is.diner ∙ was.diner;
   failed = is.failed ∙ was.failed;
   bell = is.bell ∙ was.bell;
+  same_bell = is.same_bell ∙ was.same_bell;
   count = is.count ∙ was.count;
 }
 
@@ -79,6 +81,7 @@ module _ {Lane Tx Closed Rx Diner : Type 0} (old : Running Lane Diner Tx Closed 
     diner = refl;
     failed = refl;
     bell = refl;
+    same_bell = refl;
     count = count;
   }
 
@@ -102,5 +105,6 @@ same_but_phase old phase core journal clock is = record {
   diner = refl;
   failed = refl;
   bell = refl;
+  same_bell = refl;
   count = refl;
 }

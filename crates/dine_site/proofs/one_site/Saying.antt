@@ -17,7 +17,7 @@ use Rattle.dine_site.specs.declared.site_loop.running.Running.{Running}
 use Rattle.dine_site.specs.declared.site_loop.running.Stop.{Stop}
 use Rattle.dine_site.specs.Doings.{event_of, is_begin, own_event}
 use Rattle.dine_site.specs.Ports.{seen_ports}
-use Rattle.dine_site.specs.Running.{ChecksOn, ForSome, GoesOn, IsNext, IsPutting, IsRunning, IsTimedBut, IsTimedRun, Leads, MayProceed, Proceeds, SameMeals, seen_run}
+use Rattle.dine_site.specs.private.Running.{ChecksOn, ForSomePlan, GoesOn, IsNext, IsPutting, IsRunning, IsTimedBut, IsTimedRun, Leads, MayProceed, Proceeds, SameMeals, seen_run}
 use Rattle.dine_site.proofs.one_site.AtPlaces.{Opens, putting}
 use Rattle.dine_site.proofs.one_site.Checks.{checks_more}
 use Rattle.dine_site.proofs.one_site.Proceeding.{proceeds_same}
@@ -36,7 +36,7 @@ module _ {Lane Tx Closed Rx Diner : Type 0} (lane : lanes.Ghosts Lane Tx Closed 
   pub leads_said : Leads lane IsRunning (IsPutting i letter) old said
   leads_said plan given running = putting plan given i step letter opens grows kind is_step is_event (seen_run lane old) core journal.items noted puts next running
 
-  pub is_said : ForSome lane IsRunning old → ForSome lane (IsPutting i letter) said
+  pub is_said : ForSomePlan lane IsRunning old → ForSomePlan lane (IsPutting i letter) said
   is_said running = (running.0, running.1, leads_said running.0 running.1 running.2)
 
   module _ (later : clock.events ≡ old.clock.events ++ (kind, last_moment old.clock.events + 1) ∷ []) (no_begin : is_begin kind ≡ false) (shape : shape_of kind ≡ Puts i)

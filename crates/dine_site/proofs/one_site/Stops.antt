@@ -27,10 +27,11 @@ use Rattle.dine_site_core.specs.Standing.{CoreStep, CorePuts, ReportsBreach}
 use Rattle.dine_site.specs.declared.site_end.SiteFault.{SiteFault}
 use Rattle.dine_site.specs.declared.site_end.SiteFault.TheVariants as fault
 use Rattle.dine_site.specs.declared.site_end.Stray.{Stray}
-use Rattle.dine_site.specs.Ports.{BrokeOffUnheard, SameLinks, SeenPort, SendsClose, closed_unheard_on, refused_on, taken_on, untaken_on}
+use Rattle.dine_site.specs.Ports.{BrokeOffUnheard, SameLinks, SeenPort}
+use Rattle.dine_site.specs.private.PortSteps.{SendsClose, port_after_unheard_close, port_after_refusal, port_after_take, port_after_refused_take}
 use Rattle.dine_site.specs.Endings.{IsBreached, IsLost, OnLinks, breached_at, links_at, nothing_on_links, on_links, refused_at}
 use Rattle.dine_site.specs.SiteEnds.{HasBellRefused}
-use Rattle.dine_site.specs.Running.{AtEach, SeenRun, HasState, RunsAt, StopsAt, IsRunning, IsPutting, IsStopped}
+use Rattle.dine_site.specs.private.Running.{AtEach, SeenRun, HasState, RunsAt, StopsAt, IsRunning, IsPutting, IsStopped}
 use Rattle.dine_site.proofs.one_site.Letters.{puts_fit-shorter, stops-as_it_was, stops-refused, stops-unclosed, stops-untaken, stops-breached, stops-closed, stops-close_refused, stops-close_unheard, forks_in-closed, requests_in-closed, has_done-closed}
 use Rattle.dine_site.proofs.one_site.Turns.{led_more}
 use Rattle.dine_site.proofs.one_site.Closes.{no_close_event}
@@ -208,13 +209,13 @@ module _ {Identity : Type 0} (plan : SeenPlan) (given : List (SeenPort Identity)
 
   -- the link refused to give a letter
   pub take_stops : (i : ℕ) → i < length run.core.places → IsRunning plan given run → (port : SeenPort Identity) → slice_get run.ports i ≡ Some port
-      → IsStopped None (fault.Lost i) plan given (record { manner = run.manner; core = run.core; ports = set run.ports i (untaken_on port); bell = run.bell; journal = run.journal })
+      → IsStopped None (fault.Lost i) plan given (record { manner = run.manner; core = run.core; ports = set run.ports i (port_after_refused_take port); bell = run.bell; journal = run.journal })
   take_stops i within running port at =
       let inside : i < length running.state.traffic = omega (arith, within, running.has.stands.degree) in
       record {
         state = running.state;
-        has = has-port plan given run running.state i port (untaken_on port) running.has at refl refl refl refl;
-        lists = at-port (λ j. RunsAt) (λ j. StopsAt None None) running.state i inside run.ports (untaken_on port) running.lists
+        has = has-port plan given run running.state i port (port_after_refused_take port) running.has at refl refl refl refl;
+        lists = at-port (λ j. RunsAt) (λ j. StopsAt None None) running.state i inside run.ports (port_after_refused_take port) running.lists
             (stops-untaken (traffic_at running.state i) port (running.lists i port at)) (λ j t p ne h. stops-as_it_was t p h);
         did = just_did running.did;
         breach = λ link breach e. absurd (cc);
@@ -222,14 +223,14 @@ module _ {Identity : Type 0} (plan : SeenPlan) (given : List (SeenPort Identity)
             let same : i ≡ link = cc in
             record {
               within = omega (arith, same, inside);
-              refused = λ below. inr (ap (λ (n : ℕ). (links_at (set run.ports i (untaken_on port)) n).take_refused) (sym same) ∙ ap (λ (l : OnLinks). l.take_refused) (new_links run.ports i port (untaken_on port) at));
+              refused = λ below. inr (ap (λ (n : ℕ). (links_at (set run.ports i (port_after_refused_take port)) n).take_refused) (sym same) ∙ ap (λ (l : OnLinks). l.take_refused) (new_links run.ports i port (port_after_refused_take port) at));
               to_place = λ back is. absurd (none-some back is);
               no_close = λ back is. absurd (none-some back is);
             };
         lost_bell = λ e. (let same : i ≡ length running.state.traffic = cc in absurd (omega (arith, same, inside)));
-        take_reported = takes_reported run.ports i port (untaken_on port) at (λ j. fault.Lost i ≡ fault.Lost j) (quiet_takes running.state run.ports (λ j. fault.Lost i ≡ fault.Lost j) running.lists) (λ e. refl);
+        take_reported = takes_reported run.ports i port (port_after_refused_take port) at (λ j. fault.Lost i ≡ fault.Lost j) (quiet_takes running.state run.ports (λ j. fault.Lost i ≡ fault.Lost j) running.lists) (λ e. refl);
         wait_reported = λ e. absurd (false≢true (sym running.heard ∙ e));
-        ring_reported = rings_reported run.ports i port (untaken_on port) at (ReportsRing (fault.Lost i) (length running.state.traffic) run.journal) (quiet_rings running.state run.ports (ReportsRing (fault.Lost i) (length running.state.traffic) run.journal) running.lists)
+        ring_reported = rings_reported run.ports i port (port_after_refused_take port) at (ReportsRing (fault.Lost i) (length running.state.traffic) run.journal) (quiet_rings running.state run.ports (ReportsRing (fault.Lost i) (length running.state.traffic) run.journal) running.lists)
             (λ e. absurd (false≢true (sym (running.lists i port at).unrefused.ring ∙ e)));
         no_stray = λ e. refl;
         started = λ e. absurd (cc);
@@ -237,14 +238,14 @@ module _ {Identity : Type 0} (plan : SeenPlan) (given : List (SeenPort Identity)
 
   -- the link refused a letter
   pub put_stops : (i : ℕ) (l : Letter) → is_close l ≡ false → IsPutting i l plan given run → (port : SeenPort Identity) → slice_get run.ports i ≡ Some port
-      → IsStopped (Some (record { link = i; letter = l })) (fault.Lost i) plan given (record { manner = run.manner; core = run.core; ports = set run.ports i (refused_on port); bell = run.bell; journal = run.journal })
+      → IsStopped (Some (record { link = i; letter = l })) (fault.Lost i) plan given (record { manner = run.manner; core = run.core; ports = set run.ports i (port_after_refusal port); bell = run.bell; journal = run.journal })
   put_stops i l other putting port at =
       let inside : i < length (with_put i l putting.before).traffic = omega (arith, putting.within, grown_place putting.before i l) in
       record {
         state = with_put i l putting.before;
-        has = has-port plan given run (with_put i l putting.before) i port (refused_on port) putting.has at refl refl refl refl;
-        lists = at-set (λ j. RunsAt) (λ j. StopsAt (if i == j then Some l else None) None) putting.before (with_put i l putting.before) i _ refl putting.within run.ports (refused_on port) putting.lists
-            (subst (λ (o : Option Letter). StopsAt o None (record (traffic_at putting.before i) { put = (traffic_at putting.before i).put ++ l ∷ [] }) (refused_on port)) (sym (here i l))
+        has = has-port plan given run (with_put i l putting.before) i port (port_after_refusal port) putting.has at refl refl refl refl;
+        lists = at-set (λ j. RunsAt) (λ j. StopsAt (if i == j then Some l else None) None) putting.before (with_put i l putting.before) i _ refl putting.within run.ports (port_after_refusal port) putting.lists
+            (subst (λ (o : Option Letter). StopsAt o None (record (traffic_at putting.before i) { put = (traffic_at putting.before i).put ++ l ∷ [] }) (port_after_refusal port)) (sym (here i l))
             (stops-refused (traffic_at putting.before i) port (putting.lists i port at) l putting.open_place))
             (λ j t p ne h. subst (λ (o : Option Letter). StopsAt o None t p) (sym (elsewhere i j l ne)) (stops-as_it_was t p h));
         did = just_did putting.did;
@@ -253,14 +254,14 @@ module _ {Identity : Type 0} (plan : SeenPlan) (given : List (SeenPort Identity)
             let same : i ≡ link = cc in
             record {
               within = omega (arith, same, inside);
-              refused = λ below. inl (ap (λ (n : ℕ). (links_at (set run.ports i (refused_on port)) n).put_refused) (sym same) ∙ ap (λ (l : OnLinks). l.put_refused) (new_links run.ports i port (refused_on port) at));
+              refused = λ below. inl (ap (λ (n : ℕ). (links_at (set run.ports i (port_after_refusal port)) n).put_refused) (sym same) ∙ ap (λ (l : OnLinks). l.put_refused) (new_links run.ports i port (port_after_refusal port) at));
               to_place = λ back is. (ap (λ (b : Stray). b.link) (the_stray back is) ∙ same, omega (arith, same, inside));
               no_close = λ back is. ap (λ (b : Stray). is_close b.letter) (the_stray back is) ∙ other;
             };
         lost_bell = λ e. (let same : i ≡ length (with_put i l putting.before).traffic = cc in absurd (omega (arith, same, inside)));
-        take_reported = takes_reported run.ports i port (refused_on port) at (λ j. fault.Lost i ≡ fault.Lost j) (quiet_takes putting.before run.ports (λ j. fault.Lost i ≡ fault.Lost j) putting.lists) (λ e. refl);
+        take_reported = takes_reported run.ports i port (port_after_refusal port) at (λ j. fault.Lost i ≡ fault.Lost j) (quiet_takes putting.before run.ports (λ j. fault.Lost i ≡ fault.Lost j) putting.lists) (λ e. refl);
         wait_reported = λ e. absurd (false≢true (sym putting.heard ∙ e));
-        ring_reported = rings_reported run.ports i port (refused_on port) at (ReportsRing (fault.Lost i) (length (with_put i l putting.before).traffic) run.journal) (quiet_rings putting.before run.ports (ReportsRing (fault.Lost i) (length (with_put i l putting.before).traffic) run.journal) putting.lists)
+        ring_reported = rings_reported run.ports i port (port_after_refusal port) at (ReportsRing (fault.Lost i) (length (with_put i l putting.before).traffic) run.journal) (quiet_rings putting.before run.ports (ReportsRing (fault.Lost i) (length (with_put i l putting.before).traffic) run.journal) putting.lists)
             (λ e. absurd (false≢true (sym (putting.lists i port at).unrefused.ring ∙ e)));
         no_stray = λ e. absurd (true≢false e);
         started = λ e. absurd (cc);
@@ -270,13 +271,13 @@ module _ {Identity : Type 0} (plan : SeenPlan) (given : List (SeenPort Identity)
 
   -- the link refused Close
   pub close_stops : (i : ℕ) → IsPutting i letter.Close plan given run → (port : SeenPort Identity) → slice_get run.ports i ≡ Some port
-      → IsStopped None (fault.Lost i) plan given (record { manner = run.manner; core = run.core; ports = set run.ports i (refused_on port); bell = run.bell; journal = run.journal })
+      → IsStopped None (fault.Lost i) plan given (record { manner = run.manner; core = run.core; ports = set run.ports i (port_after_refusal port); bell = run.bell; journal = run.journal })
   close_stops i putting port at =
       let inside : i < length (with_put i letter.Close putting.before).traffic = omega (arith, putting.within, grown_place putting.before i letter.Close) in
       record {
         state = with_put i letter.Close putting.before;
-        has = has-port plan given run (with_put i letter.Close putting.before) i port (refused_on port) putting.has at refl refl refl refl;
-        lists = at-set (λ j. RunsAt) (λ j. StopsAt None None) putting.before (with_put i letter.Close putting.before) i _ refl putting.within run.ports (refused_on port) putting.lists
+        has = has-port plan given run (with_put i letter.Close putting.before) i port (port_after_refusal port) putting.has at refl refl refl refl;
+        lists = at-set (λ j. RunsAt) (λ j. StopsAt None None) putting.before (with_put i letter.Close putting.before) i _ refl putting.within run.ports (port_after_refusal port) putting.lists
             (stops-unclosed (traffic_at putting.before i) port (putting.lists i port at) putting.open_place) (λ j t p ne h. stops-as_it_was t p h);
         did = just_did putting.did;
         breach = λ link breach e. absurd (cc);
@@ -284,14 +285,14 @@ module _ {Identity : Type 0} (plan : SeenPlan) (given : List (SeenPort Identity)
             let same : i ≡ link = cc in
             record {
               within = omega (arith, same, inside);
-              refused = λ below. inl (ap (λ (n : ℕ). (links_at (set run.ports i (refused_on port)) n).put_refused) (sym same) ∙ ap (λ (l : OnLinks). l.put_refused) (new_links run.ports i port (refused_on port) at));
+              refused = λ below. inl (ap (λ (n : ℕ). (links_at (set run.ports i (port_after_refusal port)) n).put_refused) (sym same) ∙ ap (λ (l : OnLinks). l.put_refused) (new_links run.ports i port (port_after_refusal port) at));
               to_place = λ back is. absurd (none-some back is);
               no_close = λ back is. absurd (none-some back is);
             };
         lost_bell = λ e. (let same : i ≡ length (with_put i letter.Close putting.before).traffic = cc in absurd (omega (arith, same, inside)));
-        take_reported = takes_reported run.ports i port (refused_on port) at (λ j. fault.Lost i ≡ fault.Lost j) (quiet_takes putting.before run.ports (λ j. fault.Lost i ≡ fault.Lost j) putting.lists) (λ e. refl);
+        take_reported = takes_reported run.ports i port (port_after_refusal port) at (λ j. fault.Lost i ≡ fault.Lost j) (quiet_takes putting.before run.ports (λ j. fault.Lost i ≡ fault.Lost j) putting.lists) (λ e. refl);
         wait_reported = λ e. absurd (false≢true (sym putting.heard ∙ e));
-        ring_reported = rings_reported run.ports i port (refused_on port) at (ReportsRing (fault.Lost i) (length (with_put i letter.Close putting.before).traffic) run.journal) (quiet_rings putting.before run.ports (ReportsRing (fault.Lost i) (length (with_put i letter.Close putting.before).traffic) run.journal) putting.lists)
+        ring_reported = rings_reported run.ports i port (port_after_refusal port) at (ReportsRing (fault.Lost i) (length (with_put i letter.Close putting.before).traffic) run.journal) (quiet_rings putting.before run.ports (ReportsRing (fault.Lost i) (length (with_put i letter.Close putting.before).traffic) run.journal) putting.lists)
             (λ e. absurd (false≢true (sym (putting.lists i port at).unrefused.ring ∙ e)));
         no_stray = λ e. refl;
         started = λ e. absurd (cc);
@@ -321,14 +322,14 @@ module _ {Identity : Type 0} (plan : SeenPlan) (given : List (SeenPort Identity)
   -- a letter came that was not in turn
   pub breach_stops : (m i : ℕ) (l : Letter) (reported : Breach) → i < length run.core.places → ReportsBreach run.core i l (Some reported) → IsRunning plan given run
       → (port : SeenPort Identity) → slice_get run.ports i ≡ Some port
-      → IsStopped (Some (record { link = i; letter = l })) (fault.Breach i reported) plan given (record { manner = run.manner; core = run.core; ports = set run.ports i (taken_on m l port); bell = run.bell; journal = run.journal })
+      → IsStopped (Some (record { link = i; letter = l })) (fault.Breach i reported) plan given (record { manner = run.manner; core = run.core; ports = set run.ports i (port_after_take m l port); bell = run.bell; journal = run.journal })
   breach_stops m i l reported within tells running port at =
       let inside : i < length running.state.traffic = omega (arith, running.has.stands.degree) in
       record {
         state = running.state;
-        has = has-port plan given run running.state i port (taken_on m l port) running.has at refl refl refl refl;
-        lists = at-port (λ j. RunsAt) (λ j. StopsAt None (if i == j then Some l else None)) running.state i inside run.ports (taken_on m l port) running.lists
-            (subst (λ (o : Option Letter). StopsAt None o (traffic_at running.state i) (taken_on m l port)) (sym (here i l))
+        has = has-port plan given run running.state i port (port_after_take m l port) running.has at refl refl refl refl;
+        lists = at-port (λ j. RunsAt) (λ j. StopsAt None (if i == j then Some l else None)) running.state i inside run.ports (port_after_take m l port) running.lists
+            (subst (λ (o : Option Letter). StopsAt None o (traffic_at running.state i) (port_after_take m l port)) (sym (here i l))
             (stops-breached (traffic_at running.state i) port (running.lists i port at) m l))
             (λ j t p ne h. subst (λ (o : Option Letter). StopsAt None o t p) (sym (elsewhere i j l ne)) (stops-as_it_was t p h));
         did = just_did running.did;
@@ -344,10 +345,10 @@ module _ {Identity : Type 0} (plan : SeenPlan) (given : List (SeenPort Identity)
             };
         lost = λ link e. absurd (cc);
         lost_bell = λ e. absurd (cc);
-        take_reported = takes_reported run.ports i port (taken_on m l port) at (λ j. fault.Breach i reported ≡ fault.Lost j) (quiet_takes running.state run.ports (λ j. fault.Breach i reported ≡ fault.Lost j) running.lists)
+        take_reported = takes_reported run.ports i port (port_after_take m l port) at (λ j. fault.Breach i reported ≡ fault.Lost j) (quiet_takes running.state run.ports (λ j. fault.Breach i reported ≡ fault.Lost j) running.lists)
             (λ e. absurd (false≢true (sym (running.lists i port at).unrefused.take ∙ e)));
         wait_reported = λ e. absurd (false≢true (sym running.heard ∙ e));
-        ring_reported = rings_reported run.ports i port (taken_on m l port) at (ReportsRing (fault.Breach i reported) (length running.state.traffic) run.journal) (quiet_rings running.state run.ports (ReportsRing (fault.Breach i reported) (length running.state.traffic) run.journal) running.lists)
+        ring_reported = rings_reported run.ports i port (port_after_take m l port) at (ReportsRing (fault.Breach i reported) (length running.state.traffic) run.journal) (quiet_rings running.state run.ports (ReportsRing (fault.Breach i reported) (length running.state.traffic) run.journal) running.lists)
             (λ e. absurd (false≢true (sym (running.lists i port at).unrefused.ring ∙ e)));
         no_stray = λ e. absurd (true≢false e);
         started = λ e. absurd (cc);
@@ -424,8 +425,8 @@ module _ {Identity : Type 0} (plan : SeenPlan) (given : List (SeenPort Identity)
     ]
 
     -- the ring of Close was refused: each letter before it was rung, or a ring refused before is reported
-    unheard_ring : (m : ℕ) (was : Bool) → port.ringer.refused ≡ was → ReportsRing cause (length stopped.state.traffic) run.journal i (closed_unheard_on m port)
-    unheard_ring m true was = unclosed_ring (closed_unheard_on m port) was
+    unheard_ring : (m : ℕ) (was : Bool) → port.ringer.refused ≡ was → ReportsRing cause (length stopped.state.traffic) run.journal i (port_after_unheard_close m port)
+    unheard_ring m true was = unclosed_ring (port_after_unheard_close m port) was
     unheard_ring m false was = inr (record { shut = refl; no_event = no_close_event run.manner plan run.core.site i run.journal stopped.state stopped.did room.1; at_most_one = omega (arith, stops_here.rang.each was, length-append port.tx.letters (letter.Close ∷ [])) })
 
     pub break_sends : (m : ℕ) (new : SeenPort Identity) (result : Closed) → SendsClose m port new result

@@ -8,9 +8,11 @@ use Rattle.dine_rules.specs.Moments.{last_moment}
 use Rattle.dine_rules.specs.declared.events.EventKind.{EventKind}
 use Rattle.dine_rules.specs.declared.letters.Letter.{Letter}
 use Rattle.dine_rules.specs.Steps.{Shape, Takes, Puts, Alone, shape_of}
-use Rattle.dine_site.specs.Ports.{IsFreshPort, SeenPort, taken_on}
+use Rattle.dine_site.specs.Ports.{IsFreshPort, SeenPort}
+use Rattle.dine_site.specs.private.PortSteps.{port_after_take}
 use Rattle.dine_rules.specs.Timed.{Rise, is_put_at, is_take_at, moments_of}
-use Rattle.dine_site.specs.Times.{AreLater, IsTimed, late_at, none_late}
+use Rattle.dine_site.specs.Times.{AreLater, IsTimed, none_late}
+use Rattle.dine_site.specs.private.Running.{late_at}
 
 pub on_ok : {A E P Q : Type 0} (r : Result A E) → (P → Q) → OnOk r P → OnOk r Q
 on_ok (Ok a) f h = f h
@@ -105,15 +107,15 @@ module _ {Identity : Type 0} (events : List (EventKind × ℕ)) (journal : List 
       takes = λ i port at. subst (λ (z : List ℕ). AreLater z port.rx.moments) (sym (same_not (is_take_at i) (Puts k) is refl)) (h.takes i port at);
     }
 
-    pub takes_one : (k q : ℕ) (l : Letter) (port : SeenPort Identity) → shape_of kind ≡ Takes k → q < m → slice_get ports k ≡ Some port → IsTimed none_late next noted (set ports k (taken_on q l port))
+    pub takes_one : (k q : ℕ) (l : Letter) (port : SeenPort Identity) → shape_of kind ≡ Takes k → q < m → slice_get ports k ≡ Some port → IsTimed none_late next noted (set ports k (port_after_take q l port))
     takes_one k q l old is later there = record {
       shown = shown_more;
       rise = rise_more;
-      puts = λ i port at. same_not (is_put_at i) (Takes k) is refl ∙ elim (at_set ports k i (taken_on q l old) port at) [
+      puts = λ i port at. same_not (is_put_at i) (Takes k) is refl ∙ elim (at_set ports k i (port_after_take q l old) port at) [
         | inl w ↦ h.puts i old (ap (slice_get ports) w.0 ∙ there) ∙ ap (λ (x : SeenPort Identity). x.tx.moments ++ []) w.1
         | inr w ↦ h.puts i port w.1
       ];
-      many = λ i port at. elim (at_set ports k i (taken_on q l old) port at) [
+      many = λ i port at. elim (at_set ports k i (port_after_take q l old) port at) [
         | inl w ↦
             let more = ap length (ap (moments_of (is_take_at i)) is_next ∙ moments_more (is_take_at i) events kind m (Takes k) is (eq-eqb i k w.0)) in
             let before = h.many i old (ap (slice_get ports) w.0 ∙ there) in
@@ -121,7 +123,7 @@ module _ {Identity : Type 0} (events : List (EventKind × ℕ)) (journal : List 
             omega (arith, more, before, now, length-append (moments_of (is_take_at i) events) (m ∷ []), length-append old.rx.moments (q ∷ []))
         | inr w ↦ ap length (same_not (is_take_at i) (Takes k) is (ne_eqb i k w.0)) ∙ h.many i port w.1
       ];
-      takes = λ i port at. elim (at_set ports k i (taken_on q l old) port at) [
+      takes = λ i port at. elim (at_set ports k i (port_after_take q l old) port at) [
         | inl w ↦ subst (λ (x : SeenPort Identity). AreLater (moments_of (is_take_at i) next) x.rx.moments) w.1
             (subst (λ (z : List ℕ). AreLater z (old.rx.moments ++ q ∷ [])) (sym (ap (moments_of (is_take_at i)) is_next ∙ moments_more (is_take_at i) events kind m (Takes k) is (eq-eqb i k w.0)))
             (later_then (moments_of (is_take_at i) events) old.rx.moments m q (h.many i old (ap (slice_get ports) w.0 ∙ there)) later (h.takes i old (ap (slice_get ports) w.0 ∙ there))))

@@ -16,10 +16,11 @@ use Rattle.dine_link.specs.Closing.{is_close}
 use Rattle.dine_token.specs.Fork.{SeenFork}
 use Rattle.dine_site_core.specs.Core.{SeenCore, forks_in_hand}
 use Rattle.dine_site_core.specs.Standing.{CoreStep, CoreSteps, ForEachState, IsFreshFor, all_places}
-use Rattle.dine_site.specs.Ports.{SeenPort, SameLinks, IsFreshPort, put_on, closed_on, taken_on}
+use Rattle.dine_site.specs.Ports.{SeenPort, SameLinks, IsFreshPort}
+use Rattle.dine_site.specs.private.PortSteps.{port_after_put, port_after_close, port_after_take}
 use Rattle.dine_site.specs.Doings.{HasActed}
 use Rattle.dine_site.specs.declared.manner.Manner.{Manner}
-use Rattle.dine_site.specs.Running.{SeenRun, RunsAt, IsNext, IsRunning, IsPutting, MayTakeNow}
+use Rattle.dine_site.specs.private.Running.{SeenRun, RunsAt, IsNext, IsRunning, IsPutting, MayTakeNow}
 use Rattle.dine_site.proofs.lists.Lists.{all_at}
 use Rattle.dine_site.proofs.one_site.Letters.{runs-put, runs-closed, runs-taken, live_where_open}
 use Rattle.dine_site.proofs.one_site.Turns.{JournalsGrow, acted_more, acted_nothing, end_is_next}
@@ -34,11 +35,11 @@ module _ {Identity : Type 0} (plan : SeenPlan) (given : List (SeenPort Identity)
       omega (arith, putting.within, putting.has.stands.degree, putting.has.places, same)
 
   module _ (i : ℕ) (l : Letter) (putting : IsPutting i l plan given run) (port : SeenPort Identity) (at : slice_get run.ports i ≡ Some port) where
-    pub put_runs : (m : ℕ) → is_close l ≡ false → IsRunning plan given (record { manner = run.manner; core = run.core; ports = set run.ports i (put_on m l port); bell = run.bell; journal = run.journal })
+    pub put_runs : (m : ℕ) → is_close l ≡ false → IsRunning plan given (record { manner = run.manner; core = run.core; ports = set run.ports i (port_after_put m l port); bell = run.bell; journal = run.journal })
     put_runs m other = record {
       state = with_put i l putting.before;
-      has = has-port plan given run (with_put i l putting.before) i port (put_on m l port) putting.has at refl refl refl refl;
-      lists = at-set (λ j. RunsAt) (λ j. RunsAt) putting.before (with_put i l putting.before) i _ refl putting.within run.ports (put_on m l port) putting.lists
+      has = has-port plan given run (with_put i l putting.before) i port (port_after_put m l port) putting.has at refl refl refl refl;
+      lists = at-set (λ j. RunsAt) (λ j. RunsAt) putting.before (with_put i l putting.before) i _ refl putting.within run.ports (port_after_put m l port) putting.lists
           (runs-put (traffic_at putting.before i) port (putting.lists i port at) m l putting.open_place other) (λ j t p ne h. h);
       heard = putting.heard;
       did = putting.did;
@@ -59,11 +60,11 @@ module _ {Identity : Type 0} (plan : SeenPlan) (given : List (SeenPort Identity)
         omega (arith, bound, grown, ap (λ (xs : List Letter). length xs) (putting.lists i port at).puts)
 
   pub close_runs : (m i : ℕ) → IsPutting i letter.Close plan given run → (port : SeenPort Identity) → slice_get run.ports i ≡ Some port
-      → IsRunning plan given (record { manner = run.manner; core = run.core; ports = set run.ports i (closed_on m port); bell = run.bell; journal = run.journal })
+      → IsRunning plan given (record { manner = run.manner; core = run.core; ports = set run.ports i (port_after_close m port); bell = run.bell; journal = run.journal })
   close_runs m i putting port at = record {
     state = with_put i letter.Close putting.before;
-    has = has-port plan given run (with_put i letter.Close putting.before) i port (closed_on m port) putting.has at refl refl refl refl;
-    lists = at-set (λ j. RunsAt) (λ j. RunsAt) putting.before (with_put i letter.Close putting.before) i _ refl putting.within run.ports (closed_on m port) putting.lists
+    has = has-port plan given run (with_put i letter.Close putting.before) i port (port_after_close m port) putting.has at refl refl refl refl;
+    lists = at-set (λ j. RunsAt) (λ j. RunsAt) putting.before (with_put i letter.Close putting.before) i _ refl putting.within run.ports (port_after_close m port) putting.lists
         (runs-closed (traffic_at putting.before i) port (putting.lists i port at) m) (λ j t p ne h. h);
     heard = putting.heard;
     did = putting.did;
@@ -75,12 +76,12 @@ module _ {Identity : Type 0} (plan : SeenPlan) (given : List (SeenPort Identity)
   place_within running i h = omega (arith, running.has.stands.degree)
 
   pub take_runs : JournalsGrow → (m i : ℕ) (l : Letter) (core : SeenCore) (journal : List EventKind) → journal ≡ run.journal ++ event.Take i ∷ [] → i < length run.core.places → CoreSteps (Take i l) run.core core → MayTakeNow run.manner run.core → IsRunning plan given run → (port : SeenPort Identity) → slice_get run.ports i ≡ Some port
-      → IsRunning plan given (record { manner = run.manner; core = core; ports = set run.ports i (taken_on m l port); bell = run.bell; journal = journal })
+      → IsRunning plan given (record { manner = run.manner; core = core; ports = set run.ports i (port_after_take m l port); bell = run.bell; journal = journal })
   take_runs grows m i l core journal noted within steps next running port at = record {
     state = with_taken i l running.state;
-    has = has-port plan given (record { manner = run.manner; core = core; ports = run.ports; bell = run.bell; journal = journal }) (with_taken i l running.state) i port (taken_on m l port)
+    has = has-port plan given (record { manner = run.manner; core = core; ports = run.ports; bell = run.bell; journal = journal }) (with_taken i l running.state) i port (port_after_take m l port)
         (has-step plan given run running.state (Take i l) core journal running.has (steps plan running.state running.has.keeps running.has.stands) running.has.rests) at refl refl refl refl;
-    lists = at-set (λ j. RunsAt) (λ j. RunsAt) running.state (with_taken i l running.state) i _ refl (place_within running i within) run.ports (taken_on m l port) running.lists
+    lists = at-set (λ j. RunsAt) (λ j. RunsAt) running.state (with_taken i l running.state) i _ refl (place_within running i within) run.ports (port_after_take m l port) running.lists
         (runs-taken (traffic_at running.state i) port (running.lists i port at) m l) (λ j t p ne h. h);
     heard = running.heard;
     did = subst (λ (kinds : List EventKind). HasActed run.manner plan core.site kinds (with_taken i l running.state)) (sym noted)

@@ -8,16 +8,18 @@ ghost use Rattle.dine_rules.specs.Local.{traffic_at};
 ghost use Rattle.dine_rules.specs.Moments.{last_moment};
 ghost use Rattle.dine_site_core.specs.NextEvent.{can_by_itself};
 ghost use Rattle.dine_site_core.specs.Standing.{ForEachState};
-ghost use Rattle.dine_site_core.specs.CoreWants.{wants_of};
+ghost use Rattle.dine_site_core.specs.CoreWants.{wants_by_lists, wants_of};
 ghost use Rattle.dine_link.specs.Closing.{is_close};
 ghost use Rattle.dine_link.specs.Bells.{after_report};
 ghost use Rattle.dine_link.specs.Waking.{seen_wants};
-ghost use Rattle.dine_site.specs.Ports.{ChangesAt, SendsClose, SeenPort, seen_ports};
+ghost use Rattle.dine_site.specs.Ports.{SeenPort, seen_ports};
+ghost use Rattle.dine_site.specs.private.PortSteps.{ChangesAt, SendsClose};
 ghost use Rattle.dine_site.specs.SiteEnds.{IsSiteEnd, seen_site_end};
-ghost use Rattle.dine_site.specs.Running.{ChecksOn, ClosedBelow, ForSome, GoesOn, GoesToEnd, HasStopped, IsNext};
-ghost use Rattle.dine_site.specs.Running.{IsPutting, IsReady, IsRunning, IsTimedBut, IsTimedRun, Leads};
-ghost use Rattle.dine_site.specs.Running.{MayEnd, MayProceed, MayTakeNow, Proceeds, SameMeals, StaysStopped};
-ghost use Rattle.dine_site.specs.Running.{checked_by, seen_run};
+ghost use Rattle.dine_site.specs.private.Running.{ChecksOn, ClosedBelow, ForSomePlan, GoesOn, GoesToEnd, HasStopped};
+ghost use Rattle.dine_site.specs.private.Running.{IsNext};
+ghost use Rattle.dine_site.specs.private.Running.{IsPutting, IsReady, IsRunning, IsTimedBut, IsTimedRun, Leads};
+ghost use Rattle.dine_site.specs.private.Running.{MayEnd, MayProceed, MayTakeNow, Proceeds, SameMeals, StaysStopped};
+ghost use Rattle.dine_site.specs.private.Running.{checked_by, seen_run};
 
 use crate::diner::Diner;
 use crate::manner::Manner;
@@ -92,7 +94,7 @@ impl<L: Lane, D: Diner> Running<L, D> {
             if self.core.is_finished() {
                 return Ok(());
             }
-            self.hear(rt)?;
+            self.wait_and_take(rt)?;
         }
         unreachable!()
     }
@@ -255,7 +257,7 @@ impl<L: Lane, D: Diner> Running<L, D> {
 
     // Puts a letter other than Close, and rings.
     fn put<R: Wait>(&mut self, rt: &R, i: u32, letter: Letter) -> Result<(), Stop>
-        requires putting { ForSome L.Lane (IsPutting i letter) self.old }
+        requires putting { ForSomePlan L.Lane (IsPutting i letter) self.old }
         requires letter { is_close letter ≡ false }
         ensures way { Leads L.Lane (IsPutting i letter) (GoesOn result) self.old self.new }
         ensures same { SameMeals self.old self.new }
@@ -276,7 +278,7 @@ impl<L: Lane, D: Diner> Running<L, D> {
 
     // Puts Close, and rings.
     fn close<R: Wait>(&mut self, rt: &R, i: u32) -> Result<(), Stop>
-        requires putting { ForSome L.Lane (IsPutting i Letter.Close) self.old }
+        requires putting { ForSomePlan L.Lane (IsPutting i Letter.Close) self.old }
         ensures way { Leads L.Lane (IsPutting i Letter.Close) (GoesOn result) self.old self.new }
         ensures same { SameMeals self.old self.new }
         ensures timed { OnOk result (IsTimedBut L.Lane i self.old → IsTimedRun L.Lane self.new) }
@@ -306,14 +308,16 @@ impl<L: Lane, D: Diner> Running<L, D> {
 
     // Returns the letters that the site waits for: no other allows it an event of its own (`dine_site_core::waking`).
     fn wants(&self) -> Wants
-        ensures { seen_wants result ≡ Some (wants_of self.now.core) }
+        ensures wants { seen_wants result ≡ Some (wants_of self.now.core) }
+        ensures by_lists { ForEachState self.now.core
+            (λ plan state. seen_wants result ≡ Some (wants_by_lists plan self.now.core.site state)) }
     {
         Wants::of(self.core.dirty_places(), self.core.missing_forks())
     }
 
     // Waits for the bell until the site could do something, and takes a letter at the place that rang.
-    fn hear<R: Wait>(&mut self, rt: &R) -> Result<(), Stop>
-        requires running { ForSome L.Lane IsRunning self.old }
+    fn wait_and_take<R: Wait>(&mut self, rt: &R) -> Result<(), Stop>
+        requires running { ForSomePlan L.Lane IsRunning self.old }
         requires bell { self.old.bell.degree ≡ vec_len self.old.ports }
         requires quiet { IsNext None self.old.core }
         ensures way { Leads L.Lane IsRunning (GoesOn result) self.old self.new }
@@ -330,7 +334,7 @@ impl<L: Lane, D: Diner> Running<L, D> {
 
     // Takes a letter at the place that rang, and none if Close was taken there.
     fn take_where_rung<R: Wait>(&mut self, rt: &R, i: u32) -> Result<(), Stop>
-        requires running { ForSome L.Lane IsRunning self.old }
+        requires running { ForSomePlan L.Lane IsRunning self.old }
         requires place { i < length self.old.core.places }
         requires turn { MayTakeNow self.old.manner self.old.core }
         ensures way { Leads L.Lane IsRunning (GoesOn result) self.old self.new }
@@ -346,7 +350,7 @@ impl<L: Lane, D: Diner> Running<L, D> {
 
     // Takes a letter at a place where Close was not taken.
     fn take<R: Wait>(&mut self, rt: &R, i: u32) -> Result<(), Stop>
-        requires running { ForSome L.Lane IsRunning self.old }
+        requires running { ForSomePlan L.Lane IsRunning self.old }
         requires place { i < length self.old.core.places }
         requires not_closed { ForEachState self.old.core (λ plan state. has_close (traffic_at state i).taken ≡ false) }
         requires turn { MayTakeNow self.old.manner self.old.core }
@@ -356,12 +360,12 @@ impl<L: Lane, D: Diner> Running<L, D> {
         ensures checks { ChecksOn self.old self.new }
     {
         self.make_room(1)?;
-        self.take_noted(rt, i)
+        self.take_and_note(rt, i)
     }
 
-    // The same, if the journal has capacity for it.
-    fn take_noted<R: Wait>(&mut self, rt: &R, i: u32) -> Result<(), Stop>
-        requires running { ForSome L.Lane IsRunning self.old }
+    // Takes a letter there and notes the Take in the journal, which has capacity for it.
+    fn take_and_note<R: Wait>(&mut self, rt: &R, i: u32) -> Result<(), Stop>
+        requires running { ForSomePlan L.Lane IsRunning self.old }
         requires place { i < length self.old.core.places }
         requires not_closed { ForEachState self.old.core (λ plan state. has_close (traffic_at state i).taken ≡ false) }
         requires turn { MayTakeNow self.old.manner self.old.core }
@@ -425,7 +429,7 @@ impl<L: Lane, D: Diner> Running<L, D> {
 
     // Returns what the site leaves.
     pub fn end(self, stray: Option<Stray>, fault: Option<SiteFault>) -> SiteEnd<L, D>
-        requires may_end { ForSome L.Lane (MayEnd stray fault) self }
+        requires may_end { ForSomePlan L.Lane (MayEnd stray fault) self }
         ensures end { (plan : SeenPlan) (given : List (SeenPort L.Identity))
             → MayEnd stray fault plan given (seen_run L.Lane self)
             → IsSiteEnd self.manner plan self.core.site given (seen_site_end L.Lane result) }

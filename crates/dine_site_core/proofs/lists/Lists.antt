@@ -5,7 +5,7 @@ use Rattle.dine_token.specs.Fork.{SeenFork}
 use Rattle.dine_site_core.specs.declared.site.places.Place.{Place}
 use Rattle.dine_site_core.specs.declared.site.places.ForkSlot.{ForkSlot}
 use Rattle.dine_site_core.specs.declared.site.places.ForkSlot.TheVariants.{Away, Here, InMeal}
-use Rattle.dine_site_core.specs.Places.{OnHere, fork_in_hand, forks_of, tokens_of, put_back, with_fork}
+use Rattle.dine_site_core.specs.Places.{OnHere, fork_in_hand, forks_of, tokens_of, places_with_forks, with_fork}
 
 pub forks_of-append : (xs ys : List Place) → forks_of (xs ++ ys) ≡ forks_of xs ++ forks_of ys
 forks_of-append [] ys = refl
@@ -54,7 +54,7 @@ get_or-map_over f xs ys i d within is =
 
 -- the last fork in hand is laid down at the last place that waits for one
 pub laid_more : (m : ℕ) (places : List Place) (forks : List SeenFork) (p : Place) (f : SeenFork) → m < length places → m < length forks
-    → set (take (suc m) places ++ put_back (drop (suc m) places) (drop (suc m) forks)) m (with_fork (Here (get_or forks m f)) (get_or places m p)) ≡ take m places ++ put_back (drop m places) (drop m forks)
+    → set (take (suc m) places ++ places_with_forks (drop (suc m) places) (drop (suc m) forks)) m (with_fork (Here (get_or forks m f)) (get_or places m p)) ≡ take m places ++ places_with_forks (drop m places) (drop m forks)
 laid_more m [] forks p f h k = absurd (omega arith)
 laid_more m (place ∷ places) [] p f h k = absurd (omega arith)
 laid_more zero (place ∷ places) (fork ∷ forks) p f h k = refl
@@ -90,9 +90,9 @@ get_or_front (suc m) (p ∷ P) X d h = get_or_front m P X d (omega arith)
 
 -- a fork is taken from the end of the hands, and laid down at its place
 pub laid_step : (places P : List Place) (hands rest F : List SeenFork) (r : SeenFork) (d : Place) → hands ≡ rest ++ r ∷ [] → hands ≡ take (length hands) F
-    → places ≡ take (length hands) P ++ put_back (drop (length hands) P) (drop (length hands) F) → length hands ≤ length P → length F ≡ length P
+    → places ≡ take (length hands) P ++ places_with_forks (drop (length hands) P) (drop (length hands) F) → length hands ≤ length P → length F ≡ length P
     → (rest ≡ take (length rest) F)
-    × (set places (length rest) (with_fork (Here r) (get_or places (length rest) d)) ≡ take (length rest) P ++ put_back (drop (length rest) P) (drop (length rest) F))
+    × (set places (length rest) (with_fork (Here r) (get_or places (length rest) d)) ≡ take (length rest) P ++ places_with_forks (drop (length rest) P) (drop (length rest) F))
     × (length rest ≤ length P)
 laid_step places P hands rest F r d split first laid few same =
     let m : ℕ = length rest in
@@ -105,13 +105,13 @@ laid_step places P hands rest F r d split first laid few same =
     let zero_is : m - m ≡ 0 = omega arith in
     let last : get_or (rest ++ r ∷ []) m r ≡ r = get_or-append_right rest (r ∷ []) m m r refl (omega arith) ∙ ap (λ (n : ℕ). get_or (r ∷ []) n r) zero_is in
     let r_is : get_or F m r ≡ r = sym (get_or-take (suc m) F m r (omega arith)) ∙ ap (λ (l : List SeenFork). get_or l m r) front ∙ last in
-    let places_is : places ≡ take (suc m) P ++ put_back (drop (suc m) P) (drop (suc m) F) = laid ∙ ap (λ (n : ℕ). take n P ++ put_back (drop n P) (drop n F)) longer in
+    let places_is : places ≡ take (suc m) P ++ places_with_forks (drop (suc m) P) (drop (suc m) F) = laid ∙ ap (λ (n : ℕ). take n P ++ places_with_forks (drop n P) (drop n F)) longer in
     let in_P : m < length P = omega (arith, longer, few) in
-    let p_is : get_or places m d ≡ get_or P m d = ap (λ (l : List Place). get_or l m d) places_is ∙ get_or_front m P (put_back (drop (suc m) P) (drop (suc m) F)) d in_P in (
+    let p_is : get_or places m d ≡ get_or P m d = ap (λ (l : List Place). get_or l m d) places_is ∙ get_or_front m P (places_with_forks (drop (suc m) P) (drop (suc m) F)) d in_P in (
       rest_is,
       ap (λ (l : List Place). set l m (with_fork (Here r) (get_or places m d))) places_is
-          ∙ ap (λ (p : Place). set (take (suc m) P ++ put_back (drop (suc m) P) (drop (suc m) F)) m (with_fork (Here r) p)) p_is
-          ∙ ap (λ (f : SeenFork). set (take (suc m) P ++ put_back (drop (suc m) P) (drop (suc m) F)) m (with_fork (Here f) (get_or P m d))) (sym r_is)
+          ∙ ap (λ (p : Place). set (take (suc m) P ++ places_with_forks (drop (suc m) P) (drop (suc m) F)) m (with_fork (Here r) p)) p_is
+          ∙ ap (λ (f : SeenFork). set (take (suc m) P ++ places_with_forks (drop (suc m) P) (drop (suc m) F)) m (with_fork (Here f) (get_or P m d))) (sym r_is)
           ∙ laid_more m P F d r in_P within,
       omega arith,
     )

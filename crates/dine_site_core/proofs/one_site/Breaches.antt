@@ -21,7 +21,7 @@ use Rattle.dine_rules.specs.Breach.{is_fork_of, was_sent_to, has_all_of_neighbou
 use Rattle.dine_rules.specs.Steps.{hand_fork_at, with_taken, may, Take}
 use Rattle.dine_rules.specs.Streams.{KeepsStreams}
 use Rattle.dine_site_core.specs.Core.{SeenCore, Refines}
-use Rattle.dine_site_core.specs.Places.{place_at, breach_at, took, is_held, IsSoundPlace}
+use Rattle.dine_site_core.specs.Places.{place_at, breach_at, after_take, is_held, IsSoundPlace}
 use Rattle.dine_site_core.proofs.one_site.PlacesAfter.{kept_by, slot_by, kept-take_request, kept-take_fork, kept-take_done, kept-take_close}
 use Rattle.dine_site_core.proofs.one_site.Sound.{none_of, awake_without}
 use Rattle.dine_site_core.proofs.one_site.Stands.{place_is, stands_at}
@@ -190,10 +190,10 @@ module _ (plan : SeenPlan) (state : LocalState) (core : SeenCore) (stands : Refi
   may_take l h = and_from _ _ (let lt : i < length state.traffic = in_state in grind (arith, nat_tests)) (allowed_without plan core.site state i l h)
 
   -- the core represents the state with a letter more taken, where that is in turn
-  pub stands-took : IsSoundPlace core (place_at core i) → (l : Letter) → first_breach plan core.site state i l ≡ None → Refines plan (with_taken i l state) (took i l core)
-  stands-took sound (Request e) h =
+  pub stands-after_take : IsSoundPlace core (place_at core i) → (l : Letter) → first_breach plan core.site state i l ≡ None → Refines plan (with_taken i l state) (after_take i l core)
+  stands-after_take sound (Request e) h =
       let turn = request_in_turn plan core.site state i e h in
-      let P : ℕ → Type 0 = λ e. Refines plan (with_taken i (Request e) state) (took i (Request e) core) in
+      let P : ℕ → Type 0 = λ e. Refines plan (with_taken i (Request e) state) (after_take i (Request e) core) in
       let is = place_is plan state core stands i within in
       let end : (core.site ≡ lo_of plan (edge_at plan core.site i)) ⊎ (core.site ≡ hi_of plan (edge_at plan core.site i)) = subst (λ (p : Place). (core.site ≡ p.ends.0) ⊎ (core.site ≡ p.ends.1)) is sound.end in
       let ordered : lo_of plan (edge_at plan core.site i) < hi_of plan (edge_at plan core.site i) = subst (λ (p : Place). p.ends.0 < p.ends.1) is sound.ordered in
@@ -202,7 +202,7 @@ module _ (plan : SeenPlan) (state : LocalState) (core : SeenCore) (stands : Refi
       subst P (sym (eqb-true e (edge_at plan core.site i) turn.2))
       (stands_at plan state core stands i within _ _ (ap (λ (p : Place). record p { token = Some (edge_at plan core.site i) }) is
       ∙ kept-take_request plan core.site state.phase state.ate (edge_at plan core.site i) (traffic_at state i) (eqb-true (token_at plan core.site state i) 0 turn.1) counted))
-  stands-took sound (Fork f) h =
+  stands-after_take sound (Fork f) h =
       let turn = fork_in_turn plan core.site state i f h in
       let is = place_is plan state core stands i within in
       let none : fork_at plan core.site state i ≡ 0 = eqb-true (fork_at plan core.site state i) 0 turn.1 in
@@ -211,7 +211,7 @@ module _ (plan : SeenPlan) (state : LocalState) (core : SeenCore) (stands : Refi
       stands_at plan state core stands i within _ _ (ap (λ (p : Place). record p { fork = Here f }) is
       ∙ kept-take_fork plan core.site state.phase state.ate (edge_at plan core.site i) (traffic_at state i) f none (keeps.places i in_state).forks_counted awake
       turn.2 (eqb-true (meals_of core.site f.log) state.ate turn.3))
-  stands-took sound Done h = stands_at plan state core stands i within _ _ (ap (λ (p : Place). record p { done_taken = true }) (place_is plan state core stands i within)
+  stands-after_take sound Done h = stands_at plan state core stands i within _ _ (ap (λ (p : Place). record p { done_taken = true }) (place_is plan state core stands i within)
       ∙ kept-take_done plan core.site state.phase state.ate (edge_at plan core.site i) (traffic_at state i))
-  stands-took sound Close h = stands_at plan state core stands i within _ _ (ap (λ (p : Place). record p { close_taken = true }) (place_is plan state core stands i within)
+  stands-after_take sound Close h = stands_at plan state core stands i within _ _ (ap (λ (p : Place). record p { close_taken = true }) (place_is plan state core stands i within)
       ∙ kept-take_close plan core.site state.phase state.ate (edge_at plan core.site i) (traffic_at state i))

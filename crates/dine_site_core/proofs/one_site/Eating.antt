@@ -5,7 +5,7 @@ use Rattle.std.proofs.lemmas.Bool.{and_parts, eqb-true, eq-eqb, cases_Bool, fals
 use Rattle.dine_token.specs.declared.act.Act.{Act}
 use Rattle.dine_token.specs.declared.act.Act.TheVariants.{Add}
 use Rattle.dine_token.specs.Values.{IsAct}
-use Rattle.dine_token.specs.Fork.{SeenFork, IsEnd, MayEat, eaten, no_fork}
+use Rattle.dine_token.specs.Fork.{SeenFork, IsEnd, MayEat, after_meal, no_fork}
 use Rattle.dine_token.specs.Meal.{SeenMeal}
 use Rattle.dine_token.specs.Lawful.{due_at}
 use Rattle.dine_token.specs.Log.{meals_of}
@@ -22,7 +22,8 @@ use Rattle.dine_rules.specs.Holdings.{fork_at, hand, forks_held}
 use Rattle.dine_rules.specs.Steps.{hand_fork, hand_fork_at, after, Begin}
 use Rattle.dine_rules.specs.Streams.{KeepsStreams}
 use Rattle.dine_site_core.specs.Core.{SeenCore, Refines, kept_of, forks_in_hand}
-use Rattle.dine_site_core.specs.Places.{no_place, next_act, place_at, neighbour_of, is_held, is_ready_at, meals_in, lifted, begun, can_begin, fork_in_hand, forks_of, OnHere, IsLiftable, FitsPlace, FitsSlot, IsSoundPlace, IsSound, FitsMeal, IsMealOf}
+use Rattle.dine_site_core.specs.Places.{no_place, next_act, place_at, neighbour_of, is_held, is_ready_at, meals_in, place_in_meal, after_begin, can_begin, fork_in_hand, forks_of, OnHere, FitsPlace, FitsSlot, IsSoundPlace, IsSound, FitsMeal, IsMealOf}
+use Rattle.dine_site_core.specs.private.PlaceSteps.{IsLiftable}
 use Rattle.dine_site_core.specs.Standing.{all_places}
 use Rattle.dine_rules.proofs.one_place.Hands.{hand-more}
 use Rattle.dine_rules.proofs.one_place.HandForks.{hand_fork-more}
@@ -80,10 +81,10 @@ map_if false g x y xs ys here rest = rest
 
 -- the forks with the meal, by the whole lists
 more_by : (plan : SeenPlan) (s : ℕ) (state : LocalState) (n j : ℕ) → ((i : ℕ) → i < j + n → meals_of s (last_log_or [] (traffic_at state i).taken) ≤ state.ate)
-    → map (eaten s (state.ate + 1) (act_of plan s (state.ate + 1))) (forks_in_hand plan s state (range_with_len j n)) ≡ forks_in_hand plan s (after plan s state Begin) (range_with_len j n)
+    → map (after_meal s (state.ate + 1) (act_of plan s (state.ate + 1))) (forks_in_hand plan s state (range_with_len j n)) ≡ forks_in_hand plan s (after plan s state Begin) (range_with_len j n)
 more_by plan s state zero j last = refl
 more_by plan s state (suc n) j last =
-    map_if (fork_at plan s state j == 1) (eaten s (state.ate + 1) (act_of plan s (state.ate + 1))) (hand_fork_at plan s state j) (hand_fork_at plan s (after plan s state Begin) j)
+    map_if (fork_at plan s state j == 1) (after_meal s (state.ate + 1) (act_of plan s (state.ate + 1))) (hand_fork_at plan s state j) (hand_fork_at plan s (after plan s state Begin) j)
     (forks_in_hand plan s state (range_with_len (j + 1) n)) (forks_in_hand plan s (after plan s state Begin) (range_with_len (j + 1) n))
     (hand_fork-more plan s (edge_at plan s j) state.ate (traffic_at state j) (last j (omega arith)))
     (more_by plan s state n (j + 1) (λ i h. last i (omega (arith, h))))
@@ -157,8 +158,8 @@ module _ (core : SeenCore) (sound : IsSound core) (can : can_begin core ≡ true
 
   -- the fork with the meal fits the place of the new core
   fits_meal : (place : Place) → IsSoundPlace core place → FitsPlace core.site core.ate place (fork_at_place place) → place.fork ≡ Here (fork_at_place place)
-      → FitsPlace core.site (core.ate + 1) (lifted core.site place) (eaten core.site (core.ate + 1) (next_act core) (fork_at_place place))
-      × (meals_of (neighbour_of core.site place) (eaten core.site (core.ate + 1) (next_act core) (fork_at_place place)).log ≡ meals_in (neighbour_of core.site place) place.fork)
+      → FitsPlace core.site (core.ate + 1) (place_in_meal core.site place) (after_meal core.site (core.ate + 1) (next_act core) (fork_at_place place))
+      × (meals_of (neighbour_of core.site place) (after_meal core.site (core.ate + 1) (next_act core) (fork_at_place place)).log ≡ meals_in (neighbour_of core.site place) place.fork)
   fits_meal place w fits is =
       let f = fork_at_place place in (
         record {
@@ -171,57 +172,57 @@ module _ (core : SeenCore) (sound : IsSound core) (can : can_begin core ≡ true
         meals_of-push_other (neighbour_of core.site place) core.site f.log (core.ate + 1) (differs place w) ∙ ap (meals_in (neighbour_of core.site place)) (sym is),
       )
 
-  pub is_meal : (meal : SeenMeal) → meal.site ≡ core.site → meal.k ≡ core.ate + 1 → meal.forks ≡ map (eaten core.site (core.ate + 1) (next_act core)) (forks_of core.places) → IsMealOf (begun core) meal
+  pub is_meal : (meal : SeenMeal) → meal.site ≡ core.site → meal.k ≡ core.ate + 1 → meal.forks ≡ map (after_meal core.site (core.ate + 1) (next_act core)) (forks_of core.places) → IsMealOf (after_begin core) meal
   is_meal meal site k forks =
-      let f = λ (p : Place). eaten core.site (core.ate + 1) (next_act core) (fork_at_place p) in
-      let all : meal.forks ≡ map f core.places = forks ∙ ap (map (eaten core.site (core.ate + 1) (next_act core))) forks_are_all ∙ map_twice core.places in
+      let f = λ (p : Place). after_meal core.site (core.ate + 1) (next_act core) (fork_at_place p) in
+      let all : meal.forks ≡ map f core.places = forks ∙ ap (map (after_meal core.site (core.ate + 1) (next_act core))) forks_are_all ∙ map_twice core.places in
       record {
         site = site;
         k = k;
-        count = ap length all ∙ length-map core.places f ∙ sym (length-map core.places (lifted core.site));
+        count = ap length all ∙ length-map core.places f ∙ sym (length-map core.places (place_in_meal core.site));
         forks = λ i past h.
-            let within : i < length core.places = omega (arith, h, length-map core.places (lifted core.site)) in
+            let within : i < length core.places = omega (arith, h, length-map core.places (place_in_meal core.site)) in
             let p = get_or core.places i no_place in
-            let place_is : place_at (begun core) i ≡ lifted core.site p = get_or-map_at (lifted core.site) core.places i no_place no_place within in
+            let place_is : place_at (after_begin core) i ≡ place_in_meal core.site p = get_or-map_at (place_in_meal core.site) core.places i no_place no_place within in
             let fork_is : get_or meal.forks i past ≡ f p = ap (λ (l : List SeenFork). get_or l i past) all ∙ get_or-map_at f core.places i past no_place within in
             let w = in_hand_at i no_place within in
             let fits = fits_meal p (sound.places i no_place within) w.1 w.0 in
             fits_at i (get_or meal.forks i past) p place_is fork_is fits.0 fits.1;
       }
     where
-      map_twice : (xs : List Place) → map (eaten core.site (core.ate + 1) (next_act core)) (map fork_at_place xs) ≡ map (λ (p : Place). eaten core.site (core.ate + 1) (next_act core) (fork_at_place p)) xs
+      map_twice : (xs : List Place) → map (after_meal core.site (core.ate + 1) (next_act core)) (map fork_at_place xs) ≡ map (λ (p : Place). after_meal core.site (core.ate + 1) (next_act core) (fork_at_place p)) xs
       map_twice [] = refl
-      map_twice (x ∷ xs) = ap (λ (l : List SeenFork). eaten core.site (core.ate + 1) (next_act core) (fork_at_place x) ∷ l) (map_twice xs)
+      map_twice (x ∷ xs) = ap (λ (l : List SeenFork). after_meal core.site (core.ate + 1) (next_act core) (fork_at_place x) ∷ l) (map_twice xs)
 
-      fits_at : (i : ℕ) (fork : SeenFork) (p : Place) → place_at (begun core) i ≡ lifted core.site p → fork ≡ eaten core.site (core.ate + 1) (next_act core) (fork_at_place p)
-          → FitsPlace core.site (core.ate + 1) (lifted core.site p) (eaten core.site (core.ate + 1) (next_act core) (fork_at_place p))
-          → meals_of (neighbour_of core.site p) (eaten core.site (core.ate + 1) (next_act core) (fork_at_place p)).log ≡ meals_in (neighbour_of core.site p) p.fork
-          → FitsMeal (begun core) i fork
+      fits_at : (i : ℕ) (fork : SeenFork) (p : Place) → place_at (after_begin core) i ≡ place_in_meal core.site p → fork ≡ after_meal core.site (core.ate + 1) (next_act core) (fork_at_place p)
+          → FitsPlace core.site (core.ate + 1) (place_in_meal core.site p) (after_meal core.site (core.ate + 1) (next_act core) (fork_at_place p))
+          → meals_of (neighbour_of core.site p) (after_meal core.site (core.ate + 1) (next_act core) (fork_at_place p)).log ≡ meals_in (neighbour_of core.site p) p.fork
+          → FitsMeal (after_begin core) i fork
       fits_at i fork p place_is fork_is fits meals =
           let P : Place → SeenFork → Type 0 = λ q f. FitsPlace core.site (core.ate + 1) q f in
           let Q : Place → SeenFork → Type 0 = λ q f. meals_of (neighbour_of core.site q) f.log ≡ meals_in (neighbour_of core.site q) q.fork in
           record {
-            fits = subst (λ (q : Place). P q fork) (sym place_is) (subst (P (lifted core.site p)) (sym fork_is) fits);
-            meals = subst (λ (q : Place). Q q fork) (sym place_is) (subst (Q (lifted core.site p)) (sym fork_is) meals);
+            fits = subst (λ (q : Place). P q fork) (sym place_is) (subst (P (place_in_meal core.site p)) (sym fork_is) fits);
+            meals = subst (λ (q : Place). Q q fork) (sym place_is) (subst (Q (place_in_meal core.site p)) (sym fork_is) meals);
           }
 
   -- the new core is sound
-  pub sound_begun : IsSound (begun core)
+  pub sound_begun : IsSound (after_begin core)
   sound_begun = record {
     places = λ i d h.
-        let within : i < length core.places = omega (arith, h, length-map core.places (lifted core.site)) in
-        subst (IsSoundPlace (begun core)) (sym (get_or-map_at (lifted core.site) core.places i d no_place within)) (lifted_sound (get_or core.places i no_place) (sound.places i no_place within) (in_hand_at i no_place within).0);
+        let within : i < length core.places = omega (arith, h, length-map core.places (place_in_meal core.site)) in
+        subst (IsSoundPlace (after_begin core)) (sym (get_or-map_at (place_in_meal core.site) core.places i d no_place within)) (lifted_sound (get_or core.places i no_place) (sound.places i no_place within) (in_hand_at i no_place within).0);
     acts = sound.acts;
     small_acts = sound.small_acts;
     within = omega (arith, left);
     hungry = λ h. absurd (false≢true h);
   }
     where
-      lifted_sound : (p : Place) → IsSoundPlace core p → p.fork ≡ Here (fork_at_place p) → IsSoundPlace (begun core) (lifted core.site p)
+      lifted_sound : (p : Place) → IsSoundPlace core p → p.fork ≡ Here (fork_at_place p) → IsSoundPlace (after_begin core) (place_in_meal core.site p)
       lifted_sound p w is = record { ordered = w.ordered; end = w.end; own_due = w.own_due; slot = refl; asked = λ _ token. w.asked (ap is_held is) token; token = w.token }
 
   -- the new core represents the state after the step
-  pub stands_begun : (plan : SeenPlan) (state : LocalState) → KeepsStreams plan core.site state → Refines plan state core → Refines plan (after plan core.site state Begin) (begun core)
+  pub stands_begun : (plan : SeenPlan) (state : LocalState) → KeepsStreams plan core.site state → Refines plan state core → Refines plan (after plan core.site state Begin) (after_begin core)
   stands_begun plan state keeps stands = record {
     is_plan = stands.is_plan;
     is_site = stands.is_site;
@@ -232,13 +233,13 @@ module _ (core : SeenCore) (sound : IsSound core) (can : can_begin core ≡ true
     ate = ap (λ (n : ℕ). n + 1) stands.ate;
     must_quit = stands.must_quit;
     has_quit = stands.has_quit;
-    degree = length-map core.places (lifted core.site) ∙ stands.degree;
+    degree = length-map core.places (place_in_meal core.site) ∙ stands.degree;
     places = λ i past h.
-        let within : i < length core.places = omega (arith, h, length-map core.places (lifted core.site)) in
-        get_or-map_at (lifted core.site) core.places i past no_place within ∙ lifted_is i within;
+        let within : i < length core.places = omega (arith, h, length-map core.places (place_in_meal core.site)) in
+        get_or-map_at (place_in_meal core.site) core.places i past no_place within ∙ lifted_is i within;
   }
     where
-      lifted_is : (i : ℕ) → i < length core.places → lifted core.site (get_or core.places i no_place) ≡ kept_of plan core.site Eating (state.ate + 1) (edge_at plan core.site i) (traffic_at state i)
+      lifted_is : (i : ℕ) → i < length core.places → place_in_meal core.site (get_or core.places i no_place) ≡ kept_of plan core.site Eating (state.ate + 1) (edge_at plan core.site i) (traffic_at state i)
       lifted_is i within =
           let s = core.site in
           let edge = edge_at plan core.site i in
@@ -253,15 +254,15 @@ module _ (core : SeenCore) (sound : IsSound core) (can : can_begin core ≡ true
           let last : meals_of s (last_log_or [] t.taken) ≤ state.ate = (keeps.places i (omega (arith, within, stands.degree))).last_within in
           let more : meals_of there (hand s state.ate t) ≡ meals_of there (hand s (state.ate + 1) t) =
           sym (ap (meals_of there) (hand-more s state.ate (last_log_or [] t.taken) last) ∙ meals_of-push_other there s (hand s state.ate t) (state.ate + 1) apart) in
-          ap (lifted s) is ∙ ap (λ (slot : ForkSlot). record (kept_of plan s state.phase state.ate edge t) { fork = slot })
+          ap (place_in_meal s) is ∙ ap (λ (slot : ForkSlot). record (kept_of plan s state.phase state.ate edge t) { fork = slot })
           (lift_slot (forks_held plan s edge t == 1) state.phase (meals_of there fork.log) (meals_of there (hand s (state.ate + 1) t)) fork there held still more)
 
   -- the forks of the meal are those in hand after the step
   pub in_hand_begun : (plan : SeenPlan) (state : LocalState) → KeepsStreams plan core.site state → Refines plan state core
-      → map (eaten core.site (core.ate + 1) (next_act core)) (forks_of core.places) ≡ forks_in_hand plan core.site (after plan core.site state Begin) (all_places state)
+      → map (after_meal core.site (core.ate + 1) (next_act core)) (forks_of core.places) ≡ forks_in_hand plan core.site (after plan core.site state Begin) (all_places state)
   in_hand_begun plan state keeps stands =
       let still : is_eating state.phase ≡ false = ap is_eating (sym stands.phase) ∙ awake in
       let act : next_act core ≡ act_of plan core.site (state.ate + 1) = next_is plan state core stands in
-      ap (λ (l : List SeenFork). map (eaten core.site (core.ate + 1) (next_act core)) l) (forks_by_lists plan state core stands still)
-      ∙ ap₂ (λ (n : ℕ) (act : Act). map (eaten core.site (n + 1) act) (forks_in_hand plan core.site state (all_places state))) stands.ate act
+      ap (λ (l : List SeenFork). map (after_meal core.site (core.ate + 1) (next_act core)) l) (forks_by_lists plan state core stands still)
+      ∙ ap₂ (λ (n : ℕ) (act : Act). map (after_meal core.site (n + 1) act) (forks_in_hand plan core.site state (all_places state))) stands.ate act
       ∙ more_by plan core.site state (length state.traffic) 0 (λ i h. (keeps.places i (omega (arith, h))).last_within)

@@ -13,18 +13,18 @@ use Rattle.dine_rules.specs.Local.{LocalState, neighbour_at, is_eating}
 use Rattle.dine_rules.specs.Holdings.{fork_at, hand_at}
 use Rattle.dine_rules.specs.Steps.{hand_fork_at, after, End}
 use Rattle.dine_site_core.specs.Core.{SeenCore, Refines, kept_at, forks_in_hand}
-use Rattle.dine_site_core.specs.Places.{no_place, is_held, put_back, with_fork, ended, neighbour_of, due_of_neighbour, meals_in, FitsPlace, FitsSlot, IsSoundPlace, IsSound, IsMealOf}
+use Rattle.dine_site_core.specs.Places.{no_place, is_held, places_with_forks, with_fork, after_end, neighbour_of, due_of_neighbour, meals_in, FitsPlace, FitsSlot, IsSoundPlace, IsSound, IsMealOf}
 use Rattle.dine_site_core.specs.Standing.{all_places}
 use Rattle.dine_site_core.proofs.one_site.Eating.{slot_held}
 
 pub get_or_put_back : (P : List Place) (F : List SeenFork) (i : ℕ) (d : Place) (f : SeenFork) → i < length P → length F ≡ length P
-    → get_or (put_back P F) i d ≡ with_fork (Here (get_or F i f)) (get_or P i d)
+    → get_or (places_with_forks P F) i d ≡ with_fork (Here (get_or F i f)) (get_or P i d)
 get_or_put_back [] F i d f h same = absurd (omega arith)
 get_or_put_back (p ∷ P) [] i d f h same = absurd (omega arith)
 get_or_put_back (p ∷ P) (g ∷ F) zero d f h same = refl
 get_or_put_back (p ∷ P) (g ∷ F) (suc i) d f h same = get_or_put_back P F i d f (omega arith) (omega arith)
 
-pub length_put_back : (P : List Place) (F : List SeenFork) → length (put_back P F) ≡ length P
+pub length_put_back : (P : List Place) (F : List SeenFork) → length (places_with_forks P F) ≡ length P
 length_put_back [] F = refl
 length_put_back (p ∷ P) [] = refl
 length_put_back (p ∷ P) (g ∷ F) = ap (λ (n : ℕ). suc n) (length_put_back P F)
@@ -51,11 +51,11 @@ module _ (core : SeenCore) (meal : SeenMeal) (sound : IsSound core) (eating : is
   held_at : (i : ℕ) → i < length core.places → is_held (get_or core.places i no_place).fork ≡ true
   held_at i h = held_in_meal core.site core.ate (is_eating core.phase) (get_or core.places i no_place) (get_or core.places i no_place).fork eating (sound.places i no_place h).slot
 
-  pub sound_ended : IsSound (ended failed meal.forks core)
+  pub sound_ended : IsSound (after_end failed meal.forks core)
   sound_ended = record {
     places = λ i d h.
         let within : i < length core.places = omega (arith, h, length_put_back core.places meal.forks) in
-        subst (IsSoundPlace (ended failed meal.forks core)) (sym (any i d within ∙ get_or_put_back core.places meal.forks i no_place no_fork within is.count))
+        subst (IsSoundPlace (after_end failed meal.forks core)) (sym (any i d within ∙ get_or_put_back core.places meal.forks i no_place no_fork within is.count))
         (sound_laid (get_or core.places i no_place) (get_or meal.forks i no_fork) (sound.places i no_place within) (held_at i within) (is.forks i no_fork within).fits (is.forks i no_fork within).meals);
     acts = sound.acts;
     small_acts = sound.small_acts;
@@ -63,8 +63,8 @@ module _ (core : SeenCore) (meal : SeenMeal) (sound : IsSound core) (eating : is
     hungry = λ h. absurd (false≢true h);
   }
     where
-      any : (i : ℕ) (d : Place) → i < length core.places → get_or (put_back core.places meal.forks) i d ≡ get_or (put_back core.places meal.forks) i no_place
-      any i d h = some (put_back core.places meal.forks) i d (omega (arith, h, length_put_back core.places meal.forks))
+      any : (i : ℕ) (d : Place) → i < length core.places → get_or (places_with_forks core.places meal.forks) i d ≡ get_or (places_with_forks core.places meal.forks) i no_place
+      any i d h = some (places_with_forks core.places meal.forks) i d (omega (arith, h, length_put_back core.places meal.forks))
         where
           some : (xs : List Place) (i : ℕ) (d : Place) → i < length xs → get_or xs i d ≡ get_or xs i no_place
           some [] i d h = absurd (omega arith)
@@ -72,7 +72,7 @@ module _ (core : SeenCore) (meal : SeenMeal) (sound : IsSound core) (eating : is
           some (x ∷ xs) (suc i) d h = some xs i d (omega arith)
 
       sound_laid : (p : Place) (f : SeenFork) → IsSoundPlace core p → is_held p.fork ≡ true → FitsPlace core.site core.ate p f
-          → meals_of (neighbour_of core.site p) f.log ≡ meals_in (neighbour_of core.site p) p.fork → IsSoundPlace (ended failed meal.forks core) (with_fork (Here f) p)
+          → meals_of (neighbour_of core.site p) f.log ≡ meals_in (neighbour_of core.site p) p.fork → IsSoundPlace (after_end failed meal.forks core) (with_fork (Here f) p)
       sound_laid p f w held fits meals = record {
         ordered = w.ordered;
         end = w.end;
@@ -83,7 +83,7 @@ module _ (core : SeenCore) (meal : SeenMeal) (sound : IsSound core) (eating : is
       }
 
   pub stands_ended : (plan : SeenPlan) (state : LocalState) → Refines plan state core → meal.forks ≡ forks_in_hand plan core.site state (all_places state)
-      → Refines plan (after plan core.site state (End failed)) (ended failed meal.forks core)
+      → Refines plan (after plan core.site state (End failed)) (after_end failed meal.forks core)
   stands_ended plan state stands forks = record {
     is_plan = stands.is_plan;
     is_site = stands.is_site;

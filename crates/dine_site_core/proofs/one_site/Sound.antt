@@ -6,7 +6,7 @@ use Rattle.std.proofs.lemmas.List.{length-set}
 use Rattle.std.proofs.lemmas.List.Elements.{All-set}
 use Rattle.std.proofs.lemmas.Option.{none-some, same_Some}
 use Rattle.dine_site_core.specs.declared.site.SiteCore.TheInside.{Inside}
-use Rattle.dine_site_core.specs.private.SiteFields.{seen, HasRoom, IsKept}
+use Rattle.dine_site_core.specs.private.SiteFields.{seen_core, HasRoom, IsKept}
 use Rattle.dine_token.specs.Fork.{SeenFork}
 use Rattle.dine_token.specs.Log.{location_of, meals_of}
 use Rattle.dine_rules.specs.declared.letters.Letter.{Letter}
@@ -18,7 +18,7 @@ use Rattle.dine_site_core.specs.declared.site.places.ForkSlot.TheVariants.{Away,
 use Rattle.dine_rules.specs.Local.{is_eating}
 use Rattle.dine_rules.specs.Breach.{was_sent_to}
 use Rattle.dine_site_core.specs.Core.{SeenCore}
-use Rattle.dine_site_core.specs.Places.{with_place, with_fork, noted, is_held, is_own_fork, breach_at, FitsPlace, FitsSlot, IsSoundPlace, IsSound}
+use Rattle.dine_site_core.specs.Places.{with_place, with_fork, place_after_take, is_held, is_own_fork, breach_at, FitsPlace, FitsSlot, IsSoundPlace, IsSound}
 
 -- soundness reads the site, its meals, its due and its phase
 pub sound_place_along : (core : SeenCore) (places : List Place) (place : Place) → IsSoundPlace core place → IsSoundPlace (record core { places = places }) place
@@ -44,11 +44,11 @@ sound_away core place awake w = record {
 }
 
 -- so a core stays kept with another place that is sound
-pub kept_with : (core : Inside) (i : ℕ) (place : Place) (places : List Place) → IsKept core → places ≡ set core.places i place → IsSoundPlace (seen core) place → IsKept (record core { places = places })
+pub kept_with : (core : Inside) (i : ℕ) (place : Place) (places : List Place) → IsKept core → places ≡ set core.places i place → IsSoundPlace (seen_core core) place → IsKept (record core { places = places })
 kept_with core i place places kept are here =
     let same : length places ≡ length core.places = ap length are ∙ length-set core.places i place in
     record {
-      sound = subst (λ (l : List Place). IsSound (record (seen core) { places = l })) (sym are) (sound_with_place (seen core) i place kept.sound here);
+      sound = subst (λ (l : List Place). IsSound (record (seen_core core) { places = l })) (sym are) (sound_with_place (seen_core core) i place kept.sound here);
       no_hands = kept.no_hands;
       room_for_hands = λ awake. omega (arith, kept.room_for_hands awake, same);
       room = subst (λ (n : ℕ). HasRoom n core.parts) (sym same) kept.room;
@@ -133,7 +133,7 @@ fits_come s ate place fork own comes all =
       eaten = eqb-true _ _ all;
     }
 
-pub sound_noted : (core : SeenCore) (place : Place) (l : Letter) → breach_at core.site core.ate place l ≡ None → IsSoundPlace core place → IsSoundPlace core (noted l place)
+pub sound_noted : (core : SeenCore) (place : Place) (l : Letter) → breach_at core.site core.ate place l ≡ None → IsSoundPlace core place → IsSoundPlace core (place_after_take l place)
 sound_noted core place (Fork fork) h w =
     let turn = none_of _ _ _ (none_of _ _ _ h).1 in
     let free = neither _ _ turn.0 in

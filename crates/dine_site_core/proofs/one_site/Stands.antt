@@ -14,7 +14,7 @@ use Rattle.dine_rules.specs.Local.{LocalState, Traffic, no_traffic, traffic_at, 
 use Rattle.dine_rules.specs.Holdings.{fork_at, token_at, hand_at}
 use Rattle.dine_rules.specs.Steps.{hand_fork_at, with_put}
 use Rattle.dine_site_core.specs.Core.{SeenCore, Refines, kept_of, kept_at}
-use Rattle.dine_site_core.specs.Places.{place_at, with_place, no_place, OnHere, asked, gave, hungered, quitted, said_done, closed}
+use Rattle.dine_site_core.specs.Places.{place_at, with_place, no_place, OnHere, after_ask, after_give, after_hungry, after_quit, after_done, after_close}
 use Rattle.dine_site_core.proofs.one_site.PlacesAfter.{kept-put_request, kept-put_fork, kept-put_done, kept-put_close}
 
 -- other traffic at place i
@@ -66,17 +66,17 @@ module _ (plan : SeenPlan) (state : LocalState) (core : SeenCore) (stands : Refi
             ∙ ap (λ (u : Traffic). kept_of plan core.site state.phase state.ate (edge_at plan core.site j) u) (sym (get_or-set_other state.traffic i j t no_traffic other))
       ]
 
-  pub stands-said_done : Refines plan (with_put i Done state) (said_done i core)
-  stands-said_done = stands_at _ _ (ap (λ (p : Place). record p { done_put = true }) place_is ∙ kept-put_done plan core.site state.phase state.ate (edge_at plan core.site i) (traffic_at state i))
+  pub stands-after_done : Refines plan (with_put i Done state) (after_done i core)
+  stands-after_done = stands_at _ _ (ap (λ (p : Place). record p { done_put = true }) place_is ∙ kept-put_done plan core.site state.phase state.ate (edge_at plan core.site i) (traffic_at state i))
 
-  pub stands-closed : Refines plan (with_put i Close state) (closed i core)
-  stands-closed = stands_at _ _ (ap (λ (p : Place). record p { close_put = true }) place_is ∙ kept-put_close plan core.site state.phase state.ate (edge_at plan core.site i) (traffic_at state i))
+  pub stands-after_close : Refines plan (with_put i Close state) (after_close i core)
+  stands-after_close = stands_at _ _ (ap (λ (p : Place). record p { close_put = true }) place_is ∙ kept-put_close plan core.site state.phase state.ate (edge_at plan core.site i) (traffic_at state i))
 
-  pub stands-asked : token_at plan core.site state i ≡ 1 → Refines plan (with_put i (Request (edge_at plan core.site i)) state) (asked i core)
-  stands-asked one = stands_at _ _ (ap (λ (p : Place). record p { token = None }) place_is ∙ kept-put_request plan core.site state.phase state.ate (edge_at plan core.site i) (traffic_at state i) one)
+  pub stands-after_ask : token_at plan core.site state i ≡ 1 → Refines plan (with_put i (Request (edge_at plan core.site i)) state) (after_ask i core)
+  stands-after_ask one = stands_at _ _ (ap (λ (p : Place). record p { token = None }) place_is ∙ kept-put_request plan core.site state.phase state.ate (edge_at plan core.site i) (traffic_at state i) one)
 
-  pub stands-gave : (fork : SeenFork) → fork_at plan core.site state i ≡ 1 → Refines plan (with_put i (Fork fork) state) (gave i core)
-  stands-gave fork one = stands_at _ _ (ap (λ (p : Place). record p { fork = Away }) place_is ∙ kept-put_fork plan core.site state.phase state.ate (edge_at plan core.site i) (traffic_at state i) fork one)
+  pub stands-after_give : (fork : SeenFork) → fork_at plan core.site state i ≡ 1 → Refines plan (with_put i (Fork fork) state) (after_give i core)
+  stands-after_give fork one = stands_at _ _ (ap (λ (p : Place). record p { fork = Away }) place_is ∙ kept-put_fork plan core.site state.phase state.ate (edge_at plan core.site i) (traffic_at state i) fork one)
 
   -- a token at the place is that of the edge, and the whole lists say that it is held
   pub token_held : (edge : ℕ) → (place_at core i).token ≡ Some edge → (token_at plan core.site state i ≡ 1) × (edge ≡ edge_at plan core.site i)
@@ -99,8 +99,8 @@ thinking_is Hungry h = absurd (false≢true h)
 thinking_is Eating h = absurd (false≢true h)
 
 -- who thought and is hungry keeps the same at each place
-pub stands-hungered : (plan : SeenPlan) (state : LocalState) (core : SeenCore) → Refines plan state core → is_thinking core.phase ≡ true → Refines plan (record state { phase = Hungry }) (hungered core)
-stands-hungered plan state core stands thinking = record {
+pub stands-after_hungry : (plan : SeenPlan) (state : LocalState) (core : SeenCore) → Refines plan state core → is_thinking core.phase ≡ true → Refines plan (record state { phase = Hungry }) (after_hungry core)
+stands-after_hungry plan state core stands thinking = record {
   is_plan = stands.is_plan;
   is_site = stands.is_site;
   due = stands.due;
@@ -115,8 +115,8 @@ stands-hungered plan state core stands thinking = record {
 }
 
 -- who has quit keeps the same at each place
-pub stands-quitted : (plan : SeenPlan) (state : LocalState) (core : SeenCore) → Refines plan state core → Refines plan (record state { must_quit = false; has_quit = true }) (quitted core)
-stands-quitted plan state core stands = record {
+pub stands-after_quit : (plan : SeenPlan) (state : LocalState) (core : SeenCore) → Refines plan state core → Refines plan (record state { must_quit = false; has_quit = true }) (after_quit core)
+stands-after_quit plan state core stands = record {
   is_plan = stands.is_plan;
   is_site = stands.is_site;
   due = stands.due;

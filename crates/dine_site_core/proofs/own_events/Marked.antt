@@ -9,7 +9,8 @@ use Rattle.dine_set.proofs.NthPosition.{nth_position-zero}
 use Rattle.dine_site_core.specs.declared.site.places.Place.{Place}
 use Rattle.dine_site_core.specs.declared.site.places.ForkSlot.{ForkSlot}
 use Rattle.dine_site_core.specs.declared.site.places.ForkSlot.TheVariants.{Away, Here, InMeal}
-use Rattle.dine_site_core.specs.Places.{is_away_at, is_dirty_at, has_token_at, is_ready_at, is_open_at, has_put_done_at, can_say_done_at, is_held, put_back, lifted, with_fork, OnHere, IsLiftable}
+use Rattle.dine_site_core.specs.Places.{is_away_at, is_dirty_at, has_token_at, is_ready_at, is_open_at, has_put_done_at, can_say_done_at, is_held, places_with_forks, place_in_meal, with_fork, OnHere}
+use Rattle.dine_site_core.specs.private.PlaceSteps.{IsLiftable}
 
 -- a place is changed, and the mark of a test is put; or its test gives the same as before, and the marks stay
 module _ (test : Place → Bool) (xs : List Place) (marks : List Bool) (are : marks ≡ marks_of test xs) (i : ℕ) (place : Place) where
@@ -32,38 +33,38 @@ here_held P (InMeal meals) h = absurd h
 
 -- where all forks go into a meal, none is away, and none is dirty in hand
 module _ (site : ℕ) (xs : List Place) (few : length xs ≤ 64) where
-  pub lifted_away : All (IsLiftable site) xs → marks_of is_away_at xs ≡ marks_of is_away_at (map (lifted site) xs)
+  pub lifted_away : All (IsLiftable site) xs → marks_of is_away_at xs ≡ marks_of is_away_at (map (place_in_meal site) xs)
   lifted_away here =
       marks_of-none is_away_at xs few (λ i past within. here_held _ (get_or xs i past).fork (here i past within))
       ∙ sym (all_away xs few)
     where
-      all_away : (ys : List Place) → length ys ≤ 64 → marks_of is_away_at (map (lifted site) ys) ≡ replicate 64 false
-      all_away ys few = marks_of-map (λ place. false) is_away_at (lifted site) (λ place. refl) ys ∙ marks_of-none (λ place. false) ys few (λ i past within. refl)
+      all_away : (ys : List Place) → length ys ≤ 64 → marks_of is_away_at (map (place_in_meal site) ys) ≡ replicate 64 false
+      all_away ys few = marks_of-map (λ place. false) is_away_at (place_in_meal site) (λ place. refl) ys ∙ marks_of-none (λ place. false) ys few (λ i past within. refl)
 
-  pub lifted_dirty : replicate 64 false ≡ marks_of is_dirty_at (map (lifted site) xs)
-  lifted_dirty = sym (marks_of-map (λ place. false) is_dirty_at (lifted site) (λ place. refl) xs ∙ marks_of-none (λ place. false) xs few (λ i past within. refl))
+  pub lifted_dirty : replicate 64 false ≡ marks_of is_dirty_at (map (place_in_meal site) xs)
+  lifted_dirty = sym (marks_of-map (λ place. false) is_dirty_at (place_in_meal site) (λ place. refl) xs ∙ marks_of-none (λ place. false) xs few (λ i past within. refl))
 
   -- other tests give the same
-  pub lifted_same : (test : Place → Bool) → ((place : Place) → test (lifted site place) ≡ test place) → marks_of test xs ≡ marks_of test (map (lifted site) xs)
-  lifted_same test same = sym (marks_of-map test test (lifted site) same xs)
+  pub lifted_same : (test : Place → Bool) → ((place : Place) → test (place_in_meal site place) ≡ test place) → marks_of test xs ≡ marks_of test (map (place_in_meal site) xs)
+  lifted_same test same = sym (marks_of-map test test (place_in_meal site) same xs)
 
-pub length-put_back : (xs : List Place) (forks : List SeenFork) → length (put_back xs forks) ≡ length xs
-length-put_back [] forks = refl
-length-put_back (x ∷ xs) [] = refl
-length-put_back (x ∷ xs) (fork ∷ forks) = ap suc (length-put_back xs forks)
+pub length-places_with_forks : (xs : List Place) (forks : List SeenFork) → length (places_with_forks xs forks) ≡ length xs
+length-places_with_forks [] forks = refl
+length-places_with_forks (x ∷ xs) [] = refl
+length-places_with_forks (x ∷ xs) (fork ∷ forks) = ap suc (length-places_with_forks xs forks)
 
 -- where a fork is laid down at each place, none is away
-pub laid_here : (xs : List Place) (forks : List SeenFork) → length forks ≡ length xs → (i : ℕ) (past : Place) → i < length (put_back xs forks) → is_away_at (get_or (put_back xs forks) i past) ≡ false
+pub laid_here : (xs : List Place) (forks : List SeenFork) → length forks ≡ length xs → (i : ℕ) (past : Place) → i < length (places_with_forks xs forks) → is_away_at (get_or (places_with_forks xs forks) i past) ≡ false
 laid_here [] forks all i past within = absurd (omega arith)
 laid_here (x ∷ xs) [] all i past within = absurd (omega (arith, all))
 laid_here (x ∷ xs) (fork ∷ forks) all zero past within = refl
 laid_here (x ∷ xs) (fork ∷ forks) all (suc i) past within = laid_here xs forks (omega arith) i past (omega arith)
 
-pub laid_away : (xs : List Place) (forks : List SeenFork) → length xs ≤ 64 → length forks ≡ length xs → replicate 64 false ≡ marks_of is_away_at (put_back xs forks)
-laid_away xs forks few all = sym (marks_of-none is_away_at (put_back xs forks) (omega (arith, length-put_back xs forks)) (laid_here xs forks all))
+pub laid_away : (xs : List Place) (forks : List SeenFork) → length xs ≤ 64 → length forks ≡ length xs → replicate 64 false ≡ marks_of is_away_at (places_with_forks xs forks)
+laid_away xs forks few all = sym (marks_of-none is_away_at (places_with_forks xs forks) (omega (arith, length-places_with_forks xs forks)) (laid_here xs forks all))
 
 -- where a dirty fork is laid down at each place, all are dirty
-laid_soiled : (xs : List Place) (forks : List SeenFork) → length forks ≡ length xs → All IsDirty forks → (i : ℕ) (past : Place) → i < length (put_back xs forks) → is_dirty_at (get_or (put_back xs forks) i past) ≡ true
+laid_soiled : (xs : List Place) (forks : List SeenFork) → length forks ≡ length xs → All IsDirty forks → (i : ℕ) (past : Place) → i < length (places_with_forks xs forks) → is_dirty_at (get_or (places_with_forks xs forks) i past) ≡ true
 laid_soiled [] forks all dirty i past within = absurd (omega arith)
 laid_soiled (x ∷ xs) [] all dirty i past within = absurd (omega (arith, all))
 laid_soiled (x ∷ xs) (fork ∷ forks) all dirty zero past within = dirty 0 fork (omega arith)
@@ -73,17 +74,17 @@ laid_soiled (x ∷ xs) (fork ∷ forks) all dirty (suc i) past within = laid_soi
 abbrev pub marks_below : ℕ → List Bool
 marks_below n = replicate n true ++ replicate (64 - n) false
 
-pub laid_dirty : (xs : List Place) (forks : List SeenFork) → length forks ≡ length xs → All IsDirty forks → marks_below (length xs) ≡ marks_of is_dirty_at (put_back xs forks)
-laid_dirty xs forks all dirty = ap marks_below (sym (length-put_back xs forks)) ∙ sym (marks_of-each is_dirty_at (put_back xs forks) (laid_soiled xs forks all dirty))
+pub laid_dirty : (xs : List Place) (forks : List SeenFork) → length forks ≡ length xs → All IsDirty forks → marks_below (length xs) ≡ marks_of is_dirty_at (places_with_forks xs forks)
+laid_dirty xs forks all dirty = ap marks_below (sym (length-places_with_forks xs forks)) ∙ sym (marks_of-each is_dirty_at (places_with_forks xs forks) (laid_soiled xs forks all dirty))
 
-map_laid : (test : Place → Bool) → ((slot : ForkSlot) (place : Place) → test (with_fork slot place) ≡ test place) → (xs : List Place) (forks : List SeenFork) → map test (put_back xs forks) ≡ map test xs
+map_laid : (test : Place → Bool) → ((slot : ForkSlot) (place : Place) → test (with_fork slot place) ≡ test place) → (xs : List Place) (forks : List SeenFork) → map test (places_with_forks xs forks) ≡ map test xs
 map_laid test same [] forks = refl
 map_laid test same (x ∷ xs) [] = refl
 map_laid test same (x ∷ xs) (fork ∷ forks) = ap₂ (λ (mark : Bool) (marks : List Bool). mark ∷ marks) (same (Here fork) x) (map_laid test same xs forks)
 
-pub laid_same : (test : Place → Bool) → ((slot : ForkSlot) (place : Place) → test (with_fork slot place) ≡ test place) → (xs : List Place) (forks : List SeenFork) → marks_of test xs ≡ marks_of test (put_back xs forks)
+pub laid_same : (test : Place → Bool) → ((slot : ForkSlot) (place : Place) → test (with_fork slot place) ≡ test place) → (xs : List Place) (forks : List SeenFork) → marks_of test xs ≡ marks_of test (places_with_forks xs forks)
 unfolding marks_of
-laid_same test same xs forks = ap₂ (λ (marks : List Bool) (n : ℕ). marks ++ replicate (64 - n) false) (sym (map_laid test same xs forks)) (sym (length-put_back xs forks))
+laid_same test same xs forks = ap₂ (λ (marks : List Bool) (n : ℕ). marks ++ replicate (64 - n) false) (sym (map_laid test same xs forks)) (sym (length-places_with_forks xs forks))
 
 -- ---- all are ready where none is away, and none has a dirty fork that was asked for
 

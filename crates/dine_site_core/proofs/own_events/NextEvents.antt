@@ -11,7 +11,8 @@ use Rattle.dine_rules.specs.Local.{LocalState, is_eating}
 use Rattle.dine_rules.specs.Streams.{KeepsStreams}
 use Rattle.dine_rules.specs.World.{placeless_kinds}
 use Rattle.dine_site_core.specs.Core.{SeenCore, Refines}
-use Rattle.dine_site_core.specs.NextEvent.{can_by_itself, may_by_itself, next_event, next_of, next_word_of, own_kinds}
+use Rattle.dine_site_core.specs.NextEvent.{can_by_itself, may_by_itself, next_event, next_of, own_kinds}
+use Rattle.dine_site_core.specs.private.OwnEvents.{next_word_of}
 use Rattle.dine_site_core.specs.Places.{can_give, can_ask, can_say_done, can_close}
 use Rattle.dine_site_core.proofs.one_site.SiteTests.{ask_is, close_is, done_is, give_is, guarded, hunger_is, quit_is}
 use Rattle.dine_site_core.proofs.lists.Ranges.{begin_by}

@@ -15,7 +15,8 @@ use Rattle.dine_rules.specs.Local.{is_eating, is_hungry, is_thinking}
 use Rattle.dine_rules.specs.World.{placeless_kinds}
 use Rattle.dine_site_core.specs.declared.site.places.Place.{Place}
 use Rattle.dine_site_core.specs.Core.{SeenCore}
-use Rattle.dine_site_core.specs.NextEvent.{can_by_itself, may_ask_at, may_give_at, may_say_done_at, own_kinds, own_words}
+use Rattle.dine_site_core.specs.NextEvent.{can_by_itself, own_kinds}
+use Rattle.dine_site_core.specs.private.OwnEvents.{may_ask_at, may_give_at, may_say_done_at, own_words}
 use Rattle.dine_site_core.specs.Places.{can_close_at, is_ready_at, place_at}
 use Rattle.dine_site_core.proofs.own_events.NextEvents.{filter-map}
 use Rattle.dine_site_core.proofs.own_events.MarkedEvents.{Agrees, as_it_is, marked_count, marked_nth}

@@ -23,7 +23,7 @@ use Rattle.dine_site_core.specs.declared.site.places.ForkSlot.{ForkSlot}
 use Rattle.dine_site_core.specs.declared.site.places.ForkSlot.TheVariants.{Away, Here, InMeal}
 use Rattle.dine_site_core.specs.Core.{SeenCore}
 use Rattle.dine_site_core.specs.NextEvent.{can_by_itself, next_of, own_kinds}
-use Rattle.dine_site_core.specs.Places.{can_ask_at, can_close_at, can_give_at, can_say_done_at, has_nothing_due, has_token_at, is_away_at, is_dirty_at, is_dirty_in_hand, is_held, is_open_at, is_ready_at, no_place, noted, place_at, took, with_place}
+use Rattle.dine_site_core.specs.Places.{can_ask_at, can_close_at, can_give_at, can_say_done_at, has_nothing_due, has_token_at, is_away_at, is_dirty_at, is_dirty_in_hand, is_held, is_open_at, is_ready_at, no_place, place_after_take, place_at, after_take, with_place}
 use Rattle.dine_site_core.specs.CoreWants.{TakesUnwanted, wants_of}
 use Rattle.dine_site_core.proofs.own_events.NextEvents.{find_same}
 
@@ -134,7 +134,7 @@ module _ (core : SeenCore) (i : ℕ) where
   -- a Request at a place whose fork is held and not dirty
   module _ (e : ℕ) (takes : TakesUnwanted core i (Request e)) where
     abbrev asked_for : Place
-    asked_for = noted (Request e) place
+    asked_for = place_after_take (Request e) place
 
     turn : (is_some place.token ≡ false) × (is_held place.fork ≡ true)
     turn = request_turn place.close_taken (is_some place.token) (is_held place.fork) place.done_taken _ _ takes.in_turn
@@ -152,7 +152,7 @@ module _ (core : SeenCore) (i : ℕ) where
           (ap (λ (b : Bool). is_held place.fork && (not b || false)) clean ∙ sym (ap (λ (b : Bool). is_held place.fork && (not b || not (is_some place.token))) clean));
     }
 
-    request_wants : wants_of (took i (Request e) core) ≡ wants_of core
+    request_wants : wants_of (after_take i (Request e) core) ≡ wants_of core
     request_wants =
         let held : is_away_at place ≡ false = ap not turn.1 in
         let count = count_changed is_away_at core.places i asked_for false false takes.place held held in
@@ -161,7 +161,7 @@ module _ (core : SeenCore) (i : ℕ) where
   -- a Fork where another is away
   module _ (f : SeenFork) (takes : TakesUnwanted core i (Fork f)) where
     abbrev sent : Place
-    sent = noted (Fork f) place
+    sent = place_after_take (Fork f) place
 
     fork_in_turn : (is_held place.fork ≡ false) × (is_some place.token ≡ false) × (is_dirty f.log ≡ false)
     fork_in_turn = fork_turn place.close_taken (is_held place.fork) (is_some place.token) _ (is_dirty f.log) _ _ _ takes.in_turn
@@ -183,18 +183,18 @@ module _ (core : SeenCore) (i : ℕ) where
           ∙ sym (list_all_at is_ready_at core.places i no_place takes.place (ap (λ (b : Bool). b && (not (is_dirty_in_hand place.fork) || not (is_some place.token))) fork_in_turn.0));
     }
 
-    fork_wants : wants_of (took i (Fork f) core) ≡ still_wanted (wants_of core) (kind_of (Fork f))
+    fork_wants : wants_of (after_take i (Fork f) core) ≡ still_wanted (wants_of core) (kind_of (Fork f))
     fork_wants = ap₂ wants (marks_of-same is_dirty_at core.places i sent no_place (fork_in_turn.2 ∙ sym (away_clean place.fork fork_in_turn.0))) (omega (arith, counted, others))
 
   -- ---- the law: Done and Close are waited for
 
-  pub unwanted_next : (l : Letter) → TakesUnwanted core i l → next_of (took i l core) ≡ next_of core
+  pub unwanted_next : (l : Letter) → TakesUnwanted core i l → next_of (after_take i l core) ≡ next_of core
   unwanted_next (Request e) takes = next_same core i (asked_for e takes) (request_alike e takes)
   unwanted_next (Fork f) takes = next_same core i (sent f takes) (fork_alike f takes)
   unwanted_next Done takes = absurd (let e : true ≡ false = takes.unwanted in cc)
   unwanted_next Close takes = absurd (let e : true ≡ false = takes.unwanted in cc)
 
-  pub unwanted_wants : (l : Letter) → TakesUnwanted core i l → wants_of (took i l core) ≡ still_wanted (wants_of core) (kind_of l)
+  pub unwanted_wants : (l : Letter) → TakesUnwanted core i l → wants_of (after_take i l core) ≡ still_wanted (wants_of core) (kind_of l)
   unwanted_wants (Request e) takes = request_wants e takes
   unwanted_wants (Fork f) takes = fork_wants f takes
   unwanted_wants Done takes = absurd (let e : true ≡ false = takes.unwanted in cc)

@@ -7,8 +7,8 @@ use Rattle.dine_site_core.specs.Core.{SeenCore}
 use Rattle.dine_site_core.specs.Places.{IsSound}
 
 -- the core that the fields of a `SiteCore` represent
-abbrev pub seen : Inside → SeenCore
-seen core = record {
+abbrev pub seen_core : Inside → SeenCore
+seen_core core = record {
   site = core.site;
   due = core.due;
   acts = core.acts.items;
@@ -31,7 +31,7 @@ pub record HasRoom (degree : ℕ) (parts : Parts) : Type 0 where
 -- What is kept at the places fits the site. There is capacity for the forks of a meal, and for all that the site may
 -- hold.
 pub record IsKept (core : Inside) : Type 0 where
-  pub sound : IsSound (seen core)
+  pub sound : IsSound (seen_core core)
   pub no_hands : core.hands.items ≡ []
   pub room_for_hands : is_eating core.phase ≡ false → length core.places ≤ vec_capacity core.hands
   pub room : HasRoom (length core.places) core.parts

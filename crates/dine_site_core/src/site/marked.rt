@@ -3,14 +3,16 @@
 ghost use Rattle.std.specs.Prelude.{◌≡◌, ℕ, ◌<◌, ◌≤◌, [], ◌∷◌, ◌++◌, All, IfOk, OnErr, OnOk, is_some, true, length};
 ghost use Rattle.std.specs.Prelude.{map, slice_index_or, slice_set, vec_capacity, count_by};
 ghost use Rattle.std.specs.List.{list_all};
-ghost use Rattle.dine_token.specs.Fork.{IsDirty, MayMove, moved};
+ghost use Rattle.dine_token.specs.Fork.{IsDirty, MayMove, after_move};
 ghost use Rattle.dine_set.specs.Marks.{marks_of};
 ghost use Rattle.dine_rules.specs.Steps.{Take};
 ghost use Rattle.dine_rules.specs.Streams.{IsProper};
-ghost use Rattle.dine_site_core.specs.Places.{no_place, neighbour_of, hand_of, noted, with_fork, lifted, put_back};
+ghost use Rattle.dine_site_core.specs.Places.{no_place, neighbour_of, hand_of, place_after_take, with_fork};
+ghost use Rattle.dine_site_core.specs.Places.{place_in_meal, places_with_forks};
 ghost use Rattle.dine_site_core.specs.Places.{forks_of, tokens_of, is_away_at, is_dirty_at, is_ready_at, is_over_at};
 ghost use Rattle.dine_site_core.specs.Places.{is_closed_at, can_give_at, can_ask_at, can_say_done_at, can_close_at};
-ghost use Rattle.dine_site_core.specs.Places.{IsLiftable, OnHere};
+ghost use Rattle.dine_site_core.specs.Places.{OnHere};
+ghost use Rattle.dine_site_core.specs.private.PlaceSteps.{IsLiftable};
 
 use super::places::{ForkSlot, Place};
 use super::{Parts, meals};
@@ -172,8 +174,8 @@ impl MarkedPlaces {
         self.away.len()
     }
 
-    /// Takes the token of place `i`.
-    pub(crate) fn take_token(&mut self, i: u32) -> Token
+    /// Removes the token of place `i` and returns it.
+    pub(crate) fn remove_token(&mut self, i: u32) -> Token
         requires place { i < length self.old }
         requires token { is_some (slice_index_or self.old i no_place).token ≡ true }
         ensures token { (slice_index_or self.old i no_place).token ≡ Some result }
@@ -190,7 +192,7 @@ impl MarkedPlaces {
         requires may { OnHere (MayMove (neighbour_of site (slice_index_or self.old i no_place)))
             (slice_index_or self.old i no_place).fork }
         ensures letter { OnHere
-            (λ fork. result ≡ Letter.Fork (moved (neighbour_of site (slice_index_or self.old i no_place)) fork))
+            (λ fork. result ≡ Letter.Fork (after_move (neighbour_of site (slice_index_or self.old i no_place)) fork))
             (slice_index_or self.old i no_place).fork }
         ensures away { self.new ≡ slice_set self.old i (with_fork ForkSlot.Away (slice_index_or self.old i no_place)) }
     {
@@ -199,15 +201,15 @@ impl MarkedPlaces {
         self.items[i as usize].give(site)
     }
 
-    /// Takes the fork of place `i`, if it is in hand.
-    pub(crate) fn take_fork(&mut self, i: u32) -> Option<Fork>
+    /// Removes the fork of place `i` and returns it, if it is in hand.
+    pub(crate) fn remove_fork(&mut self, i: u32) -> Option<Fork>
         requires { i < length self.old }
         ensures fork { result ≡ hand_of (slice_index_or self.old i no_place).fork }
         ensures away { self.new ≡ slice_set self.old i (with_fork ForkSlot.Away (slice_index_or self.old i no_place)) }
     {
         self.away.insert(i);
         self.dirty.remove(i);
-        self.items[i as usize].take_fork()
+        self.items[i as usize].remove_fork()
     }
 
     /// Notes at place `i` that Done was put.
@@ -233,7 +235,7 @@ impl MarkedPlaces {
     /// Notes at place `i` a letter that was taken.
     pub(crate) fn note(&mut self, i: u32, letter: Letter)
         requires { i < length self.old }
-        ensures noted { self.new ≡ slice_set self.old i (noted letter (slice_index_or self.old i no_place)) }
+        ensures noted { self.new ≡ slice_set self.old i (place_after_take letter (slice_index_or self.old i no_place)) }
         ensures proper { IsProper (Take i letter) }
     {
         let place = &mut self.items[i as usize];
@@ -261,7 +263,7 @@ impl MarkedPlaces {
         requires here { All (IsLiftable site) self.old }
         requires none { hands.old.items ≡ [] }
         requires room { length self.old ≤ vec_capacity hands.old }
-        ensures places { self.new ≡ map (lifted site) self.old }
+        ensures places { self.new ≡ map (place_in_meal site) self.old }
         ensures hands { hands.new.items ≡ forks_of self.old }
     {
         meals::lift(site, self.items.as_mut_slice(), hands);
@@ -272,7 +274,7 @@ impl MarkedPlaces {
     pub(crate) fn put_back(&mut self, hands: &mut Vec<Held>)
         requires all { length hands.old.items ≡ length self.old }
         requires dirty { All IsDirty hands.old.items }
-        ensures places { self.new ≡ put_back self.old hands.old.items }
+        ensures places { self.new ≡ places_with_forks self.old hands.old.items }
         ensures none { hands.new.items ≡ [] }
         ensures room { vec_capacity hands.new ≡ vec_capacity hands.old }
     {

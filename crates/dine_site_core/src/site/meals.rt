@@ -1,6 +1,7 @@
 // The forks of all places: into a meal, back, and out.
 ghost use Rattle.std.specs.Prelude.{◌≡◌, ◌+◌, ◌≤◌, [], All, map, length, vec_capacity};
-ghost use Rattle.dine_site_core.specs.Places.{lifted, put_back, forks_of, tokens_of, IsLiftable};
+ghost use Rattle.dine_site_core.specs.Places.{place_in_meal, places_with_forks, forks_of, tokens_of};
+ghost use Rattle.dine_site_core.specs.private.PlaceSteps.{IsLiftable};
 
 use super::Parts;
 use super::places::Place;
@@ -12,7 +13,7 @@ pub(crate) fn lift(site: u32, places: &mut [Place], hands: &mut Vec<Held>)
     requires here { All (IsLiftable site) places.old }
     requires none { hands.old.items ≡ [] }
     requires room { length places.old ≤ vec_capacity hands.old }
-    ensures places { places.new ≡ map (lifted site) places.old }
+    ensures places { places.new ≡ map (place_in_meal site) places.old }
     ensures hands { hands.new.items ≡ forks_of places.old }
 {
     for place in places.iter_mut() {
@@ -23,7 +24,7 @@ pub(crate) fn lift(site: u32, places: &mut [Place], hands: &mut Vec<Held>)
 /// Puts the forks back at their places, in order.
 pub(crate) fn put_back(places: &mut [Place], hands: &mut Vec<Held>)
     requires { length hands.old.items ≡ length places.old }
-    ensures places { places.new ≡ put_back places.old hands.old.items }
+    ensures places { places.new ≡ places_with_forks places.old hands.old.items }
     ensures none { hands.new.items ≡ [] }
     ensures room { vec_capacity hands.new ≡ vec_capacity hands.old }
 {

@@ -2,8 +2,10 @@
 ghost use Rattle.std.specs.Prelude.{◌≡◌, ◌≤◌, filter, find, length, slice_get};
 ghost use Rattle.std.specs.List.{range_with_len};
 ghost use Rattle.dine_rules.specs.World.{placeless_kinds};
-ghost use Rattle.dine_site_core.specs.NextEvent.{can_by_itself, may_ask_at, may_give_at, may_say_done_at, next_event};
-ghost use Rattle.dine_site_core.specs.NextEvent.{next_of, next_word_of, own_kinds, own_words};
+ghost use Rattle.dine_site_core.specs.NextEvent.{can_by_itself, next_event};
+ghost use Rattle.dine_site_core.specs.private.OwnEvents.{may_ask_at, may_give_at, may_say_done_at};
+ghost use Rattle.dine_site_core.specs.NextEvent.{next_of, own_kinds};
+ghost use Rattle.dine_site_core.specs.private.OwnEvents.{next_word_of, own_words};
 ghost use Rattle.dine_set.specs.Marks.{marks_of};
 ghost use Rattle.dine_site_core.specs.Places.{can_ask, can_close, can_give, can_say_done};
 ghost use Rattle.dine_site_core.specs.Standing.{ForEachState};

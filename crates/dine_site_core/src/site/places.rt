@@ -1,7 +1,7 @@
 //! What a site keeps at each of its places, and what it may do at one.
 ghost use Rattle.std.specs.Prelude.{◌≡◌, ◌⊎◌, ℕ, ◌+◌, ◌<◌, ◌++◌, ◌==◌, ◌||◌, not, true, Some, None, is_some};
 ghost use Rattle.std.specs.Prelude.{option_to_list, vec_len, vec_capacity};
-ghost use Rattle.dine_token.specs.Fork.{SeenFork, IsEnd, IsFork, MayMove, moved};
+ghost use Rattle.dine_token.specs.Fork.{SeenFork, IsEnd, IsFork, MayMove, after_move};
 ghost use Rattle.dine_rules.specs.Steps.{Take};
 ghost use Rattle.dine_rules.specs.Streams.{IsProper};
 
@@ -38,7 +38,8 @@ pub(crate) struct Place {
 }
 
 impl ForkSlot {
-    ghost use Rattle.dine_site_core.specs.Places.{is_held, is_dirty_in_hand, meals_in, EndsOf};
+    ghost use Rattle.dine_site_core.specs.Places.{is_held, is_dirty_in_hand, meals_in};
+    ghost use Rattle.dine_site_core.specs.private.PlaceSteps.{EndsOf};
 
     /// Whether the site has the fork, in hand or in its meal.
     pub(crate) fn is_held(&self) -> bool
@@ -73,8 +74,10 @@ impl ForkSlot {
 impl Place {
     ghost use Rattle.dine_site_core.specs.Places.{neighbour_of, due_of_neighbour, is_held, is_dirty_in_hand, meals_in};
     ghost use Rattle.dine_site_core.specs.Places.{has_all, can_ask_at, can_give_at, is_own_fork, breach_of_request};
-    ghost use Rattle.dine_site_core.specs.Places.{breach_of_fork, breach_of_done, breach_of_close, breach_at, lifted};
-    ghost use Rattle.dine_site_core.specs.Places.{opened, is_over_at, hand_of, fork_in_hand, EndsOf, OnHere, with_fork};
+    ghost use Rattle.dine_site_core.specs.Places.{breach_of_fork, breach_of_done, breach_of_close, breach_at};
+    ghost use Rattle.dine_site_core.specs.Places.{place_in_meal};
+    ghost use Rattle.dine_site_core.specs.Places.{is_over_at, hand_of, fork_in_hand, OnHere, with_fork};
+    ghost use Rattle.dine_site_core.specs.private.PlaceSteps.{fresh_place, EndsOf};
 
     /// The site at the other end.
     pub(crate) fn neighbour(&self, site: u32) -> u32
@@ -216,7 +219,8 @@ impl Place {
     /// Sends the fork to the other end.
     pub(crate) fn give(&mut self, site: u32) -> Letter
         requires { OnHere (MayMove (neighbour_of site self.old)) self.old.fork }
-        ensures letter { OnHere (λ fork. result ≡ Letter.Fork (moved (neighbour_of site self.old) fork)) self.old.fork }
+        ensures letter { OnHere
+            (λ fork. result ≡ Letter.Fork (after_move (neighbour_of site self.old) fork)) self.old.fork }
         ensures away { self.new ≡ with_fork ForkSlot.Away self.old }
     {
         let to = self.neighbour(site);
@@ -235,7 +239,7 @@ impl Place {
         fork: Option<Fork>,
         token: Option<Token>,
     ) -> Place
-        ensures { result ≡ opened edge ends due neighbour_resigns fork token }
+        ensures { result ≡ fresh_place edge ends due neighbour_resigns fork token }
     {
         let fork = fork.map_or(ForkSlot::Away, ForkSlot::Here);
         Place {
@@ -256,7 +260,7 @@ impl Place {
     pub(crate) fn lift(&mut self, site: u32) -> Held
         requires { OnHere (λ fork. IsEnd fork (neighbour_of site self.old)) self.old.fork }
         ensures held { OnHere (λ fork. result ≡ fork) self.old.fork }
-        ensures lifted { self.new ≡ lifted site self.old }
+        ensures lifted { self.new ≡ place_in_meal site self.old }
     {
         let meals = self.neighbour_meals(site);
         match mem::replace(&mut self.fork, ForkSlot::InMeal(meals)) {
@@ -272,8 +276,8 @@ impl Place {
         self.fork = ForkSlot::Here(held.keep());
     }
 
-    /// Takes the fork, if it is in hand.
-    pub(crate) fn take_fork(&mut self) -> Option<Fork>
+    /// Removes the fork and returns it, if it is in hand.
+    pub(crate) fn remove_fork(&mut self) -> Option<Fork>
         ensures fork { result ≡ hand_of self.old.fork }
         ensures away { self.new ≡ with_fork ForkSlot.Away self.old }
     {
@@ -283,7 +287,7 @@ impl Place {
         }
     }
 
-    /// Takes the fork, if it is in hand, and the token.
+    /// Moves the fork, if it is in hand, and the token to the parts.
     pub(crate) fn empty(&mut self, parts: &mut Parts)
         requires room_for_forks { vec_len parts.old.forks < vec_capacity parts.old.forks }
         requires room_for_tokens { vec_len parts.old.tokens < vec_capacity parts.old.tokens }

@@ -39,7 +39,7 @@ use Rattle.dine_site.specs.declared.site_end.SiteFault.{SiteFault}
 use Rattle.dine_site.specs.declared.site_end.SiteFault.TheVariants as fault
 use Rattle.dine_threads.specs.declared.slots.Spot.{Spot}
 use Rattle.dine_threads.specs.Brokens.{AllClosedEarly, AreStatesLeft, fork_at_end, fork_in_hand, held_at_end, high_links, links_of, low_links, report_in}
-use Rattle.dine_threads.specs.private.Collecting.{AreLinksLeft, forks_left, found, in_slots, out_of, rows_left}
+use Rattle.dine_threads.specs.private.Collecting.{AreLinksLeft, forks_left, forks_found, in_slots, out_of, rows_left}
 use Rattle.dine_threads.specs.Gathered.{AreLinksOf, IsTakenInOrder, link_from_high, link_from_low, no_link, traffic_of}
 use Rattle.dine_threads.specs.Headline.{AllJoined}
 use Rattle.dine_site.specs.Ports.{PutsFit, SeenPort, seen_port, seen_ports}
@@ -94,12 +94,12 @@ module _ (h : ℕ → Option SeenFork) where
         ∙ ap (λ (o : Option SeenFork). Some o) (sym some.1)
   ]
 
-  found_one : (slot : Option SeenFork) (slots : List (Option SeenFork)) → found (slot ∷ slots) ≡ cons_option slot (found slots)
+  found_one : (slot : Option SeenFork) (slots : List (Option SeenFork)) → forks_found (slot ∷ slots) ≡ cons_option slot (forks_found slots)
   found_one None slots = refl
   found_one (Some fork) slots = refl
 
   -- what is found in such slots are the forks of the edges in order
-  found_given : (slots : List (Option SeenFork)) (first : ℕ) → ((k : ℕ) → k < length slots → slice_get slots k ≡ Some (h (first + k))) → found slots ≡ filter_map h (range_with_len first (length slots))
+  found_given : (slots : List (Option SeenFork)) (first : ℕ) → ((k : ℕ) → k < length slots → slice_get slots k ≡ Some (h (first + k))) → forks_found slots ≡ filter_map h (range_with_len first (length slots))
   found_given [] first each = refl
   found_given (slot ∷ slots) first each =
       let still : first + 0 ≡ first = omega arith in
@@ -585,7 +585,7 @@ module _ {Lane Tx Closed Rx D : Type 0} {lane : Ghosts Lane Tx Closed Rx}
         ]
 
     -- the forks that are found, and all that the sites left, by these states
-    pub states_left : AreStatesLeft manner plan (map out_of ends) links (found (in_slots (forks_left ends) (replicate (edge_count plan) None)))
+    pub states_left : AreStatesLeft manner plan (map out_of ends) links (forks_found (in_slots (forks_left ends) (replicate (edge_count plan) None)))
     states_left = record {
       states = states;
       ended = ended_left;

@@ -30,7 +30,7 @@ use Rattle.dine_threads.specs.declared.starts.SiteStart.{SiteStart}
 use Rattle.dine_site.specs.declared.manner.Manner.{Manner}
 use Rattle.dine_site.specs.declared.site_end.SiteEnd.{SiteEnd}
 use Rattle.dine_threads.specs.declared.slots.Spot.{Spot}
-use Rattle.dine_threads.specs.private.Collecting.{AreLinksLeft, forks_left, found, in_slots, out_of, rows_left}
+use Rattle.dine_threads.specs.private.Collecting.{AreLinksLeft, forks_left, forks_found, in_slots, out_of, rows_left}
 use Rattle.dine_threads.specs.Gathered.{IsClosedWhole, low_traffic, high_traffic, traffic_of, no_link}
 use Rattle.dine_threads.specs.Headline.{AllJoined, AreTokensOf, IsHeadline, ate_of, log_in_hand}
 use Rattle.dine_site.specs.Doings.{HasActed}
@@ -355,7 +355,7 @@ module _ {Lane Tx Closed Rx D : Type 0} {lane : Ghosts Lane Tx Closed Rx}
     filled : (k : ℕ) → k < length slots → IsFilled slots 0 k
     filled k within = record { fork = the_fork k; at = slot_of k (omega (arith, within, slots_count)); edge = sym (zero-add k) }
 
-    pub headline : AllJoined plan ates links → IsHeadline plan ates links (found slots)
+    pub headline : AllJoined plan ates links → IsHeadline plan ates links (forks_found slots)
     headline joined = record {
       joined = joined;
       all_taken = closed;

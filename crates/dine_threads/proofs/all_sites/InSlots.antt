@@ -5,7 +5,7 @@ use Rattle.std.proofs.lemmas.Bool.{cases_eq}
 use Rattle.std.proofs.lemmas.List.Elements.{All-head, All-tail}
 use Rattle.std.proofs.lemmas.Option.{none-some, same_Some}
 use Rattle.dine_token.specs.Fork.{SeenFork}
-use Rattle.dine_threads.specs.private.Collecting.{found, in_slots}
+use Rattle.dine_threads.specs.private.Collecting.{forks_found, in_slots}
 use Rattle.dine_site.proofs.lists.Lists.{get-set_other, get-set_same}
 use Rattle.dine_site.proofs.lists.Seen.{there_is}
 
@@ -68,7 +68,7 @@ pub record IsFilled (slots : List (Option SeenFork)) (first k : ℕ) : Type 0 wh
   pub edge : fork.edge ≡ first + k
 
 -- what is found has the numbers in order
-pub found_edges : (slots : List (Option SeenFork)) (first : ℕ) → ((k : ℕ) → k < length slots → IsFilled slots first k) → map (λ (fork : SeenFork). fork.edge) (found slots) ≡ range_with_len first (length slots)
+pub found_edges : (slots : List (Option SeenFork)) (first : ℕ) → ((k : ℕ) → k < length slots → IsFilled slots first k) → map (λ (fork : SeenFork). fork.edge) (forks_found slots) ≡ range_with_len first (length slots)
 found_edges [] first filled = refl
 found_edges (None ∷ slots) first filled = let here = filled 0 (omega arith) in absurd (none-some here.fork (same_Some None (Some here.fork) here.at))
 found_edges (Some fork ∷ slots) first filled =
@@ -76,10 +76,10 @@ found_edges (Some fork ∷ slots) first filled =
     let same : fork ≡ here.fork = same_Some fork here.fork (same_Some (Some fork) (Some here.fork) here.at) in
     let edge : fork.edge ≡ first = ap (λ (x : SeenFork). x.edge) same ∙ here.edge ∙ omega arith in
     let rest = found_edges slots (first + 1) (λ k within. let later = filled (suc k) (omega (arith, within)) in record { fork = later.fork; at = later.at; edge = omega (arith, later.edge) }) in
-    ap (λ n. n ∷ map (λ (x : SeenFork). x.edge) (found slots)) edge ∙ ap (λ l. first ∷ l) rest
+    ap (λ n. n ∷ map (λ (x : SeenFork). x.edge) (forks_found slots)) edge ∙ ap (λ l. first ∷ l) rest
 
 -- and is what stands in the slots
-pub found_get : (slots : List (Option SeenFork)) (first k : ℕ) (fork : SeenFork) → ((j : ℕ) → j < length slots → IsFilled slots first j) → slice_get (found slots) k ≡ Some fork → slice_get slots k ≡ Some (Some fork)
+pub found_get : (slots : List (Option SeenFork)) (first k : ℕ) (fork : SeenFork) → ((j : ℕ) → j < length slots → IsFilled slots first j) → slice_get (forks_found slots) k ≡ Some fork → slice_get slots k ≡ Some (Some fork)
 found_get [] first k fork filled at = absurd (none-some fork at)
 found_get (None ∷ slots) first k fork filled at = let here = filled 0 (omega arith) in absurd (none-some here.fork (same_Some None (Some here.fork) here.at))
 found_get (Some x ∷ slots) first zero fork filled at = ap Some at

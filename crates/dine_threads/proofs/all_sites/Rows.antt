@@ -11,7 +11,7 @@ use Rattle.dine_token.specs.Log.{meals_of}
 use Rattle.dine_graph.specs.Plan.{SeenPlan, IsPlan, site_count, edge_count, lo_of, hi_of}
 use Rattle.dine_link.specs.Links.{SeenLink}
 use Rattle.dine_rules.specs.JoinedEnds.{IsWholeLog}
-use Rattle.dine_rules.specs.Values.{added_up, has_no_set, value_by}
+use Rattle.dine_rules.specs.Values.{value_by_amounts, has_no_set, value_by}
 use Rattle.dine_site.specs.declared.manner.Manner.{Manner}
 use Rattle.dine_threads.specs.declared.tables.EdgeRow.{EdgeRow}
 use Rattle.dine_threads.specs.declared.gathered.SiteOut.{SiteOut}
@@ -85,7 +85,7 @@ module _ {D : Type 0} (plan : SeenPlan) (forks : List SeenFork) (outs : List (Si
         ∙ ap (λ (m : ℕ). record { edge = edge; lo = lo_of plan edge; hi = hi_of plan edge; lo_meals = meals (lo_of plan edge); hi_meals = m; value = get_or values edge 0 }) hi)
 
     -- and the values are due
-    pub values-due : ((plan : SeenPlan) (edge low_ate high_ate : ℕ) (log : List Entry) → IsPlan plan → edge < edge_count plan → has_no_set plan ≡ true → IsWholeLog plan edge low_ate high_ate log → value_by plan edge log ≡ added_up plan edge low_ate high_ate)
+    pub values-due : ((plan : SeenPlan) (edge low_ate high_ate : ℕ) (log : List Entry) → IsPlan plan → edge < edge_count plan → has_no_set plan ≡ true → IsWholeLog plan edge low_ate high_ate log → value_by plan edge log ≡ value_by_amounts plan edge low_ate high_ate)
         → AreDueValues plan meals values
     values-due adds = record {
       count = length-map forks (λ (f : SeenFork). f.value) ∙ fork_count plan forks headline.one_fork_an_edge;

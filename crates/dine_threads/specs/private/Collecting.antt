@@ -32,10 +32,10 @@ in_slots [] slots = slots
 in_slots (fork ∷ forks) slots = in_slots forks (set slots fork.edge (Some fork))
 
 -- the forks that are in the slots, in order
-abbrev pub found : List (Option SeenFork) → List SeenFork
-found [] = []
-found (None ∷ slots) = found slots
-found (Some fork ∷ slots) = fork ∷ found slots
+abbrev pub forks_found : List (Option SeenFork) → List SeenFork
+forks_found [] = []
+forks_found (None ∷ slots) = forks_found slots
+forks_found (Some fork ∷ slots) = fork ∷ forks_found slots
 
 -- every fork has the number of an edge
 abbrev pub AreForksOf : SeenPlan → List SeenFork → Type 0

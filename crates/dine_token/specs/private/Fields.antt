@@ -17,8 +17,8 @@ seen_contents fork = record {
 }
 
 -- the fork that the fields of a `Fork` describe
-abbrev pub seen : Inside → SeenFork
-seen fork = seen_contents fork.contents.value
+abbrev pub seen_fork : Inside → SeenFork
+seen_fork fork = seen_contents fork.contents.value
 
 -- The fork is a proper one, its periods, its location, whether it is dirty, and the meals of each end are those of the
 -- log, and there is capacity for all periods that the log may get: one more than the meals due to both ends.

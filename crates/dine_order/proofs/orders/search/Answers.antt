@@ -2,7 +2,8 @@ use Rattle.std.proofs.Common.{ℕ, Some, None, ◌∙◌, ap, sym, subst, map}
 use Rattle.std.proofs.lemmas.List.{length-map}
 use Rattle.dine_core.specs.Worlds.{AreOutcomesFor, lists_of}
 use Rattle.dine_rules.specs.Shown.{plan_shown}
-use Rattle.dine_order.specs.Orders.{FirstLeft, OrderFaultIs}
+use Rattle.dine_order.specs.Orders.{OrderFaultIs}
+use Rattle.dine_order.specs.private.Searching.{FirstLeft}
 use Rattle.dine_order.proofs.Answering.{memory_told, not_closed, stuck_at, whole_order}
 use Rattle.dine_order.proofs.Shown.{are_outcomes, counted_too, sites_shown}
 use Rattle.dine_order.proofs.orders.search.Goals as goal

@@ -3,11 +3,12 @@ use Rattle.std.specs.Prelude.{nat_lt}
 use Rattle.std.proofs.lemmas.List.{length-map}
 use Rattle.std.proofs.lemmas.Option.{get_or_from_slice_get, slice_get_within, none-some}
 use Rattle.dine_site.proofs.one_site.Times.{starts}
+use Rattle.dine_link.specs.Bells.{SeenBell}
 use Rattle.dine_site.specs.Ports.{IsFreshPort, seen_port, seen_ports}
 use Rattle.dine_site.proofs.one_site.Checks.{checks_start}
 use Rattle.dine_site.specs.declared.manner.Manner.{Manner}
 use Rattle.dine_site.specs.Doings.{empty_checks_of}
-use Rattle.dine_site.specs.Running.{HasChecked, IsObeying, IsRunning, IsTimedRun, seen_run}
+use Rattle.dine_site.specs.private.Running.{HasChecked, IsObeying, IsRunning, IsTimedRun, seen_run}
 use Rattle.dine_site.specs.declared.site_loop.running.Running.{Running}
 use Rattle.dine_site.specs.SiteEnds.{IsSiteEnd}
 use Rattle.dine_site.proofs.one_site.Meals.{eaten_nothing, eaten_same}
@@ -94,6 +95,7 @@ returns-in-Ok g c = record {
       let obeys = obeys_end core.resigns core.must_quit core.has_quit (nat_lt core.ate core.due) c.work.new.self.journal.items first (calls c.work.new.self.diner) (c.work.ensures.proceeds.obeys first start) reported in
       obeys_as core.resigns c.args.core.resigns c.work.new.self.journal.items c.end.result.journal.items first (calls c.work.new.self.diner) (calls c.end.result.diner)
       (sym (c.work.ensures.proceeds.resigns ∙ ap (λ (site : Running _ _ _ _ _). site.core.resigns) c.new-site.ensures)) c.end.ensures.journal (ap calls c.end.ensures.diner) obeys;
+  same_bell = ap (λ (b : SeenBell). b.identity) c.end.ensures.bell ∙ c.work.ensures.proceeds.same_bell ∙ ap (λ (site : Running _ _ _ _ _). site.bell.identity) c.new-site.ensures;
   timed = λ none.
       let ports = seen_ports g.L.Lane c.args.ports.items in
       let begun : IsTimedRun g.L.Lane c.new-site.result = subst (λ (site : Running _ _ _ _ _). IsTimedRun g.L.Lane site) (sym c.new-site.ensures)
@@ -151,6 +153,7 @@ returns-in-Err g c = record {
       let obeys = obeys_end core.resigns core.must_quit core.has_quit (nat_lt core.ate core.due) c.break_off.new.self.journal.items first (calls c.break_off.new.self.diner) obeying reported in
       obeys_as core.resigns c.args.core.resigns c.break_off.new.self.journal.items c.end-in-Err.result.journal.items first (calls c.break_off.new.self.diner) (calls c.end-in-Err.result.diner)
       (sym (same.resigns ∙ c.work.ensures.proceeds.resigns ∙ ap (λ (site : Running _ _ _ _ _). site.core.resigns) c.new-site.ensures)) c.end-in-Err.ensures.journal (ap calls c.end-in-Err.ensures.diner) obeys;
+  same_bell = ap (λ (b : SeenBell). b.identity) c.end-in-Err.ensures.bell ∙ c.break_off.ensures.same.same_bell ∙ c.work.ensures.proceeds.same_bell ∙ ap (λ (site : Running _ _ _ _ _). site.bell.identity) c.new-site.ensures;
   timed = λ none. absurd (none-some _ (sym none ∙ c.end-in-Err.ensures.reported));
   checks =
       let begun = c.new-site.ensures in

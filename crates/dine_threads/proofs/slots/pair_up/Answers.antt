@@ -42,7 +42,7 @@ unwrap-low-requires g c =
     let at = law.edge plan n is_plan within in
     let lower : c.ends-lower.result.0 ≡ lo_of plan n = ap (λ (p : ℕ × ℕ). p.0) c.ends-lower.ensures.ends in
     let low = found_spot plan c.ends-lower.result.0 (lo_of plan n) n (low_spot plan n).at c.place.result lower (at_low plan n ends at) c.place.ensures.only in
-    subst IsSome (sym (c.take_slot.ensures.value ∙ ap (slot_at (vec_items c.loop-edge.rows)) low ∙ c.loop-edge.invariant.low n (omega arith) within))
+    subst IsSome (sym (c.remove_at.ensures.value ∙ ap (slot_at (vec_items c.loop-edge.rows)) low ∙ c.loop-edge.invariant.low n (omega arith) within))
     (low_full plan c.args.rows.now.items c.requires.full is_plan n within ends.within)
 
 pub unwrap-high-requires : goal.unwrap-high-requires
@@ -59,8 +59,8 @@ unwrap-high-requires g c =
     let low = found_spot plan c.ends-lower.result.0 (lo_of plan n) n (low_spot plan n).at c.place.result lower (at_low plan n ends at) c.place.ensures.only in
     let high = found_spot plan c.ends-lower.result.1 (hi_of plan n) n (high_spot plan n).at c.place-in-loop-edge.result higher (at_high plan n ends at) c.place-in-loop-edge.ensures.only in
     let differ : high_spot plan n ≢ low_spot plan n = λ same. (let order = is_plan.ordered n within in let sites = ap (λ (s : Spot). s.site) same in omega (arith, order, sites)) in
-    let kept = c.take_slot.ensures.others (high_spot plan n) (subst (λ s. high_spot plan n ≢ s) (sym low) differ) in
-    subst IsSome (sym (c.take_slot-in-loop-edge.ensures.value ∙ ap (slot_at (vec_items c.take_slot.new.rows)) high ∙ kept ∙ c.loop-edge.invariant.high n (omega arith) within))
+    let kept = c.remove_at.ensures.others (high_spot plan n) (subst (λ s. high_spot plan n ≢ s) (sym low) differ) in
+    subst IsSome (sym (c.remove_at-in-loop-edge.ensures.value ∙ ap (slot_at (vec_items c.remove_at.new.rows)) high ∙ kept ∙ c.loop-edge.invariant.high n (omega arith) within))
     (high_full plan c.args.rows.now.items c.requires.full is_plan n within ends.within_there)
 
 pub loop-edge-preserved : goal.loop-edge-preserved
@@ -78,17 +78,17 @@ loop-edge-preserved g c =
     let low = found_spot plan c.ends-lower.result.0 (lo_of plan n) n (low_spot plan n).at c.place.result lower (at_low plan n (ends n within) (at n within)) c.place.ensures.only in
     let high = found_spot plan c.ends-lower.result.1 (hi_of plan n) n (high_spot plan n).at c.place-in-loop-edge.result higher (at_high plan n (ends n within) (at n within)) c.place-in-loop-edge.ensures.only in
     let before = vec_items c.loop-edge.rows in
-    let half = vec_items c.take_slot.new.rows in
-    let after = vec_items c.take_slot-in-loop-edge.new.rows in
+    let half = vec_items c.remove_at.new.rows in
+    let after = vec_items c.remove_at-in-loop-edge.new.rows in
     let keeps : (spot : Spot) (e : ℕ) → e ≢ n → slice_get (edges_of plan spot.site) spot.at ≡ Some e → slot_at after spot ≡ slot_at before spot = λ spot e differ stands.
-    c.take_slot-in-loop-edge.ensures.others spot (subst (λ s. spot ≢ s) (sym high) (spots_apart plan spot (high_spot plan n) e n stands (at_high plan n (ends n within) (at n within)) differ))
-    ∙ c.take_slot.ensures.others spot (subst (λ s. spot ≢ s) (sym low) (spots_apart plan spot (low_spot plan n) e n stands (at_low plan n (ends n within) (at n within)) differ)) in
+    c.remove_at-in-loop-edge.ensures.others spot (subst (λ s. spot ≢ s) (sym high) (spots_apart plan spot (high_spot plan n) e n stands (at_high plan n (ends n within) (at n within)) differ))
+    ∙ c.remove_at.ensures.others spot (subst (λ s. spot ≢ s) (sym low) (spots_apart plan spot (low_spot plan n) e n stands (at_low plan n (ends n within) (at n within)) differ)) in
     let differ : high_spot plan n ≢ low_spot plan n = λ same. (let order = is_plan.ordered n within in let sites = ap (λ (s : Spot). s.site) same in omega (arith, order, sites)) in
-    let kept = c.take_slot.ensures.others (high_spot plan n) (subst (λ s. high_spot plan n ≢ s) (sym low) differ) in
+    let kept = c.remove_at.ensures.others (high_spot plan n) (subst (λ s. high_spot plan n ≢ s) (sym low) differ) in
     let new : EdgePair _ = record { low = c.unwrap-low.result; high = c.unwrap-high.result } in
     let here : IsPairAt plan c.args.rows.now.items n new = record {
-      low = sym (was.low n (omega arith) within) ∙ sym (c.take_slot.ensures.value ∙ ap (slot_at before) low) ∙ c.unwrap-low.ensures;
-      high = sym (was.high n (omega arith) within) ∙ sym (c.take_slot-in-loop-edge.ensures.value ∙ ap (slot_at half) high ∙ kept) ∙ c.unwrap-high.ensures;
+      low = sym (was.low n (omega arith) within) ∙ sym (c.remove_at.ensures.value ∙ ap (slot_at before) low) ∙ c.unwrap-low.ensures;
+      high = sym (was.high n (omega arith) within) ∙ sym (c.remove_at-in-loop-edge.ensures.value ∙ ap (slot_at half) high ∙ kept) ∙ c.unwrap-high.ensures;
     } in
     record {
       len = omega arith;

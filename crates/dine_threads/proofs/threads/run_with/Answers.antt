@@ -140,9 +140,7 @@ pub returns-in-None-clause-ok : goal.returns-in-None-clause-ok
 returns-in-None-clause-ok g c = record {
   many = many_is g c;
   finished = finished_is g c;
-  headline = headline_is g c;
-  journals = journals_is g c;
-  ordered = ordered_is g c;
+  whole = record { headline = headline_is g c; acted = journals_is g c; ordered = ordered_is g c };
   tokens = tokens_is g c;
   sites = sites_is g c;
 }

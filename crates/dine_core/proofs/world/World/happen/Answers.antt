@@ -3,12 +3,13 @@ use Rattle.std.proofs.lemmas.Grind.{common_steps}
 use Rattle.std.proofs.lemmas.List.{length-set}
 use Rattle.dine_rules.specs.declared.letters.Letter.{Letter}
 use Rattle.dine_rules.specs.Steps.{shape_of}
-use Rattle.dine_core.specs.WorldSites.{SiteSteps, HasRoomFor, TakesAllowed, can_do, has_place}
+use Rattle.dine_core.specs.WorldSites.{can_do, has_place}
+use Rattle.dine_core.specs.private.StepsOfSites.{SiteSteps, HasRoomFor, TakesAllowed}
 use Rattle.dine_core.specs.private.WorldFields.{seen_world}
 use Rattle.dine_core.specs.Worlds.{WorldStep, IsWorldOf, SeenWorld, can_happen}
 use Rattle.dine_core.specs.private.EnabledSites.{HasAllEnabled, with_site}
 use Rattle.dine_core.specs.private.Counts.{HasCounts}
-use Rattle.dine_core.specs.private.Inboxes.{HasInboxes, LeadsToSet, changed_link, noted}
+use Rattle.dine_core.specs.private.Inboxes.{HasInboxes, LeadsToSet, changed_link, inboxes_after}
 use Rattle.dine_core.specs.declared.world.EdgeEnds.{EdgeEnds}
 use Rattle.dine_core.specs.declared.world.sites.WorldSite.{WorldSite}
 use Rattle.dine_core.proofs.enabled_events.Inboxes.{event_changes, heard_after, leads}
@@ -130,12 +131,12 @@ invariant_of-self c =
     let new : List (List Letter) → SeenWorld = λ links. record { sites = slice_set c.self.inside.sites.items c.args.event.site changed; links = links; edges = c.self.inside.edges.items; bound = c.self.inside.bound } in
     let shape = shape_of c.args.event.kind in
     let nonempty_inboxes = heard_after kept.plan kept.state next.after seen (new c.act.new.links) kept.stands next.stands refl c.self.inside.nonempty_inboxes.items kept.nonempty_inboxes (changed_link world_site.core shape) change in
-    let rows : c.note.new.nonempty_inboxes ≡ noted c.act.new.links seen.edges (changed_link world_site.core shape) c.self.inside.nonempty_inboxes.items =
+    let rows : c.note.new.nonempty_inboxes ≡ inboxes_after c.act.new.links seen.edges (changed_link world_site.core shape) c.self.inside.nonempty_inboxes.items =
     c.note.ensures.noted
-    ∙ ap (λ (links : List (List Letter)). noted links c.as_slice-2.result.now c.changed_link-link.result c.as_mut_slice-2.result.now) (c.as_slice.ensures.value ∙ whole)
-    ∙ ap (λ (edges : List EdgeEnds). noted c.act.new.links edges c.changed_link-link.result c.as_mut_slice-2.result.now) c.as_slice-2.ensures.value
-    ∙ ap (λ (link : Option ℕ). noted c.act.new.links seen.edges link c.as_mut_slice-2.result.now) c.changed_link-link.ensures
-    ∙ ap (noted c.act.new.links seen.edges (changed_link world_site.core shape)) c.as_mut_slice-2.ensures.value in
+    ∙ ap (λ (links : List (List Letter)). inboxes_after links c.as_slice-2.result.now c.changed_link-link.result c.as_mut_slice-2.result.now) (c.as_slice.ensures.value ∙ whole)
+    ∙ ap (λ (edges : List EdgeEnds). inboxes_after c.act.new.links edges c.changed_link-link.result c.as_mut_slice-2.result.now) c.as_slice-2.ensures.value
+    ∙ ap (λ (link : Option ℕ). inboxes_after c.act.new.links seen.edges link c.as_mut_slice-2.result.now) c.changed_link-link.ensures
+    ∙ ap (inboxes_after c.act.new.links seen.edges (changed_link world_site.core shape)) c.as_mut_slice-2.ensures.value in
     let all_rows : take c.self.inside.nonempty_inboxes.len (c.note.new.nonempty_inboxes ++ drop (length c.note.new.nonempty_inboxes) c.self.inside.nonempty_inboxes.items) ≡ c.note.new.nonempty_inboxes = grind (arith, common_steps) in
     record {
       plan = kept.plan;

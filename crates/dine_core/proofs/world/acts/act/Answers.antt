@@ -8,7 +8,8 @@ use Rattle.dine_rules.specs.Steps.{Step, after, may, shape_of, with_taken}
 use Rattle.dine_rules.specs.Steps as step
 use Rattle.dine_site_core.specs.Core.{SeenCore, forks_in_hand}
 use Rattle.dine_site_core.specs.Places.{breach_at, place_at}
-use Rattle.dine_core.specs.WorldSites.{SiteStep, SiteSteps, TakesAllowed, can_do, meets_no_breach, meal_of, next_in, outcomes_of, step_in}
+use Rattle.dine_core.specs.WorldSites.{can_do, meal_of, next_in, outcomes_of}
+use Rattle.dine_core.specs.private.StepsOfSites.{SiteStep, SiteSteps, TakesAllowed, meets_no_breach, step_in}
 use Rattle.dine_site_core.specs.Standing.{all_places}
 use Rattle.dine_site_core.proofs.one_site.Breaches.{breach_is, may_take}
 use Rattle.dine_core.proofs.all_sites.OpenedSites.{none_applies, meal-taken, meal_is, within_of}

@@ -3,7 +3,8 @@ use Rattle.std.proofs.lemmas.Grind.{common_steps}
 use Rattle.dine_rules.specs.Steps.{Shape, after, shape_of, step_by}
 use Rattle.dine_site_core.specs.LinkNumbers.{link_from}
 use Rattle.dine_site_core.specs.Places.{place_at}
-use Rattle.dine_core.specs.WorldSites.{MovesLetters, has_failed, meal_of, next_in, outcomes_of, with_letter}
+use Rattle.dine_core.specs.WorldSites.{meal_of, next_in, outcomes_of}
+use Rattle.dine_core.specs.private.StepsOfSites.{MovesLetters, has_failed, with_letter}
 use Rattle.dine_core.proofs.all_sites.Shapes.{meal-after, puts_not_takes, step_alike}
 use Rattle.dine_core.proofs.world.acts.put.Goals as goal
 

@@ -8,9 +8,10 @@ use Rattle.dine_rules.specs.declared.letters.Letter.{Letter}
 use Rattle.dine_rules.specs.Steps.{Take}
 use Rattle.dine_site_core.specs.Core.{SeenCore}
 use Rattle.dine_site_core.specs.LinkNumbers.{link_to}
-use Rattle.dine_site_core.specs.Places.{place_at, took}
+use Rattle.dine_site_core.specs.Places.{place_at, after_take}
 use Rattle.dine_site_core.specs.Standing.{CoreSteps}
-use Rattle.dine_core.specs.WorldSites.{meets_no_breach, next_in}
+use Rattle.dine_core.specs.WorldSites.{next_in}
+use Rattle.dine_core.specs.private.StepsOfSites.{meets_no_breach}
 use Rattle.dine_core.proofs.world.acts.take.Goals as goal
 
 -- the link is there
@@ -61,5 +62,5 @@ returns-clause-core c =
     let new : SeenCore = c.take_in_turn.new.self in
     let within = link_within links core i c.link_to-link.result c.link_to-link.ensures c.requires.allowed in
     let next = next_is links core i c.link_to-link.result c.index-links-link.result c.unwrap-letter.result c.link_to-link.ensures within (sym c.take.ensures.letter ∙ c.unwrap-letter.ensures) in
-    let Stepped : Letter → Type 0 = λ (letter : Letter). (new ≡ took i letter core) × CoreSteps (Take i letter) core new in
+    let Stepped : Letter → Type 0 = λ (letter : Letter). (new ≡ after_take i letter core) × CoreSteps (Take i letter) core new in
     subst (λ (letter : Option Letter). MatchOption letter ⊥ Stepped) (sym next) (c.take_in_turn.ensures.core, c.take_in_turn.ensures.step)

@@ -4,7 +4,7 @@ use Rattle.std.proofs.lemmas.List.{length-append, length-map, length-reverse, ap
 use Rattle.dine_core.specs.declared.world.sites.WorldSite.{WorldSite}
 use Rattle.dine_site_core.specs.Core.{SeenCore}
 use Rattle.dine_core.specs.private.Forks.{core_ended}
-use Rattle.dine_core.specs.WorldSites.{HasOwnMeal}
+use Rattle.dine_core.specs.private.StepsOfSites.{HasOwnMeal}
 use Rattle.dine_core.proofs.all_sites.HandsOut.{last_ended}
 use Rattle.dine_core.proofs.all_sites.WorldOpened.{front_all, last_all}
 use Rattle.dine_core.proofs.world.forks.end_sites.Goals as goal

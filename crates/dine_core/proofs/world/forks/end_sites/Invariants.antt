@@ -1,6 +1,6 @@
 use Rattle.std.proofs.Common.{◌≡◌, ◌++◌, All, map, reverse, vec_capacity, vec_len}
 use Rattle.dine_core.specs.private.Forks.{core_ended}
-use Rattle.dine_core.specs.WorldSites.{HasOwnMeal}
+use Rattle.dine_core.specs.private.StepsOfSites.{HasOwnMeal}
 use Rattle.dine_core.proofs.world.forks.end_sites.Given as goal
 
 -- The cores of the sites that are left, and the hands from the last to the first, are those of all sites. Each site has

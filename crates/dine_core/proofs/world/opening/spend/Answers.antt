@@ -1,6 +1,6 @@
 use Rattle.std.proofs.Common.{◌∷◌, [], length, ap, arith}
 use Rattle.std.proofs.lemmas.List.{length-append}
-use Rattle.dine_core.specs.WorldSites.{IsNotEating}
+use Rattle.dine_core.specs.private.StepsOfSites.{IsNotEating}
 use Rattle.dine_core.proofs.all_sites.WorldOpened.{front_all, last_all}
 use Rattle.dine_core.proofs.world.opening.spend.Goals as goal
 

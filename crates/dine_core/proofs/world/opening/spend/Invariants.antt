@@ -1,5 +1,5 @@
 use Rattle.std.proofs.Common.{All, vec_len}
-use Rattle.dine_core.specs.WorldSites.{IsNotEating}
+use Rattle.dine_core.specs.private.StepsOfSites.{IsNotEating}
 use Rattle.dine_core.proofs.world.opening.spend.Given as goal
 
 -- none of the sites that are left eats

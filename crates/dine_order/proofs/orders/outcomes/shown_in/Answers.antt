@@ -4,7 +4,7 @@ use Rattle.dine_rules.specs.declared.events.EventKind.{EventKind}
 use Rattle.dine_rules.specs.declared.events.EventKind.TheVariants.{End, Quit, Take}
 use Rattle.dine_rules.specs.Journals.{outcomes_in}
 use Rattle.dine_rules.specs.Shown.{shown_in}
-use Rattle.dine_order.specs.Orders.{noted}
+use Rattle.dine_order.specs.private.Searching.{outcomes_after}
 use Rattle.dine_order.proofs.Shown.{ended-end, ended-other, ended-quit, shown-end, shown-none, shown-other, shown-quit}
 use Rattle.dine_order.proofs.orders.outcomes.shown_in.Goals.{in-End, in-Quit, in_default}
 use Rattle.dine_order.proofs.orders.outcomes.shown_in.Goals as goal
@@ -35,7 +35,7 @@ loop-kind-preserved c =
       | in-Quit w ↦
           let next : take (i + 1) journal ≡ before ++ Quit ∷ [] = more ∙ ap (λ (k : EventKind). before ++ k ∷ []) w.in-Quit.is in
           record {
-            shown = ap vec_items w.fails-is ∙ w.note.ensures ∙ ap₂ noted kept.ended kept.shown ∙ sym (ap (shown_in jobs) next ∙ shown-quit jobs before);
+            shown = ap vec_items w.fails-is ∙ w.note.ensures ∙ ap₂ outcomes_after kept.ended kept.shown ∙ sym (ap (shown_in jobs) next ∙ shown-quit jobs before);
             ended = w.ended-is ∙ kept.ended ∙ sym (ap many next ∙ ended-quit before);
             few = omega (arith, w.ended-is, kept.few);
           }

@@ -1,6 +1,6 @@
 use Rattle.std.proofs.Common.{◌+◌, List, ◌++◌, ◌∷◌, [], sym, ◌∙◌, subst, slice_set, slice_index_or, arith}
 use Rattle.dine_rules.specs.Shown.{plan_shown}
-use Rattle.dine_order.specs.Orders.{IsSearching}
+use Rattle.dine_order.specs.private.Searching.{IsSearching}
 use Rattle.dine_order.proofs.Outcomes.{none_from}
 use Rattle.dine_order.proofs.Placing.{few_placed, is_site, place_within, search_with, search_without}
 use Rattle.dine_order.proofs.Shown.{receiver_shown}

@@ -2,7 +2,7 @@ use Rattle.std.proofs.Common.{ℕ, List, length, replicate, sym, ◌∙◌, ap, 
 use Rattle.std.proofs.lemmas.List.{length-map, length_push}
 use Rattle.dine_rules.specs.declared.events.Event.{Event}
 use Rattle.dine_rules.specs.Shown.{plan_shown}
-use Rattle.dine_order.specs.Orders.{IsSearching}
+use Rattle.dine_order.specs.private.Searching.{IsSearching}
 use Rattle.dine_order.proofs.Placing.{fewer_left, starts_as}
 use Rattle.dine_order.proofs.Shown.{sites_shown}
 use Rattle.dine_order.proofs.orders.placing.place_all.Goals as goal

@@ -1,7 +1,7 @@
 use Rattle.std.proofs.Common.{◌-◌, length, map}
 use Rattle.dine_rules.specs.Bound.{bound_of}
 use Rattle.dine_rules.specs.Shown.{plan_shown}
-use Rattle.dine_order.specs.Orders.{IsSearching}
+use Rattle.dine_order.specs.private.Searching.{IsSearching}
 use Rattle.dine_order.proofs.orders.placing.place_all.Given as goal
 
 abbrev pub invariant-loop-event : goal.invariant-loop-event

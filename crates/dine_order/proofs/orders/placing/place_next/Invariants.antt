@@ -1,7 +1,7 @@
 use Rattle.std.proofs.Common.{◌≡◌, List, count_by, map}
 use Rattle.dine_graph.specs.Plan.{SeenPlan}
 use Rattle.dine_rules.specs.declared.events.Event.{Event}
-use Rattle.dine_order.specs.Orders.{IsSearching}
+use Rattle.dine_order.specs.private.Searching.{IsSearching}
 use Rattle.dine_order.proofs.orders.placing.place_next.Given as goal
 
 -- nothing was done, and the sites that were taken out are not ready

@@ -3,18 +3,18 @@ use Rattle.std.proofs.lemmas.Grind.{common_steps}
 use Rattle.dine_rules.specs.declared.letters.Letter.TheVariants as letter
 use Rattle.dine_rules.specs.Steps.{Break}
 use Rattle.dine_site_core.specs.Core.{SeenCore}
-use Rattle.dine_site_core.specs.Places.{place_at, no_place, closed}
+use Rattle.dine_site_core.specs.Places.{place_at, no_place, after_close}
 use Rattle.dine_site_core.specs.declared.site.places.Place.{Place}
-use Rattle.dine_site_core.specs.private.SiteFields.{seen}
+use Rattle.dine_site_core.specs.private.SiteFields.{seen_core}
 use Rattle.dine_site_core.proofs.one_site.Sound.{kept_with, sound_closed}
 use Rattle.dine_site_core.proofs.one_site.CoreSteps.{puts, stepped}
 use Rattle.dine_site_core.proofs.one_site.SiteTests.{may_break}
-use Rattle.dine_site_core.proofs.one_site.Stands.{stands-closed}
+use Rattle.dine_site_core.proofs.one_site.Stands.{stands-after_close}
 use Rattle.dine_site_core.proofs.site.SiteCore.break_off.Goals as goal
 
 pub invariant_of-self : goal.invariant_of-self
 invariant_of-self c =
-    let old = seen c.self.inside in
+    let old = seen_core c.self.inside in
     let here : Place = place_at old c.args.i in
     let within : c.args.i < length old.places = subst (λ (core : SeenCore). c.args.i < length core.places) (sym c.self.view_is) c.requires.place in
     kept_with c.self.inside c.args.i (record here { close_put = true }) c.put_close.new.self c.self.invariant c.put_close.ensures (sound_closed old here (c.self.invariant.sound.places c.args.i no_place within))
@@ -40,8 +40,8 @@ returns-then-at-clause-step c =
 
 pub returns-clause-core : goal.returns-clause-core
 returns-clause-core c =
-    let with_places : List Place → SeenCore = λ (places : List Place). record (seen c.self.inside) { places = places } in
-    ap with_places c.put_close.ensures ∙ ap (closed c.args.i) c.self.view_is
+    let with_places : List Place → SeenCore = λ (places : List Place). record (seen_core c.self.inside) { places = places } in
+    ap with_places c.put_close.ensures ∙ ap (after_close c.args.i) c.self.view_is
 
 pub returns-clause-none : goal.returns-clause-none
 returns-clause-none c =
@@ -55,4 +55,4 @@ returns-clause-step c plan state keeps stands =
     let core = c.args.self.now in
     let i = c.args.i in
     puts plan state core stands keeps i (Break i) letter.Close letter.Close _ refl refl
-    (stepped plan state core stands keeps (Break i) _ _ (returns-clause-core c) refl tt (may_break plan state core stands keeps i c.requires.place c.requires.not_eating (returns-clause-none c)) (stands-closed plan state core stands i c.requires.place))
+    (stepped plan state core stands keeps (Break i) _ _ (returns-clause-core c) refl tt (may_break plan state core stands keeps i c.requires.place c.requires.not_eating (returns-clause-none c)) (stands-after_close plan state core stands i c.requires.place))

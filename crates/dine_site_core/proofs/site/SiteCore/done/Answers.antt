@@ -5,16 +5,16 @@ use Rattle.dine_rules.specs.Steps as step
 use Rattle.dine_site_core.specs.Core.{SeenCore}
 use Rattle.dine_site_core.specs.Places.{place_at, no_place}
 use Rattle.dine_site_core.specs.declared.site.places.Place.{Place}
-use Rattle.dine_site_core.specs.private.SiteFields.{seen}
+use Rattle.dine_site_core.specs.private.SiteFields.{seen_core}
 use Rattle.dine_site_core.proofs.one_site.Sound.{kept_with, sound_done}
 use Rattle.dine_site_core.proofs.one_site.CoreSteps.{puts, stepped}
 use Rattle.dine_site_core.proofs.one_site.SiteTests.{may_done}
-use Rattle.dine_site_core.proofs.one_site.Stands.{stands-said_done}
+use Rattle.dine_site_core.proofs.one_site.Stands.{stands-after_done}
 use Rattle.dine_site_core.proofs.site.SiteCore.done.Goals as goal
 
 pub invariant_of-self : goal.invariant_of-self
 invariant_of-self c =
-    let old = seen c.self.inside in
+    let old = seen_core c.self.inside in
     let here : Place = place_at old c.args.i in
     let within : c.args.i < length old.places = subst (λ (core : SeenCore). c.args.i < length core.places) (sym c.self.view_is) c.requires.place in
     kept_with c.self.inside c.args.i (record here { done_put = true }) c.put_done.new.self c.self.invariant c.put_done.ensures (sound_done old here (c.self.invariant.sound.places c.args.i no_place within))
@@ -27,4 +27,4 @@ returns-clause-step c plan state keeps stands =
     let core = c.args.self.now in
     let i = c.args.i in
     puts plan state core stands keeps i (step.Done i) letter.Done letter.Done _ refl refl
-    (stepped plan state core stands keeps (step.Done i) _ _ (returns-clause-core c) refl tt (may_done plan state core stands keeps i c.requires.place c.requires.may) (stands-said_done plan state core stands i c.requires.place))
+    (stepped plan state core stands keeps (step.Done i) _ _ (returns-clause-core c) refl tt (may_done plan state core stands keeps i c.requires.place c.requires.may) (stands-after_done plan state core stands i c.requires.place))

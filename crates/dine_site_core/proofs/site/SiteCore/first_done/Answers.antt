@@ -1,5 +1,5 @@
 use Rattle.std.proofs.Common.{◌∙◌}
-use Rattle.dine_site_core.specs.NextEvent.{may_say_done_at}
+use Rattle.dine_site_core.specs.private.OwnEvents.{may_say_done_at}
 use Rattle.dine_site_core.proofs.own_events.MarkedEvents.{first_marked}
 use Rattle.dine_site_core.proofs.site.SiteCore.first_done.Goals as goal
 

@@ -1,16 +1,16 @@
 use Rattle.std.proofs.Common.{refl, ap}
 use Rattle.dine_rules.specs.Steps.{Quit}
-use Rattle.dine_site_core.specs.Places.{quitted}
+use Rattle.dine_site_core.specs.Places.{after_quit}
 use Rattle.dine_site_core.proofs.one_site.CoreSteps.{stepped}
 use Rattle.dine_site_core.proofs.one_site.SiteTests.{may_quit}
-use Rattle.dine_site_core.proofs.one_site.Stands.{stands-quitted}
+use Rattle.dine_site_core.proofs.one_site.Stands.{stands-after_quit}
 use Rattle.dine_site_core.proofs.site.SiteCore.quit.Goals as goal
 
 pub returns-clause-quit : goal.returns-clause-quit
-returns-clause-quit c = ap quitted c.self.view_is
+returns-clause-quit c = ap after_quit c.self.view_is
 
 pub returns-clause-step : goal.returns-clause-step
 returns-clause-step c plan state keeps stands =
     let core = c.args.self.now in
     stepped plan state core stands keeps Quit _ _ (returns-clause-quit c) refl tt (may_quit plan state core stands keeps c.requires)
-    (stands-quitted plan state core stands)
+    (stands-after_quit plan state core stands)

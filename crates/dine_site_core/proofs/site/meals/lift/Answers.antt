@@ -3,7 +3,8 @@ use Rattle.std.proofs.lemmas.List.{append-nil, at_drop_all, length-take-le, take
 use Rattle.std.proofs.lemmas.List.Edits.{map_over_more}
 use Rattle.dine_token.specs.Fork.{SeenFork}
 use Rattle.dine_site_core.specs.declared.site.places.Place.{Place}
-use Rattle.dine_site_core.specs.Places.{lifted, forks_of, IsLiftable, OnHere}
+use Rattle.dine_site_core.specs.Places.{place_in_meal, forks_of, OnHere}
+use Rattle.dine_site_core.specs.private.PlaceSteps.{IsLiftable}
 use Rattle.dine_site_core.proofs.lists.Lists.{get_or-map_over, forks_of-few, forks_of-more, fork_is}
 use Rattle.dine_site_core.proofs.site.meals.lift.Goals as goal
 
@@ -20,7 +21,7 @@ loop-place-preserved c =
     let ys = c.loop-place.places in
     let i = c.loop-place.place-index in
     let d = c.place-item.result in
-    let f = lifted c.args.site in
+    let f = place_in_meal c.args.site in
     let within : i < length xs = omega arith in
     let same = get_or-map_over f xs ys i d within c.loop-place.invariant.0 in
     let held = subst (λ (p : Place). OnHere (λ fork. c.lift.result ≡ fork) p.fork) same c.lift.ensures.held in
@@ -37,16 +38,16 @@ lift-requires c =
     let i = c.loop-place.place-index in
     let d = c.place-item.result in
     let within = c.loop-place-test.true in
-    subst (IsLiftable c.args.site) (sym (get_or-map_over (lifted c.args.site) xs c.loop-place.places i d within c.loop-place.invariant.0)) (c.requires.here i d within)
+    subst (IsLiftable c.args.site) (sym (get_or-map_over (place_in_meal c.args.site) xs c.loop-place.places i d within c.loop-place.invariant.0)) (c.requires.here i d within)
 
 pub returns-clause-places : goal.returns-clause-places
 returns-clause-places c =
     let xs = c.args.places.now in
     let i = c.loop-place.place-index in
-    let done : List Place = map (lifted c.args.site) (take i xs) in
+    let done : List Place = map (place_in_meal c.args.site) (take i xs) in
     c.loop-place.invariant.0
     ∙ at_drop_all (λ (l : List Place). done ++ l) xs i c.loop-place-test.false ∙ append-nil done
-    ∙ ap (map (lifted c.args.site)) (take_all i xs c.loop-place-test.false)
+    ∙ ap (map (place_in_meal c.args.site)) (take_all i xs c.loop-place-test.false)
 
 pub returns-clause-hands : goal.returns-clause-hands
 returns-clause-hands c = c.loop-place.invariant.1 ∙ ap forks_of (take_all c.loop-place.place-index c.args.places.now c.loop-place-test.false)

@@ -6,8 +6,8 @@ use Rattle.dine_token.specs.declared.log_entry.Entry.TheVariants.{Meal}
 use Rattle.dine_token.specs.declared.fork.Contents.{Contents}
 use Rattle.dine_token.specs.declared.log_period.Period.{Period}
 use Rattle.dine_token.specs.Periods.{entries_of}
-use Rattle.dine_token.specs.Fork.{MayEat, eaten}
-use Rattle.dine_token.specs.Values.{applied}
+use Rattle.dine_token.specs.Fork.{MayEat, after_meal}
+use Rattle.dine_token.specs.Values.{value_after_act}
 use Rattle.dine_token.specs.private.Fields.{seen_contents, MatchesLog}
 use Rattle.dine_token.proofs.Periods.{length-periods_of}
 use Rattle.dine_token.proofs.Forks.{periods_small}
@@ -38,7 +38,7 @@ invariant_of-self c =
     let old = c.deref_mut-contents.result.now in
     let inv = subst MatchesLog (sym c.deref_mut-contents.ensures.value) c.self.invariant in
     let items = c.if-site-contents.contents.periods.items in
-    let value : c.apply-value.result ≡ applied c.args.act old.value = c.apply-value.ensures ∙ ap (applied c.args.act) (ap (λ (f : Contents). f.value) (c.deref.ensures ∙ sym c.deref_mut-contents.ensures.value)) in
+    let value : c.apply-value.result ≡ value_after_act c.args.act old.value = c.apply-value.ensures ∙ ap (value_after_act c.args.act) (ap (λ (f : Contents). f.value) (c.deref.ensures ∙ sym c.deref_mut-contents.ensures.value)) in
     let may : MayEat c.args.site c.args.k (seen_contents old) = subst (MayEat c.args.site c.args.k) (sym (ap seen_contents c.deref_mut-contents.ensures.value ∙ c.self.view_is)) c.requires.may_eat in
     let same : items ≡ old.periods.items = elim c.if-site-contents.branch [
       | then-site-contents w ↦ ap (λ (f : Contents). f.periods.items) w.contents-is
@@ -68,7 +68,7 @@ returns-clause-eaten c =
     let inv = subst MatchesLog (sym c.deref_mut-contents.ensures.value) c.self.invariant in
     let items = c.if-site-contents.contents.periods.items in
     let view = ap seen_contents c.deref_mut-contents.ensures.value ∙ c.self.view_is in
-    let value : c.apply-value.result ≡ applied c.args.act old.value = c.apply-value.ensures ∙ ap (applied c.args.act) (ap (λ (f : Contents). f.value) (c.deref.ensures ∙ sym c.deref_mut-contents.ensures.value)) in
+    let value : c.apply-value.result ≡ value_after_act c.args.act old.value = c.apply-value.ensures ∙ ap (value_after_act c.args.act) (ap (λ (f : Contents). f.value) (c.deref.ensures ∙ sym c.deref_mut-contents.ensures.value)) in
     let may : MayEat c.args.site c.args.k (seen_contents old) = subst (MayEat c.args.site c.args.k) (sym view) c.requires.may_eat in
     let same_items : items ≡ old.periods.items = elim c.if-site-contents.branch [
       | then-site-contents w ↦ ap (λ (f : Contents). f.periods.items) w.contents-is
@@ -81,7 +81,7 @@ returns-clause-eaten c =
     ] in
     ap (λ (log : List Entry). record (seen_contents c.if-site-contents.contents) { log = log }) contents.1 ∙ same
     ∙ ap (λ (v : ℕ). record (seen_contents old) { log = entries_of old.periods.items ++ Meal c.args.site c.args.k ∷ []; value = v }) value
-    ∙ ap (eaten c.args.site c.args.k c.args.act) view
+    ∙ ap (after_meal c.args.site c.args.k c.args.act) view
 
 pub returns-clause-proper : goal.returns-clause-proper
 returns-clause-proper c = (invariant_of-self c).proper

@@ -3,7 +3,7 @@ use Rattle.std.proofs.Common.{length, ap, arith, rules}
 use Rattle.dine_token.specs.declared.fork.Contents.{Contents}
 use Rattle.dine_token.specs.Fork.{SeenFork}
 use Rattle.dine_token.specs.Log.{moves_of}
-use Rattle.dine_token.specs.private.Fields.{seen}
+use Rattle.dine_token.specs.private.Fields.{seen_fork}
 use Rattle.dine_token.proofs.Bounds.{counted_lawful}
 use Rattle.dine_token.proofs.Forks.{length-fork}
 use Rattle.dine_token.proofs.fork.Fork.len.Goals as goal
@@ -11,13 +11,13 @@ use Rattle.dine_token.proofs.fork.Fork.len.Goals as goal
 pub overflow_add-result-2 : goal.overflow_add-result-2
 overflow_add-result-2 c =
     let contents = c.self.invariant in
-    let fork = seen c.self.inside in
+    let fork = seen_fork c.self.inside in
     omega (arith, ap (λ (k : Contents). k.lower_meals) c.deref-contents.ensures, ap (λ (k : Contents). k.higher_meals) c.deref-contents.ensures, contents.lower_meals, contents.higher_meals, c.moves.ensures, ap (λ (f : SeenFork). moves_of f.log) c.self.view_is, (counted_lawful fork.ends fork.due contents.proper.ordered fork.log contents.proper.lawful).all, length-fork fork contents.proper, contents.proper.lower_due, contents.proper.higher_due)
 
 pub returns-clause-len : goal.returns-clause-len
 returns-clause-len c =
     let contents = c.self.invariant in
-    let fork = seen c.self.inside in
+    let fork = seen_fork c.self.inside in
     omega (arith, ap (λ (k : Contents). k.lower_meals) c.deref-contents.ensures, ap (λ (k : Contents). k.higher_meals) c.deref-contents.ensures, contents.lower_meals, contents.higher_meals, c.moves.ensures, ap (λ (f : SeenFork). moves_of f.log) c.self.view_is, ap (λ (f : SeenFork). length f.log) c.self.view_is, (counted_lawful fork.ends fork.due contents.proper.ordered fork.log contents.proper.lawful).all)
 
 pub returns-clause-proper : goal.returns-clause-proper

@@ -2,7 +2,7 @@ use Rattle.std.proofs.Common.{ℕ, ◌+◌, List, [], ◌∷◌, ◌++◌, lengt
 use Rattle.dine_token.specs.declared.log_entry.Entry.{Entry}
 use Rattle.dine_token.specs.Log.{meals_of}
 use Rattle.dine_token.specs.Periods.{entries_of}
-use Rattle.dine_token.specs.Fork.{SeenFork, IsFork, MayMove, moved}
+use Rattle.dine_token.specs.Fork.{SeenFork, IsFork, MayMove, after_move}
 use Rattle.dine_token.specs.private.Fields.{seen_contents, MatchesLog}
 use Rattle.dine_token.proofs.Periods.{period}
 use Rattle.dine_token.proofs.Forks.{room_to_move, due_small}
@@ -36,7 +36,7 @@ returns-clause-moved c =
     let old = c.deref_mut-contents.result.now in
     let contents = subst MatchesLog (sym c.deref_mut-contents.ensures.value) c.self.invariant in
     let parts = ap entries_of c.push_reserved.ensures.items ∙ log_moved old c.args.to (c.meals_of-first.result + 1) contents in
-    ap (λ (log : List Entry). record (seen_contents old) { log = log }) parts ∙ ap (moved c.args.to) (ap seen_contents c.deref_mut-contents.ensures.value ∙ c.self.view_is)
+    ap (λ (log : List Entry). record (seen_contents old) { log = log }) parts ∙ ap (after_move c.args.to) (ap seen_contents c.deref_mut-contents.ensures.value ∙ c.self.view_is)
 
 pub returns-clause-proper : goal.returns-clause-proper
 returns-clause-proper c = (invariant_of-self c).proper

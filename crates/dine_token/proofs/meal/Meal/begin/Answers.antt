@@ -3,7 +3,7 @@ use Rattle.std.proofs.lemmas.List.{get_or-append_right, get_or-drop, length-take
 use Rattle.std.proofs.lemmas.List.Edits.{map_over_more}
 use Rattle.std.proofs.lemmas.List.Elements.{All-map}
 use Rattle.std.specs.List.{All}
-use Rattle.dine_token.specs.Fork.{SeenFork, IsDirty, MayEat, eaten}
+use Rattle.dine_token.specs.Fork.{SeenFork, IsDirty, MayEat, after_meal}
 use Rattle.dine_token.proofs.Logs.{is_dirty-push_meal}
 use Rattle.dine_token.proofs.meal.Meal.begin.Goals as goal
 
@@ -16,7 +16,7 @@ get_or-map_over f xs ys i d within is =
 pub eat-requires-clause-may_eat : goal.eat-requires-clause-may_eat
 eat-requires-clause-may_eat c =
     let within : c.loop-hand.hand-index < length c.args.hands.items = omega (arith, c.loop-hand-test.true, c.deref_mut-hand-items.ensures.len, ap length c.deref_mut-hand-items.ensures.value) in
-    let same = get_or-map_over (eaten c.args.site c.args.k c.args.act) c.args.hands.items c.loop-hand.hand-items c.loop-hand.hand-index c.hand-item.result within c.loop-hand.invariant in
+    let same = get_or-map_over (after_meal c.args.site c.args.k c.args.act) c.args.hands.items c.loop-hand.hand-items c.loop-hand.hand-index c.hand-item.result within c.loop-hand.invariant in
     subst (MayEat c.args.site c.args.k) (sym same) (c.requires.may_eat c.loop-hand.hand-index c.hand-item.result within)
 
 pub loop-hand-init : goal.loop-hand-init
@@ -25,8 +25,8 @@ loop-hand-init c = c.deref_mut-hand-items.ensures.value
 pub loop-hand-preserved : goal.loop-hand-preserved
 loop-hand-preserved c =
     let within : c.loop-hand.hand-index < length c.args.hands.items = omega (arith, c.loop-hand-test.true, ap length c.deref_mut-hand-items.ensures.value) in
-    let step = map_over_more (eaten c.args.site c.args.k c.args.act) c.args.hands.items c.loop-hand.hand-items c.loop-hand.hand-index c.hand-item.result within c.loop-hand.invariant c.hand-item.is in
-    ap (λ (fork : SeenFork). set c.loop-hand.hand-items c.loop-hand.hand-index fork) (c.eat.ensures.eaten ∙ ap (eaten c.args.site c.args.k c.args.act) (sym c.hand-item.is)) ∙ step
+    let step = map_over_more (after_meal c.args.site c.args.k c.args.act) c.args.hands.items c.loop-hand.hand-items c.loop-hand.hand-index c.hand-item.result within c.loop-hand.invariant c.hand-item.is in
+    ap (λ (fork : SeenFork). set c.loop-hand.hand-items c.loop-hand.hand-index fork) (c.eat.ensures.eaten ∙ ap (after_meal c.args.site c.args.k c.args.act) (sym c.hand-item.is)) ∙ step
 
 -- once all have the meal
 all_served : (f : SeenFork → SeenFork) (xs ys : List SeenFork) (i len : ℕ) → ys ≡ map f (take i xs) ++ drop i xs → length xs ≤ i → length ys ≡ length xs → length xs ≤ len → take len (ys ++ drop (length ys) xs) ≡ map f xs
@@ -38,12 +38,12 @@ all_served f xs ys i len is over size capacity =
 pub returns-clause-forks : goal.returns-clause-forks
 returns-clause-forks c =
     let over : length c.args.hands.items ≤ c.loop-hand.hand-index = omega (arith, c.loop-hand-test.false, ap length c.deref_mut-hand-items.ensures.value) in
-    all_served (eaten c.args.site c.args.k c.args.act) c.args.hands.items c.loop-hand.hand-items c.loop-hand.hand-index c.args.hands.len c.loop-hand.invariant over
+    all_served (after_meal c.args.site c.args.k c.args.act) c.args.hands.items c.loop-hand.hand-items c.loop-hand.hand-index c.args.hands.len c.loop-hand.invariant over
     (omega (arith, c.loop-hand.auto.hand-items, ap length c.deref_mut-hand-items.ensures.value)) (omega (arith, c.args.hands.ok.0))
 
 pub invariant_of-result : goal.invariant_of-result
 invariant_of-result c =
-    let f = eaten c.args.site c.args.k c.args.act in
+    let f = after_meal c.args.site c.args.k c.args.act in
     let xs = c.args.hands.items in
     let over : length xs ≤ c.loop-hand.hand-index = omega (arith, c.loop-hand-test.false, ap length c.deref_mut-hand-items.ensures.value) in
     let whole = all_served f xs c.loop-hand.hand-items c.loop-hand.hand-index c.args.hands.len c.loop-hand.invariant over

@@ -3,7 +3,7 @@ use Rattle.dine_site_core.specs.Core.{SeenCore}
 use Rattle.dine_site_core.specs.NextEvent.{can_by_itself}
 use Rattle.std.specs.Prelude.{OnOk}
 use Rattle.dine_site.specs.declared.site_loop.running.Stop.{Stop}
-use Rattle.dine_site.specs.Running.{GoesOn, IsNext, IsRunning, IsTimedRun, Proceeds}
+use Rattle.dine_site.specs.private.Running.{GoesOn, IsNext, IsRunning, IsTimedRun, Proceeds}
 use Rattle.dine_site.proofs.one_site.Times.{on_ok}
 use Rattle.dine_site.proofs.one_site.Proceeding.{may_then, proceeds_same, proceeds_then}
 use Rattle.dine_site.proofs.site_loop.running.Running.act.Goals as goal

@@ -7,8 +7,8 @@ use Rattle.dine_site.specs.declared.site_loop.running.Running.{Running}
 use Rattle.dine_rules.specs.declared.events.EventKind.TheVariants as event
 use Rattle.dine_site.specs.declared.manner.Manner.{Manner}
 use Rattle.dine_site.specs.Ports.{seen_port}
-use Rattle.dine_site.specs.Running.{AreChecks, GoesOn, HasChecked, IsNext, IsRunning, IsTimedRun, MayTakeNow, Proceeds}
-use Rattle.dine_site.proofs.one_site.Checks.{checks_as, checks_meal, may_take_before_meal, same_degree, same_refused}
+use Rattle.dine_site.specs.private.Running.{AreChecks, GoesOn, HasChecked, IsNext, IsRunning, IsTimedRun, MayTakeNow, Proceeds}
+use Rattle.dine_site.proofs.one_site.Checks.{checks_as, checks_meal, may_take_before_meal, same_degree, same_identity, same_refused}
 use Rattle.dine_site.proofs.one_site.Proceeding.{may_then, proceeds_heard, proceeds_same, proceeds_then}
 use Rattle.dine_site.proofs.site_loop.running.Running.begin.Goals as goal
 
@@ -19,7 +19,7 @@ take_where_rung-requires-clause-running g c κs ls =
     let old = c.args.self.now in
     let bell = c.check_bell.new.self.bell in
     let heard = subst (λ (run : Running _ _ _ _ _). Proceeds g.L.Lane g.D.Diner IsRunning old run) (sym c.check_bell.ensures.rest)
-    (proceeds_heard g.L.Lane g.D.Diner old bell (ap (λ (b : SeenBell). b.refused) c.in-Some.ensures.bell) (ap (λ (b : SeenBell). b.degree) c.in-Some.ensures.bell) c.requires.ready.ready) in
+    (proceeds_heard g.L.Lane g.D.Diner old bell (ap (λ (b : SeenBell). b.refused) c.in-Some.ensures.bell) (ap (λ (b : SeenBell). b.degree) c.in-Some.ensures.bell) (ap (λ (b : SeenBell). b.identity) c.in-Some.ensures.bell) c.requires.ready.ready) in
     (may_then g.L.Lane g.D.Diner c.requires.ready heard).running
 
 pub returns-in-Some-clause-proceeds : goal.returns-in-Some-clause-proceeds
@@ -27,7 +27,7 @@ returns-in-Some-clause-proceeds g c =
     let old = c.args.self.now in
     let bell = c.check_bell.new.self.bell in
     let heard = subst (λ (run : Running _ _ _ _ _). Proceeds g.L.Lane g.D.Diner IsRunning old run) (sym c.check_bell.ensures.rest)
-    (proceeds_heard g.L.Lane g.D.Diner old bell (ap (λ (b : SeenBell). b.refused) c.in-Some.ensures.bell) (ap (λ (b : SeenBell). b.degree) c.in-Some.ensures.bell) c.requires.ready.ready) in
+    (proceeds_heard g.L.Lane g.D.Diner old bell (ap (λ (b : SeenBell). b.refused) c.in-Some.ensures.bell) (ap (λ (b : SeenBell). b.degree) c.in-Some.ensures.bell) (ap (λ (b : SeenBell). b.identity) c.in-Some.ensures.bell) c.requires.ready.ready) in
     proceeds_then g.L.Lane g.D.Diner (GoesOn c.take_where_rung.result) heard
     (proceeds_same g.L.Lane g.D.Diner (GoesOn c.take_where_rung.result) c.check_bell.new.self c.take_where_rung.new.self c.take_where_rung.ensures.same heard.ready c.take_where_rung.ensures.way)
 
@@ -47,7 +47,7 @@ eat-requires-clause-ready g c κs ls =
     let bell = c.check_bell.new.self.bell in
     let events = length old.clock.events in
     let heard = subst (λ (run : Running _ _ _ _ _). Proceeds g.L.Lane g.D.Diner IsRunning old run) (sym c.check_bell.ensures.rest)
-    (proceeds_heard g.L.Lane g.D.Diner old bell (ap (λ (b : SeenBell). b.refused) c.in-None.ensures.bell ∙ same_refused old.manner events old.bell) (ap (λ (b : SeenBell). b.degree) c.in-None.ensures.bell ∙ same_degree old.manner events old.bell) c.requires.ready.ready) in
+    (proceeds_heard g.L.Lane g.D.Diner old bell (ap (λ (b : SeenBell). b.refused) c.in-None.ensures.bell ∙ same_refused old.manner events old.bell) (ap (λ (b : SeenBell). b.degree) c.in-None.ensures.bell ∙ same_degree old.manner events old.bell) (ap (λ (b : SeenBell). b.identity) c.in-None.ensures.bell ∙ same_identity old.manner events old.bell) c.requires.ready.ready) in
     may_then g.L.Lane g.D.Diner c.requires.ready heard
 
 pub returns-in-None-clause-proceeds : goal.returns-in-None-clause-proceeds
@@ -56,7 +56,7 @@ returns-in-None-clause-proceeds g c =
     let bell = c.check_bell.new.self.bell in
     let events = length old.clock.events in
     let heard = subst (λ (run : Running _ _ _ _ _). Proceeds g.L.Lane g.D.Diner IsRunning old run) (sym c.check_bell.ensures.rest)
-    (proceeds_heard g.L.Lane g.D.Diner old bell (ap (λ (b : SeenBell). b.refused) c.in-None.ensures.bell ∙ same_refused old.manner events old.bell) (ap (λ (b : SeenBell). b.degree) c.in-None.ensures.bell ∙ same_degree old.manner events old.bell) c.requires.ready.ready) in
+    (proceeds_heard g.L.Lane g.D.Diner old bell (ap (λ (b : SeenBell). b.refused) c.in-None.ensures.bell ∙ same_refused old.manner events old.bell) (ap (λ (b : SeenBell). b.degree) c.in-None.ensures.bell ∙ same_degree old.manner events old.bell) (ap (λ (b : SeenBell). b.identity) c.in-None.ensures.bell ∙ same_identity old.manner events old.bell) c.requires.ready.ready) in
     proceeds_then g.L.Lane g.D.Diner IsRunning heard c.eat.ensures.proceeds
 
 pub returns-in-None-clause-checks : goal.returns-in-None-clause-checks

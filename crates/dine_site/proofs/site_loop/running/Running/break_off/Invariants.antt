@@ -1,5 +1,5 @@
 use Rattle.std.proofs.Common.{◌≡◌, length}
-use Rattle.dine_site.specs.Running.{ChecksOn, ClosedBelow, StaysStopped, SameMeals}
+use Rattle.dine_site.specs.private.Running.{ChecksOn, ClosedBelow, StaysStopped, SameMeals}
 use Rattle.dine_site.proofs.site_loop.running.Running.break_off.Given as goal
 
 abbrev pub invariant-loop-i : goal.invariant-loop-i

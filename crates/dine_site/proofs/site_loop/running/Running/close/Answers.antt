@@ -2,11 +2,13 @@ use Rattle.std.proofs.Common.{◌≡◌, true, ◌<◌, ◌^◌, List, length, s
 use Rattle.std.specs.List.{slice_get}
 use Rattle.dine_rules.specs.declared.letters.Letter.TheVariants as letter
 use Rattle.std.specs.Prelude.{ℕ}
-use Rattle.dine_site.specs.Times.{IsTimed, late_at, none_late}
+use Rattle.dine_site.specs.Times.{IsTimed, none_late}
+use Rattle.dine_site.specs.private.Running.{late_at}
 use Rattle.dine_site.proofs.one_site.Times.{ends_put}
 use Rattle.dine_site.specs.declared.site_end.SiteFault.TheVariants as fault
-use Rattle.dine_site.specs.Ports.{SeenPort, closed_on, closed_unheard_on, refused_on, seen_ports}
-use Rattle.dine_site.specs.Running.{SeenRun, IsRunning, IsStopped, seen_run}
+use Rattle.dine_site.specs.Ports.{SeenPort, seen_ports}
+use Rattle.dine_site.specs.private.PortSteps.{port_after_close, port_after_unheard_close, port_after_refusal}
+use Rattle.dine_site.specs.private.Running.{SeenRun, IsRunning, IsStopped, seen_run}
 use Rattle.dine_site.proofs.lists.Seen.{there_is, if_there, of_there}
 use Rattle.dine_site.proofs.one_site.Letters.{stops-closed_unheard}
 use Rattle.dine_site.proofs.one_site.Stops.{close_stops, unheard_stops}
@@ -34,7 +36,7 @@ returns-in-Heard-clause-way g c plan given putting =
     let run : SeenRun g.L.Lane.Identity = seen_run g.L.Lane c.args.self.now in
     let there = there_is run.ports c.args.i (putting_within plan given run c.args.i letter.Close putting) in
     let sent = of_there _ (slice_get run.ports c.args.i) there.0 there.1 c.in-Heard.ensures.closed in
-    let ports : seen_ports g.L.Lane c.close_at.new.ports.items ≡ set run.ports c.args.i (closed_on c.last-stamp.result.at there.0) = sent.2 ∙ ap (set run.ports c.args.i) sent.1 in
+    let ports : seen_ports g.L.Lane c.close_at.new.ports.items ≡ set run.ports c.args.i (port_after_close c.last-stamp.result.at there.0) = sent.2 ∙ ap (set run.ports c.args.i) sent.1 in
     subst (λ (ps : List (SeenPort g.L.Lane.Identity)). IsRunning plan given (record { manner = run.manner; core = run.core; ports = ps; bell = run.bell; journal = run.journal })) (sym ports) (close_runs plan given run c.last-stamp.result.at c.args.i putting there.0 there.1)
 
 pub returns-in-Refused-clause-way : goal.returns-in-Refused-clause-way
@@ -42,7 +44,7 @@ returns-in-Refused-clause-way g c plan given putting =
     let run : SeenRun g.L.Lane.Identity = seen_run g.L.Lane c.args.self.now in
     let there = there_is run.ports c.args.i (putting_within plan given run c.args.i letter.Close putting) in
     let sent = of_there _ (slice_get run.ports c.args.i) there.0 there.1 c.in-Refused.ensures.closed in
-    let ports : seen_ports g.L.Lane c.close_at.new.ports.items ≡ set run.ports c.args.i (refused_on there.0) = sent.2 ∙ ap (set run.ports c.args.i) sent.1 in
+    let ports : seen_ports g.L.Lane c.close_at.new.ports.items ≡ set run.ports c.args.i (port_after_refusal there.0) = sent.2 ∙ ap (set run.ports c.args.i) sent.1 in
     subst (λ (ps : List (SeenPort g.L.Lane.Identity)). IsStopped None (fault.Lost c.args.i) plan given (record { manner = run.manner; core = run.core; ports = ps; bell = run.bell; journal = run.journal })) (sym ports) (close_stops plan given run c.args.i putting there.0 there.1)
 
 pub returns-in-Unheard-clause-way : goal.returns-in-Unheard-clause-way
@@ -50,8 +52,8 @@ returns-in-Unheard-clause-way g c plan given putting =
     let run : SeenRun g.L.Lane.Identity = seen_run g.L.Lane c.args.self.now in
     let there = there_is run.ports c.args.i (putting_within plan given run c.args.i letter.Close putting) in
     let sent = of_there _ (slice_get run.ports c.args.i) there.0 there.1 c.in-Unheard.ensures.closed in
-    let ports : seen_ports g.L.Lane c.close_at.new.ports.items ≡ set run.ports c.args.i (closed_unheard_on c.last-stamp.result.at there.0) = sent.2 ∙ ap (set run.ports c.args.i) sent.1 in
-    let stops = unheard_stops plan given run c.args.i letter.Close putting there.0 (closed_unheard_on c.last-stamp.result.at there.0) there.1 (record { tx = refl; rx = refl; bell = refl; number = refl })
+    let ports : seen_ports g.L.Lane c.close_at.new.ports.items ≡ set run.ports c.args.i (port_after_unheard_close c.last-stamp.result.at there.0) = sent.2 ∙ ap (set run.ports c.args.i) sent.1 in
+    let stops = unheard_stops plan given run c.args.i letter.Close putting there.0 (port_after_unheard_close c.last-stamp.result.at there.0) there.1 (record { tx = refl; rx = refl; bell = refl; number = refl })
     (stops-closed_unheard (traffic_at putting.before c.args.i) there.0 (putting.lists c.args.i there.0 there.1) c.last-stamp.result.at) refl refl in
     let new : SeenRun g.L.Lane.Identity = record { manner = run.manner; core = run.core; ports = seen_ports g.L.Lane c.close_at.new.ports.items; bell = run.bell; journal = run.journal } in
     let stopped : IsStopped None (fault.Lost (length c.args.self.now.core.places)) plan given new =
@@ -64,8 +66,8 @@ returns-in-Heard-clause-timed g c = λ timed.
     let p = c.requires.putting in
     let there = there_is run.ports c.args.i (putting_within p.0 p.1 run c.args.i letter.Close p.2) in
     let sent = of_there _ (slice_get run.ports c.args.i) there.0 there.1 c.in-Heard.ensures.closed in
-    let new : SeenPort g.L.Lane.Identity = closed_on c.last-stamp.result.at there.0 in
-    let ports : seen_ports g.L.Lane c.close_at.new.ports.items ≡ set run.ports c.args.i (closed_on c.last-stamp.result.at there.0) = sent.2 ∙ ap (set run.ports c.args.i) sent.1 in
+    let new : SeenPort g.L.Lane.Identity = port_after_close c.last-stamp.result.at there.0 in
+    let ports : seen_ports g.L.Lane c.close_at.new.ports.items ≡ set run.ports c.args.i (port_after_close c.last-stamp.result.at there.0) = sent.2 ∙ ap (set run.ports c.args.i) sent.1 in
     let late = subst (λ (z : ℕ). IsTimed (late_at c.args.i z) c.args.self.now.clock.events c.args.self.now.journal.items run.ports) (sym c.last-stamp.ensures) timed in
     subst (IsTimed none_late c.args.self.now.clock.events c.args.self.now.journal.items) (sym ports)
     (ends_put c.args.self.now.clock.events c.args.self.now.journal.items run.ports c.args.i c.last-stamp.result.at there.0 new late there.1 refl refl)

@@ -1,4 +1,4 @@
-use Rattle.dine_site.specs.Running.{ChecksOn, IsRunning, IsTimedRun, Proceeds}
+use Rattle.dine_site.specs.private.Running.{ChecksOn, IsRunning, IsTimedRun, Proceeds}
 use Rattle.dine_site.proofs.site_loop.running.Running.do_events.Given as goal
 
 abbrev pub invariant-loop : goal.invariant-loop

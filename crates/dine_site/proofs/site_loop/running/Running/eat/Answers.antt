@@ -8,11 +8,11 @@ use Rattle.std.proofs.lemmas.Bool.{and_parts}
 use Rattle.std.specs.Prelude.{nat_lt}
 use Rattle.dine_rules.specs.Moments.{last_moment}
 use Rattle.dine_site.proofs.one_site.Times.{alone}
-use Rattle.dine_site.specs.Running.{SeenRun, IsObeying, seen_run}
+use Rattle.dine_site.specs.private.Running.{SeenRun, IsObeying, seen_run}
 use Rattle.std.proofs.lemmas.Option.{slice_get_within, get_or_from_slice_get}
 use Rattle.dine_token.specs.Log.{meals_of}
 use Rattle.dine_site_core.specs.Core.{SeenCore}
-use Rattle.dine_site_core.specs.Places.{FitsMeal, begun, drops_jobs, ended}
+use Rattle.dine_site_core.specs.Places.{FitsMeal, after_begin, drops_jobs, after_end}
 use Rattle.dine_site.proofs.one_site.WholeMeals.{whole_meal}
 use Rattle.dine_site.proofs.one_site.Obeying.{obeys_meal, hungry_goes_on}
 use Rattle.dine_site.proofs.one_site.Meals.{eaten_more, failed_by}
@@ -40,9 +40,9 @@ returns g c =
     let k = c.k.ensures ∙ c.begin-meal.ensures.meal.k ∙ ate in
     let goes_on = hungry_goes_on p.0 p.2.state core p.2.has.keeps p.2.has.stands (and_parts _ _ c.requires.may).0 in
     let failed : Bool = not c.is_ok-ok.result in
-    let begun_is : SeenCore = begun core in
+    let begun_is : SeenCore = after_begin core in
     let calls = g.D.Diner.calls c.eat.new.self in
-    let is = c.end.ensures.core ∙ ap (ended failed c.begin-meal.result.forks) c.begin-meal.ensures.core in
+    let is = c.end.ensures.core ∙ ap (after_end failed c.begin-meal.result.forks) c.begin-meal.ensures.core in
     let has_left : Bool = nat_lt begun_is.ate begun_is.due in
     record {
       proceeds = record {
@@ -58,6 +58,7 @@ returns g c =
         manner = refl;
         resigns = ap (λ (core : SeenCore). core.resigns) is;
         site = ap (λ (core : SeenCore). core.site) is;
+        same_bell = refl;
         expects = c.eat.ensures.stays;
       };
       timed = λ timed.

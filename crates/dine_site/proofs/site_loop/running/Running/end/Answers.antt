@@ -1,5 +1,5 @@
 use Rattle.std.proofs.Common.{ℕ, refl, sym, subst}
-use Rattle.dine_site.specs.Running.{SeenRun, seen_run}
+use Rattle.dine_site.specs.private.Running.{SeenRun, seen_run}
 use Rattle.dine_site.specs.SiteEnds.{IsSiteEnd}
 use Rattle.dine_site.proofs.one_site.Ends.{site_end}
 use Rattle.dine_site.proofs.site_loop.running.Running.end.Goals as goal

@@ -1,7 +1,7 @@
 use Rattle.std.proofs.Common.{List, refl, ap, sym, subst}
 use Rattle.dine_rules.specs.declared.events.EventKind.{EventKind}
 use Rattle.dine_site.specs.declared.site_end.SiteFault.TheVariants as fault
-use Rattle.dine_site.specs.Running.{AreChecks, SeenRun, IsRunning, IsStopped, seen_run}
+use Rattle.dine_site.specs.private.Running.{AreChecks, SeenRun, IsRunning, IsStopped, seen_run}
 use Rattle.std.proofs.Common.{None}
 use Rattle.dine_site.specs.Ports.{seen_ports}
 use Rattle.dine_site.specs.Times.{IsTimed, none_late}

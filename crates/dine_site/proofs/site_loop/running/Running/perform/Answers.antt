@@ -12,7 +12,7 @@ use Rattle.dine_rules.specs.declared.events.EventKind.{EventKind}
 use Rattle.dine_rules.specs.declared.events.EventKind.TheVariants as event
 use Rattle.dine_rules.specs.declared.letters.Letter.{Letter}
 use Rattle.dine_rules.specs.declared.letters.Letter.TheVariants as letter
-use Rattle.dine_site.specs.Running.{SeenRun, GoesOn, IsObeying, IsNext, seen_run}
+use Rattle.dine_site.specs.private.Running.{SeenRun, GoesOn, IsObeying, IsNext, seen_run}
 use Rattle.dine_site_core.specs.Standing.{CorePuts}
 use Rattle.dine_rules.specs.Steps.{Give, Ask, Done, Close}
 use Rattle.dine_site.proofs.one_site.Checks.{checks_more}
@@ -126,6 +126,7 @@ returns-in-Quit g c =
         manner = refl;
         resigns = ap (λ (core : SeenCore). core.resigns) is;
         site = ap (λ (core : SeenCore). core.site) is;
+        same_bell = refl;
         expects = λ plan site is. is;
       };
       timed = λ timed. alone c.args.self.now.clock.events c.args.self.now.journal.items (seen_ports g.L.Lane c.args.self.now.ports.items) event.Quit (last_moment c.args.self.now.clock.events + 1) (omega arith) timed c.note-in-Quit.new.journal.items c.note-in-Quit.ensures.journal c.note-in-Quit.new.clock.events c.note-in-Quit.ensures.clock refl;

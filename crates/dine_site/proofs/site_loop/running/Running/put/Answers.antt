@@ -1,11 +1,13 @@
 use Rattle.std.proofs.Common.{ℕ, ◌<◌, List, length, set, Some, None, refl, sym, subst, arith}
 use Rattle.std.proofs.lemmas.List.{length-map}
 use Rattle.dine_rules.specs.declared.letters.Letter.{Letter}
-use Rattle.dine_site.specs.Times.{IsTimed, late_at, none_late}
+use Rattle.dine_site.specs.Times.{IsTimed, none_late}
+use Rattle.dine_site.specs.private.Running.{late_at}
 use Rattle.dine_site.proofs.one_site.Times.{ends_put}
 use Rattle.dine_site.specs.declared.site_end.SiteFault.TheVariants as fault
-use Rattle.dine_site.specs.Ports.{SeenPort, put_on, put_unheard_on, refused_on, seen_port, seen_ports}
-use Rattle.dine_site.specs.Running.{SeenRun, IsRunning, IsStopped, seen_run}
+use Rattle.dine_site.specs.Ports.{SeenPort, seen_port, seen_ports}
+use Rattle.dine_site.specs.private.PortSteps.{port_after_put, port_after_unheard_put, port_after_refusal}
+use Rattle.dine_site.specs.private.Running.{SeenRun, IsRunning, IsStopped, seen_run}
 use Rattle.dine_site.proofs.lists.Seen.{seen_at, seen_set}
 use Rattle.dine_site.proofs.one_site.Letters.{stops-unheard}
 use Rattle.dine_site.proofs.one_site.Stops.{put_stops, unheard_stops}
@@ -40,7 +42,7 @@ returns-in-Heard-clause-way g c plan given putting =
     let run : SeenRun g.L.Lane.Identity = seen_run g.L.Lane c.args.self.now in
     let within : c.args.i < length items = omega (arith, putting_within plan given run c.args.i c.args.letter putting, length-map items f) in
     let at = seen_at f items c.args.i c.index_mut.result.now within c.index_mut.ensures.value in
-    let ports = seen_set f items c.args.i c.put.new.self (put_on c.last-stamp.result.at c.args.letter (f c.index_mut.result.now)) c.in-Heard.ensures in
+    let ports = seen_set f items c.args.i c.put.new.self (port_after_put c.last-stamp.result.at c.args.letter (f c.index_mut.result.now)) c.in-Heard.ensures in
     let runs = put_runs plan given run c.args.i c.args.letter putting (f c.index_mut.result.now) at c.last-stamp.result.at c.requires.letter in
     subst (λ (ps : List (SeenPort g.L.Lane.Identity)). IsRunning plan given (record { manner = run.manner; core = run.core; ports = ps; bell = run.bell; journal = run.journal })) (sym ports) runs
 
@@ -51,7 +53,7 @@ returns-in-Refused-clause-way g c plan given putting =
     let run : SeenRun g.L.Lane.Identity = seen_run g.L.Lane c.args.self.now in
     let within : c.args.i < length items = omega (arith, putting_within plan given run c.args.i c.args.letter putting, length-map items f) in
     let at = seen_at f items c.args.i c.index_mut.result.now within c.index_mut.ensures.value in
-    let ports = seen_set f items c.args.i c.put.new.self (refused_on (f c.index_mut.result.now)) c.in-Refused.ensures.1 in
+    let ports = seen_set f items c.args.i c.put.new.self (port_after_refusal (f c.index_mut.result.now)) c.in-Refused.ensures.1 in
     let stops = put_stops plan given run c.args.i c.args.letter c.requires.letter putting (f c.index_mut.result.now) at in
     let new : SeenRun g.L.Lane.Identity = record { manner = run.manner; core = run.core; ports = seen_ports g.L.Lane (set items c.args.i c.put.new.self); bell = run.bell; journal = run.journal } in
     let there : IsStopped (Some (record { link = c.args.i; letter = c.args.letter })) (fault.Lost c.args.i) plan given new =
@@ -66,8 +68,8 @@ returns-in-Unheard-clause-way g c plan given putting =
     let within : c.args.i < length items = omega (arith, putting_within plan given run c.args.i c.args.letter putting, length-map items f) in
     let at = seen_at f items c.args.i c.index_mut.result.now within c.index_mut.ensures.value in
     let old = f c.index_mut.result.now in
-    let ports = seen_set f items c.args.i c.put.new.self (put_unheard_on c.last-stamp.result.at c.args.letter old) c.in-Unheard.ensures in
-    let stops = unheard_stops plan given run c.args.i c.args.letter putting old (put_unheard_on c.last-stamp.result.at c.args.letter old) at (record { tx = refl; rx = refl; bell = refl; number = refl })
+    let ports = seen_set f items c.args.i c.put.new.self (port_after_unheard_put c.last-stamp.result.at c.args.letter old) c.in-Unheard.ensures in
+    let stops = unheard_stops plan given run c.args.i c.args.letter putting old (port_after_unheard_put c.last-stamp.result.at c.args.letter old) at (record { tx = refl; rx = refl; bell = refl; number = refl })
     (stops-unheard (traffic_at putting.before c.args.i) old (putting.lists c.args.i old at) c.last-stamp.result.at c.args.letter putting.open_place) refl refl in
     let new : SeenRun g.L.Lane.Identity = record { manner = run.manner; core = run.core; ports = seen_ports g.L.Lane (set items c.args.i c.put.new.self); bell = run.bell; journal = run.journal } in
     let there : IsStopped None (fault.Lost (length c.args.self.now.core.places)) plan given new =
@@ -83,7 +85,7 @@ returns-in-Heard-clause-timed g c = λ timed.
     let within : c.args.i < length items = omega (arith, putting_within p.0 p.1 run c.args.i c.args.letter p.2, length-map items f) in
     let at = seen_at f items c.args.i c.index_mut.result.now within c.index_mut.ensures.value in
     let old : SeenPort g.L.Lane.Identity = f c.index_mut.result.now in
-    let new : SeenPort g.L.Lane.Identity = put_on c.last-stamp.result.at c.args.letter old in
+    let new : SeenPort g.L.Lane.Identity = port_after_put c.last-stamp.result.at c.args.letter old in
     let ports = seen_set f items c.args.i c.put.new.self new c.in-Heard.ensures in
     let late = subst (λ (z : ℕ). IsTimed (late_at c.args.i z) c.args.self.now.clock.events c.args.self.now.journal.items run.ports) (sym c.last-stamp.ensures) timed in
     subst (IsTimed none_late c.args.self.now.clock.events c.args.self.now.journal.items) (sym ports)

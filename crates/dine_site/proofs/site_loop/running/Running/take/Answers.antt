@@ -6,22 +6,22 @@ use Rattle.dine_rules.specs.Local.{traffic_at}
 use Rattle.dine_site_core.specs.Core.{SeenCore}
 use Rattle.dine_site_core.specs.Standing.{ForEachState}
 use Rattle.dine_site.specs.declared.manner.Manner.{Manner}
-use Rattle.dine_site.specs.Running.{GoesOn, IsRunning, IsTimedRun, Leads, MayTakeNow}
+use Rattle.dine_site.specs.private.Running.{GoesOn, IsRunning, IsTimedRun, Leads, MayTakeNow}
 use Rattle.dine_site.proofs.one_site.Times.{on_ok}
 use Rattle.dine_site.proofs.one_site.Same.{same_then}
 use Rattle.dine_site.proofs.site_loop.running.Running.take.Goals as goal
 
 pub returns-clause-way : goal.returns-clause-way
-returns-clause-way g c plan given running = c.take_noted.ensures.way plan given (c.in_ok-make_room.ensures.way plan given running)
+returns-clause-way g c plan given running = c.take_and_note.ensures.way plan given (c.in_ok-make_room.ensures.way plan given running)
 
 pub returns-clause-same : goal.returns-clause-same
-returns-clause-same g c = same_then c.make_room.ensures.same c.take_noted.ensures.same
+returns-clause-same g c = same_then c.make_room.ensures.same c.take_and_note.ensures.same
 
 pub returns-clause-timed : goal.returns-clause-timed
-returns-clause-timed g c = on_ok c.take_noted.result (λ goes timed. goes (c.make_room.ensures.timed timed)) c.take_noted.ensures.timed
+returns-clause-timed g c = on_ok c.take_and_note.result (λ goes timed. goes (c.make_room.ensures.timed timed)) c.take_and_note.ensures.timed
 
 pub returns-clause-checks : goal.returns-clause-checks
-returns-clause-checks g c first are = c.take_noted.ensures.checks first (c.make_room.ensures.checks first are)
+returns-clause-checks g c first are = c.take_and_note.ensures.checks first (c.make_room.ensures.checks first are)
 
 pub returns-in_err-make_room : goal.returns-in_err-make_room
 returns-in_err-make_room g c =
@@ -34,19 +34,19 @@ returns-in_err-make_room g c =
       checks = c.make_room.ensures.checks;
     }
 
-pub take_noted-requires-clause-running : goal.take_noted-requires-clause-running
-take_noted-requires-clause-running g c κs ls =
+pub take_and_note-requires-clause-running : goal.take_and_note-requires-clause-running
+take_and_note-requires-clause-running g c κs ls =
     let p = c.requires.running in
     (p.0, p.1, c.in_ok-make_room.ensures.way p.0 p.1 p.2)
 
-pub take_noted-requires-clause-place : goal.take_noted-requires-clause-place
-take_noted-requires-clause-place g c κs ls = subst (λ (core : SeenCore). c.args.i < length core.places) (sym c.make_room.ensures.core) c.requires.place
+pub take_and_note-requires-clause-place : goal.take_and_note-requires-clause-place
+take_and_note-requires-clause-place g c κs ls = subst (λ (core : SeenCore). c.args.i < length core.places) (sym c.make_room.ensures.core) c.requires.place
 
-pub take_noted-requires-clause-not_closed : goal.take_noted-requires-clause-not_closed
-take_noted-requires-clause-not_closed g c κs ls =
+pub take_and_note-requires-clause-not_closed : goal.take_and_note-requires-clause-not_closed
+take_and_note-requires-clause-not_closed g c κs ls =
     subst (λ (core : SeenCore). ForEachState core (λ plan state. has_close (traffic_at state c.args.i).taken ≡ false)) (sym c.make_room.ensures.core) c.requires.not_closed
 
-pub take_noted-requires-clause-turn : goal.take_noted-requires-clause-turn
-take_noted-requires-clause-turn g c κs ls =
+pub take_and_note-requires-clause-turn : goal.take_and_note-requires-clause-turn
+take_and_note-requires-clause-turn g c κs ls =
     subst (λ (manner : Manner). MayTakeNow manner c.make_room.new.self.core) (sym c.make_room.ensures.same.manner)
     (subst (λ (core : SeenCore). MayTakeNow c.args.self.now.manner core) (sym c.make_room.ensures.core) c.requires.turn)

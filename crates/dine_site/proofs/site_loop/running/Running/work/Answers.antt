@@ -1,7 +1,7 @@
 use Rattle.std.proofs.Common.{◌≡◌, Result, Ok, Err, sym, ◌∙◌, subst, rules}
 use Rattle.std.specs.Prelude.{OnOk}
 use Rattle.dine_site.specs.declared.site_loop.running.Stop.{Stop}
-use Rattle.dine_site.specs.Running.{GoesToEnd, IsRunning, IsTimedRun, Proceeds}
+use Rattle.dine_site.specs.private.Running.{GoesToEnd, IsRunning, IsTimedRun, Proceeds}
 use Rattle.dine_site.proofs.one_site.Proceeding.{may_then, proceeds_not, proceeds_same, proceeds_then, proceeds_to}
 use Rattle.dine_site.proofs.site_loop.running.Running.work.Goals as goal
 
@@ -30,28 +30,28 @@ returns-then-is_finished g c = record {
   checks = λ first are. c.do_events.ensures.checks first (c.loop.invariant.checks first are);
 }
 
-pub hear-requires-clause-running : goal.hear-requires-clause-running
-hear-requires-clause-running g c κs ls =
+pub wait_and_take-requires-clause-running : goal.wait_and_take-requires-clause-running
+wait_and_take-requires-clause-running g c κs ls =
     let p = c.requires.ready.running in
     (p.0, p.1, c.in_ok-do_events.ensures.proceeds.way p.0 p.1 (c.loop.invariant.proceeds.way p.0 p.1 p.2))
 
-pub hear-requires-clause-bell : goal.hear-requires-clause-bell
-hear-requires-clause-bell g c κs ls = c.in_ok-do_events.ensures.proceeds.ready.bell
+pub wait_and_take-requires-clause-bell : goal.wait_and_take-requires-clause-bell
+wait_and_take-requires-clause-bell g c κs ls = c.in_ok-do_events.ensures.proceeds.ready.bell
 
-pub hear-requires-clause-quiet : goal.hear-requires-clause-quiet
-hear-requires-clause-quiet g c κs ls = c.in_ok-do_events.ensures.quiet
+pub wait_and_take-requires-clause-quiet : goal.wait_and_take-requires-clause-quiet
+wait_and_take-requires-clause-quiet g c κs ls = c.in_ok-do_events.ensures.quiet
 
-pub returns-in_err-hear : goal.returns-in_err-hear
-returns-in_err-hear g c =
+pub returns-in_err-wait_and_take : goal.returns-in_err-wait_and_take
+returns-in_err-wait_and_take g c =
     let did = c.in_ok-do_events.ensures.proceeds in
-    let stop = c.in_err-hear.field-0.0 in
-    let is : c.from_residual-in_err-hear.result ≡ Err stop = search rules in
+    let stop = c.in_err-wait_and_take.field-0.0 in
+    let is : c.from_residual-in_err-wait_and_take.result ≡ Err stop = search rules in
     record {
-      proceeds = subst (λ (result : Result _ _). Proceeds g.L.Lane g.D.Diner (GoesToEnd result) c.args.self.now c.hear.new.self) (sym is)
+      proceeds = subst (λ (result : Result _ _). Proceeds g.L.Lane g.D.Diner (GoesToEnd result) c.args.self.now c.wait_and_take.new.self) (sym is)
           (proceeds_then g.L.Lane g.D.Diner (GoesToEnd (Err stop)) (proceeds_then g.L.Lane g.D.Diner IsRunning c.loop.invariant.proceeds did)
-          (proceeds_same g.L.Lane g.D.Diner (GoesToEnd (Err stop)) c.do_events.new.self c.hear.new.self c.hear.ensures.same did.ready c.in_err-hear.ensures.way));
-      timed = subst (λ (result : Result (Unit {0}) Stop). OnOk result (IsTimedRun g.L.Lane c.args.self.now → IsTimedRun g.L.Lane c.hear.new.self)) (sym is) tt;
-      checks = λ first are. c.hear.ensures.checks first (c.do_events.ensures.checks first (c.loop.invariant.checks first are));
+          (proceeds_same g.L.Lane g.D.Diner (GoesToEnd (Err stop)) c.do_events.new.self c.wait_and_take.new.self c.wait_and_take.ensures.same did.ready c.in_err-wait_and_take.ensures.way));
+      timed = subst (λ (result : Result (Unit {0}) Stop). OnOk result (IsTimedRun g.L.Lane c.args.self.now → IsTimedRun g.L.Lane c.wait_and_take.new.self)) (sym is) tt;
+      checks = λ first are. c.wait_and_take.ensures.checks first (c.do_events.ensures.checks first (c.loop.invariant.checks first are));
     }
 
 pub loop-preserved : goal.loop-preserved
@@ -59,7 +59,7 @@ loop-preserved g c =
     let did = c.in_ok-do_events.ensures.proceeds in
     record {
       proceeds = proceeds_then g.L.Lane g.D.Diner IsRunning (proceeds_then g.L.Lane g.D.Diner IsRunning c.loop.invariant.proceeds did)
-          (proceeds_same g.L.Lane g.D.Diner IsRunning c.do_events.new.self c.hear.new.self c.hear.ensures.same did.ready c.in_ok-hear.ensures.way);
-      timed = λ timed. c.in_ok-hear.ensures.timed (c.in_ok-do_events.ensures.timed (c.loop.invariant.timed timed));
-      checks = λ first are. c.hear.ensures.checks first (c.do_events.ensures.checks first (c.loop.invariant.checks first are));
+          (proceeds_same g.L.Lane g.D.Diner IsRunning c.do_events.new.self c.wait_and_take.new.self c.wait_and_take.ensures.same did.ready c.in_ok-wait_and_take.ensures.way);
+      timed = λ timed. c.in_ok-wait_and_take.ensures.timed (c.in_ok-do_events.ensures.timed (c.loop.invariant.timed timed));
+      checks = λ first are. c.wait_and_take.ensures.checks first (c.do_events.ensures.checks first (c.loop.invariant.checks first are));
     }

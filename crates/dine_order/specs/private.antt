@@ -1,0 +1,2 @@
+-- What no public contract names: what private functions promise one another.
+pub mod Searching
