@@ -3,3 +3,4 @@ pub mod ReadingFaults
 pub mod PlainFields
 pub mod OneTable
 pub mod RunLemmas
+pub mod Resigning

@@ -5,7 +5,7 @@ use Rattle.std.proofs.lemmas.List.Concat.{flat_map-cons}
 use Rattle.std.proofs.lemmas.List.FromFn.{fill_by_all}
 use Rattle.std.proofs.lemmas.Option.{slice_get-get_or}
 use Rattle.dine_graph.specs.Plan.{SeenPlan, edge_count, lo_of, hi_of}
-use Rattle.dine_rules.specs.Values.{added_up, has_no_set}
+use Rattle.dine_rules.specs.Values.{value_by_amounts, has_no_set}
 use Rattle.dine_threads.specs.declared.tables.EdgeRow.{EdgeRow}
 use Rattle.dine_threads.specs.Tables.{AreDueValues, due_edge_rows, edge_row}
 use Rattle.dine_words.specs.declared.words.Table.{Table}
@@ -14,9 +14,9 @@ use Rattle.dine.specs.Run.{IsRunText, meals_at}
 use Rattle.dine.specs.Tables.{edge_record, edges_header, edges_table}
 
 -- without set the values are what the jobs of all meals add up to
-values_are : (plan : SeenPlan) (values : List ℕ) → has_no_set plan ≡ true → AreDueValues plan (meals_at plan) values → values ≡ map (λ edge. added_up plan edge (meals_at plan (lo_of plan edge)) (meals_at plan (hi_of plan edge))) (range_with_len 0 (edge_count plan))
+values_are : (plan : SeenPlan) (values : List ℕ) → has_no_set plan ≡ true → AreDueValues plan (meals_at plan) values → values ≡ map (λ edge. value_by_amounts plan edge (meals_at plan (lo_of plan edge)) (meals_at plan (hi_of plan edge))) (range_with_len 0 (edge_count plan))
 values_are plan values all due =
-    fill_by_all (λ edge. added_up plan edge (meals_at plan (lo_of plan edge)) (meals_at plan (hi_of plan edge))) values (edge_count plan) 0 due.count (λ edge within.
+    fill_by_all (λ edge. value_by_amounts plan edge (meals_at plan (lo_of plan edge)) (meals_at plan (hi_of plan edge))) values (edge_count plan) 0 due.count (λ edge within.
     (due.each edge (get_or values edge 0) (slice_get-get_or values edge 0 (omega (arith, within, due.count)))).added all)
 
 -- in version 1 a record has no value

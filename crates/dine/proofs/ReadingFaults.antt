@@ -2,8 +2,8 @@
 use Rattle.std.proofs.Common.{◌≡◌, ◌≢◌, ◌⊎◌, ◌<◌, ◌≤◌, List, ℕ, Option, Some, Result, Ok, Err, IfErr, IfSome, IsErrAnd, length, inl, inr, refl, sym, ap, subst}
 use Rattle.std.specs.Io.KnownBytes.{IsAtEnd}
 use Rattle.std.proofs.lemmas.Option.{IfSome_then}
-use Rattle.dine_reader.specs.declared.plan_fault.PlanFault.{PlanFault}
-use Rattle.dine_reader.specs.declared.plan_fault.PlanFault.TheVariants as text
+use Rattle.dine_draft.specs.declared.plan_fault.PlanFault.{PlanFault}
+use Rattle.dine_draft.specs.declared.plan_fault.PlanFault.TheVariants as text
 use Rattle.dine_words.specs.Input.{input_limit}
 use Rattle.dine_words.specs.PlanBytes.{fault_of_bytes}
 use Rattle.dine_words.specs.declared.input.InputFault.{InputFault}

@@ -9,11 +9,12 @@ use Rattle.dine_token.specs.declared.log_entry.Entry.{Entry}
 use Rattle.dine_token.specs.Fork.{SeenFork}
 use Rattle.dine_token.specs.Lawful.{count_from}
 use Rattle.dine_rules.specs.JoinedEnds.{IsWholeLog}
-use Rattle.dine_rules.specs.Values.{added_up, has_no_set, value_by}
+use Rattle.dine_rules.specs.Values.{value_by_amounts, has_no_set, value_by}
 use Rattle.dine_link.specs.Links.{SeenLink}
 use Rattle.dine_site.specs.declared.diner.Call.{Call}
 use Rattle.dine_threads.specs.declared.gathered.SiteOut.{SiteOut}
 use Rattle.dine_site.specs.Diners.{HasLastFailed, StopsAtFailed, meals_called, failed_in, shows_quit}
+use Rattle.dine_site.specs.declared.manner.Manner.{Manner}
 use Rattle.dine_site.specs.declared.manner.Manner.TheVariants.{Eager}
 use Rattle.dine_threads.specs.Gathered.{AreFinishedOuts, AreOutsOf, IsFinishedOut, IsOutOf}
 use Rattle.dine_threads.specs.Headline.{IsHeadline}
@@ -22,7 +23,7 @@ use Rattle.dine_threads.specs.declared.tables.SiteRow.{SiteRow}
 use Rattle.dine_threads.specs.Tables.{due_edge_rows, due_site_rows, edge_row}
 use Rattle.dine_threads.proofs.all_sites.Rows.{edge_rows-due, headline_gathered, site_rows-due, values-due}
 use Rattle.dine_site.proofs.lists.Seen.{there_is}
-use Rattle.dine.specs.PlanDiners.{SeenPlanDiner, fails_of, first_word, fits_marks, mark_of, plan_diner}
+use Rattle.dine.specs.PlanDiners.{IsDinerOf, SeenPlanDiner, fails_of, first_word, fits_marks, mark_of, plan_diner}
 use Rattle.dine.specs.Tables.{IsEdgeRowOf, IsSiteRowOf}
 use Rattle.dine.specs.Run.{HasDueRows, diner_of, diners_of, done_to_failed, failing_by_site, failing_jobs, meals_at}
 
@@ -41,7 +42,7 @@ length-count_from zero first = refl
 length-count_from (suc n) first = ap suc (length-count_from n (first + 1))
 
 -- each call has a mark, and fails if and only if the mark is set
-abbrev FitMarks : List Bool → List Call → Type 0
+abbrev pub FitMarks : List Bool → List Call → Type 0
 FitMarks marks [] = Unit {0}
 FitMarks [] (call ∷ calls) = ⊥
 FitMarks (mark ∷ marks) (call ∷ calls) = (not call.ok ≡ mark) × FitMarks marks calls
@@ -59,7 +60,7 @@ results_by_marks marks (mark ∷ rest) first (call ∷ calls) at within called f
       results_by_marks marks rest (first + 1) calls (λ i k is below. at (suc i) k (omega (arith, is)) (omega (arith, below))) (omega (arith, within)) others (λ k d below. fit (suc k) d (omega (arith, below))),
     )
 
-abbrev fails_in : List SeenJob → List Bool
+abbrev pub fails_in : List SeenJob → List Bool
 fails_in jobs = map (λ (job : SeenJob). job.fails) jobs
 
 -- as many calls failed as jobs fail of those that were done
@@ -110,12 +111,12 @@ ate_so false quit jobs ate calls many is stops quits (inr both) = absurd cc
 ate_so true quit jobs ate calls many is stops quits (inl all) = sym many ∙ done_by_calls jobs calls is (stops refl) (inl (many ∙ all))
 ate_so true quit jobs ate calls many is stops quits (inr both) = sym many ∙ done_by_calls jobs calls is (stops refl) (inr (quits both.1))
 
-module _ (plan : SeenPlan) (s : ℕ) (out : SiteOut SeenPlanDiner) (left : IsOutOf plan_diner Eager plan s (diner_of plan s) out) where
+module _ {manner : Manner} (plan : SeenPlan) (s : ℕ) (out : SiteOut SeenPlanDiner) (left : IsOutOf plan_diner manner plan s (diner_of plan s) out) where
   -- the site's diner has a call for each meal, and each call fails if and only if its job does
-  called_as_often : length left.eaten.added ≡ out.ate
+  pub called_as_often : length left.eaten.added ≡ out.ate
   called_as_often = sym (length-map left.eaten.added (λ (call : Call). call.k)) ∙ ap length left.eaten.in_order ∙ length-count_from out.ate 1
 
-  fit : FitMarks (fails_of plan s) left.eaten.added
+  pub fit : FitMarks (fails_of plan s) left.eaten.added
   fit =
       let fails = fails_of plan s in
       results_by_marks fails fails 1 left.eaten.added (λ i k is below. ap (λ (n : ℕ). mark_of fails n) (let next : k ≡ suc i = omega (arith, is) in next))
@@ -151,22 +152,31 @@ due_site_rows_named plan meals failed k d within =
 pub diner_count : (plan : SeenPlan) → length (diners_of plan) ≡ site_count plan
 diner_count plan = length-map-range_with_len (diner_of plan) 0 (site_count plan)
 
-diner_at : (plan : SeenPlan) (s : ℕ) → s < site_count plan → slice_get (diners_of plan) s ≡ Some (diner_of plan s)
+pub diner_at : (plan : SeenPlan) (s : ℕ) → s < site_count plan → slice_get (diners_of plan) s ≡ Some (diner_of plan s)
 diner_at plan s within = slice_get_read (diners_of plan) (site_count plan) s (diner_of plan s) (sym (diner_count plan)) within (sym (get_or-map-range_with_len (diner_of plan) 0 (site_count plan) s s (diner_of plan s) within (omega arith)))
 
 -- a diner is that of its site by what is known of it, and it has room for all jobs
-pub diner_is : (plan : SeenPlan) (s : ℕ) (diner : SeenPlanDiner) → diner.calls ≡ [] → diner.marks ≡ fails_of plan s → diner.room ≡ job_count plan s → diner.word ≡ first_word → diner ≡ diner_of plan s
-diner_is plan s diner calls marks room word =
-    ap (λ (these : List Call). record diner { calls = these }) calls
-    ∙ ap (λ (these : List Bool). record diner { calls = []; marks = these }) marks
-    ∙ ap (λ (n : ℕ). record diner { calls = []; marks = fails_of plan s; room = n }) room
+pub diner_is : (plan : SeenPlan) (s : ℕ) (diner : SeenPlanDiner) → diner.site ≡ s → diner.calls ≡ [] → diner.marks ≡ fails_of plan s → diner.room ≡ job_count plan s → diner.word ≡ first_word → diner ≡ diner_of plan s
+diner_is plan s diner site calls marks room word =
+    ap (λ (n : ℕ). record diner { site = n }) site
+    ∙ ap (λ (these : List Call). record diner { site = s; calls = these }) calls
+    ∙ ap (λ (these : List Bool). record diner { site = s; calls = []; marks = these }) marks
+    ∙ ap (λ (n : ℕ). record diner { site = s; calls = []; marks = fails_of plan s; room = n }) room
     ∙ ap (λ (n : ℕ). record (diner_of plan s) { word = n }) word
 
-pub diner_has_room : (plan : SeenPlan) (diners : List SeenPlanDiner) → diners ≡ diners_of plan → (s : ℕ) (diner : SeenPlanDiner) → slice_get diners s ≡ Some diner → job_count plan s ≤ diner.room
-diner_has_room plan diners are s diner at =
+diner_there : (plan : SeenPlan) (diners : List SeenPlanDiner) → diners ≡ diners_of plan → (s : ℕ) (diner : SeenPlanDiner) → slice_get diners s ≡ Some diner → diner ≡ diner_of plan s
+diner_there plan diners are s diner at =
     let within : s < site_count plan = omega (arith, slice_get_within diners s diner at, ap length are, diner_count plan) in
-    let same : diner ≡ diner_of plan s = same_Some diner (diner_of plan s) (sym at ∙ ap (λ (ds : List SeenPlanDiner). slice_get ds s) are ∙ diner_at plan s within) in
-    omega (arith, ap (λ (d : SeenPlanDiner). d.room) same)
+    same_Some diner (diner_of plan s) (sym at ∙ ap (λ (ds : List SeenPlanDiner). slice_get ds s) are ∙ diner_at plan s within)
+
+pub diner_has_room : (plan : SeenPlan) (diners : List SeenPlanDiner) → diners ≡ diners_of plan → (s : ℕ) (diner : SeenPlanDiner) → slice_get diners s ≡ Some diner → job_count plan s ≤ diner.room
+diner_has_room plan diners are s diner at = omega (arith, ap (λ (d : SeenPlanDiner). d.room) (diner_there plan diners are s diner at))
+
+-- it expects to eat at that site
+pub diner_expects : (plan : SeenPlan) (diners : List SeenPlanDiner) → diners ≡ diners_of plan → (s : ℕ) (diner : SeenPlanDiner) → slice_get diners s ≡ Some diner → IsDinerOf diner plan s
+diner_expects plan diners are s diner at =
+    let same = diner_there plan diners are s diner at in
+    (sym (ap (λ (d : SeenPlanDiner). d.site) same), ap (λ (d : SeenPlanDiner). d.marks) same)
 
 module _ (plan : SeenPlan) (forks : List SeenFork) (outs : List (SiteOut SeenPlanDiner)) where
   abbrev AreOuts : Type 0
@@ -188,7 +198,7 @@ module _ (plan : SeenPlan) (forks : List SeenFork) (outs : List (SiteOut SeenPla
   -- what `run` returns has the rows of the plan
   pub due_rows : (links : List SeenLink) (diners : List SeenPlanDiner) → diners ≡ diners_of plan → IsPlan plan → IsHeadline plan (map (λ (out : SiteOut SeenPlanDiner). out.ate) outs) links forks
       → AreOutsOf plan_diner Eager plan diners outs → AreFinishedOuts plan outs
-      → ((plan : SeenPlan) (edge low_ate high_ate : ℕ) (log : List Entry) → IsPlan plan → edge < edge_count plan → has_no_set plan ≡ true → IsWholeLog plan edge low_ate high_ate log → value_by plan edge log ≡ added_up plan edge low_ate high_ate)
+      → ((plan : SeenPlan) (edge low_ate high_ate : ℕ) (log : List Entry) → IsPlan plan → edge < edge_count plan → has_no_set plan ≡ true → IsWholeLog plan edge low_ate high_ate log → value_by plan edge log ≡ value_by_amounts plan edge low_ate high_ate)
       → HasDueRows plan forks outs
   due_rows links diners same is_plan headline left finished adds =
       let are = subst (λ (ds : List SeenPlanDiner). AreOutsOf plan_diner Eager plan ds outs) same left in

@@ -1,8 +1,8 @@
 -- What each command does, with the bytes that are left in the input and the bytes that are in the output.
-use Rattle.std.specs.Prelude.{◌≡◌, ◌≢◌, ◌<◌, List, ℕ, Option, Some, None, IfSome, length, take}
+use Rattle.std.specs.Prelude.{◌≡◌, ◌≢◌, ◌<◌, ◌∷◌, List, ℕ, Option, Some, None, IfSome, length, take}
 use Rattle.std.specs.Io.KnownBytes.{Appends, Keeps}
 use Rattle.dine_graph.specs.Plan.{SeenPlan}
-use Rattle.dine_reader.specs.declared.plan_fault.PlanFault.{PlanFault}
+use Rattle.dine_draft.specs.declared.plan_fault.PlanFault.{PlanFault}
 use Rattle.dine.specs.declared.fault_lines.Fault.{Fault}
 use Rattle.dine.specs.declared.fault_lines.Fault.TheVariants as fault
 use Rattle.dine_words.specs.declared.status.Status.{Status}
@@ -57,6 +57,14 @@ IsRefused bytes = (cause : PlanFault) × (fault_of_bytes bytes ≡ Some cause)
 -- the bytes that are left are known, and are the text of a plan
 abbrev pub IsPlanLeft : Option (List ℕ) → Type 0
 IsPlanLeft left = (bytes : List ℕ) × (left ≡ Some bytes) × (fault_of_bytes bytes ≡ None)
+
+-- the bytes that are left are known, and there are more than an input may have
+abbrev pub IsTooLong : Option (List ℕ) → Type 0
+IsTooLong left = (bytes : List ℕ) × (left ≡ Some bytes) × (input_limit < length bytes)
+
+-- the bytes that are left are known, and there is one
+abbrev pub IsByteLeft : Option (List ℕ) → Type 0
+IsByteLeft left = (byte : ℕ) × (bytes : List ℕ) × (left ≡ Some (byte ∷ bytes))
 
 -- if the fault is that the input is not the text of a plan, its cause is the one for which the bytes are refused
 abbrev pub HasCauseOf : Fault → Option (List ℕ) → Type 0

@@ -2,9 +2,9 @@
 use Rattle.std.specs.Prelude.{ℕ, List, [], ◌∷◌, ◌++◌, Option, codes}
 use Rattle.std.specs.declared.io.ErrorKind.{ErrorKind}
 use Rattle.std.specs.declared.io.ErrorKind.TheVariants as kind
-use Rattle.dine_reader.specs.Fault.{plan_fault_words}
-use Rattle.dine_reader.specs.declared.plan_fault.PlanFault.{PlanFault}
-use Rattle.dine_reader.specs.declared.plan_fault.PlanFault.TheVariants as text
+use Rattle.dine_draft.specs.Fault.{plan_fault_words}
+use Rattle.dine_draft.specs.declared.plan_fault.PlanFault.{PlanFault}
+use Rattle.dine_draft.specs.declared.plan_fault.PlanFault.TheVariants as text
 use Rattle.dine_threads.specs.Causes.{cause_of, cause_words}
 use Rattle.dine_threads.specs.declared.causes.RunCause.{RunCause}
 use Rattle.dine_threads.specs.declared.causes.RunCause.TheVariants as run_cause

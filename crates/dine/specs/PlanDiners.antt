@@ -1,12 +1,13 @@
 -- The diner of a plan, as contracts see it, without the turns of its jobs.
-use Rattle.std.specs.Prelude.{ℕ, Bool, false, not, List, ◌∷◌, map, slice_index_or, if◌then◌else◌}
+use Rattle.std.specs.Prelude.{◌≡◌, ℕ, Bool, false, not, List, ◌∷◌, map, slice_index_or, if◌then◌else◌}
 use Rattle.dine_graph.specs.Plan.{SeenPlan, SeenJob, jobs_of}
 use Rattle.dine_site.specs.declared.diner.Call.{Call}
 use Rattle.dine_site.specs.declared.diner.Diner as diners
 
--- a diner of a plan: the calls so far, in order; for each job of its site, whether it fails; the number of further
--- calls that it has capacity for; and the word after the turns so far
+-- a diner of a plan: its site; the calls so far, in order; for each job of its site, whether it fails; the number of
+-- further calls that it has capacity for; and the word after the turns so far
 pub record SeenPlanDiner : Type 0 where
+  pub site : ℕ
   pub calls : List Call
   pub marks : List Bool
   pub room : ℕ
@@ -28,6 +29,10 @@ mark_of marks k = slice_index_or (false ∷ marks) k false
 abbrev pub fits_marks : List Bool → ℕ → Bool → Bool
 fits_marks marks k ok = if mark_of marks k then not ok else ok
 
--- a diner of a plan as any diner is seen; it expects nothing of its site
+-- the diner is that of this site, and its marks are those of the jobs that the site has in this plan
+abbrev pub IsDinerOf : SeenPlanDiner → SeenPlan → ℕ → Type 0
+IsDinerOf diner plan site = (site ≡ diner.site) × (diner.marks ≡ fails_of plan site)
+
+-- a diner of a plan as any diner is seen; it expects to eat at its site, with the jobs of the plan
 abbrev pub plan_diner : diners.Ghosts SeenPlanDiner
-plan_diner = record { calls = λ d. d.calls; marks = λ d. d.marks; fits = fits_marks; room_left = λ d. d.room; expects = λ d plan site. Unit {0} }
+plan_diner = record { calls = λ d. d.calls; marks = λ d. d.marks; fits = fits_marks; room_left = λ d. d.room; expects = IsDinerOf }

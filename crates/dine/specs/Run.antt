@@ -45,7 +45,7 @@ IsRunText Sites plan text = text ≡ sites_table plan (due_site_rows plan (meals
 
 -- the diner of a site before its first meal
 abbrev pub diner_of : SeenPlan → ℕ → SeenPlanDiner
-diner_of plan s = record { calls = []; marks = fails_of plan s; room = job_count plan s; word = first_word }
+diner_of plan s = record { site = s; calls = []; marks = fails_of plan s; room = job_count plan s; word = first_word }
 
 -- the diners of all sites before their first meals, in order
 abbrev pub diners_of : SeenPlan → List SeenPlanDiner

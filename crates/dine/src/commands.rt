@@ -3,7 +3,7 @@ ghost use Rattle.std.specs.Prelude.{◌≡◌, ◌≢◌, ◌<◌, ◌≤◌, If
 ghost use Rattle.std.specs.Prelude.{false, length, map, true, string_bytes};
 ghost use Rattle.std.specs.Io.KnownBytes.{IsAtEnd};
 ghost use Rattle.dine.specs.Commands.{EndsByFault, FailsRun, IsDone, IsFailedRun, IsPartDone, IsPlanLeft, IsRefused};
-ghost use Rattle.dine.specs.Commands.{HasCauseOf, IsTextOf};
+ghost use Rattle.dine.specs.Commands.{HasCauseOf, IsByteLeft, IsTextOf, IsTooLong};
 ghost use Rattle.dine.specs.FaultLines.{status_of};
 ghost use Rattle.dine_words.specs.Input.{input_limit};
 ghost use Rattle.dine_words.specs.PlanBytes.{IsPlanBytes};
@@ -33,6 +33,8 @@ use std::thread::Threads;
 /// - `OutOfMemory`: an allocation failed.
 /// - `InputOutput`: the input could not be read or is too long, or the output could not be written. Only if writing
 ///   failed may a part of the text be in `output`; at any other fault, `output` is unchanged.
+///
+/// If the input is too long, or was not read to its end, `output` is unchanged, whatever the fault.
 pub fn run_cmd<H: Threads + Wait + Copy + Send + 'static, R: Read, W: Write, F: Write>(
     rt: &H,
     alloc: Global,
@@ -66,6 +68,8 @@ pub fn run_cmd<H: Threads + Wait + Copy + Send + 'static, R: Read, W: Write, F: 
     // What a fault leaves behind.
     ensures unread { result ≡ Status.Usage → input.new ≡ input.old }
     ensures unwritten { result ≢ Status.Success → result ≢ Status.InputOutput → output.new ≡ output.old }
+    ensures too_long { IsTooLong (R.remaining input.old) → output.new ≡ output.old }
+    ensures not_read { IsByteLeft (R.remaining input.new) → output.new ≡ output.old }
     ensures ended { result ≢ Status.Success
         → EndsByFault (command_in dine_app (map string_bytes arguments.now)) result
         (R.remaining input.old) (W.contents output.old) (W.contents output.new)
@@ -108,6 +112,8 @@ fn command<H: Threads + Wait + Copy + Send + 'static, R: Read, W: Write>(
     ensures refused_within { IfErr result (λ fault. status_of fault ≡ Status.PlanRefused
         → IfSome (R.remaining input.old) (λ bytes. length bytes ≤ input_limit)) }
     ensures unwritten { result ≢ Err Fault.WritingFailed → OnErr result (output.new ≡ output.old) }
+    ensures unwritten_too_long { IsTooLong (R.remaining input.old) → output.new ≡ output.old }
+    ensures unwritten_not_read { IsByteLeft (R.remaining input.new) → output.new ≡ output.old }
     ensures part { IsErrOf result Fault.WritingFailed
         → IsPartDone (command_in dine_app (map string_bytes arguments.now)) (R.remaining input.old)
         (W.contents output.old) (W.contents output.new) }
@@ -141,6 +147,8 @@ fn carry_out<H: Threads + Wait + Copy + Send + 'static, R: Read, W: Write>(
     ensures refused_within { IfErr result (λ fault. status_of fault ≡ Status.PlanRefused
         → IfSome (R.remaining input.old) (λ bytes. length bytes ≤ input_limit)) }
     ensures unwritten { result ≢ Err Fault.WritingFailed → OnErr result (output.new ≡ output.old) }
+    ensures unwritten_too_long { IsTooLong (R.remaining input.old) → output.new ≡ output.old }
+    ensures unwritten_not_read { IsByteLeft (R.remaining input.new) → output.new ≡ output.old }
     ensures part { IsErrOf result Fault.WritingFailed
         → IsPartDone (Some (asked_of command)) (R.remaining input.old)
         (W.contents output.old) (W.contents output.new) }

@@ -1,7 +1,7 @@
 //! The diner that does the jobs of a site of a plan.
 ghost use Rattle.std.specs.Prelude.{◌≡◌, ◌<◌, [], IfOk};
 ghost use Rattle.dine_graph.specs.Plan.{site_count, job_count};
-ghost use Rattle.dine.specs.PlanDiners.{fails_of, first_word, fits_marks, mark_of};
+ghost use Rattle.dine.specs.PlanDiners.{IsDinerOf, fails_of, first_word, fits_marks, mark_of};
 
 use dine_graph::Plan;
 use dine_site::{Call, CallLog, Diner, JobFault};
@@ -33,6 +33,7 @@ const NO_CHORE: Chore = Chore {
 /// most 1,000,000 turns. Only `open` allocates; a meal does not.
 #[derive(Drop)]
 pub struct PlanDiner {
+    site: u32,
     log: CallLog,
     chores: Vec<Chore>,
     word: u32,
@@ -46,6 +47,7 @@ impl Model for PlanDiner {
 
     ghost view = { λ diner.
         record {
+          site = diner.site;
           calls = diner.log.calls;
           marks = map (λ chore. chore.fails) diner.chores.items;
           room = diner.log.room;
@@ -62,6 +64,7 @@ impl PlanDiner {
     /// `AllocError` if there is no memory for the calls or the jobs.
     pub fn open(alloc: Global, plan: &Plan, site: u32) -> Result<PlanDiner, AllocError>
         requires { site < site_count plan.now }
+        ensures site { IfOk result (λ diner. diner.site ≡ site) }
         ensures calls { IfOk result (λ diner. diner.calls ≡ []) }
         ensures marks { IfOk result (λ diner. diner.marks ≡ fails_of plan.now site) }
         ensures room { IfOk result (λ diner. diner.room ≡ job_count plan.now site) }
@@ -78,6 +81,7 @@ impl PlanDiner {
             });
         }
         Ok(PlanDiner {
+            site,
             log,
             chores,
             word: FIRST_WORD,
@@ -121,6 +125,9 @@ impl Diner for PlanDiner {
     ghost fits = { fits_marks };
 
     ghost room_left = { λ diner. diner.room };
+
+    // Its own site, in a plan in which the site has its jobs.
+    ghost expects = { IsDinerOf };
 
     fn room(&self) -> u32 {
         self.log.room()

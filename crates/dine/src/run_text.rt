@@ -1,6 +1,7 @@
 //! The command `run`.
 ghost use Rattle.std.specs.Prelude.{◌≡◌, ◌≢◌, ◌≤◌, IfErr, IfOk, Some, slice_get};
 ghost use Rattle.dine_graph.specs.Plan.{IsPlan, job_count};
+ghost use Rattle.dine.specs.PlanDiners.{IsDinerOf};
 ghost use Rattle.dine.specs.Run.{HasDueRows, IsFaultOfRun, IsRunText, NamesSite, diners_of};
 
 use crate::fault_lines::Fault;
@@ -72,6 +73,8 @@ pub fn open_diners(alloc: Global, plan: &Plan) -> Result<Vec<PlanDiner>, AllocEr
     ensures diners { IfOk result (λ diners. diners.items ≡ diners_of plan.now) }
     ensures room { IfOk result (λ diners. (s : _) (diner : _)
         → slice_get diners.items s ≡ Some diner → job_count plan.now s ≤ diner.room) }
+    ensures sites { IfOk result (λ diners. (s : _) (diner : _)
+        → slice_get diners.items s ≡ Some diner → IsDinerOf diner plan.now s) }
 {
     let mut diners = Vec::with_capacity(alloc, plan.sites() as usize)?;
     for site in 0..plan.sites() {

@@ -1,7 +1,8 @@
 // Plans made by a program, beside what is read of the text that says the same.
 use crate::asserts::same;
 use crate::plans::{in_short, printed, second_in_short};
-use dine_plan::{Plan, PlanBuilder, PlanFault, read_plan};
+use dine_builder::Missing;
+use dine_plan::{EdgeId, Plan, PlanBuilder, PlanFault, SiteId, plan_text, read_plan};
 use dine_token::Act;
 use std::alloc::Global;
 use std::process::Abort;
@@ -19,11 +20,11 @@ site = [
 "#;
 
 fn add_site(rt: &impl Abort, plan: &mut PlanBuilder, name: &str, jobs: u32) -> u32 {
-    plan.site(name, jobs).expect(rt, "memory")
+    plan.site(name, jobs).expect(rt, "memory").0
 }
 
 fn add_edge(rt: &impl Abort, plan: &mut PlanBuilder, one: u32, other: u32) -> u32 {
-    plan.edge(one, other).expect(rt, "memory")
+    plan.edge(SiteId(one), SiteId(other)).expect(rt, "memory").0
 }
 
 // What is set for a job, by its site and its number from 1; for a site; or for an edge.
@@ -36,21 +37,21 @@ enum Part {
     Value(u32, u64),
 }
 
-// Sets it, and returns whether there is such a job, site or edge.
-fn set_part(plan: &mut PlanBuilder, part: Part) -> bool {
+// Sets it, and returns what is missing if there is no such job, site or edge.
+fn set_part(plan: &mut PlanBuilder, part: Part) -> Result<(), Missing> {
     match part {
-        Part::Fails(site, k) => plan.fails(site, k),
-        Part::Turns(site, k, turns) => plan.turns(site, k, turns),
-        Part::Does(site, k, act) => plan.act(site, k, act),
-        Part::Resigns(site) => plan.resign(site),
-        Part::Value(edge, value) => plan.value(edge, value),
+        Part::Fails(site, k) => plan.fails(SiteId(site), k),
+        Part::Turns(site, k, turns) => plan.turns(SiteId(site), k, turns),
+        Part::Does(site, k, act) => plan.act(SiteId(site), k, act),
+        Part::Resigns(site) => plan.resign(SiteId(site)),
+        Part::Value(edge, value) => plan.value(EdgeId(edge), value),
     }
 }
 
 // Sets all of these, and checks whether there is each such job, site or edge.
 fn set_all(rt: &impl Abort, plan: &mut PlanBuilder, parts: &[(Part, bool)]) {
     for (part, is_there) in parts {
-        same(rt, &set_part(plan, *part), is_there);
+        same(rt, &set_part(plan, *part).is_ok(), is_there);
     }
 }
 
@@ -100,7 +101,7 @@ fn is_read(rt: &impl Abort, alloc: Global, text: &str, want: &str) {
 
 // Checks the result of the builder, and that the text that says the same has this result too.
 fn builds(rt: &impl Abort, alloc: Global, plan: &PlanBuilder, want: &str) {
-    let text = plan.text().expect(rt, "memory");
+    let text = plan_text(alloc, plan).expect(rt, "memory");
     is_read(rt, alloc, text.as_str(), want);
     plan_is(rt, alloc, plan.finish(), want);
 }

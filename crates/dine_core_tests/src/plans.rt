@@ -1,5 +1,4 @@
-// The reader of plan texts, and the calls of a plan. The texts that it refuses are in tests/texts/, which tools/texts
-// tries.
+// The reader of plan texts, and the calls of a plan. The texts that it refuses are in tests/texts/.
 ghost use Rattle.std.specs.Prelude.{◌<◌};
 ghost use Rattle.dine_graph.specs.Plan.{site_count};
 
@@ -42,7 +41,7 @@ fn push_jobs(rt: &impl Abort, out: &mut String, plan: &Plan, site: u32)
 {
     for k in 0..plan.jobs(site) {
         let job = plan.job(site, k + 1);
-        let name = job.name.as_str();
+        let name = &job.name;
         let turns = job.turns;
         let fails = job.fails;
         write!(out, " {name}/{turns}/{fails}").expect(rt, "memory");

@@ -7,11 +7,11 @@
 //!    So `open_with` lends it the account that it shares with a neighbour. In all tests no other job had it open
 //!    meanwhile. There is no order of locks to keep, and no value can be reached outside a job.
 //! 3. **Say why a job failed** by an error of your own. A site that resigns drops its other jobs then.
-//! 4. **Call `on_rings`** with the values by edge and the jobs by site. It returns both, with each failure.
+//! 4. **Call `run_jobs`** with the values by edge and the jobs by site. It returns both, with each failure.
 #![tactic(auto)]
 
 use anyhow::{Result, bail};
-use dine_run::{Job, OpenFault, Plan, PlanBuilder, PlanFault, SiteId, Table, on_rings};
+use dine_run::{Job, OpenFault, Plan, PlanBuilder, SiteId, Table, run_jobs};
 use std::alloc::{AllocError, Global};
 use std::time::Instant;
 use thiserror::Error;
@@ -68,19 +68,19 @@ fn next(seed: u64) -> u64 {
 }
 
 // Returns a plan of tellers in a ring. Each third one resigns, so it drops its other transfers once one is refused.
-fn ring(alloc: Global) -> Result<Plan, PlanFault> {
+fn ring(alloc: Global) -> Result<Plan> {
     let mut plan = PlanBuilder::open(alloc);
     for n in 0..TELLERS {
         let name = format!(in alloc; "t{n}")?;
         let site = plan.site(name.as_str(), JOBS)?;
         if n % 3 == 0 {
-            plan.resign(site);
+            plan.resign(site)?;
         }
     }
     for n in 0..TELLERS {
-        plan.edge(n, (n + 1) % TELLERS)?;
+        plan.edge(SiteId(n), SiteId((n + 1) % TELLERS))?;
     }
-    plan.finish()
+    Ok(plan.finish()?)
 }
 
 // Returns a teller for each site.
@@ -102,23 +102,37 @@ fn main(rt: HostRuntime) -> Result<()> {
     let accounts = Vec::from_elem(alloc, START, TELLERS as usize)?;
     let tellers = hire(alloc)?;
     let start = Instant::now(&rt)?;
-    let done = on_rings(&rt, alloc, &plan, accounts, tellers)?;
+    let done = run_jobs(&rt, alloc, &plan, accounts, tellers)?;
     let took = start.elapsed(&rt)?;
     eprintln!(rt; "the run took {} microseconds", took.as_micros())?;
-    for (n, site) in (0..TELLERS).zip(done.sites.as_slice()) {
+    let mut resigned = 0usize;
+    for site in done.sites.iter() {
         let (did, refused) = (site.calls().len(), site.failures.len());
+        if did < JOBS as usize {
+            resigned = resigned.saturating_add(1);
+        }
+        let n = site.site.0;
         eprintln!(rt; "teller {n} tried {did} transfers, of which {refused} were refused")?;
         if let Some(failure) = site.failures.first() {
             eprintln!(rt; "  the first is number {}: {}", failure.k, failure.fault)?;
         }
     }
-    let mut total = 0u64;
+    let (mut total, mut moved) = (0u64, 0usize);
     for account in done.values {
-        total = total.saturating_add(account);
+        total = total.saturating_add(account.value);
+        if account.value != START {
+            moved = moved.saturating_add(1);
+        }
     }
     println!(rt; "total {total}")?;
     if total != START * TELLERS as u64 {
         bail!("money was lost or made");
+    }
+    if moved == 0 {
+        bail!("no account changed");
+    }
+    if resigned == 0 {
+        bail!("no teller dropped its transfers after one was refused");
     }
     Ok(())
 }

@@ -5,7 +5,7 @@
 ghost use Rattle.std.specs.Prelude.{◌<◌};
 
 use anyhow::{Result, bail};
-use dine_run::{Job, OpenFault, Place, Plan, PlanBuilder, PlanFault, SiteId, Table, on_rings};
+use dine_run::{Job, OpenFault, Place, Plan, PlanBuilder, PlanFault, SiteId, Table, run_jobs};
 use std::alloc::{AllocError, Global};
 use std::time::Instant;
 
@@ -106,10 +106,10 @@ fn square(alloc: Global) -> Result<Plan, PlanFault> {
     }
     for n in 0..WIDE * WIDE {
         if n % WIDE + 1 < WIDE {
-            plan.edge(n, n + 1)?;
+            plan.edge(SiteId(n), SiteId(n + 1))?;
         }
         if n + WIDE < WIDE * WIDE {
-            plan.edge(n, n + WIDE)?;
+            plan.edge(SiteId(n), SiteId(n + WIDE))?;
         }
     }
     plan.finish()
@@ -149,7 +149,7 @@ fn main(rt: HostRuntime) -> Result<()> {
     let strips = strips_of(alloc, &plan)?;
     let tiles = tiles_of(alloc, &plan)?;
     let start = Instant::now(&rt)?;
-    let done = on_rings(&rt, alloc, &plan, strips, tiles)?;
+    let done = run_jobs(&rt, alloc, &plan, strips, tiles)?;
     let took = start.elapsed(&rt)?;
     eprintln!(rt; "the run took {} microseconds", took.as_micros())?;
     let mut total = 0u64;
@@ -160,7 +160,7 @@ fn main(rt: HostRuntime) -> Result<()> {
         total = total.saturating_add(sum(site.job.cells.as_slice()));
     }
     for strip in done.values {
-        total = total.saturating_add(sum(strip.as_slice()));
+        total = total.saturating_add(sum(strip.value.as_slice()));
     }
     println!(rt; "total {total}")?;
     if total != HEAT as u64 * (CELLS * CELLS) as u64 {

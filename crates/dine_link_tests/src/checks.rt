@@ -47,6 +47,28 @@ fn reports_each_ring_once<R: Abort + Wait>(rt: &R, alloc: Global, by: Call) {
     same(rt, &bell.wait(rt), &Err(Lost));
 }
 
+// Checks a bell with this number of ringers: before the first ring, after each ringer rang, and when no ring is left.
+fn reports_each_ringer<R: Abort + Wait>(rt: &R, alloc: Global, degree: u32, by: Call) {
+    let (mut ringers, mut bell) = Bell::open(alloc, degree).expect(rt, "memory for the bell");
+    same(rt, &ask(rt, &mut bell, by), &None);
+    for place in 0..degree as usize {
+        ring_each(rt, &mut ringers, &[place]);
+    }
+    for number in 0..degree {
+        same(rt, &ask(rt, &mut bell, by), &Some(number));
+    }
+    same(rt, &ask(rt, &mut bell, by), &None);
+}
+
+// Bells with one, with three and with 64 ringers.
+#[test]
+fn bells_of_each_degree_report_each_ringer(rt: HostRuntime) {
+    for degree in [1, 3, 64] {
+        reports_each_ringer(&rt, rt.alloc(), degree, Call::TryWait);
+        reports_each_ringer(&rt, rt.alloc(), degree, Call::Check);
+    }
+}
+
 #[test]
 fn try_wait_reports_each_ring_once_and_never_sleeps(rt: HostRuntime) {
     reports_each_ring_once(&rt, rt.alloc(), Call::TryWait);

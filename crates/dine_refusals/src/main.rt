@@ -1,5 +1,6 @@
-//! Makes one call, so that `tools/refused-memory` can let each allocation of it fail in turn. It prints one line: what
-//! the call returned. The status is 5 if an allocation failed before the call was made, and 2 if no call has the name.
+//! Makes one call, so that `tests/test_refused_memory.py` can let each allocation of it fail in turn. It prints one
+//! line: what the call returned. The status is 5 if an allocation failed before the call was made, and 2 if no call has
+//! the name.
 //!
 //! usage: dine_refusals CALL
 //!
@@ -8,7 +9,7 @@
 //! - `plan`, `builder`, `fork`, `core`, `world`, `world_with`, `channel`, `ring`, `bell`, `order`, `diner`,
 //!   `edge_table`, `site_table`, `write_edges`, `write_sites` or `world_text`: a call that does not wait.
 //! - `run_channels` or `run_rings`: a run of the pair over links of that kind.
-//! - `run_jobs`: a run of jobs of the pair, over rings.
+//! - `run_jobs` or `run_jobs_channels`: a run of jobs of the pair, over rings or over channels.
 //! - `site`: the lower site of the pair, over rings that are filled before it starts.
 #![tactic(auto)]
 
@@ -35,7 +36,8 @@ fn outcome<R: Threads + Wait + Copy + Send + 'static>(
     let outcome = match name {
         "run_channels" => runs::run_pair::<ChannelLane, R>(rt, alloc)?,
         "run_rings" => runs::run_pair::<RingLane, R>(rt, alloc)?,
-        "run_jobs" => runs::run_idle(rt, alloc)?,
+        "run_jobs" => runs::run_idle(rt, alloc, runs::Links::Rings)?,
+        "run_jobs_channels" => runs::run_idle(rt, alloc, runs::Links::Channels)?,
         _ => return outcome_at_once(alloc, name),
     };
     Ok(Some(outcome))

@@ -4,7 +4,8 @@ use crate::pair::pair;
 use dine::{PlanDiner, open_diners};
 use dine_link::Lane;
 use dine_run::{
-    Job, JobFault, JobsCause, Joined, RunCause, RunFault, Table, no_values, on_rings, run,
+    Job, JobFault, JobsCause, Joined, RunCause, RunFault, Table, no_values, on_channels, on_rings,
+    run,
 };
 use std::alloc::{AllocError, Global};
 use std::sync::Wait;
@@ -83,10 +84,18 @@ fn outcome_of_jobs(cause: JobsCause) -> Outcome {
     }
 }
 
-/// Runs jobs that share nothing, over rings. It may wait.
+/// The kind of links of a run of jobs.
+#[derive(Clone, Copy)]
+pub enum Links {
+    Rings,
+    Channels,
+}
+
+/// Runs jobs that share nothing, over links of that kind. It may wait.
 pub fn run_idle<R: Threads + Wait + Copy + Send + 'static>(
     rt: &R,
     alloc: Global,
+    links: Links,
 ) -> Result<Outcome, AllocError> {
     let plan = pair(alloc)?;
     let values = no_values(alloc, &plan)?;
@@ -94,7 +103,11 @@ pub fn run_idle<R: Threads + Wait + Copy + Send + 'static>(
     for _ in 0..plan.sites() {
         jobs.push(Idle)?;
     }
-    match on_rings(rt, alloc, &plan, values, jobs) {
+    let done = match links {
+        Links::Rings => on_rings(rt, alloc, &plan, values, jobs),
+        Links::Channels => on_channels(rt, alloc, &plan, values, jobs),
+    };
+    match done {
         Ok(_done) => Ok(Outcome::Whole),
         Err(fault) => Ok(outcome_of_jobs(fault.cause)),
     }

@@ -17,11 +17,10 @@
 
 mod teller;
 
-ghost use Rattle.std.specs.Prelude.{◌≡◌, List, Some, IfOk, length, slice_get};
+ghost use Rattle.std.specs.Prelude.{◌≡◌, Some, IfOk, length, map, slice_get};
 ghost use Rattle.dine_graph.specs.Plan.{job_count, site_count};
 ghost use Rattle.dine_rules.specs.EatingApart.{NeighboursEatApart};
 ghost use Rattle.dine_rules.specs.Journals.{IsWholeOrder};
-ghost use Rattle.dine_rules.specs.declared.events.EventKind.{EventKind};
 ghost use Rattle.dine_run.specs.Shown.{plan_shown};
 ghost use Rattle.dine_tellers.specs.Balances.{IsBooks};
 ghost use Rattle.dine_tellers.specs.Tellers.{AreFresh, HaveSent};
@@ -29,7 +28,7 @@ ghost use Rattle.dine_tellers.specs.Tellers.{AreFresh, HaveSent};
 use anyhow::{Result, bail};
 use dine_link::ChannelLane;
 use dine_plan::{Plan, read_plan};
-use dine_run::{SiteOut, order_of, run};
+use dine_run::{Gathered, SiteOut, order_of, run};
 use dine_site_core::{Event, EventKind};
 use std::alloc::{AllocError, Global};
 use std::sync::Wait;
@@ -84,23 +83,25 @@ fn books_of(alloc: Global, plan: &Plan, outs: &[SiteOut<Teller>]) -> Result<Book
     Ok(Books { balances, total })
 }
 
-// Runs the plan, and returns the balances and one order of what the sites did.
+// Runs the plan, and returns the balances, what the run gathered, and one order of what its sites did.
 fn settle<R: Threads + Wait + Copy + Send + 'static>(
     rt: &R,
     alloc: Global,
     plan: &Plan,
-) -> Result<(Books, Vec<Event>)>
+) -> Result<(Books, Gathered<Teller>, Vec<Event>)>
     ensures books { IfOk result (λ settled. IsBooks plan.now settled.0) }
-    ensures order { IfOk result (λ settled. (journals : List (List EventKind))
-        × IsWholeOrder (plan_shown plan.now journals) journals settled.1.items) }
-    ensures apart { IfOk result (λ settled. NeighboursEatApart plan.now settled.1.items) }
+    ensures sent { IfOk result (λ settled. HaveSent plan.now settled.1.sites.items) }
+    ensures order { IfOk result (λ settled. let journals = map (λ out. out.journal.items) settled.1.sites.items in
+        IsWholeOrder (plan_shown plan.now journals) journals settled.2.items) }
+    ensures apart { IfOk result (λ settled. NeighboursEatApart plan.now settled.2.items) }
 {
     let tellers = open_tellers(alloc, plan)?;
     let Ok(gathered) = run::<ChannelLane, Teller>(rt, alloc, plan, tellers) else {
         bail!("memory or a thread was refused");
     };
     let books = books_of(alloc, plan, gathered.sites.as_slice())?;
-    Ok((books, order_of(alloc, plan, &gathered)?))
+    let events = order_of(alloc, plan, &gathered)?;
+    Ok((books, gathered, events))
 }
 
 // Prints what each account has, and the total.
@@ -131,7 +132,7 @@ fn print_order<R: Print + Eprint>(rt: &R, plan: &Plan, events: &[Event]) -> Resu
 
 fn main(rt: HostRuntime) -> Result<()> {
     let plan = read_plan(rt.alloc(), RING)?;
-    let (books, events) = settle(&rt, rt.alloc(), &plan)?;
+    let (books, _gathered, events) = settle(&rt, rt.alloc(), &plan)?;
     print_books(&rt, &plan, &books)?;
     print_order(&rt, &plan, events.as_slice())
 }

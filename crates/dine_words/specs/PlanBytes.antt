@@ -4,8 +4,8 @@ use Rattle.std.specs.Str.{is_utf8}
 use Rattle.dine_graph.specs.Plan.{SeenPlan}
 use Rattle.dine_reader.specs.PlanOf.{IsPlanOf}
 use Rattle.dine_reader.specs.RefusalTests.{first_fault}
-use Rattle.dine_reader.specs.declared.plan_fault.PlanFault.{PlanFault}
-use Rattle.dine_reader.specs.declared.plan_fault.PlanFault.TheVariants as fault
+use Rattle.dine_draft.specs.declared.plan_fault.PlanFault.{PlanFault}
+use Rattle.dine_draft.specs.declared.plan_fault.PlanFault.TheVariants as fault
 
 -- why the bytes are refused, if they are: bytes that are no text are no TOML
 abbrev pub fault_of_bytes : List ℕ → Option PlanFault

@@ -1,9 +1,8 @@
-use Rattle.std.proofs.Common.{◌≡◌, ◌≢◌, ◌≤◌, ◌∙◌, Err, Some, IfSome, length, arith, ap, subst, sym, vec_items}
+use Rattle.std.proofs.Common.{◌≡◌, ◌≢◌, ◌≤◌, ◌∙◌, Err, Some, IfSome, length, arith, ap, sym, vec_items}
 use Rattle.std.proofs.lemmas.Option.{IfSome_then}
-use Rattle.dine_reader.specs.declared.plan_fault.PlanFault.TheVariants as text
+use Rattle.dine_draft.specs.declared.plan_fault.PlanFault.TheVariants as text
 use Rattle.dine_words.specs.Input.{input_limit}
 use Rattle.dine_words.specs.PlanBytes.{fault_of_bytes}
-use Rattle.dine.specs.private.InputFaults.{IsInputFault}
 use Rattle.dine.proofs.ReadingFaults.{of_input_returned, of_text_returned}
 use Rattle.dine.proofs.commands.plan_in.Goals as goal
 

@@ -11,7 +11,7 @@ use Rattle.dine.specs.PlanDiners.{SeenPlanDiner, plan_diner}
 use Rattle.dine.specs.Run.{NamesSite, IsFaultOfRun, diners_of}
 use Rattle.dine.specs.declared.fault_lines.Fault.{Fault}
 use Rattle.dine.specs.declared.fault_lines.Fault.TheVariants as fault
-use Rattle.dine.proofs.RunLemmas.{diner_count, diner_has_room, due_rows}
+use Rattle.dine.proofs.RunLemmas.{diner_count, diner_expects, diner_has_room, due_rows}
 use Rattle.dine.proofs.run_text.run_over.Goals as goal
 
 -- a fault of `run` with the diners of a plan names a site of the plan
@@ -36,10 +36,13 @@ of_run (Err made) plan diners returned same of_plan is = record { diners = diner
 pub run-requires-clause-room : goal.run-requires-clause-room
 run-requires-clause-room g c κs within many s diner at = diner_has_room c.args.plan.now c.in_ok-diners.diners.items c.in_ok-diners.ensures.diners s diner at
 
+pub run-requires-clause-expected : goal.run-requires-clause-expected
+run-requires-clause-expected g c κs within many s diner at = diner_expects c.args.plan.now c.in_ok-diners.diners.items c.in_ok-diners.ensures.diners s diner at
+
 pub table_text-requires : goal.table_text-requires
 table_text-requires g c =
     let gathered = c.in_ok-gathered.gathered in
-    due_rows c.args.plan.now (vec_items gathered.forks) (vec_items gathered.sites) (vec_items gathered.links) c.in_ok-diners.diners.items c.in_ok-diners.ensures.diners c.open_diners.ensures.plan c.in_ok-gathered.ensures.ok.headline c.in_ok-gathered.ensures.ok.sites c.in_ok-gathered.ensures.ok.finished c.values_are_those_of_the_logs.ensures.added_up
+    due_rows c.args.plan.now (vec_items gathered.forks) (vec_items gathered.sites) (vec_items gathered.links) c.in_ok-diners.diners.items c.in_ok-diners.ensures.diners c.open_diners.ensures.plan c.in_ok-gathered.ensures.ok.whole.headline c.in_ok-gathered.ensures.ok.sites c.in_ok-gathered.ensures.ok.finished c.values_are_those_of_the_logs.ensures.added_up
 
 pub returns-in_err-gathered-clause-fault : goal.returns-in_err-gathered-clause-fault
 returns-in_err-gathered-clause-fault g c other =

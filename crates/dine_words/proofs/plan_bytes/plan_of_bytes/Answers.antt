@@ -4,7 +4,7 @@ use Rattle.std.proofs.lemmas.Bool.{cond-true, cond-false, false_from_ne_true}
 use Rattle.std.proofs.lemmas.Str.{is_utf8-from_IsUtf8, IsUtf8-from_is_utf8}
 use Rattle.dine_reader.specs.PlanOf.{IsPlanOf}
 use Rattle.dine_reader.specs.RefusalTests.{first_fault}
-use Rattle.dine_reader.specs.declared.plan_fault.PlanFault.TheVariants.{NotToml}
+use Rattle.dine_draft.specs.declared.plan_fault.PlanFault.TheVariants.{NotToml}
 use Rattle.dine_words.proofs.plan_bytes.plan_of_bytes.Goals as goal
 
 -- bytes that are a text are refused as the text is
