@@ -1,4 +1,4 @@
-"""The graphs that the measures and tools/many-runs take, and their plans."""
+"""The graphs that the measures and the tests take, and their plans."""
 
 
 def ring(sites):
@@ -42,7 +42,8 @@ def graph_of(name):
 
 
 def plan_of(jobs, edges, turns=0):
-    """Returns the text of a plan, whose sites have so many jobs each, of so many turns. Its edges stand in increasing order."""
+    """Returns the text of a plan, whose sites have so many jobs each, of so many turns. Its edges stand in increasing
+    order."""
     job = '{ name = "j", turns = %d }' % turns if turns else '{ name = "j" }'
     text = ["version = 1"]
     text += [f'[[site]]\nname = "s{it}"\njobs = [{", ".join([job] * count)}]' for it, count in enumerate(jobs)]

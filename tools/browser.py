@@ -13,6 +13,8 @@ BROWSERS = ("chromium", "chromium-browser", "google-chrome")
 DRIVERS = ("chromedriver", "chromium.chromedriver")
 # A root user gets no sandbox from Chromium, and a container little shared memory.
 WORDS = ("--headless=new", "--no-sandbox", "--disable-dev-shm-usage", "--disable-gpu", "--no-first-run")
+# No name leads anywhere, and no address but that of this machine.
+WORDS += ("--host-resolver-rules=MAP * ~NOTFOUND, EXCLUDE 127.0.0.1",)
 WORDS += ("--hide-scrollbars", "--disable-background-networking", "--disable-component-update", "--disable-sync")
 # How long a script may take, or what is waited for: many times what either takes on a machine with nothing else to do.
 SECONDS = 120
@@ -133,6 +135,10 @@ class Browser:
     def open(self, address):
         self.guarded(lambda: self.driver.get(address))
 
+    def into_frame(self, where):
+        """Goes into a frame of the page, until another page is opened."""
+        self.guarded(lambda: self.driver.switch_to.frame(self.driver.find_element(self.by, where)))
+
     def value(self, code):
         """Returns the value of JavaScript in the page, which is looked at by it and not changed."""
         return self.guarded(lambda: self.driver.execute_script(f"return ({code})"))
@@ -165,6 +171,11 @@ class Browser:
         event["button"] = "left" if count else "none"
         self.command("Input.dispatchMouseEvent", **event)
 
+    def click_point(self, x, y):
+        """Clicks at a point of the window."""
+        for kind, count in (("mouseMoved", 0), ("mousePressed", 1), ("mouseReleased", 1)):
+            self.mouse(kind, (x, y), count)
+
     def click_at(self, where, part):
         """Clicks so far along what is there, from 0 at its left to 1 at its right, at half its height."""
 
@@ -188,6 +199,13 @@ class Browser:
 
         self.guarded(does)
 
+    def swipe(self, where, far):
+        """Puts a finger on the middle of what is there, moves it so many points to the right, and lifts it."""
+        x, y = self.value(f"{PLACE}({json.dumps(where)})")
+        points = {"touchStart": [{"x": x, "y": y}], "touchMove": [{"x": x + far, "y": y + 4}], "touchEnd": []}
+        for kind, there in points.items():
+            self.command("Input.dispatchTouchEvent", type=kind, touchPoints=there)
+
     def type(self, keys):
         """Types a text to whatever has the focus."""
         self.guarded(lambda: self.chains(self.driver, duration=0).send_keys(keys).perform())
@@ -196,22 +214,31 @@ class Browser:
         """Presses a key, by its name in JavaScript."""
         self.type(KEYS.get(key, key))
 
+    def control(self, key):
+        """Presses a key together with the key Control."""
+        chain = self.chains(self.driver, duration=0).key_down(CONTROL).send_keys(key).key_up(CONTROL)
+        self.guarded(chain.perform)
+
     def fill(self, where, text):
         """Clicks into a text, and types another in its place."""
+        self.replace(where, lambda chain: chain.send_keys(BACKSPACE).send_keys(text))
+
+    def paste(self, where):
+        """Clicks into a text, and puts what was copied in its place."""
+        self.replace(where, lambda chain: chain.key_down(CONTROL).send_keys("v").key_up(CONTROL))
+
+    def replace(self, where, by):
         self.click(where)
+        chain = self.chains(self.driver, duration=0).key_down(CONTROL).send_keys("a").key_up(CONTROL)
+        self.guarded(lambda: by(chain).perform())
 
-        def does():
-            chain = self.chains(self.driver, duration=0)
-            chain.key_down(CONTROL).send_keys("a").key_up(CONTROL).send_keys(BACKSPACE).send_keys(text).perform()
-
-        self.guarded(does)
-
-    def look(self, width, height, scheme):
-        """Gives the page a size in points and a colour scheme, light or dark."""
+    def look(self, width, height, scheme, motion="no-preference"):
+        """Gives the page a size in points and a colour scheme, light or dark, and says whether to reduce motion."""
         size = {"width": width, "height": height, "deviceScaleFactor": 1, "mobile": False}
         self.command("Emulation.setDeviceMetricsOverride", **size)
-        media = {"features": [{"name": "prefers-color-scheme", "value": scheme}]}
-        self.command("Emulation.setEmulatedMedia", **media)
+        wanted = {"prefers-color-scheme": scheme, "prefers-reduced-motion": motion}
+        features = [{"name": name, "value": value} for name, value in wanted.items()]
+        self.command("Emulation.setEmulatedMedia", features=features)
 
     def download_to(self, folder):
         """Has what is saved put into a folder."""

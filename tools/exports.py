@@ -1,15 +1,15 @@
-"""Files that show a run without a server: a page with all that the program printed of it, and a trace for Perfetto.
-
-`ask` is a function that calls the program dine_trace with arguments and an input, and returns what it printed."""
+"""Files that show plans without a server: the page in one file, and a trace of a run for Perfetto."""
 import base64
-import gzip
 import hashlib
 import json
 import os
 import re
+import zlib
 
 IMPORT = re.compile(r'^import\s*\{[^}]*\}\s*from\s*"\./([\w-]+)\.js";\n', re.M)
 EXPORT = re.compile(r"^export (?=(?:async )?function|class|const|let)", re.M)
+# What the page in one file has packed in itself, and its script for the rules.
+PACKED = re.compile('<script type="text/plain" id="(?:catalog|module)">([^<]*)</script>')
 # How long an event is in a trace, in its microseconds: then a viewer counts events as milliseconds.
 LONG = 1000
 # What a viewer is asked to show: sites in the plan's order, in one process.
@@ -18,35 +18,6 @@ PROCESS = 1
 
 class Fault(Exception):
     """The file cannot be made, for the reason that it has."""
-
-
-# ---- The states along a list of choices
-
-
-def given(choices, text):
-    """Returns an input of the program: the choices, and the plan after them."""
-    return f"{choices}\n{text}".encode()
-
-
-def recorded(ask, path, text, choices):
-    """Returns a run as a page takes it: its events, and the state before the first of them and after each."""
-    events = json.loads(ask(["--events", "-"], given(choices, text)))
-    places = ",".join(map(str, range(events["events"] + 1)))
-    lines = ask(["--states", places, "-"], given(choices, text)).splitlines()
-    return {"plan": path, "text": text, "events": events, "states": [json.loads(it) for it in lines]}
-
-
-def runs_of(ask, moments):
-    """Returns the runs of the moments of a lesson, each once, and the moments with the number of their run."""
-    runs, numbers, placed = [], {}, []
-    for moment in moments:
-        key = (moment["text"], moment.get("choices", ""))
-        if key not in numbers:
-            numbers[key] = len(runs)
-            runs.append(recorded(ask, moment.get("plan"), *key))
-        at = moment.get("at", runs[numbers[key]]["events"]["events"])
-        placed.append({**moment, "run": numbers[key], "at": at})
-    return runs, placed
 
 
 # ---- The page in one file
@@ -80,35 +51,39 @@ def hash_of(text):
     return "'sha256-" + base64.b64encode(hashlib.sha256(text.encode()).digest()).decode() + "'"
 
 
-def page_of(folder, record):
-    """Returns the page as one file, with a record of the program's states in it. It loads nothing."""
+def packed(content):
+    """Returns bytes packed into letters, as page/packing.js unpacks them."""
+    return base64.urlsafe_b64encode(zlib.compress(content, 9, -zlib.MAX_WBITS)).decode()
+
+
+def unpacked(page):
+    """Returns a page in one file with what is packed in it unpacked, since two machines may pack it otherwise."""
+    return PACKED.sub(lambda it: repr(zlib.decompress(base64.urlsafe_b64decode(it[1]), -zlib.MAX_WBITS)), page)
+
+
+def page_of(folder, catalog):
+    """Returns the page as one file, with the proved rules and this catalog of plans and lessons in it. It loads nothing."""
     style, script = f"\n{text_of(f'{folder}/page.css')}", f"\n{script_of(folder)}"
-    packed = base64.b64encode(gzip.compress(json.dumps(record, separators=(",", ":")).encode(), 9, mtime=0)).decode()
-    policy = f"default-src 'none'; script-src {hash_of(script)}; style-src {hash_of(style)}; img-src data:; base-uri 'none'; form-action 'none'"
+    with open(f"{folder}/dine.wasm", "rb") as file:
+        held = {"catalog": packed(json.dumps(catalog, separators=(",", ":")).encode()), "module": packed(file.read())}
+    held["worker"] = text_of(f"{folder}/worker.js")
+    policy = (
+        f"default-src 'none'; script-src {hash_of(script)} 'wasm-unsafe-eval'; worker-src blob:; style-src {hash_of(style)}; img-src data:; "
+        "base-uri 'none'; form-action 'none'"
+    )
     parts = {
         r'<link rel="stylesheet" href="page\.css">': f"<style>{style}</style>",
-        r'<script type="module" src="page\.js"></script>': f'<script type="text/plain" id="recorded">{packed}</script>\n'
-        f'<script type="module">{script}</script>',
+        r'<script type="module" src="page\.js"></script>': "".join(
+            f'<script type="text/plain" id="{name}">{text}</script>\n' for name, text in held.items()
+        ) + f'<script type="module">{script}</script>',
         r'<meta charset="utf-8">': f'<meta charset="utf-8">\n<meta http-equiv="Content-Security-Policy" content="{policy}">',
-    }
+    }  # fmt: skip
     page = text_of(f"{folder}/index.html")
     for wanted, part in parts.items():
         page, count = re.subn(wanted, lambda _, part=part: part, page)
         if count != 1:
             raise Fault(f"page/index.html has {wanted} {count} times")
     return page
-
-
-def lesson_page(ask, folder, lesson, is_unproved):
-    """Returns a lesson as a page in one file, which says so if the program is unproved."""
-    runs, moments = runs_of(ask, lesson["moments"])
-    return page_of(folder, {"lesson": {**lesson, "moments": moments}, "runs": runs, "unproved": is_unproved})
-
-
-def run_page(ask, folder, run, is_unproved):
-    """Returns a run as a page in one file, which says so if the program is unproved. The run is the path and the text of its plan, and
-    its choices."""
-    return page_of(folder, {"lesson": None, "runs": [recorded(ask, *run)], "unproved": is_unproved})
 
 
 # ---- A trace
@@ -171,11 +146,12 @@ def steps_of(events, ends, names):
 
 
 def trace_of(ask, run, is_unproved):
-    """Returns a run in the trace-event format, which Perfetto and chrome://tracing read. A millisecond of it is an event. The run is as
-    for run_page(), and its name says so if the program is unproved."""
+    """Returns a run in the trace-event format, which Perfetto and chrome://tracing read. A millisecond of it is an event. The run is the
+    path and the text of its plan, and its choices. `ask` calls dine_trace with arguments and an input, and returns what it printed. The
+    name of the run says so if the program is unproved."""
     path, text, choices = run
-    events = json.loads(ask(["--events", "-"], given(choices, text)))
-    start = json.loads(ask(["--states", "0", "-"], given("", text)))
+    events = json.loads(ask(["--events", "-"], f"{choices}\n{text}".encode()))
+    start = json.loads(ask(["--states", "0", "-"], f"\n{text}".encode()))
     names, ends = [it["name"] for it in start["sites"]], [it["ends"] for it in start["edges"]]
     title = f"{os.path.basename(path)}{' (unproved)' if is_unproved else ''}"
     slices = [*names_of_lines(title, names), *phases_of(events), *steps_of(events, ends, names)]

@@ -8,16 +8,12 @@ import fcntl
 import hashlib
 import os
 import subprocess
+import threading
 from pathlib import Path
 
 from trying import HOME, crates, with_those_below
 
 PARTS = ("src", "specs", "proofs")
-
-
-def program_of(name, is_unproved=False):
-    """Returns the path of a crate's program. An unproved program has another path than the proved one."""
-    return f"{HOME}/crates/{name}/out/{'unproved/' if is_unproved else ''}{name}"
 
 
 def programs():
@@ -47,9 +43,10 @@ def sum_of_sources(name):
 
 
 def replace(path, text):
-    """Writes a file so that it is there whole or not at all."""
-    Path(f"{path}.new").write_text(text, "utf-8")
-    os.replace(f"{path}.new", path)
+    """Writes a file so that it is there whole or not at all. Several threads and processes may do it at once."""
+    new = Path(f"{path}.{os.getpid()}.{threading.get_ident()}.new")
+    new.write_text(text, "utf-8")
+    os.replace(new, path)
 
 
 def lock(folder):

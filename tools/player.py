@@ -1,17 +1,17 @@
-"""The page of ./show in a browser: what is done there, as a person does it, and what is read there."""
+"""The page in a browser: what is done there, as a person does it, and what is read there."""
 import json
 import re
 import subprocess
 import time
 
-from trying import HOME, Answer, difference, text_of
+from trying import HOME, Answer, answer_of, difference, program_of, text_of
 
 IDLE = "document.querySelector('main')?.getAttribute('aria-busy') === 'false'"
 RING = "plan=plans/ring_of_five.toml"
 # The choices by which on that plan all five are hungry, and all have asked.
 ASKED = "0,1,2,3,4,5,5,5,4,3"
 # Where the page says what a state is.
-PARTS = ("#told", "#picture", "#enabled", "#why", "#count", "#logs", "#line", "#sites", "#edges", "#order", "#ticks")
+PARTS = ("#last", "#picture", "#enabled", "#why", "#count", "#logs", "#line", "#sites", "#edges", "#checks")
 # Puts a text into the plan of one's own.
 PUT = """((text) => {
   const it = document.querySelector('#text');
@@ -22,11 +22,17 @@ PUT = """((text) => {
 QUIET, ADDRESS = 0.5, 5
 
 
-class Seen:
-    """The page in a browser. `ask` returns the state after choices on a plan, as the server sends it."""
+def state_of(choices, plan):
+    """Returns the state after the choices, a list of numbers, as the proved program prints it."""
+    given = f"{','.join(map(str, choices))}\n{plan}".encode()
+    return json.loads(answer_of(["--json", "-"], program_of("dine_trace"), input=given).output)
 
-    def __init__(self, browser, address, ask):
-        self.browser, self.address, self.ask = browser, address, ask
+
+class Player:
+    """The page in a browser."""
+
+    def __init__(self, browser, address):
+        self.browser, self.address = browser, address
 
     def open(self, said=""):
         self.browser.open("about:blank")
@@ -44,6 +50,10 @@ class Seen:
         for key in keys:
             self.browser.press(key)
             self.wait()
+
+    def undo(self):
+        self.browser.control("z")
+        self.wait()
 
     def choose(self, menu, value):
         """Chooses from a menu by its keys, as the browser has them: it is opened, and the entry's letters are typed."""
@@ -89,7 +99,7 @@ class Seen:
 
     def state(self, path="plans/ring_of_five.toml"):
         """What the program says of the state that is shown."""
-        return self.ask(self.choices(), text_of(path))
+        return state_of(self.choices(), text_of(path))
 
     def said(self, parts=PARTS):
         """All that the page says of a state in these parts, its picture too. What follows in the list is left out."""

@@ -1,7 +1,8 @@
 """The definitions in crates/*/specs: their names, comments and texts, and what each of them uses.
 
-A definition begins on a line of its own, at the margin or in a `module _` block, with its name after `abbrev`, `unfoldable`,
-`record`, `data` or `pub`, or with a name and a colon. It goes on to the next one, or to a comment that does not belong to its fields."""
+A definition begins on a line of its own, at the margin or in a `module _` block, with its name after `abbrev`,
+`unfoldable`, `record`, `data` or `pub`, or with a name and a colon. It goes on to the next one, or to a comment that
+does not belong to its fields."""
 import re
 import sys
 from dataclasses import dataclass
@@ -9,14 +10,15 @@ from dataclasses import dataclass
 from trying import paths, text_of
 
 STARTS = re.compile(r"((?:(?:abbrev|unfoldable|pub|record|data) )*)(\S+)( :)?")
-WORD = re.compile(r"(?<![\w.])[A-Za-z_]\w*")
+# A small name before `=` is that of a field, or of a value that `let` names.
+WORD = re.compile(r"(?<![\w.])(?:[A-Z]\w*|[a-z_]\w*\b(?! = ))")
 FIELD = re.compile(r"^\s+(?:pub )?(\w+) :", re.M)
 
 
 @dataclass
 class Definition:
-    """A definition: where it is, the comment directly above it, the block that it is in, its lines without comments, and its lines with
-    the comments between them."""
+    """A definition: where it is, the comment directly above it, the block that it is in, its lines without comments,
+    and its lines with the comments between them."""
     place: str
     module: str
     name: str
@@ -31,7 +33,8 @@ class Definition:
 
 
 class Module:
-    """A file of specs: its definitions by name, and what it uses from others: for each name the module and the name there."""
+    """A file of specs: its definitions by name, and what it uses from others: for each name the module and the name
+    there."""
 
     def __init__(self, path):
         crate, rest = re.fullmatch(r"crates/(\w+)/specs/(.*)\.antt", path).groups()
@@ -40,8 +43,9 @@ class Module:
         self.read(text_of(path).split("\n"))
 
     def read(self, lines):
-        """Reads the file. `level` is the margin of definitions, `now` the one that the line may belong to."""
-        level, block, now, comment = 0, "", None, []
+        """Reads the file. `level` is the margin of definitions, `now` the one that the line may belong to, and `last`
+        the last one that began."""
+        level, block, now, last, comment = 0, "", None, None, []
         for number, line in enumerate(lines, 1):
             text, margin = line.strip(), len(line) - len(line.lstrip())
             if text.startswith("--"):
@@ -58,8 +62,14 @@ class Module:
             elif text.startswith("module "):
                 level, block, now = 2, text, None
             elif margin == level and (name := name_begun(text)):
-                now = Definition(f"{self.path}:{number}", self.name, name, above, block if level else "", [line[level:]], [line[level:]])
-                self.definitions[name] = now
+                place, own = f"{self.path}:{number}", line[level:]
+                now = Definition(place, self.name, name, above, block if level else "", [own], [own])
+                self.definitions[name] = last = now
+            elif not now and last and margin == level and text.startswith(f"{last.name} "):
+                # An equation with a comment of its own.
+                now = last
+                now.text += [f"-- {it}".rstrip() for it in above] + [line[level:]]
+                now.lines.append(line[level:])
             elif now and text and (margin > level or text.startswith((now.name + " ", "unfolding ", "}", ")"))):
                 now.lines.append(line[level:])
                 now.text.append(line[level:])
@@ -92,31 +102,41 @@ def words_of(definition):
 
 
 def defined(modules, source, name):
-    """The definition of that name in the module, or the data type there of which it is a constructor, if there is one."""
+    """The definition of that name in the module, or the data type there of which it is a constructor, if there is
+    one."""
     there = modules[source].definitions if source in modules else {}
     if name in there:
         return there[name]
-    of = [one for one in there.values() if "data " in one.lines[0] and any(re.match(rf"\s+(?:pub )?{name}\b", line) for line in one.lines)]
+    case = re.compile(rf"\s+(?:pub )?{name}\b")
+    of = [one for one in there.values() if "data " in one.lines[0] and any(map(case.match, one.lines))]
     return of[0] if of else None
 
 
+def meant(modules, uses, own, word, text):
+    """What a word of a text means: definitions of the repository, and the module of a type that a crate's code
+    declares. None stands for a definition that is not there. `uses` has for each name the module and the name there,
+    and `own` has the definitions of the file."""
+    source, name = uses.get(word, ("", None))
+    if word in own:
+        return [own[word]]
+    if source.startswith("Rattle.dine") and ".declared." in source:
+        return [source.removesuffix(".TheVariants")]
+    if source.startswith("Rattle.dine"):
+        names = [name] if name else re.findall(rf"(?<![\w.]){word}\.(\w+)", text)
+        return [defined(modules, source, it) for it in names]
+    return []
+
+
 def used_by(modules, definition):
-    """What a definition uses, in order: definitions of the repository, and the module of each type that a crate's code declares."""
+    """What a definition uses, in order: definitions of the repository, and the module of each type that a crate's
+    code declares."""
     module, found = modules[definition.module], []
     for word in words_of(definition):
-        source, name = module.uses.get(word, ("", None))
-        ones = []
         if word == definition.name:
             continue
-        if word in module.definitions:
-            ones = [module.definitions[word]]
-        elif source.startswith("Rattle.dine") and ".declared." in source:
-            ones = [source.removesuffix(".TheVariants")]
-        elif source.startswith("Rattle.dine"):
-            names = [name] if name else re.findall(rf"(?<![\w.]){word}\.(\w+)", "\n".join(definition.lines))
-            ones = [defined(modules, source, it) for it in names]
+        ones = meant(modules, module.uses, module.definitions, word, "\n".join(definition.lines))
         if None in ones:
-            sys.exit(f"{definition.place}: {definition.name} uses {word}, which {source} does not define")
+            sys.exit(f"{definition.place}: {definition.name} uses {word}, which {module.uses[word][0]} does not define")
         found += [one for one in ones if one not in found]
     return found
 

@@ -1,9 +1,8 @@
-"""What the checks of tools/ share: their arguments, paths, running a program and comparing what it did with what is wanted, copies of crates, and the
-lines and the count at the end."""
+"""What the tools share: their arguments, paths, running a program and comparing what it did with what is wanted, copies
+of crates, and the lines and the count at the end of a check."""
 import argparse
 import glob
 import os
-import re
 import shutil
 import subprocess
 import sys
@@ -12,22 +11,21 @@ from typing import NamedTuple
 
 HOME = os.path.dirname(os.path.dirname(os.path.realpath(__file__)))
 DINE = os.path.join(HOME, "dine")
-REFUSED = "dine: plan refused: "
-# A line of a plan's head: a command, and a line that it prints.
-EXPECTED = re.compile(r"^# ((?:no words|check|replay|run)[\w ,=-]*)> (.*)$", re.M)
 # How long a program may take, if nothing else is given.
 SECONDS = 120
 # How much of a text is shown before and after the place where it goes wrong.
 SHOWN = 100
 # Before a command: it gets SIGTERM when the process that began it ends, however that ends. PR_SET_PDEATHSIG is 1.
-BOUND = "import ctypes, os, sys; ctypes.CDLL(None).prctl(1, 15); os.getppid() == int(sys.argv[1]) and os.execvp(sys.argv[2], sys.argv[2:])"
+BOUND = "import ctypes, os, sys; ctypes.CDLL(None).prctl(1, 15); "
+BOUND += "os.getppid() == int(sys.argv[1]) and os.execvp(sys.argv[2], sys.argv[2:])"
 BOUND = [sys.executable, "-ISc", BOUND, str(os.getpid())]
 # The checks are of the proved program, whatever the shell has set.
 os.environ.pop("DINE_UNPROVED", None)
 
 
 class Words(argparse.ArgumentParser):
-    """The arguments of a tool. Its help is the text at the head of its file. A wrong argument is refused with one line and status 2."""
+    """The arguments of a tool. Its help is the text at the head of its file. A wrong argument is refused with one
+    line and status 2."""
 
     def __init__(self, text):
         super().__init__(description=text, formatter_class=argparse.RawDescriptionHelpFormatter)
@@ -36,9 +34,10 @@ class Words(argparse.ArgumentParser):
         self.exit(2, f"{self.prog}: {message}; {' '.join(self.format_usage().split())}\n")
 
 
-def program_of(crate):
-    """Returns where the program of a crate is, once it is built."""
-    return os.path.join(HOME, "crates", crate, "out", crate)
+def program_of(crate, is_unproved=False):
+    """Returns where the program of a crate is, once it is built. An unproved program has another path than the proved
+    one."""
+    return f"{HOME}/crates/{crate}/out/{'unproved/' if is_unproved else ''}{crate}"
 
 
 def text_of(path):
@@ -57,7 +56,8 @@ def write(path, text):
 
 
 class Answer(NamedTuple):
-    """The status with which a program ended, None if it did not end, and what it wrote to standard output and to standard error."""
+    """The status with which a program ended, None if it did not end, and what it wrote to standard output and to
+    standard error."""
     status: int
     output: str
     error: str
@@ -73,20 +73,6 @@ def answer_of(words, program=DINE, seconds=SECONDS, **how):
         return Answer(None, "", f"no end within {seconds} seconds")
     # A byte that is not UTF-8 becomes a character of its own, so that texts are the same only if all bytes are.
     return Answer(ran.returncode, *(it.decode(errors="surrogateescape") for it in (ran.stdout, ran.stderr)))
-
-
-def answer_with(lines):
-    """Returns the status and output that these lines of a plan's head ask for: a refusal, or lines on standard output."""
-    text = "".join(f"{line}\n" for line in lines)
-    return Answer(3, "", text) if text.startswith(REFUSED) else Answer(0, text, "")
-
-
-def lines_by_command(head):
-    """Returns the lines that the head of a plan has for each command."""
-    lines = {}
-    for command, line in EXPECTED.findall(head):
-        lines.setdefault(command, []).append(line)
-    return lines
 
 
 def first_difference(wanted, got):
@@ -121,23 +107,15 @@ def with_those_below(name, known):
     return {name}.union(*(with_those_below(it, known) for it in lower))
 
 
-def copy_crates(name, folder):
-    """Copies a crate and those below it into a folder, as a repository without what is built."""
+def copy_crates(names, folder):
+    """Copies a crate, or several whose names have spaces between them, and those below into a folder, as a repository
+    without what is built."""
     known = crates()
-    copied = with_those_below(name, known)
+    copied = set().union(*(with_those_below(name, known) for name in names.split()))
     for it in copied:
         shutil.copytree(f"{HOME}/crates/{it}", f"{folder}/crates/{it}", ignore=shutil.ignore_patterns("out"))
     write(f"{folder}/crates.txt", "".join(f"{line}\n" for it, line in known.items() if it in copied))
     shutil.copy(f"{HOME}/HANDLES", folder)
-
-
-def add_program(name, line, source, folder):
-    """Adds a crate with a program to a repository that copy_crates made. crates.txt gets its name and this line. Returns its folder."""
-    crate = os.path.join(folder, "crates", name)
-    os.makedirs(os.path.join(crate, "src"))
-    write(f"{crate}/src/main.rt", source)
-    write(f"{folder}/crates.txt", text_of(f"{folder}/crates.txt") + f"{name} {line}\n")
-    return crate
 
 
 def in_a_line(name, fault):
@@ -146,13 +124,9 @@ def in_a_line(name, fault):
 
 
 def skip(name, why):
-    """Returns a check as `counted` takes it, of something that this machine cannot do. verify prints its line again at its end."""
+    """Returns a check as `counted` takes it, of something that this machine cannot do. verify prints its line again
+    at its end."""
     return f"{name}: skipped: {why}", None
-
-
-def tried(name, wanted, words, **how):
-    """Returns a check of the program: whether its status and output for these arguments are those that are wanted."""
-    return in_a_line(name, difference(wanted, answer_of(words, **how)))
 
 
 def a_line_each(tool, faults):
@@ -161,8 +135,8 @@ def a_line_each(tool, faults):
 
 
 def counted(tries, skipped=0):
-    """Prints the report of each check, if it has one, and at last the count. A check is its report, and whether it passed: None if it was
-    skipped. Returns the exit status."""
+    """Prints the report of each check, if it has one, and at last the count. A check is its report, and whether it
+    passed: None if it was skipped. Returns the exit status."""
     passed = failed = 0
     for text, is_right in tries:
         if text:
@@ -175,7 +149,8 @@ def counted(tries, skipped=0):
 
 
 def try_program(tool, tries, *others):
-    """Has ./dine build the program if it must, and tools/build the programs of other crates. Then it does the checks and ends the tool."""
+    """Has ./dine build the program if it must, and tools/build the programs of other crates. Then it does the checks
+    and ends the tool."""
     answer = answer_of(["check"], seconds=None, stdin=subprocess.DEVNULL)
     # The program itself never ends with 1.
     failed = answer.error if answer.status == 1 else ""
@@ -191,7 +166,7 @@ def try_program(tool, tries, *others):
 
 
 def ended(passed, failed, skipped=0):
-    """Prints the count, and returns the exit status: 0 if nothing failed, and something passed or was skipped. A check is skipped if this
-    machine cannot do it."""
+    """Prints the count, and returns the exit status: 0 if nothing failed, and something passed or was skipped. A
+    check is skipped if this machine cannot do it."""
     print(f"{passed} passed, {failed} failed" + (f", {skipped} skipped" if skipped else ""))
     return 0 if passed + skipped and not failed else 1

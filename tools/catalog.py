@@ -1,5 +1,6 @@
-"""What the page of ./show offers: the plans of plans/ and the lessons of lessons/, and the one that ./show was begun with."""
+"""What the page offers: the plans of plans/, the lessons of lessons/ and the recorded runs, and what ./show was begun with."""
 import glob
+import json
 import os
 import re
 import tomllib
@@ -10,9 +11,14 @@ FIRST = "plans/ring_of_five.toml"
 CHOICES = re.compile("([0-9]{1,10}(,[0-9]{1,10})*)?")
 
 
-# The keys of a moment, as lessons/README.md has them.
-KEYS = {"plan", "text", "choices", "at", "title", "note", "site", "naive", "hide"}
-KEYS |= {"question", "options", "answer", "because", "hints"}
+# The keys of a moment, as lessons/README.md has them, by what they have to be.
+TEXTS = {"plan", "text", "choices", "title", "note", "site", "point", "callout", "starve", "question", "because"}
+LISTS = {"show", "options", "hints"}
+KEYS = TEXTS | LISTS | {"at", "answer", "naive", "hide", "see"}
+# The kinds of marks that a moment may show, what it may point at, and how many words it may have there.
+MARKS = ("forks", "tokens", "arrows", "counts")
+POINT = re.compile("(site|count) [^ ]+|(fork|token|arrow) [^ ]+-[^ ]+")
+WORDS = 12
 
 
 class Unfit(Exception):
@@ -53,26 +59,45 @@ def fault_of(moment):
         return f"there is no key {unknown[0]}"
     if ("plan" in moment) == ("text" in moment):
         return "it has not one of plan and text"
-    for key in ("plan", "text", "choices", "title", "note"):
-        if not isinstance(moment.get(key, ""), str):
+    for key in sorted(moment.keys() & TEXTS):
+        if not isinstance(moment[key], str):
             return f"{key} is no text"
-    if not CHOICES.fullmatch(moment.get("choices", "")):
-        return "choices is no list of numbers with commas between them"
-    at = moment.get("at", 0)
-    return None if type(at) is int and at >= 0 else "at is no number of events"
+    for key in sorted(moment.keys() & LISTS):
+        if not isinstance(moment[key], list) or not all(isinstance(it, str) for it in moment[key]):
+            return f"{key} is no list of texts"
+    options, at = moment.get("options", []), moment.get("at", 0)
+    faults = (
+        (not CHOICES.fullmatch(moment.get("choices", "")), "choices is no list of numbers with commas between them"),
+        (type(at) is not int or at < 0, "at is no number of events"),
+        (type(moment.get("hide", True)) is not bool, "hide is neither true nor false"),
+        (type(moment.get("see", True)) is not bool, "see is neither true nor false"),
+        (moment.get("naive", True) not in (True, False, "alone"), 'naive is none of true, false and "alone"'),
+        (set(moment.get("show", [])) - {*MARKS}, f"show has other words than {', '.join(MARKS)}"),
+        (not POINT.fullmatch(moment.get("point", "site a")), 'point is neither like "site a" nor like "fork a-b"'),
+        (len(moment.get("callout", "").split()) > WORDS, f"callout has more than {WORDS} words"),
+        (("point" in moment) != ("callout" in moment), "it has only one of point and callout"),
+        (("question" in moment) != bool(options), "it has only one of question and options"),
+        (options and moment.get("answer") not in range(1, len(options) + 1), "answer is not the number of an option"),
+        ("hints" in moment and len(moment["hints"]) != len(options), "hints has not a text for each option"),
+    )
+    return next((text for is_so, text in faults if is_so), None)
 
 
 def lesson_of(path, text):
     """Returns the lesson that a text is, each moment with the text of its plan. None if it has no moments: then it is no lesson."""
     try:
         table = tomllib.loads(text)
-    except tomllib.TOMLDecodeError as error:
+    except (tomllib.TOMLDecodeError, RecursionError) as error:
         if re.search(r"^\s*\[\[\s*moment\s*\]\]", text, re.M):
             raise Unfit(f"{path} is no lesson: {error}") from None
         return None
     if "moment" not in table:
         return None
     moments = table.pop("moment")
+    if unknown := sorted(table.keys() - {"title"}):
+        raise Unfit(f"{path} is no lesson: there is no key {unknown[0]}")
+    if not isinstance(table.get("title", ""), str):
+        raise Unfit(f"{path} is no lesson: title is no text")
     if not isinstance(moments, list) or not moments or not all(isinstance(it, dict) for it in moments):
         raise Unfit(f"{path} is no lesson: moment is no array of tables")
     shown = []
@@ -106,4 +131,5 @@ def offer(given):
         "plans": [{"path": path, "text": text} for path, text in plans.items()],
         "lesson": lesson,
         "lessons": [it for it in lessons.values() if it],
+        "runs": [{"text": plans[path], "choices": it} for path, it in json.loads(text_of(f"{HOME}/page/runs.json")).items()],
     }

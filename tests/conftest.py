@@ -1,0 +1,63 @@
+"""What all tests share: the programs that they call are built first, and at the end the results are counted by file."""
+import collections
+import functools
+import os
+import subprocess
+
+import pytest
+
+import calls
+import fresh
+from trying import HOME, answer_of
+
+KINDS = ("passed", "failed", "skipped")
+
+
+def pytest_addoption(parser):
+    parser.addoption("--unproved", action="store_true", help="call programs that are built without any proof")
+    parser.addoption("--rounds", type=int, default=5, help="how often tests/test_many_runs.py runs each plan; 5")
+
+
+def pytest_configure(config):
+    calls.HOW["is_unproved"] = config.getoption("unproved")
+    # With -n the tests of a group are done by one process.
+    if getattr(config.option, "dist", "") == "load":
+        config.option.dist = "loadgroup"
+
+
+@functools.cache
+def fault_of_build(crate):
+    """Has tools/build build a program, if it is missing or older than a source. Returns its output if it can't."""
+    words = [*["--unproved"] * calls.HOW["is_unproved"], crate]
+    # The processes of pytest -n take turns.
+    held = fresh.lock(os.path.dirname(__file__))
+    built = answer_of(words, f"{HOME}/tools/build", None, stdin=subprocess.DEVNULL)
+    os.close(held)
+    return built.error if built.status else ""
+
+
+@pytest.fixture(autouse=True)
+def programs(request):
+    """Builds the programs that the mark `built` names."""
+    for crate in [it for mark in request.node.iter_markers("built") for it in mark.args]:
+        if fault := fault_of_build(crate):
+            pytest.fail(fault, pytrace=False)
+
+
+def pytest_terminal_summary(terminalreporter):
+    """Prints which tests were skipped, the results of each file, and the count of all, as verify reads them."""
+    counts, seconds = collections.Counter(), collections.Counter()
+    for kind, found in terminalreporter.stats.items():
+        for report in (it for it in found if hasattr(it, "duration")):
+            file, _, name = report.nodeid.partition("::")
+            group = os.path.basename(file).removeprefix("test_").removesuffix(".py")
+            seconds[group] += report.duration
+            counts[group, {"error": "failed"}.get(kind, kind)] += 1
+            if kind == "skipped":
+                terminalreporter.line(f"{group} {name}: skipped: {report.longrepr[2].removeprefix('Skipped: ')}")
+    terminalreporter.section("results by file")
+    for group in sorted(seconds):
+        told = ", ".join(f"{counts[group, kind]} {kind}" for kind in KINDS)
+        terminalreporter.line(f"{group}: {told}, {seconds[group]:.0f} seconds")
+    passed, failed, skipped = (sum(counts[it, kind] for it in seconds) for kind in KINDS)
+    terminalreporter.line(f"{passed} passed, {failed} failed" + f", {skipped} skipped" * bool(skipped))

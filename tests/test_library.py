@@ -1,0 +1,82 @@
+"""Tries dine as a library, as docs/LIBRARY.md describes it. In a repository that tools/vendor has made, each program
+of the page runs, and prints what the page says, and README.md has lines of the first. tools/vendor refuses wrong
+arguments with one line, and writes nothing.
+
+A program is run by 'rt try', which proves nothing: ./verify proves the crates below. With DINE_PROVE=1 each program is
+proved and built by the tools/build of the new repository, and what is built is run; from nothing that takes long."""
+import os
+import re
+
+import pytest
+from calls import add_program
+from trying import HOME, Answer, answer_of, text_of
+
+pytestmark = pytest.mark.early
+VENDOR = f"{HOME}/tools/vendor"
+USAGE = "usage: vendor [-h] DEST [CRATE]"
+
+
+def blocks(page):
+    """Returns the indented blocks of a page, without the indent."""
+    found = re.findall(r"(?:^    .*\n|^\n(?=    ))+", text_of(page), re.MULTILINE)
+    return [re.sub(r"^    ", "", it, flags=re.MULTILINE).strip("\n") + "\n" for it in found]
+
+
+BLOCKS = blocks("docs/LIBRARY.md")
+# The programs of the page, each with what it prints, which is the next block.
+PROGRAMS = [two for two in zip(BLOCKS, BLOCKS[1:]) if two[0].startswith("#![")]
+IS_PROVED = os.environ.get("DINE_PROVE") == "1"
+
+
+def test_front_page():
+    """The code on the front page is in the program of the page, in this order."""
+    left = iter([line.strip() for line in PROGRAMS[0][0].split("\n")])
+    lines = [line.strip() for line in next(it for it in blocks("README.md") if "impl Job" in it).split("\n")]
+    assert [line for line in lines if line and not line.startswith("//") and line not in left] == []
+
+
+@pytest.fixture(scope="module")
+def repository(tmp_path_factory):
+    """Returns the folder of a new repository that tools/vendor has made."""
+    folder = tmp_path_factory.mktemp("library")
+    # A repository that has nothing but its .git is as good as an empty folder.
+    answer_of(["init", "-q", str(folder)], program="git")
+    made = answer_of([str(folder)], VENDOR)
+    assert (made.status, made.error) == (0, "")
+    return folder
+
+
+def test_build_of_a_new_repository(repository):
+    asked = answer_of(["--help"], f"{repository}/tools/build")
+    assert asked.status == 0, asked.error
+
+
+@pytest.mark.slow
+@pytest.mark.timeout(7200 if IS_PROVED else 1000)
+@pytest.mark.parametrize("number", range(1, len(PROGRAMS) + 1))
+def test_program(repository, number):
+    program, prints = PROGRAMS[number - 1]
+    name = f"program_{number}"
+    mine = add_program(name, "may_wait=1: dine_run anyhow", program, repository)
+    if IS_PROVED:
+        made = answer_of([name], f"{repository}/tools/build", seconds=7000)
+        assert made.status == 0, made.error
+        ran = answer_of([], f"{mine}/out/{name}")
+        assert (ran.status, ran.output) == (0, prints), ran.error
+        return
+    ran = answer_of(["try", name], program="rt", seconds=900, cwd=mine)
+    # After the output of the program, rt says how it ended.
+    assert (ran.status, ran.output.partition("checked: ")[0]) == (0, prints), ran.error
+
+
+@pytest.mark.parametrize(("words", "line"), [
+    ([], f"the following arguments are required: DEST; {USAGE}"),
+    (["DEST", "dine_run", "more"], f"unrecognized arguments: more; {USAGE}"),
+    ([f"{HOME}/docs"], f"{HOME}/docs is not empty"),
+    (["DEST", "cups"], "there is no crate cups"),
+    ([VENDOR], f"{VENDOR} is no folder"),
+])
+def test_refused_arguments(tmp_path, words, line):
+    dest = f"{tmp_path}/other"
+    assert answer_of([it.replace("DEST", dest) for it in words], VENDOR) == Answer(2, "", f"vendor: {line}\n")
+    assert not os.path.exists(dest)

@@ -1,0 +1,94 @@
+"""Tries that programs do not compile which must not: each mutant crates/NAME/misuse/*.edit, on a copy of the crate.
+
+A mutant is a file of lines: first 'refused: TEXT', a text that the compiler's error must contain, then 'file: src/..'
+and pairs 'old: TEXT' and 'new: TEXT', as in must-fail/. The compiler has to report an error with that text, on a line
+of a changed file. If a crate does not compile unchanged, none of its mutants passes, since an error would then mean
+nothing. Nothing is proved here.
+
+Most mutants add a function `misuse` after one text of one file. Those of a crate are compiled together, each on a
+line of its own and with a name of its own, and each passes by an error on its line. The compiler reports some errors
+only if there is none of another kind, so the mutants that are left are compiled together again, and at last one by
+one. With pytest -n 2 --dist loadgroup the mutants of a crate are tried by one process."""
+import functools
+import os
+import re
+import tempfile
+
+import pytest
+from planted import applied, mutant
+from trying import HOME, answer_of, copy_crates, paths, text_of, write
+
+pytestmark = [pytest.mark.early, pytest.mark.slow, pytest.mark.timeout(1800)]
+MUTANTS = [(path.split("/")[1], os.path.basename(path)) for path in paths("crates/*/misuse/*.edit")]
+# What a mutant puts after a text if all it does is to add a function.
+ADDED = re.compile(r" (pub(?:\(crate\))? fn )misuse(\b(?:(?!\bmisuse\b).)*)")
+
+
+def compiled(name, texts, *command):
+    """Runs rt on a copy of a crate whose files have these texts, and returns its status and the lines of its output."""
+    with tempfile.TemporaryDirectory(prefix="misuse-") as room:
+        copy_crates(name, room)
+        for path, text in texts.items():
+            write(f"{room}/crates/{name}/{path}", text)
+        answer = answer_of(command, "rt", None, cwd=f"{room}/crates/{name}", input=b"")
+    return answer.status, (answer.output + answer.error).strip().split("\n")
+
+
+def is_refused(status, output, error, *at):
+    """Returns whether the compiler reported an error with this text, on a line that begins with one of these."""
+    return status != 0 and any("error" in line and line.startswith(at) and error in line for line in output)
+
+
+@functools.cache
+def fault_of_crate(name):
+    """Returns what is printed if a crate does not compile unchanged. It compiles if its tests run; it gets one, since
+    it may have none."""
+    text = text_of(f"crates/{name}/src/lib.rt") + "\n#[test]\nfn runs() {}\n"
+    _, output = compiled(name, {"src/lib.rt": text}, "try", "--test")
+    is_right = "proved=no" in output[-1] and not any("error[" in line or "run=none" in line for line in output)
+    return [] if is_right else output
+
+
+def addition(name, edit):
+    """Returns, of a mutant that adds one function, the text of its error, the file and what is before and after the
+    name of the function. Of any other it returns None."""
+    try:
+        error, ((path, old, new), *more) = mutant(text_of(f"crates/{name}/misuse/{edit}"))
+    except ValueError:
+        return None
+    found = ADDED.fullmatch(new[len(old):]) if new.startswith(old) and not more else None
+    return (error, path, *found.groups()) if found else None
+
+
+@functools.cache
+def refused_together(name):
+    """Returns which mutants of a crate are refused when they are compiled together."""
+    left = {edit: found for crate, edit in MUTANTS if crate == name for found in [addition(name, edit)] if found}
+    refused = []
+    while len(left) > 1:
+        texts, lines = {}, {}
+        for number, (edit, (_, path, before, behind)) in enumerate(left.items()):
+            # Each goes to the end of its file, so that no line moves.
+            text = texts.get(path) or text_of(f"crates/{name}/{path}")
+            texts[path] = f"{text.rstrip(chr(10))}\n{before}misuse_{number}{behind}\n"
+            lines[edit] = f"{path}:{texts[path].count(chr(10))}:"
+        status, output = compiled(name, texts, "check", "--only", "")
+        found = [edit for edit, at in lines.items() if is_refused(status, output, left[edit][0], at)]
+        if not found:
+            break
+        refused += found
+        left = {edit: it for edit, it in left.items() if edit not in found}
+    return refused
+
+
+@pytest.mark.skipif(not MUTANTS, reason="there is no mutant")
+@pytest.mark.parametrize(("name", "edit"), [
+    pytest.param(*it, id="/".join(it), marks=pytest.mark.xdist_group(it[0])) for it in MUTANTS])
+def test_mutant(name, edit):
+    assert fault_of_crate(name) == []
+    error, changes = mutant(text_of(f"crates/{name}/misuse/{edit}"))
+    texts = applied(changes, f"{HOME}/crates/{name}")
+    if edit not in refused_together(name):
+        # The shortest check: it compiles, and proves no function.
+        status, output = compiled(name, texts, "check", "--only", "")
+        assert is_refused(status, output, error, *(f"{path}:" for path in texts)), "\n".join(output)
