@@ -1,27 +1,22 @@
-"""The exports of dine_ffi, as its sources have them, and what C, Rust and Python have to declare for each."""
+"""The exports of dine_ffi, as its sources have them, what C, Rust and Python have to declare for each, and the module
+of the crate as C: the files that tools/bindings writes."""
 import os
 import re
+import shutil
+import subprocess
 
+import fresh
 from trying import HOME, paths, text_of
 
-CALLS = ("plan_calls", "world_calls", "site_calls")
-# Rattle's type of a parameter, and for C, Rust and Python its declarations, one for each argument that crosses.
-TYPES = {
-    "&mut Handle": (("dine_handle *{}",), ("*mut Handle",), ("POINTER(Handle)",)),
-    "u32": (("uint32_t {}",), ("u32",), ("Number",)),
-    "bool": (("bool {}",), ("bool",), ("c_bool",)),
-    "&[u8]": (("const uint8_t *{}", "size_t {}_len"), ("*const u8", "usize"), ("POINTER(c_uint8)", "c_size_t")),
-    "&mut [u8]": (("uint8_t *{}", "size_t {}_len"), ("*mut u8", "usize"), ("POINTER(c_uint8)", "c_size_t")),
-    "&[u32]": (("const uint32_t *{}", "size_t {}_len"), ("*const u32", "usize"), ("POINTER(c_uint32)", "c_size_t")),
-    "&mut [u32]": (("uint32_t *{}", "size_t {}_len"), ("*mut u32", "usize"), ("POINTER(c_uint32)", "c_size_t")),
-    "&DineEvent": (("const dine_event *{}",), ("*const Event",), ("POINTER(Event)",)),
-    "&mut DineEvent": (("dine_event *{}",), ("*mut Event",), ("POINTER(Event)",)),
-    "&mut DineEnds": (("dine_ends *{}",), ("*mut Ends",), ("POINTER(Ends)",)),
-    "&mut DineSiteState": (("dine_site_now *{}",), ("*mut SiteState",), ("POINTER(SiteState)",)),
-    "&mut DinePlace": (("dine_place *{}",), ("*mut Place",), ("POINTER(Place)",)),
-}
+# The types that cross, with their names in C, Rust and Python. A number goes as it is, the others behind a pointer.
+NUMBERS = {"u32": ("uint32_t", "u32", "Number"), "bool": ("bool", "bool", "c_bool")}
 STRUCTS = {"DineEvent": ("dine_event", "Event"), "DineEnds": ("dine_ends", "Ends"),
            "DineSiteState": ("dine_site_now", "SiteState"), "DinePlace": ("dine_place", "Place")}
+POINTED = {"Handle": ("dine_handle", "Handle", "Handle"), "u8": ("uint8_t", "u8", "c_uint8"),
+           "u32": ("uint32_t", "u32", "c_uint32"), **{it: (c, rust, rust) for it, (c, rust) in STRUCTS.items()}}
+# The module as C, and a note of the wasm2c that made it, since another one writes other C, and of the module.
+WASM, MODULE = "bindings/dine_ffi.wasm", ("bindings/c/nokit/module.c", "bindings/c/nokit/module.h")
+MADE = "bindings/c/nokit/module.made"
 
 # For Python: a number that is taken modulo 2^32 would be that of another site.
 NUMBER = '''class Number(c_uint32):
@@ -67,14 +62,27 @@ def causes():
     return sorted((int(numbers[name]), name, words) for words, name in said if name != "Memory")
 
 
-def parameters(params):
-    """Returns what C declares for the parameters of an export."""
-    return ", ".join(form.format(arg) for arg, kind in params for form in TYPES[kind][0])
-
-
 def arguments(params):
-    """Returns the names of the arguments in C."""
-    return ", ".join(re.search(r"\w+$", form.format(arg))[0] for arg, kind in params for form in TYPES[kind][0])
+    """Returns each argument of a call: its name, what C declares with the name in it, and its types in Rust and
+    Python. A list is two arguments."""
+    found = []
+    for arg, kind in params:
+        if kind in NUMBERS:
+            c, rust, python = NUMBERS[kind]
+            found.append((arg, f"{c} {arg}", rust, python))
+            continue
+        c, rust, python = POINTED[re.search(r"\w+\b(?=]?$)", kind)[0]]
+        is_const = not kind.startswith("&mut ")
+        rust = f"*{'const' if is_const else 'mut'} {rust}"
+        found.append((arg, f"{'const ' * is_const}{c} *{arg}", rust, f"POINTER({python})"))
+        if kind.endswith("]"):
+            found.append((f"{arg}_len", f"size_t {arg}_len", "usize", "c_size_t"))
+    return found
+
+
+def listed(params, of=1, between=", "):
+    """Returns a part of each argument of a call, in a text."""
+    return between.join(it[of] for it in arguments(params))
 
 
 def guards(params):
@@ -99,10 +107,10 @@ def c_text():
              " * two handles that are one, and else goes to the proved call, which is given no null pointer. */",
              '#include "dine.h"\n', "static uint32_t nothing;\n"]
     for name, params in exports().items():
-        parts.append(f"int64_t dine_raw_{name}({parameters(params)});")
+        parts.append(f"int64_t dine_raw_{name}({listed(params)});")
     for name, params in exports().items():
-        parts.append(f"\nint64_t dine_{name}({parameters(params)}) {{\n{guards(params)}")
-        parts.append(f"    return dine_raw_{name}({arguments(params)});\n}}")
+        parts.append(f"\nint64_t dine_{name}({listed(params)}) {{\n{guards(params)}")
+        parts.append(f"    return dine_raw_{name}({listed(params, 0)});\n}}")
     return "\n".join(parts) + "\n"
 
 
@@ -118,8 +126,8 @@ def loan(arg, kind):
 
 def nokit_text():
     """Returns the text of nokit/calls.c."""
-    parts = ["/* Written by tools/bindings from the exports of crates/dine_ffi: the calls behind dine.c where the library is",
-             " * the module as C, so that a C compiler is all that it needs. */",
+    parts = ["/* Written by tools/bindings from the exports of crates/dine_ffi: the calls behind dine.c where the",
+             " * library is the module as C, so that a C compiler is all that it needs. */",
              '#include "loans.h"']
     for name, params in exports().items():
         lent = [(arg, loan(arg, kind)) for arg, kind in params]
@@ -128,7 +136,7 @@ def nokit_text():
         for (arg, how), (_, kind) in zip(lent, params):
             words += [f"{arg}_at" if how else arg] + [f"{arg}_len"] * kind.endswith("]")
         words = ", ".join(words)
-        parts.append(f"\nint64_t dine_raw_{name}({parameters(params)}) {{\n    call it = begin();\n{lines}"
+        parts.append(f"\nint64_t dine_raw_{name}({listed(params)}) {{\n    call it = begin();\n{lines}"
                      f"    if (!it.fits)\n        return end(&it, DINE_MEMORY);\n"
                      f"    return end(&it, (int64_t)Z_dine_ffiZ_dine_raw_{name}({words}));\n}}")
     return "\n".join(parts) + "\n"
@@ -143,9 +151,7 @@ def rust_text():
         parts.append(f"#[repr(C)]\n#[derive(Clone, Copy, Default)]\npub struct {STRUCTS[name][1]} {{\n{lines}\n}}\n")
     parts.append("extern \"C\" {")
     for name, params in exports().items():
-        forms = [(form.format(arg), rust) for arg, kind in params for form, rust in zip(TYPES[kind][0], TYPES[kind][1])]
-        args = [(re.search(r"\w+$", text)[0], rust) for text, rust in forms]
-        lines = "".join(f"\n        {arg}: {kind}," for arg, kind in args)
+        lines = "".join(f"\n        {arg}: {rust}," for arg, _, rust, _ in arguments(params))
         parts.append(f"    pub fn dine_{name}({lines}\n    ) -> i64;")
     return "\n".join(parts) + "\n}\n"
 
@@ -160,8 +166,7 @@ def python_text():
         parts.append(f"class {STRUCTS[name][1]}(Structure):\n    _fields_ = [{row}]\n\n")
     parts.append("CALLS = {")
     for name, params in exports().items():
-        kinds = ", ".join(kind for _, it in params for kind in TYPES[it][2])
-        parts.append(f'    "dine_{name}": [{kinds}],')
+        parts.append(f'    "dine_{name}": [{listed(params, 3)}],')
     parts.append("}\n\n\ndef declare(library):\n    \"\"\"Declares the calls of the library.\"\"\"")
     parts.append("    for name, kinds in CALLS.items():\n        call = getattr(library, name)")
     parts.append("        call.argtypes, call.restype = kinds, c_int64")
@@ -207,15 +212,32 @@ def faults_of_header():
     """Returns what dine.h declares otherwise than the exports."""
     text = re.sub(r"/\*.*?\*/", "", text_of("bindings/c/dine.h"), flags=re.S)
     there = {name: " ".join(params.split()) for name, params in re.findall(r"int64_t dine_(\w+)\(([^)]*)\);", text)}
-    wanted = {name: parameters(params) for name, params in exports().items()}
-    bare = lambda params: [re.sub(r"\w+$", "", it.strip()).strip() for it in params.split(",")]
+    wanted = {name: listed(params) for name, params in exports().items()}
+    # The header may have other names of arguments, which say more.
+    types = {name: re.sub(r"\w+(?=,|$)", "", params) for name, params in wanted.items()}
     faults = [f"dine_{name} is not declared" for name in wanted.keys() - there.keys()]
-    faults += [f"dine_{name} is no export" for name in there.keys() - wanted.keys()]
+    faults += [f"dine_{name}: {params}" for name, params in there.items()
+               if re.sub(r"\w+(?=,|$)", "", params) != types.get(name)]
     faults += [f"dine_{name} lends more than MOST of loans.h" for name, params in exports().items()
                if sum(kind.startswith("&") for _, kind in params) > 3]
-    both = wanted.keys() & there.keys()
-    faults += [f"dine_{name}: {there[name]}" for name in both if bare(there[name]) != bare(wanted[name])]
     for name, fields in structs().items():
         if f"typedef struct {STRUCTS[name][0]} {{ uint32_t {', '.join(fields)}; }} {STRUCTS[name][0]};" not in text:
             faults.append(f"struct {STRUCTS[name][0]}")
     return sorted(faults)
+
+
+WRITTEN = {"bindings/c/dine.c": c_text, "bindings/c/nokit/calls.c": nokit_text, "bindings/rust/src/sys.rs": rust_text,
+           "bindings/rust/src/causes.rs": rust_causes, "bindings/python/dine/_calls.py": python_text,
+           "bindings/python/dine/_causes.py": python_causes}
+
+
+def makers():
+    """Returns what the note says if this machine makes the C: the version of wasm2c, and a sum of the module."""
+    words = ["wasm2c", "--version"]
+    version = subprocess.run(words, capture_output=True, text=True).stdout.strip() if shutil.which("wasm2c") else "none"
+    return f"wasm2c {version}\n{fresh.sum_of(f'{HOME}/{WASM}')}\n"
+
+
+def module_as_c(folder):
+    """Writes the module as C to a folder, by wasm2c."""
+    subprocess.run(["wasm2c", f"{HOME}/{WASM}", "-o", f"{folder}/module.c", "-n", "dine_ffi"], check=True)

@@ -128,6 +128,7 @@ def run(folder: Path, kills: int) -> int:
 def main() -> None:
     kills = int(sys.argv[1]) if len(sys.argv) > 1 else 30
     folder = Path(sys.argv[2] if len(sys.argv) > 2 else tempfile.mkdtemp(prefix="dine-"))
+    folder.mkdir(exist_ok=True)
     killed = run(folder, kills)
     journals = []
     for number in range(SITES):

@@ -1,5 +1,5 @@
-/* Written by tools/bindings from the exports of crates/dine_ffi: the calls behind dine.c where the library is
- * the module as C, so that a C compiler is all that it needs. */
+/* Written by tools/bindings from the exports of crates/dine_ffi: the calls behind dine.c where the
+ * library is the module as C, so that a C compiler is all that it needs. */
 #include "loans.h"
 
 int64_t dine_raw_plan_open(const uint8_t *text, size_t text_len, dine_handle *handle) {

@@ -1,0 +1,244 @@
+"""Tries the bindings in C, Rust and Python: their files are up to date, they print what the program prints, bad letters
+and misused handles change nothing, and the examples over MPI and with processes that are killed find an order of all
+events.
+
+All but the first is done twice, each time in a copy of bindings/ and examples/: with the proved library, which `rt lib`
+makes, and as a user without the kit, where neither rt nor the folder of the kit can be seen. With pytest -n 2 each
+way is tried by one process."""
+import functools
+import os
+import random
+import shutil
+import subprocess
+import sys
+import tempfile
+from concurrent.futures import ThreadPoolExecutor
+from pathlib import Path
+
+import exports_c
+import fresh
+import pytest
+from calls import dine
+from trying import HOME, Answer, answer_of, text_of
+
+pytestmark = pytest.mark.timeout(900)
+slow = pytest.mark.slow
+PLANS = ("plans/pair.toml", "plans/ring_of_five.toml", "plans/resigning_site.toml", "tests/cases/values.toml",
+         "tests/cases/triangle.toml")
+# How many lists of choices are replayed of each plan.
+LISTS = 2_000
+RT = shutil.which("rt")
+KIT = os.path.dirname(os.path.dirname(os.path.realpath(RT))) if RT else ""
+# Before a command: it runs where the kit cannot be seen.
+HIDDEN = ["unshare", "-rm", "sh", "-euc", 'mount -t tmpfs none "$0"; if command -v rt; then exit 1; fi; exec "$@"', KIT]
+# Four ranks on any machine, as any user, which give way while they wait.
+MPI = {"OMPI_ALLOW_RUN_AS_ROOT": "1", "OMPI_ALLOW_RUN_AS_ROOT_CONFIRM": "1", "OMPI_MCA_mpi_yield_when_idle": "1",
+       "OMPI_MCA_rmaps_base_oversubscribe": "1", "OMPI_MCA_btl_vader_single_copy_mechanism": "none"}
+
+
+# ---- Files
+
+
+@pytest.mark.early
+@pytest.mark.parametrize("path", exports_c.WRITTEN)
+def test_written_file(path):
+    """It is up to date: if not, run tools/bindings --write."""
+    assert text_of(path) == exports_c.WRITTEN[path]()
+
+
+@pytest.mark.early
+def test_header():
+    assert exports_c.faults_of_header() == []
+
+
+@pytest.mark.early
+def test_module_as_c(tmp_path):
+    """It is up to date: if not, run tools/bindings --write. If this wasm2c is not the noted one, the note counts."""
+    noted, here = text_of(exports_c.MADE).split("\n"), exports_c.makers().split("\n")
+    assert noted[1] == here[1]
+    needs("wasm2c")
+    if noted[0] == here[0]:
+        exports_c.module_as_c(tmp_path)
+        for path in exports_c.MODULE:
+            # Not compared by assert, which would look for a while for what differs in four megabytes.
+            is_same = text_of(tmp_path / os.path.basename(path)) == text_of(path)
+            assert is_same, path
+
+
+# ---- A copy with a library
+
+
+def needs(*tools):
+    """Skips a test if this machine does not have these tools."""
+    if missing := [it for it in tools if not shutil.which(it)]:
+        pytest.skip(f"no {missing[0]}")
+
+
+def python_with(module):
+    """Returns a python that has a module. Skips the test if there is none."""
+    for it in (sys.executable, "python3", "/usr/bin/python3"):
+        if answer_of(["-c", f"import {module}"], it).status == 0:
+            return it
+    return pytest.skip(f"no {module} of Python")
+
+
+class Place:
+    """A copy of bindings/ and examples/, the library in it, and commands that are run there."""
+
+    def __init__(self, folder, is_hidden):
+        self.folder, self.before = folder, HIDDEN if is_hidden and KIT else []
+        self.environment = {**os.environ, **MPI, "CARGO_TARGET_DIR": f"{folder}/target",
+                            "PYTHONPATH": f"{folder}/bindings/python", **({"DINE_NOKIT": "1"} if is_hidden else {})}
+        for name in ("bindings", "examples"):
+            shutil.copytree(f"{HOME}/{name}", f"{folder}/{name}", ignore=shutil.ignore_patterns(
+                "lib", "target", "libdine.so", "__pycache__"))
+
+    def ran(self, *words, at=".", **more):
+        """Runs a command in a folder, and returns its status and output."""
+        environment = {**self.environment, **more.pop("env", {})}
+        program, *words = [*self.before, *words]
+        return answer_of(words, program, 600, cwd=f"{self.folder}/{at}", env=environment, **more)
+
+    def output(self, *words, **how):
+        """Runs a command, which has to end well, and returns its output."""
+        ran = self.ran(*words, **how)
+        assert ran.status == 0, ran.output + ran.error
+        return ran.output
+
+    @functools.cache
+    def program(self, source, compiler="gcc"):
+        """Compiles a program in C, and returns it."""
+        to = f"{self.folder}/{os.path.basename(source)[:-2]}"
+        self.output(compiler, "-O2", "-Wall", "-Wextra", "-Werror", "-Ibindings/c", source, "bindings/lib/libdine.a",
+                    "-lpthread", "-o", to)
+        return to
+
+
+def proved_library():
+    """Returns the library that rt makes of dine_ffi, and makes it if the sources were changed."""
+    crate, archive = f"{HOME}/crates/dine_ffi", f"{HOME}/crates/dine_ffi/out/libdine_ffi.a"
+    # The tests that build a program take turns with it.
+    held = fresh.lock(os.path.dirname(__file__))
+    noted, sources = Path(f"{archive}.made"), fresh.sum_of_sources("dine_ffi")
+    if not os.path.exists(archive) or not noted.exists() or noted.read_text("utf-8") != sources:
+        made = answer_of(["lib"], "rt", None, cwd=crate, stdin=subprocess.DEVNULL)
+        if made.status:
+            os.close(held)
+            pytest.fail(made.output + made.error, pytrace=False)
+        fresh.replace(noted, sources)
+    os.close(held)
+    return archive
+
+
+@pytest.fixture(scope="module", params=[
+    pytest.param(it, marks=pytest.mark.xdist_group(it)) for it in ("with the kit", "without the kit")])
+def place(request):
+    is_hidden = request.param == "without the kit"
+    needs("gcc", *[] if is_hidden else ["rt"])
+    if is_hidden and KIT and answer_of(["-rm", "true"], "unshare").status:
+        pytest.skip("no unshare that makes a namespace")
+    with tempfile.TemporaryDirectory(prefix="bindings-") as folder:
+        it = Place(folder, is_hidden)
+        if not is_hidden:
+            os.makedirs(f"{folder}/crates/dine_ffi/out")
+            os.symlink(proved_library(), f"{folder}/crates/dine_ffi/out/libdine_ffi.a")
+        assert it.output("bindings/build") == f"libdine is made of {'c/nokit' if is_hidden else 'crates/dine_ffi'}\n"
+        yield it
+
+
+# ---- Programs and tests of the bindings
+
+
+@slow
+def test_c(place):
+    """The programs in C: the last one is refused memory by its limit."""
+    assert place.output(place.program("bindings/c/pair.c")).endswith("\nevents 22 of 22\n")
+    assert place.output(place.program("bindings/c/misuse.c"))
+    assert place.output("sh", "-c", 'ulimit -v 120000 && exec "$0"', place.program("bindings/c/memory.c"))
+
+
+@slow
+def test_rust(place):
+    needs("cargo")
+    assert place.output("cargo", "test", "-q", "--offline", at="bindings/rust").count("test result: ok.") == 3
+    printed = place.output("cargo", "run", "-q", "--offline", "--example", "bank", at="bindings/rust")
+    assert printed == "ann ate 50 times, the sum is 600\n"
+
+
+@slow
+def test_python(place):
+    """The package as pip installs it, and its tests."""
+    site = f"{place.folder}/site"
+    place.output(python_with("pip"), "-m", "pip", "install", "-q", "--no-index", "--no-build-isolation", "--target",
+                 site, "bindings/python")
+    tests = [sys.executable, "-m", "pytest", "-q", "-p", "no:cacheprovider", "bindings/python/tests"]
+    assert " passed" in place.output(*tests, env={"PYTHONPATH": site})
+
+
+# ---- Replays
+
+
+@functools.cache
+def replays(plan):
+    """Returns random lists of choices, the same each time, and what the program prints of them."""
+    some, text = random.Random(plan), text_of(plan).encode()
+    lists = [",".join(str(some.randrange(12)) for _ in range(some.randrange(1, 40))) for _ in range(LISTS)]
+    with ThreadPoolExecutor(os.cpu_count()) as pool:
+        printed = pool.map(lambda it: dine("replay", "--choices", it, input=text).output, lists)
+        return "\n".join(lists).encode() + b"\n", "".join(printed)
+
+
+@slow
+@pytest.mark.built("dine_cli")
+@pytest.mark.parametrize("language", ["C", "Rust", "Python"])
+def test_replays(place, language):
+    """Each language prints what the proved program prints."""
+    if language == "C":
+        words = [place.program("bindings/c/replay.c")]
+    elif language == "Rust":
+        needs("cargo")
+        place.output("cargo", "build", "-q", "--offline", "--release", "--example", "replay", at="bindings/rust")
+        words = [f"{place.folder}/target/release/examples/replay"]
+    else:
+        words = [sys.executable, "bindings/python/replay.py"]
+    for plan in PLANS:
+        lists, wanted = replays(plan)
+        assert place.ran(*words, f"{HOME}/{plan}", input=lists) == Answer(0, wanted, "")
+
+
+# ---- Sites as processes
+
+
+@slow
+def test_restart(place):
+    journals = f"{place.folder}/journals"
+    assert "is accepted" in place.output(sys.executable, "examples/restart/restart.py", "30", journals)
+
+
+@slow
+def test_two_processes(place):
+    place.output(sys.executable, "bindings/python/two_processes.py")
+
+
+@pytest.fixture(params=["C", "Python"])
+def ranks(place, request):
+    """Returns the words that run the example over MPI on four ranks."""
+    needs("mpirun")
+    if request.param == "Python":
+        return ["mpirun", "-n", "4", python_with("mpi4py"), "examples/mpi/dine_mpi.py"]
+    needs("mpicc")
+    return ["mpirun", "-n", "4", place.program("examples/mpi/dine_mpi.c", "mpicc")]
+
+
+@slow
+@pytest.mark.parametrize("plan", [[], [f"{HOME}/plans/grid.toml"]], ids=["without a plan", "grid"])
+def test_mpi(place, ranks, plan):
+    assert "is accepted" in place.output(*ranks, *plan)
+
+
+@slow
+def test_rank_that_dies(place, ranks):
+    """The job ends with a line about the rank, which would get more letters: Done and Close of each neighbour alone are
+    104."""
+    ran = place.ran(*ranks, env={"DINE_MPI_DIE_AFTER": "100"})
+    assert ran.status and "rank 3" in ran.error and "is accepted" not in ran.output
