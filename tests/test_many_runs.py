@@ -8,7 +8,7 @@ import re
 
 import pytest
 from calls import add_program
-from graphs import complete, graph_of, plan_of
+from graphs import graph_of, plan_of
 from trying import answer_of, copy_crates, text_of
 
 # All runs are done by one process, for all tests.
@@ -22,7 +22,7 @@ def chance(seed):
     """Returns the plan of a random graph with random jobs, the same for the same seed."""
     dice = random.Random(seed)
     sites = dice.randint(2, 10)
-    edges = [it for it in complete(sites) if dice.randrange(3) == 0]
+    edges = [it for it in itertools.combinations(range(sites), 2) if dice.randrange(3) == 0]
     return plan_of([dice.randint(0, 6) for _ in range(sites)], edges)
 
 

@@ -17,7 +17,7 @@ FILES += [it for folder in ("tools", "bench", "tests") for it in paths(f"{folder
 FIRST = {it: Path(HOME, it).read_bytes().partition(b"\n")[0] for it in FILES}
 PYTHON = [it for it in FILES if it.endswith(".py") or FIRST[it] == b"#!/usr/bin/env python3"]
 SHELL = [it for it in FILES if FIRST[it] in (b"#!/usr/bin/env bash", b"#!/bin/sh")]
-PLANTED = {"polite": [POLITE], **BUGS}
+PLANTED = {"polite": POLITE, **BUGS}
 
 
 @pytest.mark.parametrize("name", PLANTED)

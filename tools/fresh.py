@@ -29,16 +29,20 @@ def sum_of(path):
         return "none"
 
 
+def files_in(folder):
+    """Yields the files in a folder, always in the same order."""
+    for at, folders, names in os.walk(folder):
+        folders.sort()
+        yield from (f"{at}/{name}" for name in sorted(names))
+
+
 def sum_of_sources(name):
     """Returns a sum of the sources of a crate and of all crates below it, with their lines in crates.txt."""
     whole, known = hashlib.sha256(), crates()
     for it in sorted(with_those_below(name, known)):
         whole.update(f"{known[it].strip()}\n".encode())
-        for part in PARTS:
-            for at, folders, names in os.walk(f"{HOME}/crates/{it}/{part}"):
-                folders.sort()
-                for path in (f"{at}/{file}" for file in sorted(names)):
-                    whole.update(f"{path[len(HOME) :]} {sum_of(path)}\n".encode())
+        for path in (path for part in PARTS for path in files_in(f"{HOME}/crates/{it}/{part}")):
+            whole.update(f"{path[len(HOME) :]} {sum_of(path)}\n".encode())
     return whole.hexdigest()
 
 
