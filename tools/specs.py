@@ -27,14 +27,9 @@ class Definition:
     lines: list
     text: list
 
-    @property
-    def is_record(self):
-        return self.lines[0].startswith("pub record ")
-
 
 class Module:
-    """A file of specs: its definitions by name, and what it uses from others: for each name the module and the name
-    there."""
+    """A file of specs: its definitions by name, and for each name that it uses the module and the name there."""
 
     def __init__(self, path):
         crate, rest = re.fullmatch(r"crates/(\w+)/specs/(.*)\.antt", path).groups()
@@ -43,8 +38,7 @@ class Module:
         self.read(text_of(path).split("\n"))
 
     def read(self, lines):
-        """Reads the file. `level` is the margin of definitions, `now` the one that the line may belong to, and `last`
-        the last one that began."""
+        """Reads the file: `level` is the margin of definitions, `now` the one at hand, `last` the last that began."""
         level, block, now, last, comment = 0, "", None, None, []
         for number, line in enumerate(lines, 1):
             text, margin = line.strip(), len(line) - len(line.lstrip())
