@@ -8,7 +8,7 @@ from trying import HOME, paths
 
 pytestmark = pytest.mark.built("dine_cli")
 HEADS = {path: lines_by_command(Path(HOME, path).read_text("utf-8", "replace"))
-         for folder in ("plans", "tests") for path in paths(f"{folder}/**/*.toml")}
+         for folder in ("plans", "tests/cases", "tests/refused") for path in paths(f"{folder}/*.toml")}
 
 
 @pytest.mark.parametrize("path", HEADS)

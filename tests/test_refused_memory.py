@@ -1,4 +1,4 @@
-"""Lets each allocation of a call fail in turn: each run has to end with a result that tests/refused_memory/cases.toml
+"""Lets each allocation of a call fail in turn: each run has to end with a result that tests/tables/refused_memory.toml
 allows. A run that goes well although an allocation failed, hangs or ends by a signal has no such result."""
 import itertools
 import os
@@ -10,12 +10,11 @@ import pytest
 from trying import HOME, Answer, answer_of, program_of, text_of
 
 pytestmark = [pytest.mark.built("dine_refusals", "dine_cli"), pytest.mark.slow, pytest.mark.timeout(900)]
-FOLDER = "tests/refused_memory"
 # How often all allocations are gone through if a result has not occurred: the order of the threads differs each time.
 SWEEPS = 5
 PAIR = text_of("plans/pair.toml").encode()
 CASES = [pytest.param(case, words, id=words)
-         for case in tomllib.loads(text_of(f"{FOLDER}/cases.toml"))["case"] for words in case["calls"]]
+         for case in tomllib.loads(text_of("tests/tables/refused_memory.toml"))["case"] for words in case["calls"]]
 
 
 def result(text):
@@ -29,7 +28,7 @@ def library(tmp_path_factory):
     """The path of refuse.c as the clang of the kit compiles it."""
     made = str(tmp_path_factory.mktemp("refused") / "refuse.so")
     clang = Path(answer_of(["doc"], "rt").output.split("\n")[0]).parent / "toolchain" / "bin" / "clang"
-    words = ["-shared", "-fPIC", "-O1", "-fuse-ld=lld", "-nostdlib", "-o", made, f"{HOME}/{FOLDER}/refuse.c"]
+    words = ["-shared", "-fPIC", "-O1", "-fuse-ld=lld", "-nostdlib", "-o", made, f"{HOME}/tests/refuse.c"]
     answer = answer_of(words, clang)
     assert answer.status == 0, answer.error
     return made

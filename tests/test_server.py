@@ -28,7 +28,7 @@ from trying import HOME, Answer, answer_of, paths, text_of
 pytestmark = pytest.mark.built("dine_cli", "dine_trace")
 USAGE = "usage: show [-h] [--port N] [--unproved] [--export FILE] [--choices LIST] [PLAN]\n"
 SHOW, RING, PAIR = f"{HOME}/show", "plans/ring_of_five.toml", text_of("plans/pair.toml")
-REQUESTS = tomllib.loads(text_of("tests/requests.toml"))
+REQUESTS = tomllib.loads(text_of("tests/tables/requests.toml"))
 # How many seconds a request may take to arrive, or a program to end, when it is tried that neither takes too long.
 SOON = 3
 # How many seconds ./show may take to begin, where nothing is built.
@@ -83,7 +83,7 @@ def test_refused_arguments(words, fault):
     assert show(*words) == Answer(2, "", f"show: {fault}; {USAGE}")
 
 
-@pytest.mark.parametrize(("fault", "text"), tomllib.loads(text_of("tests/unfit.toml")).items())
+@pytest.mark.parametrize(("fault", "text"), tomllib.loads(text_of("tests/tables/unfit.toml")).items())
 def test_unfit_lesson(tmp_path, fault, text):
     path = tmp_path / "unfit.toml"
     path.write_text(text, "utf-8")

@@ -15,7 +15,7 @@ NO_LIST = Answer(2, "", "dine_trace: the first line of the input is no LIST\n")
 PLANS, PAIR = paths("plans/*.toml"), text_of("plans/pair.toml")
 # About how many states of a schedule are tried.
 LOOKS = 40
-ROLES, LETTERS, SENT_BY, RULES = tomllib.loads(text_of("tests/trace.toml")).values()
+ROLES, LETTERS, SENT_BY, RULES = tomllib.loads(text_of("tests/tables/trace.toml")).values()
 
 
 # ---- Reasons

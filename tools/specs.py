@@ -96,8 +96,7 @@ def words_of(definition):
 
 
 def defined(modules, source, name):
-    """The definition of that name in the module, or the data type there of which it is a constructor, if there is
-    one."""
+    """The definition of that name in the module, or the data type there of which it is a constructor, or None."""
     there = modules[source].definitions if source in modules else {}
     if name in there:
         return there[name]
@@ -107,27 +106,23 @@ def defined(modules, source, name):
 
 
 def meant(modules, uses, own, word, text):
-    """What a word of a text means: definitions of the repository, and the module of a type that a crate's code
-    declares. None stands for a definition that is not there. `uses` has for each name the module and the name there,
-    and `own` has the definitions of the file."""
+    """What a word of a text means, by what its file `uses` and its `own` definitions: definitions of the repository,
+    None for one that is not there, and the module of a type that a crate's code declares."""
     source, name = uses.get(word, ("", None))
     if word in own:
         return [own[word]]
-    if source.startswith("Rattle.dine") and ".declared." in source:
+    if not source.startswith("Rattle.dine"):
+        return []
+    if ".declared." in source:
         return [source.removesuffix(".TheVariants")]
-    if source.startswith("Rattle.dine"):
-        names = [name] if name else re.findall(rf"(?<![\w.]){word}\.(\w+)", text)
-        return [defined(modules, source, it) for it in names]
-    return []
+    names = [name] if name else re.findall(rf"(?<![\w.]){word}\.(\w+)", text)
+    return [defined(modules, source, it) for it in names]
 
 
 def used_by(modules, definition):
-    """What a definition uses, in order: definitions of the repository, and the module of each type that a crate's
-    code declares."""
+    """What a definition uses, in order: as `meant` has it."""
     module, found = modules[definition.module], []
-    for word in words_of(definition):
-        if word == definition.name:
-            continue
+    for word in (it for it in words_of(definition) if it != definition.name):
         ones = meant(modules, module.uses, module.definitions, word, "\n".join(definition.lines))
         if None in ones:
             sys.exit(f"{definition.place}: {definition.name} uses {word}, which {module.uses[word][0]} does not define")
