@@ -70,7 +70,9 @@ def is_current(name, program):
         return False
     words = [f"{HOME}/tools/seen", os.path.relpath(program, HOME)]
     seen = subprocess.run(words, capture_output=True, text=True, check=False).stdout
-    if not os.access(program, os.X_OK) or noted != f"{sum_of_sources(name)} {sum_of(program)}\n":
+    # A static library need not run.
+    is_there = os.access(program, os.R_OK if program.endswith(".a") else os.X_OK)
+    if not is_there or noted != f"{sum_of_sources(name)} {sum_of(program)}\n":
         return False
     replace(f"{program}.seen", seen)
     return True
