@@ -68,8 +68,7 @@ def counts_of(command, plan):
 
 
 def measured(command, plan, runs):
-    """Returns the median time of the runs of a command in milliseconds, the letters and wake-ups if it counts them, and
-    the sleeps of a run."""
+    """Returns the median time of the runs of a command in milliseconds, its counts, and the sleeps of a run."""
     before = resource.getrusage(resource.RUSAGE_CHILDREN).ru_nvcsw
     told = counts_of(command, plan)
     slept = resource.getrusage(resource.RUSAGE_CHILDREN).ru_nvcsw - before
@@ -82,11 +81,9 @@ middle = statistics.median_high
 
 
 def line(*cells):
-    """Prints a line of a table."""
     print(f"| {' | '.join(cells)} |", flush=True)
 
 
 def begin_table(*headings):
-    """Prints the head of a table."""
     line(*headings)
     print(f"|{'---|' * len(headings)}", flush=True)

@@ -33,7 +33,6 @@ def printed(*words, given):
 
 
 def state_after(text, choices):
-    """Returns the state of a plan after choices."""
     (state,) = printed("--json", *[",".join(map(str, choices))] * bool(choices), given=text)
     return state
 
@@ -91,8 +90,7 @@ def lists(name):
 
 
 def add_program(name, line, source, folder):
-    """Adds a crate with a program to a repository that copy_crates made. crates.txt gets its name and this line.
-    Returns its folder."""
+    """Adds a crate with a program, and its line in crates.txt, to a repository of copy_crates. Returns its folder."""
     crate = os.path.join(folder, "crates", name)
     os.makedirs(os.path.join(crate, "src"))
     write(f"{crate}/src/main.rt", source)

@@ -44,8 +44,7 @@ def shares(rounds, number):
 
 @pytest.fixture(scope="module")
 def reports(tmp_path_factory, request):
-    """Does all runs. Returns for each kind of links and plan a line for each run: whether it was wrong, its meals and
-    its letters."""
+    """Does all runs. Returns of each kind of links and plan whether each run was wrong, its meals and its letters."""
     rounds, folder = request.config.getoption("rounds"), tmp_path_factory.mktemp("runs")
     copy_crates("dine_plan dine_run", folder)
     crate = add_program("many_runs", "may_wait=6: dine_plan dine_run anyhow", text_of("tests/many_runs.rt.in"), folder)

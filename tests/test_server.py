@@ -236,8 +236,7 @@ def test_port_80(here):
 @pytest.mark.parametrize(("status", "wanted"), [
     (0, (200, "")), (1, (500, "the program that runs threads can't be built: two\n"))])
 def test_build(here, status, wanted):
-    """The build is begun once, its last line is the answer meanwhile, and its end is reported. A run is refused
-    meanwhile."""
+    """The build is begun once, its last line is the answer meanwhile, and its end is reported."""
     here.build.program = f"{HOME}/missing"
     here.build.words = ["sh", "-c", f"echo dine: one >&2; sleep 1; echo dine: two >&2; sleep 1; exit {status}"]
     found = [asked(here.server_port, "POST", "/build", b"")]

@@ -126,7 +126,6 @@ def check_precedence(state):
 
 
 def check_edge(edge, state, ends):
-    """Tries an edge of a state, whose ends are these."""
     at = state["edges"][edge]
     assert at["ends"] == ends and not (at["dirty"] and "to" in at["fork"])
     letters = {(link["from"], link["to"]): link["letters"] for link in state["links"] if link["edge"] == edge}
@@ -145,7 +144,6 @@ def check_edge(edge, state, ends):
 
 
 def check_event(number, event, state, names):
-    """Tries an enabled event."""
     site, edge = event["site"], None
     if event["place"] is not None:
         edge = [it for it, at in enumerate(state["edges"]) if site in at["ends"]][event["place"]]
@@ -157,7 +155,6 @@ def check_event(number, event, state, names):
 
 
 def check_state(state, text, choices):
-    """Tries a state of a plan after choices."""
     plan = tomllib.loads(text)
     names = [site["name"] for site in plan["site"]]
     sites = [(it["name"], len(it.get("jobs", [])), it.get("on_fault") == "resign") for it in plan["site"]]
@@ -197,7 +194,6 @@ def test_schedule(path):
 
 
 def letter_for(event):
-    """Returns the letter that --events has for an event."""
     if event["kind"] == "take":
         return LETTERS[SENT_BY[event["letter"]]].upper()
     assert event["letter"] is None or SENT_BY[event["letter"]] == event["kind"]

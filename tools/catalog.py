@@ -24,7 +24,6 @@ class Unfit(Exception):
 
 
 def text_of(path):
-    """Returns the text of a file."""
     try:
         with open(path, encoding="utf-8", newline="") as file:
             return file.read()

@@ -62,8 +62,7 @@ def lock(folder):
 
 
 def is_current(name, program):
-    """Returns whether a program is there and is the one that was built from the sources as they are. Notes that for
-    ./dine."""
+    """Returns whether a program is there and was built from the sources as they are. Notes that for ./dine."""
     try:
         noted = Path(f"{program}.made").read_text("utf-8")
     except OSError:

@@ -46,7 +46,6 @@ SOURCES += ["page/*.js", "page/*.css", "page/*.html"]
 
 
 def pages():
-    """The paths of the pages."""
     patterns = ["docs/*.md", "lessons/*.md", "tools/*/README.md", "crates/*/README.md"]
     return ["README.md", "CHANGELOG.md", "CONTRIBUTING.md", "SECURITY.md", "bench/README.md",
             *(page for pattern in patterns for page in paths(pattern))]

@@ -17,8 +17,7 @@ FIELD = re.compile(r"^\s+(?:pub )?(\w+) :", re.M)
 
 @dataclass
 class Definition:
-    """A definition: where it is, the comment directly above it, the block that it is in, its lines without comments,
-    and its lines with the comments between them."""
+    """A definition, with the comment above it, its block, its lines, and its lines with the comments between them."""
     place: str
     module: str
     name: str
@@ -86,7 +85,6 @@ def name_begun(text):
 
 
 def all_modules():
-    """Every file of specs, by the name of its module."""
     return {module.name: module for module in map(Module, paths("crates/*/specs/**/*.antt"))}
 
 
