@@ -7,37 +7,24 @@ from contextlib import contextmanager
 
 from trying import HOME
 
-SHOW = f"{HOME}/show"
 # How many seconds it may take to begin.
 SECONDS = 60
 
 
-class Shown:
-    """A server at work."""
-
-    def __init__(self, words=(), program=SHOW, **how):
-        how = {"stdout": subprocess.PIPE, "stderr": subprocess.PIPE, "text": True, **how}
-        self.child = subprocess.Popen([program, *words], **how)
-        has_line = select.select([self.child.stdout], [], [], SECONDS)[0]
-        self.address = self.child.stdout.readline().strip() if has_line else ""
-        found = re.fullmatch(r"http://127\.0\.0\.1:(\d+)/", self.address)
-        if not found:
-            self.end()
-            raise OSError(f"show printed {self.address!r} within {SECONDS} seconds: {self.child.stderr.read().strip()}")
-        self.port = int(found[1])
-
-    def end(self):
-        self.child.send_signal(signal.SIGINT)
-        return self.child.wait(20)
-
-
 @contextmanager
-def shown(*words, **how):
-    it = Shown(words, **how)
-    try:
-        yield it
-    finally:
-        if it.child.poll() is None:
-            it.end()
-        it.child.stdout.close()
-        it.child.stderr.close()
+def shown(*words, program=f"{HOME}/show", **how):
+    """Yields the process of a server, with its address and its port, and ends it by Ctrl-C."""
+    how = {"stdout": subprocess.PIPE, "stderr": subprocess.PIPE, "text": True, **how}
+    with subprocess.Popen([program, *words], **how) as child:
+        try:
+            has_line = select.select([child.stdout], [], [], SECONDS)[0]
+            child.address = child.stdout.readline().strip() if has_line else ""
+            if not (found := re.fullmatch(r"http://127\.0\.0\.1:(\d+)/", child.address)):
+                child.send_signal(signal.SIGINT)
+                said = child.stderr.read().strip()
+                raise OSError(f"show printed {child.address!r} within {SECONDS} seconds: {said}")
+            child.port = int(found[1])
+            yield child
+        finally:
+            child.send_signal(signal.SIGINT)
+            child.wait(20)
