@@ -7,7 +7,6 @@ import urllib.parse
 from functools import partial
 
 from page_file import tests_of_file
-from page_layout import tests_of_layout
 from page_teach import tests_of_teaching
 from player import ASKED, RING, plan_of, ring_of
 from trying import Answer, answer_of, difference, text_of
@@ -489,7 +488,6 @@ def tests_of_page(page, served):
     yield from tests_of_file(page)
     for path in PLANS:
         yield f"{path} against dine replay", partial(fault_of_plan, page, path)
-    yield from tests_of_layout(page)
     for name, times in PLAYED.items():
         for number in range(times):
             yield f"{name}, schedule {number}", partial(fault_of_schedule, page, f"plans/{name}.toml", number)
