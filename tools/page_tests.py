@@ -7,7 +7,6 @@ import urllib.parse
 from functools import partial
 
 from page_file import tests_of_file
-from page_teach import tests_of_teaching
 from player import ASKED, RING, plan_of, ring_of
 from trying import Answer, answer_of, difference, text_of
 
@@ -484,7 +483,6 @@ def tests_of_page(page, served):
     yield "the speed with 16 sites", partial(fault_of_speed, page, "few", plan_of(16, 2, ring_of(16) + across(14)))
     yield "the speed with 512 edges", partial(fault_of_speed, page, "many", plan_of(64, 2, crowd()))
     yield "the speed with 64,000 jobs", partial(fault_of_speed, page, "large", plan_of(64, 1000, ring_of(64)))
-    yield from tests_of_teaching(page)
     yield from tests_of_file(page)
     for path in PLANS:
         yield f"{path} against dine replay", partial(fault_of_plan, page, path)
