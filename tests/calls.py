@@ -1,9 +1,13 @@
 """How the tests call the programs, what the head of a plan says of them, and programs that call the crates."""
+import json
 import os
 import re
+import time
+from pathlib import Path
 
-from trying import Answer, answer_of, program_of, text_of, write
+from trying import Answer, answer_of, paths, program_of, text_of, write
 
+TWO_SITES = 'version = 1\n[[site]]\nname = "a"\n[[site]]\nname = "b"\n'
 REFUSED = "dine: plan refused: "
 # A line of a plan's head: a command, and a line that it prints.
 EXPECTED = re.compile(r"^# ((?:no words|check|replay|run)[\w ,=-]*)> (.*)$", re.M)
@@ -21,6 +25,33 @@ def trace(*words, **how):
     return answer_of(words, program_of("dine_trace", **HOW), **how)
 
 
+def printed(*words, given):
+    """Returns the values in the lines that dine_trace prints."""
+    answer = trace(*words, input=given.encode())
+    assert (answer.status, answer.error, answer.output[-1:]) == (0, "", "\n")
+    return [json.loads(line) for line in answer.output.splitlines()]
+
+
+def state_after(text, choices):
+    (state,) = printed("--json", *[",".join(map(str, choices))] * bool(choices), given=text)
+    return state
+
+
+def check_replay(text, choices, state):
+    """Tries that 'dine replay' prints the logs of a state for a plan with choices."""
+    words = ["--choices", ",".join(map(str, choices))] if choices else []
+    assert dine("replay", *words, input=text.encode()) == answer_with(
+        *state["logs"], f"events {state['events']} of {state['bound']}")
+
+
+def check_whole_run(text, choices):
+    """Tries that choices are those of a whole run of a plan, and returns the state after them."""
+    state = state_after(text, choices)
+    assert (state["enabled"], state["done"]) == ([], choices)
+    check_replay(text, choices, state)
+    return state
+
+
 def answer_with(*lines):
     """Returns the status and output that lines of a plan's head ask for: a refusal, or lines on standard output."""
     text = "".join(f"{line}\n" for line in lines)
@@ -35,9 +66,31 @@ def lines_by_command(head):
     return lines
 
 
+def stored_texts():
+    """Yields the name of the file, the line and the text of each text of tests/texts/. Of a file that ends in
+    'behind_two_sites' two sites, a and b, are put before each text."""
+    for path in paths("tests/texts/*.txt"):
+        name = Path(path).stem
+        for part in ("\n" + text_of(path)).split("\n# check> ")[1:]:
+            line, _, text = part.partition("\n")
+            yield name, line, TWO_SITES * name.endswith("behind_two_sites") + text
+
+
+def until(what, seconds=15):
+    """Waits until a call returns something that counts as true, and returns what it returns at last."""
+    end = time.monotonic() + seconds
+    while not (found := what()) and time.monotonic() < end:
+        time.sleep(0.05)
+    return found
+
+
+def lists(name):
+    """Returns the lists of arguments of a file of tests/words/, which are below its first line."""
+    return text_of(f"tests/words/{name}.txt").splitlines()[1:]
+
+
 def add_program(name, line, source, folder):
-    """Adds a crate with a program to a repository that copy_crates made. crates.txt gets its name and this line.
-    Returns its folder."""
+    """Adds a crate with a program, and its line in crates.txt, to a repository of copy_crates. Returns its folder."""
     crate = os.path.join(folder, "crates", name)
     os.makedirs(os.path.join(crate, "src"))
     write(f"{crate}/src/main.rt", source)

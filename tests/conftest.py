@@ -8,6 +8,7 @@ import pytest
 
 import calls
 import fresh
+from browsing import chromium, page, served, server  # noqa: F401
 from trying import HOME, answer_of
 
 KINDS = ("passed", "failed", "skipped")
@@ -15,6 +16,7 @@ KINDS = ("passed", "failed", "skipped")
 
 def pytest_addoption(parser):
     parser.addoption("--unproved", action="store_true", help="call programs that are built without any proof")
+    parser.addoption("--write", action="store_true", help="write tests/explained.txt anew")
     parser.addoption("--rounds", type=int, default=5, help="how often tests/test_many_runs.py runs each plan; 5")
 
 

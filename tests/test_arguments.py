@@ -1,15 +1,10 @@
-"""Tries arguments of the program: those that it refuses, and those that it takes in another form than the heads of
-the plans have them.
-
-Both are in tests/words/, a list of arguments a line, below the first line. Refused arguments end with status 2 and
-the usage line on standard error, and print nothing. Arguments that are taken print what the head of plans/pair.toml
-says of their plain form, after '=>'; for choices it is the head of tests/cases/choices.toml, which is the same
-plan."""
+"""Tries the arguments of tests/words/. Refused ones end with status 2 and the usage line. Those that are taken print
+what the head of plans/pair.toml, or of tests/cases/choices.toml, says of their plain form, which is behind '=>'."""
 import shlex
 import time
 
 import pytest
-from calls import answer_with, dine, lines_by_command
+from calls import answer_with, dine, lines_by_command, lists
 from trying import Answer, text_of
 
 pytestmark = pytest.mark.built("dine_cli")
@@ -17,11 +12,6 @@ USAGE = "dine [run [--table edges|sites] [--links channel|ring] | replay [--choi
 HEADS = text_of("plans/pair.toml"), text_of("tests/cases/choices.toml")
 WANTED = {**lines_by_command(HEADS[1]), **lines_by_command(HEADS[0])}
 PLAN = HEADS[0].encode()
-
-
-def lists(name):
-    """Returns the lines of a file of tests/words/ below its first."""
-    return text_of(f"tests/words/{name}.txt").splitlines()[1:]
 
 
 @pytest.mark.parametrize("line", [*lists("refused"), b"check\xff"])

@@ -1,9 +1,6 @@
-"""Tries dine as a library, as docs/LIBRARY.md describes it. In a repository that tools/vendor has made, each program
-of the page runs, and prints what the page says, and README.md has lines of the first. tools/vendor refuses wrong
-arguments with one line, and writes nothing.
-
-A program is run by 'rt try', which proves nothing: ./verify proves the crates below. With DINE_PROVE=1 each program is
-proved and built by the tools/build of the new repository, and what is built is run; from nothing that takes long."""
+"""Tries dine as a library: in a repository that tools/vendor has made, each program of docs/LIBRARY.md
+prints what the page says. A program is run by 'rt try', which proves nothing: ./verify proves the crates below. With
+DINE_PROVE=1 each is proved and built by the tools/build of the new repository."""
 import os
 import re
 
@@ -55,16 +52,13 @@ def test_build_of_a_new_repository(repository):
 @pytest.mark.timeout(7200 if IS_PROVED else 1000)
 @pytest.mark.parametrize("number", range(1, len(PROGRAMS) + 1))
 def test_program(repository, number):
-    program, prints = PROGRAMS[number - 1]
-    name = f"program_{number}"
-    mine = add_program(name, "may_wait=1: dine_run anyhow", program, repository)
+    (source, prints), name = PROGRAMS[number - 1], f"program_{number}"
+    mine = add_program(name, "may_wait=1: dine_run anyhow", source, repository)
     if IS_PROVED:
         made = answer_of([name], f"{repository}/tools/build", seconds=7000)
         assert made.status == 0, made.error
-        ran = answer_of([], f"{mine}/out/{name}")
-        assert (ran.status, ran.output) == (0, prints), ran.error
-        return
-    ran = answer_of(["try", name], program="rt", seconds=900, cwd=mine)
+    words, program = ([], f"{mine}/out/{name}") if IS_PROVED else (["try", name], "rt")
+    ran = answer_of(words, program, seconds=900, cwd=mine)
     # After the output of the program, rt says how it ended.
     assert (ran.status, ran.output.partition("checked: ")[0]) == (0, prints), ran.error
 

@@ -1,21 +1,14 @@
-"""Does many small runs on threads over both kinds of links, to see that none hangs and none ends broken.
+"""Does many small runs on threads over both kinds of links, and tries that each ends, and ends well.
 
-Each of 20 small plans (two sites, paths, rings, stars, grids, all neighbours, no edges, and random graphs with random
-jobs) is run a number of times over channels and as often over rings. Half of each have polite sites, and the others
-eager ones; half have four threads beside them that only count. After each run every site has to have done all its
-jobs, and those failed that were to fail; every letter that was put on a link has to be taken from it, and the last is
-Close; and order_of has to return an order of all events. The program, tests/many_runs.rt.in, is built by 'rt try',
-which proves nothing: ./verify proves the crates below it.
-
-Plain, it does 5 rounds of the plans, which are 200 runs. After a change to threads, links or bells pytest --rounds 100
-does 4,000."""
+Half of the runs have polite sites, and half have four threads beside them that only count. tests/many_runs.rt.in, built
+by 'rt try', says what a run has to leave. After a change to threads, links or bells pytest --rounds 100 does 4,000."""
 import itertools
 import random
 import re
 
 import pytest
 from calls import add_program
-from graphs import complete, graph_of, plan_of
+from graphs import graph_of, plan_of
 from trying import answer_of, copy_crates, text_of
 
 # All runs are done by one process, for all tests.
@@ -29,25 +22,19 @@ def chance(seed):
     """Returns the plan of a random graph with random jobs, the same for the same seed."""
     dice = random.Random(seed)
     sites = dice.randint(2, 10)
-    edges = [it for it in complete(sites) if dice.randrange(3) == 0]
+    edges = [it for it in itertools.combinations(range(sites), 2) if dice.randrange(3) == 0]
     return plan_of([dice.randint(0, 6) for _ in range(sites)], edges)
 
 
-def alike(name, jobs):
-    """Returns the plan of a graph whose sites have this number of jobs each."""
-    sites, edges = graph_of(name)
-    return plan_of([jobs] * sites, edges)
-
-
 PLANS = {"path:2, one-sided": plan_of([0, 5], [(0, 1)]), "8 apart": plan_of([2] * 8, [])}
-PLANS |= {f"{name}, {jobs} jobs": alike(name, jobs) for name, jobs in ALIKE}
+PLANS |= {f"{name}, {jobs} jobs": plan_of([jobs] * sites, edges)
+          for name, jobs in ALIKE for sites, edges in [graph_of(name)]}
 PLANS |= {f"random {seed}": chance(seed) for seed in range(10)}
 NAMED = list(itertools.product(("channel", "ring"), PLANS))
 
 
 def shares(rounds, number):
-    """Yields how many runs of a plan have each kind and manner. Of an odd number of rounds every second plan has one
-    more that is busy, and every second two of them one more that is polite, so that half of all are."""
+    """Yields how many runs of a plan have each kind and manner, so that half of all are busy, and half polite."""
     busy = (rounds + number % 2) // 2
     for kind, runs in (("quiet", rounds - busy), ("busy", busy)):
         polite = (runs + number // 2 % 2) // 2
@@ -57,8 +44,7 @@ def shares(rounds, number):
 
 @pytest.fixture(scope="module")
 def reports(tmp_path_factory, request):
-    """Does all runs, those that are busy after the others. Returns for each kind of links and plan a line for each of
-    its runs: whether it was wrong, its meals and its letters."""
+    """Does all runs. Returns of each kind of links and plan whether each run was wrong, its meals and its letters."""
     rounds, folder = request.config.getoption("rounds"), tmp_path_factory.mktemp("runs")
     copy_crates("dine_plan dine_run", folder)
     crate = add_program("many_runs", "may_wait=6: dine_plan dine_run anyhow", text_of("tests/many_runs.rt.in"), folder)
@@ -69,8 +55,7 @@ def reports(tmp_path_factory, request):
                           for kind, manner, count, links, name in parts)
     asked = [(links, name) for _, _, count, links, name in parts for _ in range(count)]
     assert len(asked) == rounds * len(NAMED)
-    words = ["try", "--seconds", str(300 + 8 * rounds)]
-    answer = answer_of(words, "rt", None, input=given, cwd=crate)
+    answer = answer_of(["try", "--seconds", str(300 + 8 * rounds)], "rt", None, input=given, cwd=crate)
     lines = [tuple(map(int, it)) for it in re.findall(r"^(\d+) (\d+) (\d+)$", answer.output, re.M)]
     assert (answer.status, len(lines)) == (0, len(asked)), answer.error
     return {named: [line for it, line in zip(asked, lines) if it == named] for named in NAMED}

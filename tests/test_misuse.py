@@ -1,14 +1,8 @@
-"""Tries that programs do not compile which must not: each mutant crates/NAME/misuse/*.edit, on a copy of the crate.
+"""Tries that each mutant crates/NAME/misuse/*.edit (CONTRIBUTING.md has its form) does not compile.
 
-A mutant is a file of lines: first 'refused: TEXT', a text that the compiler's error must contain, then 'file: src/..'
-and pairs 'old: TEXT' and 'new: TEXT', as in must-fail/. The compiler has to report an error with that text, on a line
-of a changed file. If a crate does not compile unchanged, none of its mutants passes, since an error would then mean
-nothing. Nothing is proved here.
-
-Most mutants add a function `misuse` after one text of one file. Those of a crate are compiled together, each on a
-line of its own and with a name of its own, and each passes by an error on its line. The compiler reports some errors
-only if there is none of another kind, so the mutants that are left are compiled together again, and at last one by
-one. With pytest -n 2 --dist loadgroup the mutants of a crate are tried by one process."""
+Most mutants add a function `misuse`. Those of a crate are compiled together, each on a line of its own. The compiler
+reports some errors only if there is none of another kind, so the mutants that are left are compiled together again, and
+at last one by one."""
 import functools
 import os
 import re
@@ -41,17 +35,14 @@ def is_refused(status, output, error, *at):
 
 @functools.cache
 def fault_of_crate(name):
-    """Returns what is printed if a crate does not compile unchanged. It compiles if its tests run; it gets one, since
-    it may have none."""
+    """Returns what is printed if a crate does not compile unchanged: then an error of a mutant would mean nothing."""
     text = text_of(f"crates/{name}/src/lib.rt") + "\n#[test]\nfn runs() {}\n"
     _, output = compiled(name, {"src/lib.rt": text}, "try", "--test")
-    is_right = "proved=no" in output[-1] and not any("error[" in line or "run=none" in line for line in output)
-    return [] if is_right else output
+    return [] if "proved=no" in output[-1] and not re.search(r"error\[|run=none", "\n".join(output)) else output
 
 
 def addition(name, edit):
-    """Returns, of a mutant that adds one function, the text of its error, the file and what is before and after the
-    name of the function. Of any other it returns None."""
+    """Returns the error, the file and what is before and after the name of the function of a mutant that adds one."""
     try:
         error, ((path, old, new), *more) = mutant(text_of(f"crates/{name}/misuse/{edit}"))
     except ValueError:

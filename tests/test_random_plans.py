@@ -1,9 +1,5 @@
-"""Runs small random plans, each 20 times and with both tables. The program has to print what the plan says, whatever
-the threads did.
-
-A plan has 1 to 6 sites with 0 to 3 jobs each, about a third of which fail, and about half of all edges. Every second
-plan is of version 2, with values, jobs that add to them, and sites of which about half resign. Every second time the
-links are channels."""
+"""Runs small random plans of tools/at_random.py, each 20 times and with both tables: the program has to print what the
+plan says, whatever the threads did. Every second time the links are channels."""
 import pytest
 from at_random import plan_of
 from calls import dine

@@ -1,6 +1,6 @@
 """Tries ./show: its arguments, who may ask its server and how, the build of the program that runs threads, runs on
 threads, and the files that --export writes."""
-import glob
+import contextlib
 import http.client
 import json
 import os
@@ -11,9 +11,9 @@ import socket
 import subprocess
 import threading
 import time
+import tomllib
 from concurrent.futures import ThreadPoolExecutor
 from pathlib import Path
-from unittest import mock
 
 import calls
 import catalog
@@ -21,14 +21,14 @@ import exports
 import fresh
 import pytest
 import server
-from calls import REFUSED, dine, trace
-from shown import SHOW, shown
+from calls import REFUSED, check_whole_run, dine, state_after, until
+from shown import shown
 from trying import HOME, Answer, answer_of, paths, text_of
 
 pytestmark = pytest.mark.built("dine_cli", "dine_trace")
 USAGE = "usage: show [-h] [--port N] [--unproved] [--export FILE] [--choices LIST] [PLAN]\n"
-RING = "plans/ring_of_five.toml"
-PAIR = text_of("plans/pair.toml").encode()
+SHOW, RING, PAIR = f"{HOME}/show", "plans/ring_of_five.toml", text_of("plans/pair.toml")
+REQUESTS = tomllib.loads(text_of("tests/tables/requests.toml"))
 # How many seconds a request may take to arrive, or a program to end, when it is tried that neither takes too long.
 SOON = 3
 # How many seconds ./show may take to begin, where nothing is built.
@@ -37,27 +37,28 @@ BEGINS_WITHIN = 2
 
 def asked(port, method, path, body=None, *headers):
     """Returns the status and the text of an answer. Headers are pairs."""
-    line = http.client.HTTPConnection("127.0.0.1", port, timeout=60)
-    try:
+    with contextlib.closing(http.client.HTTPConnection("127.0.0.1", port, timeout=60)) as line:
         line.putrequest(method, path, skip_host="Host" in dict(headers))
         for name, value in [*([] if body is None else [("Content-Length", len(body))]), *headers]:
             line.putheader(name, value)
         line.endheaders(body)
         answer = line.getresponse()
         return answer.status, answer.read().decode()
-    finally:
-        line.close()
+
+
+def how():
+    return ["--unproved"] * calls.HOW["is_unproved"]
 
 
 def show(*words):
     """Calls ./show, which is to end by itself."""
-    return answer_of([*["--unproved"] * calls.HOW["is_unproved"], *words], SHOW, stdin=subprocess.DEVNULL, cwd=HOME)
+    return answer_of([*how(), *words], SHOW, stdin=subprocess.DEVNULL, cwd=HOME)
 
 
 @pytest.fixture(scope="module")
 def port():
     """The port of a server at work."""
-    with shown(*["--unproved"] * calls.HOW["is_unproved"]) as it:
+    with shown(*how()) as it:
         yield it.port
 
 
@@ -71,27 +72,7 @@ def here():
     it.server_close()
 
 
-def until(what, seconds=15):
-    """Waits until a call returns something that counts as true, and returns what it returns at last."""
-    end = time.monotonic() + seconds
-    while not (found := what()) and time.monotonic() < end:
-        time.sleep(0.05)
-    return found
-
-
 # ---- Arguments
-
-MOMENT = '[[moment]]\nplan = "plans/pair.toml"\n'
-# Files that are neither plans nor lessons, and what is said of them.
-UNFIT = {
-    "key": (MOMENT + 'choises = "1"\n', "moment 1: there is no key choises"),
-    "no plan": ("[[moment]]\n", "moment 1: it has not one of plan and text"),
-    "missing plan": ('[[moment]]\nplan = "cups.toml"\n', "moment 1: there is no plan cups.toml"),
-    "choices": (MOMENT + 'choices = "1,"\n', "moment 1: choices is no list of numbers with commas between them"),
-    "at": (MOMENT + "at = -1\n", "moment 1: at is no number of events"),
-    "title": (MOMENT + "title = 1\n", "moment 1: title is no text"),
-}
-
 
 @pytest.mark.parametrize(("words", "fault"), [
     (["one", "two"], "unrecognized arguments: two"), (["--cups"], "unrecognized arguments: --cups"),
@@ -102,19 +83,18 @@ def test_refused_arguments(words, fault):
     assert show(*words) == Answer(2, "", f"show: {fault}; {USAGE}")
 
 
-@pytest.mark.parametrize("name", UNFIT)
-def test_unfit_lesson(tmp_path, name):
+@pytest.mark.parametrize(("fault", "text"), tomllib.loads(text_of("tests/tables/unfit.toml")).items())
+def test_unfit_lesson(tmp_path, fault, text):
     path = tmp_path / "unfit.toml"
-    path.write_text(UNFIT[name][0], "utf-8")
-    assert show(str(path)) == Answer(1, "", f"show: {path}: {UNFIT[name][1]}\n")
+    path.write_text(text, "utf-8")
+    assert show(str(path)) == Answer(1, "", f"show: {path}: {fault}\n")
 
 
 def test_unfit_files(tmp_path, port):
-    strange = tmp_path / "strange.toml"
-    strange.write_bytes(b"version = 1 # \xff\n")
-    missing = f"{tmp_path}/missing.toml"
+    missing, strange = f"{tmp_path}/missing.toml", f"{tmp_path}/strange.toml"
+    Path(strange).write_bytes(b"version = 1 # \xff\n")
     for words, fault in (([missing], f"{missing} can't be read: No such file or directory"),
-                         ([str(strange)], f"{strange} can't be read: it is no UTF-8"),
+                         ([strange], f"{strange} can't be read: it is no UTF-8"),
                          (["--port", str(port)], f"port {port} can't be had: Address already in use")):
         assert answer_of(words, SHOW) == Answer(1, "", f"show: {fault}\n")
 
@@ -126,41 +106,13 @@ def test_help():
 
 # ---- Requests
 
-HOST, CHUNKED = ("Host", "127.0.0.1:{port}"), ("Transfer-Encoding", "chunked")
-ANOTHER, STRANGE = "the Origin is another page", "the first line is not understood"
-LATE = 411, "the length is not given"
-# How the server is asked, and the status and the line of the refusal. In a header {port} is the server's.
-REQUESTS = {
-    "unknown page": (("GET", "/cups"), 404, "File not found"),
-    "path above the page": (("GET", "/../show"), 404, "File not found"),
-    "unknown question": (("POST", "/cups", PAIR), 404, "there is no such question"),
-    "other method": (("PUT", "/run", PAIR), 501, "Unsupported method ('PUT')"),
-    **{f"Host {it}": (("GET", "/", None, ("Host", it)), 403, "the Host is not this one")
-       for it in ("dine.example:{port}", "127.0.0.1:1", "")},
-    "two Hosts": (("GET", "/", None, HOST, HOST), 403, "the Host is not this one"),
-    "foreign Origin": (("POST", "/run", b"\n" + PAIR, ("Origin", "http://dine.example")), 403, ANOTHER),
-    "unknown Origin": (("POST", "/build", b"", ("Origin", "null")), 403, ANOTHER),
-    **{f"from a {it} page": (("GET", "/", None, ("Sec-Fetch-Site", it)), 403, "another page asks")
-       for it in ("cross-site", "same-site")},
-    "a body of a GET": (("GET", "/", b"abc"), 400, "there is a body"),
-    "a body in parts of a GET": (("GET", "/", None, CHUNKED), 400, "there is a body"),
-    "no length": (("POST", "/run"), *LATE),
-    "length that is no number": (("POST", "/run", None, ("Content-Length", "-1")), *LATE),
-    "two lengths": (("POST", "/run", b"ab", ("Content-Length", "1")), *LATE),
-    "a length and parts": (("POST", "/run", b"0\r\n\r\n", CHUNKED), *LATE),
-    "body over 9 MB": (("POST", "/run", b"\n" + b"#" * 9_000_000), 413, "the body is over 9000000 bytes"),
-    "input that is too long": (("POST", "/run", b"\n" + b"#" * 8_388_609), 422, "dine: input too long"),
-    **{f"links {it}": (("POST", "/run", it.encode("latin-1") + b"\n" + PAIR), 400, STRANGE)
-       for it in ("version = 1", "cups", "--run", "ring,ring", "1 2", "\xff")},
-}
-
 
 @pytest.mark.parametrize("name", REQUESTS)
 def test_refused_request(port, name):
-    (method, path, *more), status, line = REQUESTS[name]
-    body, *headers = more or [None]
-    headers = [(name, value.format(port=port)) for name, value in headers]
-    assert asked(port, method, path, body, *headers) == (status, f"{line}\n")
+    (method, path, *body), (status, line) = REQUESTS[name]["asked"], REQUESTS[name]["answer"]
+    headers = [(key, value.format(port=port)) for key, value in REQUESTS[name].get("headers", [])]
+    body = [it.format(pair=PAIR).encode("latin-1").ljust(REQUESTS[name].get("pad", 0), b"#") for it in body] or [None]
+    assert asked(port, method, path, *body, *headers) == (status, f"{line}\n")
 
 
 @pytest.mark.parametrize("site", ["same-origin", "none"])
@@ -189,12 +141,11 @@ def test_head(port):
     """The head of a page is what a GET has, and keeps the page to itself."""
     heads = []
     for method in ("HEAD", "GET"):
-        line = http.client.HTTPConnection("127.0.0.1", port, timeout=20)
-        line.request(method, "/")
-        answer = line.getresponse()
-        heads.append((answer.status, [it for it in answer.getheaders() if it[0] != "Date"]))
-        assert bool(answer.read()) == (method == "GET")
-        line.close()
+        with contextlib.closing(http.client.HTTPConnection("127.0.0.1", port, timeout=20)) as line:
+            line.request(method, "/")
+            answer = line.getresponse()
+            heads.append((answer.status, [it for it in answer.getheaders() if it[0] != "Date"]))
+            assert bool(answer.read()) == (method == "GET")
     assert heads[0] == heads[1] and heads[0][0] == 200
     head = "\n".join(map(": ".join, heads[0][1]))
     for it in ("frame-ancestors 'none'", "Cross-Origin-Resource-Policy: same-origin", "nosniff"):
@@ -212,13 +163,13 @@ def test_many_connections(port):
 
 def test_pace(port):
     """No answer waits for an acknowledgement of the line, which takes 40 milliseconds."""
-    line, took = http.client.HTTPConnection("127.0.0.1", port, timeout=20), []
-    for _ in range(21):
-        begun = time.monotonic()
-        line.request("GET", "/page.css")
-        line.getresponse().read()
-        took.append(time.monotonic() - begun)
-    line.close()
+    took = []
+    with contextlib.closing(http.client.HTTPConnection("127.0.0.1", port, timeout=20)) as line:
+        for _ in range(21):
+            begun = time.monotonic()
+            line.request("GET", "/page.css")
+            line.getresponse().read()
+            took.append(time.monotonic() - begun)
     assert sorted(took)[10] < 0.030
 
 
@@ -229,57 +180,48 @@ JOBS = ", ".join(['{ name = "x", turns = 1000000 }'] * 1000)
 SLOW = "version = 1\n" + "".join(f'[[site]]\nname = "s{site}"\njobs = [{JOBS}]\n' for site in range(64))
 
 
+def stat_of(process):
+    """Returns the state and the parent of a process, or nothing if there is none."""
+    try:
+        return Path(f"/proc/{process}/stat").read_text("utf-8", "replace").rpartition(") ")[2].split()[:2]
+    except (FileNotFoundError, ProcessLookupError):
+        return []
+
+
 def children_of(process):
     """Returns the numbers of the processes that a process has begun."""
-    while True:
-        try:
-            return [int(it) for path in glob.glob(f"/proc/{process}/task/*/children") for it in text_of(path).split()]
-        except (FileNotFoundError, ProcessLookupError):
-            # A thread has ended since its folder was named: another thread has its children now.
-            continue
-
-
-def is_there(process):
-    try:
-        return ") Z " not in text_of(f"/proc/{process}/stat")
-    except (FileNotFoundError, ProcessLookupError):
-        return False
+    return [it for it in os.listdir("/proc") if it.isdigit() and stat_of(it)[1:] == [str(process)]]
 
 
 def test_end_by_interrupt():
     """The server ends by Ctrl-C, with the program that it has begun."""
-    with shown(*["--unproved"] * calls.HOW["is_unproved"]) as it:
-        line = http.client.HTTPConnection("127.0.0.1", it.port)
+    with shown(*how()) as it, contextlib.closing(http.client.HTTPConnection("127.0.0.1", it.port)) as line:
         line.request("POST", "/run", f"\n{SLOW}".encode())
-        begun = until(lambda: children_of(it.child.pid))
-        status = it.end()
-    line.close()
-    assert begun and status == -signal.SIGINT
-    assert until(lambda: not any(map(is_there, begun)), 4)
+        begun = until(lambda: children_of(it.pid))
+        it.send_signal(signal.SIGINT)
+        assert begun and it.wait(20) == -signal.SIGINT
+    assert until(lambda: all(stat_of(it)[:1] in ([], ["Z"]) for it in begun), 4)
     with socket.socket() as there:
         assert there.connect_ex(("127.0.0.1", it.port)) != 0
 
 
-def test_body_byte_by_byte(here):
+def test_body_byte_by_byte(here, monkeypatch):
     """A body that arrives byte by byte is given up."""
-    begun, port = time.monotonic(), here.server_port
-    with mock.patch.object(server, "ARRIVES_WITHIN", SOON):
-        with socket.create_connection(("127.0.0.1", port), timeout=0.2) as line:
-            line.sendall(f"POST /run HTTP/1.1\r\nHost: 127.0.0.1:{port}\r\nContent-Length: 1000\r\n\r\n".encode())
-            answer = b""
-            while not answer and time.monotonic() < begun + SOON + 15:
-                line.sendall(b"0")
-                try:
-                    answer = line.recv(100)
-                except TimeoutError:
-                    pass
+    monkeypatch.setattr(server, "ARRIVES_WITHIN", SOON)
+    begun, port, answer = time.monotonic(), here.server_port, b""
+    with socket.create_connection(("127.0.0.1", port), timeout=0.2) as line:
+        line.sendall(f"POST /run HTTP/1.1\r\nHost: 127.0.0.1:{port}\r\nContent-Length: 1000\r\n\r\n".encode())
+        while not answer and time.monotonic() < begun + SOON + 15:
+            line.sendall(b"0")
+            with contextlib.suppress(TimeoutError):
+                answer = line.recv(100)
     assert answer.startswith(b"HTTP/1.1 400 ") and time.monotonic() - begun >= SOON - 1
 
 
-def test_program_that_takes_too_long(here):
+def test_program_that_takes_too_long(here, monkeypatch):
+    monkeypatch.setattr(server, "RUN_ENDS_WITHIN", SOON)
     before = children_of(os.getpid())
-    with mock.patch.object(server, "RUN_ENDS_WITHIN", SOON):
-        answer = asked(here.server_port, "POST", "/run", f"\n{SLOW}".encode())
+    answer = asked(here.server_port, "POST", "/run", f"\n{SLOW}".encode())
     assert answer == (504, f"the program did not end within {SOON} seconds\n")
     assert set(children_of(os.getpid())) <= set(before)
 
@@ -294,18 +236,15 @@ def test_port_80(here):
 @pytest.mark.parametrize(("status", "wanted"), [
     (0, (200, "")), (1, (500, "the program that runs threads can't be built: two\n"))])
 def test_build(here, status, wanted):
-    """The build is begun once, its last line is the answer meanwhile, and its end is reported. A run is refused
-    meanwhile."""
+    """The build is begun once, its last line is the answer meanwhile, and its end is reported."""
     here.build.program = f"{HOME}/missing"
     here.build.words = ["sh", "-c", f"echo dine: one >&2; sleep 1; echo dine: two >&2; sleep 1; exit {status}"]
-    # What the build prints is not to be seen.
-    with mock.patch("sys.stderr"):
-        found = [asked(here.server_port, "POST", "/build", b"")]
-        run = asked(here.server_port, "POST", "/run", b"\n")
-        end = time.monotonic() + 15
-        while found[-1][0] == 200 and found[-1][1] and time.monotonic() < end:
-            time.sleep(0.2)
-            found.append(asked(here.server_port, "POST", "/build", b""))
+    found = [asked(here.server_port, "POST", "/build", b"")]
+    run = asked(here.server_port, "POST", "/run", b"\n")
+    end = time.monotonic() + 15
+    while found[-1][0] == 200 and found[-1][1] and time.monotonic() < end:
+        time.sleep(0.2)
+        found.append(asked(here.server_port, "POST", "/build", b""))
     assert run == (409, "the program that runs threads is being built\n")
     assert found[-1] == wanted and {(200, "one"), (200, "two")} <= set(found)
 
@@ -329,25 +268,12 @@ def test_clean_clone(tmp_path):
     assert answer == (500, f"the program that runs threads can't be built: {line}\n")
 
 
-def state_of(choices, plan):
-    """Returns the state of a plan after choices."""
-    return json.loads(trace("--json", "-", input=f"{choices}\n{plan}".encode()).output)
-
-
-def check_choices(choices, plan):
-    """Tries that choices are those of a whole run."""
-    state = state_of(choices, plan)
-    assert (state["enabled"], state["done"]) == ([], [int(it) for it in choices.split(",")])
-    printed = "".join(f"{line}\n" for line in [*state["logs"], f"events {state['events']} of {state['bound']}"])
-    assert dine("replay", "--choices", choices, input=plan.encode()) == Answer(0, printed, "")
-
-
 @pytest.mark.parametrize(("name", "links"), [("ring_of_five", ""), ("grid", "channel"), ("balances", "ring")])
 def test_run_on_threads(port, name, links):
     plan = text_of(f"plans/{name}.toml")
     status, text = asked(port, "POST", "/run", f"{links}\n{plan}".encode())
     assert status == 200, text
-    check_choices(text.strip(), plan)
+    check_whole_run(plan, [int(it) for it in text.split(",")])
 
 
 # ---- Files
@@ -355,8 +281,8 @@ def test_run_on_threads(port, name, links):
 
 def test_file_that_cannot_be_written(tmp_path):
     path = f"{tmp_path}/missing/page.html"
-    wanted = f"show: {path} can't be written: No such file or directory\n"
-    assert answer_of(["--export", path], SHOW) == Answer(1, "", wanted)
+    fault = f"show: {path} can't be written: No such file or directory\n"
+    assert answer_of(["--export", path], SHOW) == Answer(1, "", fault)
 
 
 def test_page_in_one_file():
@@ -367,7 +293,7 @@ def test_page_in_one_file():
     assert len(text) < 600_000
     assert not re.search(r'<link rel="stylesheet"|<script[^>]*src=|^import |^export ', text, re.M)
     for run in offered["runs"]:
-        check_choices(run["choices"], run["text"])
+        check_whole_run(run["text"], [int(it) for it in run["choices"].split(",")])
 
 
 def test_run_as_a_trace(tmp_path):
@@ -375,7 +301,7 @@ def test_run_as_a_trace(tmp_path):
     path = tmp_path / "run.json"
     assert show(RING, "--export", str(path)).status == 0
     events = json.loads(path.read_text("utf-8"))["traceEvents"]
-    sites = state_of("", text_of(RING))["sites"]
+    sites = state_after(text_of(RING), [])["sites"]
     assert [it["args"]["name"] for it in events if it["name"] == "thread_name"] == [it["name"] for it in sites]
     meals, waits = (sum(it["name"].startswith(name) for it in events) for name in ("meal ", "hungry"))
     assert meals == waits == sum(it["jobs"] for it in sites)

@@ -12,14 +12,12 @@ pytestmark = pytest.mark.early
 PAGE = "page/index.html"
 # What tidy reports although HTML has it.
 KNOWN = ('<form> attribute "method" has invalid value "dialog"', '<textarea> proprietary attribute "autocomplete"')
-
-
-FILES = [".ci/run", "dine", "show", "verify", *paths("bindings/build")]
+FILES = [".ci/run", "dine", "show", "verify", *paths("bindings/build"), *paths("tests/kit/*")]
 FILES += [it for folder in ("tools", "bench", "tests") for it in paths(f"{folder}/*") if os.path.isfile(f"{HOME}/{it}")]
 FIRST = {it: Path(HOME, it).read_bytes().partition(b"\n")[0] for it in FILES}
 PYTHON = [it for it in FILES if it.endswith(".py") or FIRST[it] == b"#!/usr/bin/env python3"]
 SHELL = [it for it in FILES if FIRST[it] in (b"#!/usr/bin/env bash", b"#!/bin/sh")]
-PLANTED = {"polite": [POLITE], **BUGS}
+PLANTED = {"polite": POLITE, **BUGS}
 
 
 @pytest.mark.parametrize("name", PLANTED)

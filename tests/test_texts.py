@@ -1,21 +1,12 @@
-"""Tries texts of plans: for each, the program has to print the line that is given here, and no more.
-
-A file of tests/texts/ begins with a line that says what its texts are. Each text is below a line '# check> LINE', up
-to the next such line or the end of the file: 'dine check' prints LINE to standard output, with status 0 and nothing
-on standard error. If LINE begins with 'dine: plan refused: ', it goes to standard error, with status 3 and nothing on
-standard output. If the name of a file ends in 'behind_two_sites', two sites, a and b, are put before each of its
-texts. The texts at the limits are long, so they are made here. So are the log of two sites with 1,000 jobs each,
-inputs of the greatest length and of one byte more, and a plan whose jobs would take a minute, which check does not
-do."""
+"""Tries the texts of tests/texts/, where each is below a line '# check> LINE' with what 'dine check' prints of it; and
+texts at the limits, which are long, so they are made here."""
 import itertools
-from pathlib import Path
 
 import pytest
-from calls import REFUSED, answer_with, dine
-from trying import Answer, paths, text_of
+from calls import REFUSED, answer_with, dine, stored_texts
+from trying import Answer, text_of
 
 pytestmark = pytest.mark.built("dine_cli")
-TWO_SITES = 'version = 1\n[[site]]\nname = "a"\n[[site]]\nname = "b"\n'
 
 
 def sites(count):
@@ -59,17 +50,9 @@ LIMITS = {
 }
 
 
-def stored():
-    """Yields each text of tests/texts/ with its line, and the name of its test."""
-    for path in paths("tests/texts/*.txt"):
-        name = Path(path).stem
-        for number, part in enumerate(("\n" + text_of(path)).split("\n# check> ")[1:], 1):
-            line, _, text = part.partition("\n")
-            yield pytest.param(TWO_SITES * name.endswith("behind_two_sites") + text, line, id=f"{name} {number}")
-
-
-@pytest.mark.parametrize(("text", "line"), stored())
-def test_text(text, line):
+@pytest.mark.parametrize(("line", "text"), [
+    pytest.param(line, text, id=f"{name} {number}") for number, (name, line, text) in enumerate(stored_texts())])
+def test_text(line, text):
     assert dine("check", input=text.encode()) == answer_with(line)
 
 

@@ -1,75 +1,21 @@
-"""Tries dine_trace: its states as JSON along a schedule of each plan of plans/, what its runs on threads did, and its
-arguments.
-
-A schedule follows random choices, the same each time, and some of them have no event. Along it up to 40 states are
-tried. The state has the sites and edges of the plan, and one fork and one token for each edge. A fork on its way is
-clean, and there is a letter for each fork or token on its way. The roles follow from these, and no two neighbours eat.
-The choices that were done are listed and counted. The preferred end of each edge follows from the log of its fork, and
-the order has it before the other end. A hungry site waits at exactly the edges that keep it from eating. Each event is
-enabled or has the first of its reasons that is true, and its rule; a Take takes the first letter of its link. After the
-last choice no event is enabled, and the logs are those of 'dine replay' with these choices. Then '--events' and
-'--states' print the same for that schedule, event by event.
-
-After a run, over both kinds of links, the LIST leads to a state without an event, each choice of it is done, the logs
-have the meals of the table of 'dine run', and 'dine replay' with the LIST prints them. Refused arguments, a refused
-plan, and a first line of the input that is not a LIST are reported in a line. A LIST that is longer than an argument
-may be is read from the input."""
-import json
+"""Tries dine_trace, as docs/STATES.md has it: its states along a schedule of each plan of plans/, which follows random
+choices, the same each time, and some of them have no event; its runs on threads; and its arguments."""
 import random
 import shlex
 import tomllib
+from itertools import compress, product
 
 import pytest
-from calls import dine, trace
+from calls import check_replay, check_whole_run, dine, lists, printed, state_after, trace
 from trying import Answer, paths, text_of
 
 pytestmark = pytest.mark.built("dine_cli", "dine_trace")
 USAGE = "[[--json | --events | --states PLACES] [LIST] | --run [--links channel|ring]] < PLAN"
 NO_LIST = Answer(2, "", "dine_trace: the first line of the input is no LIST\n")
-REFUSED = Answer(3, "", "dine: plan refused: 2 Version\n")
-PLANS = paths("plans/*.toml")
+PLANS, PAIR = paths("plans/*.toml"), text_of("plans/pair.toml")
+# About how many states of a schedule are tried.
 LOOKS = 40
-ROLES = {(True, False): "owner", (True, True): "asked", (False, True): "rester", (False, False): "waiter"}
-# Lists of arguments that are refused.
-ARGUMENTS = """x; 1,; 1 2; --help; --links ring; 1 --json; --json x; --json 1 2; --json --json; --json --run;
---run --json; --run 1; --run --links; --run --links rope; --run --table edges; --run --links ring 1; --events x;
---events 1 2; --states; --states -; --states x 1; --states 1 1 1; - -; --json - -; --run -"""
-# A letter for each kind of events, as --events has it: that of a Take is the capital of the one that sends what it
-# takes.
-SENDS = {"give": "g", "ask": "a", "done": "d", "close": "c"}
-LETTERS = {"hungry": "h", "begin": "b", "end": "e", "quit": "q", **SENDS}
-SENT_BY = {"fork": "give", "request": "ask", "done": "done", "close": "close"}
-# The rule of each kind of events, and of a Take by the letter that it takes.
-TAKES = {
-    "fork": "a fork that arrives is held, clean",
-    "request": "a token that arrives is held",
-    "done": "a neighbour that says done asks no more",
-    "close": "a neighbour that closes sends nothing more",
-}
-RULES = {
-    "give": "release rule: a site that does not eat and holds the token gives a dirty fork, clean",
-    "end": "a site that eats ends its meal; its forks stay dirty until they are sent",
-    "begin": "a hungry site that holds all its forks, each clean or not asked for, eats",
-    "quit": "a site that resigns drops the jobs that it has left after one failed",
-    "hungry": "a site that thinks and has jobs left may grow hungry",
-    "ask": "request rule: a hungry site that holds the token and not the fork sends the token",
-    "done": "a site without jobs left says over each edge that it asks no more",
-    "close": "a site that said done over an edge, and took done there, closes it",
-}
-
-
-def state_after(text, choices):
-    """Returns the state of a plan after choices."""
-    answer = trace("--json", *[",".join(map(str, choices))] * bool(choices), input=text.encode())
-    assert (answer.status, answer.error, answer.output.count("\n")) == (0, "", 1)
-    return json.loads(answer.output)
-
-
-def check_replay(text, choices, state):
-    """Tries that 'dine replay' prints the logs of a state for a plan with choices."""
-    lines = [*state["logs"], f"events {state['events']} of {state['bound']}"]
-    words = ["--choices", ",".join(map(str, choices))] if choices else []
-    assert dine("replay", *words, input=text.encode()).output.splitlines() == lines
+ROLES, LETTERS, SENT_BY, RULES = tomllib.loads(text_of("tests/tables/trace.toml")).values()
 
 
 # ---- Reasons
@@ -80,9 +26,13 @@ def coming(state, edge, site):
     return next(link["letters"] for link in state["links"] if (link["edge"], link["to"]) == (edge, site))
 
 
+def there(state, edge, site):
+    """Returns whether the fork and the token of an edge are at a site."""
+    return tuple(state["edges"][edge][thing] == {"at": site} for thing in ("fork", "token"))
+
+
 def reasons_of_site(it):
-    """Returns of each kind of events of a site the reasons why it may not be enabled, in the order of docs/STATES.md,
-    and whether each holds."""
+    """Returns why each kind of events of a site may not be enabled, in order, and whether each of the reasons holds."""
     phase, failed_last, left = it["phase"], it["eaten"] in it["failed"], it["left"] > 0
     hungry, eating, must_quit = phase == "hungry", phase == "eating", it["resigns"] and failed_last and left
     return {
@@ -98,8 +48,7 @@ def reasons_of_site(it):
 def reasons_of_end(state, site, edge):
     """Returns the same of the events of a site over an edge."""
     it, own = state["edges"][edge], state["sites"][site]
-    said, eating = it["said"][it["ends"].index(site)], own["phase"] == "eating"
-    fork, token = it["fork"] == {"at": site}, it["token"] == {"at": site}
+    said, eating, (fork, token) = it["said"][it["ends"].index(site)], own["phase"] == "eating", there(state, edge, site)
     return {
         "take": {"no_letter": coming(state, edge, site) == []},
         "give": {"closed": said["close_put"], "no_fork": not fork, "not_asked": not token, "eating": eating,
@@ -115,9 +64,8 @@ def waits_of(state, site, edge):
     """Returns the reasons for which a hungry site may wait at an edge, and whether each holds."""
     it = state["edges"][edge]
     other = sum(it["ends"]) - site
-    fork, token = it["fork"] == {"at": site}, it["token"] == {"at": site}
-    asked, eats = it["token"] == {"at": other}, state["sites"][other]["phase"] == "eating"
-    keeps = asked and it["fork"] == {"at": other}
+    (fork, token), (kept, asked) = there(state, edge, site), there(state, edge, other)
+    eats, keeps = state["sites"][other]["phase"] == "eating", asked and kept
     return {
         "not_asked": token and not fork,
         "request_sent": "request" in coming(state, edge, other),
@@ -129,8 +77,8 @@ def waits_of(state, site, edge):
     }
 
 
-def check_reasons(state):
-    """Tries what the sites wait for, and the reasons why events are not enabled."""
+def check_whys(state):
+    """Tries that each event is enabled, or has the first of its reasons that holds."""
     enabled = {(it["kind"], it["site"], it["edge"]) for it in state["enabled"]}
     whys = [(site, None, it["why_not"], reasons_of_site(it)) for site, it in enumerate(state["sites"])]
     whys += [(site, edge, why, reasons_of_end(state, site, edge)) for edge, it in enumerate(state["edges"])
@@ -138,13 +86,14 @@ def check_reasons(state):
     for site, edge, codes, reasons in whys:
         for kind, code in codes.items():
             holding = [word for word, holds in reasons[kind].items() if holds]
-            assert ((kind, site, edge) in enabled) == (not holding)
-            assert code == (holding or [None])[0]
+            assert ((kind, site, edge) in enabled) == (not holding) and code == (holding or [None])[0]
+
+
+def check_sites(state):
+    """Tries that a hungry site waits at exactly the edges that keep it from eating, and counts its jobs."""
     for site, it in enumerate(state["sites"]):
-        keeping = []
-        for edge, at in enumerate(state["edges"]):
-            is_ready = at["fork"] == {"at": site} and not (at["dirty"] and at["token"] == {"at": site})
-            keeping += [edge] * (site in at["ends"] and not is_ready)
+        keeping = [edge for edge, at in enumerate(state["edges"]) if site in at["ends"]
+                   and there(state, edge, site) not in ((True, False), (True, not at["dirty"]))]
         assert [wait["edge"] for wait in it["waits"]] == (keeping if it["phase"] == "hungry" else [])
         for wait in it["waits"]:
             assert wait["from"] == sum(state["edges"][wait["edge"]]["ends"]) - site
@@ -177,9 +126,8 @@ def check_precedence(state):
 
 
 def check_edge(edge, state, ends):
-    """Tries an edge of a state, whose ends are these."""
     at = state["edges"][edge]
-    assert at["ends"] == ends
+    assert at["ends"] == ends and not (at["dirty"] and "to" in at["fork"])
     letters = {(link["from"], link["to"]): link["letters"] for link in state["links"] if link["edge"] == edge}
     assert list(letters) == [tuple(ends), tuple(reversed(ends))]
     for thing, letter in (("fork", "fork"), ("token", "request")):
@@ -187,32 +135,26 @@ def check_edge(edge, state, ends):
         assert site in ends
         assert {to: it.count(letter) for (_, to), it in letters.items()} == {
             end: int(how == "to" and end == site) for end in ends}
-    assert not (at["dirty"] and "to" in at["fork"])
-    assert at["roles"] == [ROLES[at["fork"] == {"at": end}, at["token"] == {"at": end}] for end in ends]
-    for (sender, to), there in letters.items():
+    names = (" and ".join(compress(("fork", "token"), there(state, edge, end))) or "nothing" for end in ends)
+    assert at["roles"] == [ROLES[it] for it in names]
+    for ((sender, to), found), word in product(letters.items(), ("done", "close")):
         puts, takes = at["said"][ends.index(sender)], at["said"][ends.index(to)]
-        for word in ("done", "close"):
-            assert puts[f"{word}_put"] - takes[f"{word}_taken"] == there.count(word)
+        assert puts[f"{word}_put"] - takes[f"{word}_taken"] == found.count(word)
     assert not all(state["sites"][end]["phase"] == "eating" for end in ends)
 
 
 def check_event(number, event, state, names):
-    """Tries an enabled event."""
     site, edge = event["site"], None
     if event["place"] is not None:
         edge = [it for it, at in enumerate(state["edges"]) if site in at["ends"]][event["place"]]
     other = None if edge is None else sum(state["edges"][edge]["ends"]) - site
     assert (event["number"], event["edge"], event["neighbour"]) == (number, edge, other)
     assert event["words"].startswith(names[site] + " ") and (other is None or names[other] in event["words"][1:])
-    if event["kind"] == "take":
-        assert event["letter"] == coming(state, edge, site)[0]
-        assert event["rule"] == TAKES[event["letter"]]
-    else:
-        assert event["rule"] == RULES[event["kind"]]
+    assert event["kind"] != "take" or event["letter"] == coming(state, edge, site)[0]
+    assert event["rule"] == RULES[f"take {event['letter']}" if event["kind"] == "take" else event["kind"]]
 
 
 def check_state(state, text, choices):
-    """Tries a state of a plan after choices."""
     plan = tomllib.loads(text)
     names = [site["name"] for site in plan["site"]]
     sites = [(it["name"], len(it.get("jobs", [])), it.get("on_fault") == "resign") for it in plan["site"]]
@@ -224,7 +166,8 @@ def check_state(state, text, choices):
     for number, event in enumerate(state["enabled"]):
         check_event(number, event, state, names)
     check_precedence(state)
-    check_reasons(state)
+    check_whys(state)
+    check_sites(state)
     assert len(state["done"]) == state["events"] <= state["bound"] and len(state["done"]) <= len(choices)
 
 
@@ -251,21 +194,16 @@ def test_schedule(path):
 
 
 def letter_for(event):
-    """Returns the letter that --events has for an event."""
     if event["kind"] == "take":
-        return SENDS[SENT_BY[event["letter"]]].upper()
-    if event["kind"] in SENDS and SENT_BY[event["letter"]] != event["kind"]:
-        return "?"
+        return LETTERS[SENT_BY[event["letter"]]].upper()
+    assert event["letter"] is None or SENT_BY[event["letter"]] == event["kind"]
     return "x" if event["failed"] else LETTERS[event["kind"]]
 
 
 def along(text, choices, places):
     """Returns what --events prints for choices, and the states at these places, by a LIST in the input."""
-    given = f"{','.join(map(str, choices))}\n{text}".encode()
-    events = trace("--events", "-", input=given)
-    states = trace("--states", ",".join(map(str, places)), "-", input=given)
-    assert (events.status, states.status, events.error, states.error) == (0, 0, "", "")
-    return json.loads(events.output), [json.loads(line) for line in states.output.splitlines()]
+    given = f"{','.join(map(str, choices))}\n{text}"
+    return *printed("--events", "-", given=given), printed("--states", ",".join(map(str, places)), "-", given=given)
 
 
 def check_course(text, choices, end):
@@ -303,9 +241,7 @@ def test_run(path, links):
     answer = trace("--run", *links.split(), input=text.encode())
     assert (answer.status, answer.error, answer.output.count("\n")) == (0, "", 1)
     choices = [int(it) for it in answer.output.split(",")]
-    state = state_after(text, choices)
-    assert (state["enabled"], state["done"]) == ([], choices)
-    check_replay(text, choices, state)
+    state = check_whole_run(text, choices)
     check_state(state, text, choices)
     table = dine("run", input=text.encode()).output.splitlines()[1:]
     for row, log in zip(table, state["logs"], strict=True):
@@ -320,10 +256,10 @@ def test_run(path, links):
 @pytest.mark.parametrize("words", ["--json -", "--events -", "--states 1 -", "-"])
 @pytest.mark.parametrize("line", ["x", "1,", "1 ", "-", "1\r"])
 def test_no_list(line, words):
-    assert trace(*words.split(), input=f"{line}\n{text_of('plans/pair.toml')}".encode()) == NO_LIST
+    assert trace(*words.split(), input=f"{line}\n{PAIR}".encode()) == NO_LIST
 
 
-@pytest.mark.parametrize("words", ARGUMENTS.replace("\n", " ").split("; "))
+@pytest.mark.parametrize("words", lists("trace"))
 def test_refused_arguments(words):
     assert trace(*shlex.split(words), input=b"") == Answer(2, "", f"dine_trace: usage: dine_trace {USAGE}\n")
 
@@ -332,5 +268,5 @@ def test_refused_arguments(words):
     "", "1", "--json", "--json 1", "--events", "--states 1", "--run", "--run --links ring", "-", "--json -",
     "--events -", "--states 1 -"])
 def test_refused_plan(words):
-    line = "1,0\n" if words.endswith("-") else ""
-    assert trace(*words.split(), input=f"{line}version = 3\n".encode()) == REFUSED
+    given = "1,0\n" * words.endswith("-") + "version = 3\n"
+    assert trace(*words.split(), input=given.encode()) == Answer(3, "", "dine: plan refused: 2 Version\n")

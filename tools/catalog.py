@@ -1,15 +1,13 @@
-"""What the page offers: the plans of plans/, the lessons of lessons/ and the recorded runs, and what ./show was begun with."""
-import glob
+"""What the page offers: the plans of plans/, the lessons of lessons/, recorded runs, and what ./show was begun with."""
 import json
 import os
 import re
 import tomllib
 
-from trying import HOME
+from trying import HOME, paths
 
 FIRST = "plans/ring_of_five.toml"
 CHOICES = re.compile("([0-9]{1,10}(,[0-9]{1,10})*)?")
-
 
 # The keys of a moment, as lessons/README.md has them, by what they have to be.
 TEXTS = {"plan", "text", "choices", "title", "note", "site", "point", "callout", "starve", "question", "because"}
@@ -26,7 +24,6 @@ class Unfit(Exception):
 
 
 def text_of(path):
-    """Returns the text of a file."""
     try:
         with open(path, encoding="utf-8", newline="") as file:
             return file.read()
@@ -84,7 +81,7 @@ def fault_of(moment):
 
 
 def lesson_of(path, text):
-    """Returns the lesson that a text is, each moment with the text of its plan. None if it has no moments: then it is no lesson."""
+    """Returns the lesson that a text is, each moment with the text of its plan, or None if it has no moments."""
     try:
         table = tomllib.loads(text)
     except (tomllib.TOMLDecodeError, RecursionError) as error:
@@ -93,14 +90,15 @@ def lesson_of(path, text):
         return None
     if "moment" not in table:
         return None
-    moments = table.pop("moment")
+    moments, shown, fault = table.pop("moment"), [], ""
     if unknown := sorted(table.keys() - {"title"}):
-        raise Unfit(f"{path} is no lesson: there is no key {unknown[0]}")
-    if not isinstance(table.get("title", ""), str):
-        raise Unfit(f"{path} is no lesson: title is no text")
-    if not isinstance(moments, list) or not moments or not all(isinstance(it, dict) for it in moments):
-        raise Unfit(f"{path} is no lesson: moment is no array of tables")
-    shown = []
+        fault = f"there is no key {unknown[0]}"
+    elif not isinstance(table.get("title", ""), str):
+        fault = "title is no text"
+    elif not isinstance(moments, list) or not moments or not all(isinstance(it, dict) for it in moments):
+        fault = "moment is no array of tables"
+    if fault:
+        raise Unfit(f"{path} is no lesson: {fault}")
     for number, moment in enumerate(moments, 1):
         try:
             if fault := fault_of(moment):
@@ -113,12 +111,10 @@ def lesson_of(path, text):
 
 
 def offer(given):
-    """Returns what the page offers: plans and lessons, each with the path that a shell reads it by. The page begins with the plan that is
-    named first, and with a lesson if the one that was given is a lesson."""
-    paths = sorted(os.path.relpath(it, HOME) for it in glob.glob(f"{HOME}/plans/*.toml"))
-    plans = {path: text_of(f"{HOME}/{path}") for path in paths}
-    lessons = {own_path(it): lesson_of(it, text_of(it)) for it in sorted(glob.glob(f"{HOME}/lessons/*.toml"))}
-    first, lesson = FIRST, None
+    """Returns the plans and lessons that the page offers, each with the path for a shell, and with which it begins."""
+    plans = {path: text_of(f"{HOME}/{path}") for path in paths("plans/*.toml")}
+    lessons = {it: lesson_of(f"{HOME}/{it}", text_of(f"{HOME}/{it}")) for it in paths("lessons/*.toml")}
+    first, lesson, runs = FIRST, None, json.loads(text_of(f"{HOME}/page/runs.json"))
     if given is not None:
         path, text = own_path(given), text_of(given)
         found = lesson_of(given, text)
@@ -131,5 +127,5 @@ def offer(given):
         "plans": [{"path": path, "text": text} for path, text in plans.items()],
         "lesson": lesson,
         "lessons": [it for it in lessons.values() if it],
-        "runs": [{"text": plans[path], "choices": it} for path, it in json.loads(text_of(f"{HOME}/page/runs.json")).items()],
+        "runs": [{"text": plans[path], "choices": it} for path, it in runs.items()],
     }

@@ -29,16 +29,20 @@ def sum_of(path):
         return "none"
 
 
+def files_in(folder):
+    """Yields the files in a folder, always in the same order."""
+    for at, folders, names in os.walk(folder):
+        folders.sort()
+        yield from (f"{at}/{name}" for name in sorted(names))
+
+
 def sum_of_sources(name):
     """Returns a sum of the sources of a crate and of all crates below it, with their lines in crates.txt."""
     whole, known = hashlib.sha256(), crates()
     for it in sorted(with_those_below(name, known)):
         whole.update(f"{known[it].strip()}\n".encode())
-        for part in PARTS:
-            for at, folders, names in os.walk(f"{HOME}/crates/{it}/{part}"):
-                folders.sort()
-                for path in (f"{at}/{file}" for file in sorted(names)):
-                    whole.update(f"{path[len(HOME) :]} {sum_of(path)}\n".encode())
+        for path in (path for part in PARTS for path in files_in(f"{HOME}/crates/{it}/{part}")):
+            whole.update(f"{path[len(HOME) :]} {sum_of(path)}\n".encode())
     return whole.hexdigest()
 
 
@@ -58,15 +62,16 @@ def lock(folder):
 
 
 def is_current(name, program):
-    """Returns whether a program is there and is the one that was built from the sources as they are. Notes that for
-    ./dine."""
+    """Returns whether a program is there and was built from the sources as they are. Notes that for ./dine."""
     try:
         noted = Path(f"{program}.made").read_text("utf-8")
     except OSError:
         return False
     words = [f"{HOME}/tools/seen", os.path.relpath(program, HOME)]
     seen = subprocess.run(words, capture_output=True, text=True, check=False).stdout
-    if not os.access(program, os.X_OK) or noted != f"{sum_of_sources(name)} {sum_of(program)}\n":
+    # A static library need not run.
+    is_there = os.access(program, os.R_OK if program.endswith(".a") else os.X_OK)
+    if not is_there or noted != f"{sum_of_sources(name)} {sum_of(program)}\n":
         return False
     replace(f"{program}.seen", seen)
     return True

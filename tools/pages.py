@@ -1,12 +1,11 @@
 """The pages that a reader opens, README.md, CONTRIBUTING.md, docs/, and the READMEs of bench, lessons, tools and
 crates: what they name is there.
 
-Each crate has a README. A name in backticks on a page is a name in the sources, and a path in backticks is a file
-that exists, except paths with a placeholder such as NAME, and the library that bindings/build makes. A file that a
-page names is the target of a link on that page. A link leads to a file or a folder that is there, and to a heading
-that is there if it has a `#`. A folder and a module may be named without a link. What is in a fence, indented, or
-written by another tool is not looked at. Each file of lemmas in a crate's proofs/ begins with a comment that says
-what it proves, and is declared by a file above it."""
+Each crate has a README. A name in backticks is a name in the sources, and a path in backticks is a file that exists,
+except paths with a placeholder such as NAME. A file that a page names is the target of a link on that page, and a link
+leads to a file, folder or heading that is there. A folder and a module may be named without a link. What is in a fence,
+indented, or written by another tool is not looked at. Each file of lemmas in a crate's proofs/ begins with a comment
+that says what it proves, and is declared by a file above it."""
 import os
 import re
 from pathlib import Path
@@ -36,7 +35,7 @@ CLAIMS = {
     "nobody sleeps": r"No thread sleeps for ever",
     "every job done": r"[Ee]very schedule ends|schedule goes on for ever",
     "one more meal": r"at most one more (?:meal|job)",
-    "letters": r"put was taken, once and in order|letters taken are the letters put",
+    "letters": r"(?:put|sent) was taken, once and in order|letters taken are the letters put",
     "forks": r"[Oo]ne fork (?:of|for) each edge came back",
     "exit status 0": r"[Tt]he input was (?:a plan|the text of a plan)",
 }
@@ -47,10 +46,9 @@ SOURCES += ["page/*.js", "page/*.css", "page/*.html"]
 
 
 def pages():
-    """The paths of the pages."""
-    folders = ["docs/*.md", "lessons/*.md", "tools/*/README.md", "crates/*/README.md"]
-    found = ["README.md", "CHANGELOG.md", "CONTRIBUTING.md", "SECURITY.md", "bench/README.md"]
-    return found + [page for folder in folders for page in paths(folder)]
+    patterns = ["docs/*.md", "lessons/*.md", "tools/*/README.md", "crates/*/README.md"]
+    return ["README.md", "CHANGELOG.md", "CONTRIBUTING.md", "SECURITY.md", "bench/README.md",
+            *(page for pattern in patterns for page in paths(pattern))]
 
 
 def prose_of(page):
@@ -98,9 +96,7 @@ def headings_of(page):
 def faults_of_links(page, text):
     """Which links of a page lead nowhere, a line each."""
     faults = []
-    for link in dict.fromkeys(LINK.findall(text)):
-        if OUTSIDE.match(link):
-            continue
+    for link in (it for it in dict.fromkeys(LINK.findall(text)) if not OUTSIDE.match(it)):
         target, heading = target_of(page, link)
         if not Path(HOME, target).exists():
             faults.append(f"{page}: the link {link} leads nowhere")
@@ -151,8 +147,8 @@ def faults_of_names(page, text, words):
 
 
 def faults_of_claims():
-    """Which claims of the front page stand nowhere or more than once, and which clauses are linked more than once, a
-    line each. BELIEVE.md unfolds the main theorem, and counts for the clauses alone."""
+    """Which claims of the front page stand not once in all pages, and which clauses are linked more than once."""
+    # BELIEVE.md unfolds the main theorem, and counts for the clauses alone.
     texts = {page: " ".join(prose_of(page).split()) for page in pages() if page != "docs/DEFINITIONS.md"}
     faults = []
     for name, words in CLAIMS.items():
@@ -171,17 +167,16 @@ def faults_of_claims():
 
 def all_faults(writes=False):
     """What is wrong, by crate and by page. With `writes` the links to lines are mended."""
-    # Python keeps a folder of its own in tools/, and cargo one in bindings/rust/.
-    found = [path for pattern in SOURCES for path in paths(pattern) if "/target/" not in path]
-    sources = [path for path in found if Path(HOME, path).is_file()]
+    # cargo keeps a folder of its own in bindings/rust/.
+    sources = [it for pattern in SOURCES for it in paths(pattern) if "/target/" not in it and Path(HOME, it).is_file()]
     words = set(re.findall(r"\w+", " ".join(map(text_of, sources))))
     found = {crate: faults_of_crate(crate) for crate in paths("crates/*")}
     for page in pages():
-        text, lines = prose_of(page), []
+        text, found[page] = prose_of(page), []
         if writes and (right := mended(page, text_of(page), [])) != text_of(page):
             write(page, right)
-        mended(page, text_of(page), lines)
-        found[page] = lines + faults_of_links(page, text)
-        # The table there explains signs, and not names.
+        mended(page, text, found[page])
+        found[page] += faults_of_links(page, text)
+        # The table of DEFINITIONS.md explains signs, and not names.
         found[page] += faults_of_names(page, text, words) if page != "docs/DEFINITIONS.md" else []
     return found

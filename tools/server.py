@@ -1,6 +1,5 @@
-"""The server of ./show. It serves the folder page/, what the page offers, and runs on threads. The page steps plans
-by itself. A run on threads is one call of dine_trace: the plan goes in, the choices come out, and nothing is kept
-here. The program for it is built when the first run is asked for."""
+"""The server of ./show: the folder page/, what the page offers, and runs on threads, each of which is one call of
+dine_trace. The program for it is built when the first run is asked for."""
 import contextlib
 import http.server
 import json
@@ -21,10 +20,11 @@ LIMIT, AWAY = 9_000_000, 100_000_000
 ARRIVES_WITHIN, CONNECTIONS = 30, 64
 # How many seconds a run may take, and how many there may be at a time.
 RUN_ENDS_WITHIN, RUNS = 30, threading.BoundedSemaphore(2)
-POLICY = (
-    "default-src 'none'; script-src 'self' 'wasm-unsafe-eval'; worker-src 'self'; style-src 'self'; "
-    "connect-src 'self'; img-src data:; base-uri 'none'; form-action 'none'; frame-ancestors 'none'"
-)
+HEADERS = {
+    "Content-Security-Policy": "default-src 'none'; script-src 'self' 'wasm-unsafe-eval'; worker-src 'self'; "
+    "style-src 'self'; connect-src 'self'; img-src data:; base-uri 'none'; form-action 'none'; frame-ancestors 'none'",
+    "Cross-Origin-Resource-Policy": "same-origin", "X-Content-Type-Options": "nosniff", "Cache-Control": "no-store",
+}
 
 
 class Refusal(Exception):
@@ -40,12 +40,11 @@ class Build:
         self.words = [*BOUND, f"{HOME}/tools/build", *(["--unproved"] if is_unproved else []), CRATE]
 
     def progress(self):
-        """Returns how far the build is, in a line, or an empty one if the program is built and current. Begins the
-        build if there is none."""
+        """Returns how far the build is, in a line, and begins it if it has to. An empty line: the program is built."""
         with self.lock:
-            if self.thread is None and fresh.is_current(CRATE, self.program):
-                return ""
             if self.thread is None:
+                if fresh.is_current(CRATE, self.program):
+                    return ""
                 self.line, self.status = "it begins", None
                 self.thread = threading.Thread(target=self.work, daemon=True)
                 self.thread.start()
@@ -57,8 +56,7 @@ class Build:
             return ""
 
     def work(self):
-        """Builds, repeats the lines of the build, and keeps the last one. A child of BOUND ends with the thread that
-        began it, so this thread lives as long as the build."""
+        """Builds, and repeats its lines. A child of BOUND ends with its thread, which lives as long as the build."""
         how = {"stdin": subprocess.DEVNULL, "stderr": subprocess.PIPE, "text": True, "errors": "replace"}
         with subprocess.Popen(self.words, **how) as child:
             for line in child.stderr:
@@ -67,8 +65,7 @@ class Build:
         self.status = child.returncode
 
     def run(self, words, given, seconds):
-        """Calls the program that is built, and returns what it prints. If its status is not 0, its line is a
-        refusal."""
+        """Calls the program, and returns what it prints. If its status is not 0, its line is a refusal."""
         try:
             how = {"input": given, "capture_output": True, "timeout": seconds, "check": False}
             ran = subprocess.run([*BOUND, self.program, *words], **how)
@@ -87,8 +84,7 @@ class Server(http.server.ThreadingHTTPServer):
     request_queue_size = CONNECTIONS
 
     def __init__(self, port, offer, build):
-        """Listens at the port. `offer` returns what the page offers, and `build` is the build of the program that
-        runs threads."""
+        """`offer` returns what the page offers, and `build` is the build of the program that runs threads."""
         self.places, self.offer, self.build = threading.BoundedSemaphore(CONNECTIONS), offer, build
         super().__init__(("127.0.0.1", port), Handler)
 
@@ -156,21 +152,19 @@ class Handler(http.server.SimpleHTTPRequestHandler):
 
     def do_GET(self):
         if self.path == "/catalog":
-            self.guarded(self.catalog, "application/json")
+            self.answer(self.catalog, "application/json")
         else:
             super().do_GET()
 
     def do_POST(self):
-        self.guarded({"/build": self.progress, "/run": self.choices}.get(self.path, self.nothing), "text/plain")
+        self.answer({"/build": self.progress, "/run": self.choices}.get(self.path, self.nothing), "text/plain")
 
-    def guarded(self, answer, kind):
+    def answer(self, question, kind):
         """Sends an answer, or refuses with one line."""
         try:
-            body = answer()
+            self.send(200, kind, question())
         except Refusal as refusal:
             self.send_error(*refusal.args)
-            return
-        self.send(200, kind, body)
 
     def send(self, status, kind, body):
         self.send_response(status)
@@ -181,12 +175,8 @@ class Handler(http.server.SimpleHTTPRequestHandler):
             self.wfile.write(body)
 
     def end_headers(self):
-        self.send_header("Content-Security-Policy", POLICY)
-        self.send_header("Cross-Origin-Resource-Policy", "same-origin")
-        self.send_header("X-Content-Type-Options", "nosniff")
-        self.send_header("Cache-Control", "no-store")
-        if self.close_connection:
-            self.send_header("Connection", "close")
+        for name, value in {**HEADERS, **({"Connection": "close"} if self.close_connection else {})}.items():
+            self.send_header(name, value)
         super().end_headers()
 
     def catalog(self):
@@ -202,8 +192,7 @@ class Handler(http.server.SimpleHTTPRequestHandler):
         return self.server.build.progress().encode()
 
     def choices(self):
-        """Returns the choices of a run on threads. The first line of the body names the kind of links, or is empty,
-        and the plan follows."""
+        """Returns the choices of a run on threads of a plan, below a line with the kind of links or none."""
         line, _, plan = self.body().partition(b"\n")
         if line not in (b"", b"channel", b"ring"):
             raise Refusal(400, "the first line is not understood")
@@ -228,8 +217,7 @@ class Handler(http.server.SimpleHTTPRequestHandler):
         return body
 
     def send_error(self, code, message=None, explain=None):
-        """Refuses with one line, and reads what is still sent of the request, since the sender reads the answer only
-        then."""
+        """Refuses with one line, and reads what is still sent: the sender reads the answer only then."""
         self.close_connection = True
         self.command = self.command or "GET"
         self.send(code, "text/plain", f"{message or http.HTTPStatus(code).phrase}\n".encode())

@@ -17,8 +17,7 @@ FIELD = re.compile(r"^\s+(?:pub )?(\w+) :", re.M)
 
 @dataclass
 class Definition:
-    """A definition: where it is, the comment directly above it, the block that it is in, its lines without comments,
-    and its lines with the comments between them."""
+    """A definition, with the comment above it, its block, its lines, and its lines with the comments between them."""
     place: str
     module: str
     name: str
@@ -27,14 +26,9 @@ class Definition:
     lines: list
     text: list
 
-    @property
-    def is_record(self):
-        return self.lines[0].startswith("pub record ")
-
 
 class Module:
-    """A file of specs: its definitions by name, and what it uses from others: for each name the module and the name
-    there."""
+    """A file of specs: its definitions by name, and for each name that it uses the module and the name there."""
 
     def __init__(self, path):
         crate, rest = re.fullmatch(r"crates/(\w+)/specs/(.*)\.antt", path).groups()
@@ -43,8 +37,7 @@ class Module:
         self.read(text_of(path).split("\n"))
 
     def read(self, lines):
-        """Reads the file. `level` is the margin of definitions, `now` the one that the line may belong to, and `last`
-        the last one that began."""
+        """Reads the file: `level` is the margin of definitions, `now` the one at hand, `last` the last that began."""
         level, block, now, last, comment = 0, "", None, None, []
         for number, line in enumerate(lines, 1):
             text, margin = line.strip(), len(line) - len(line.lstrip())
@@ -92,7 +85,6 @@ def name_begun(text):
 
 
 def all_modules():
-    """Every file of specs, by the name of its module."""
     return {module.name: module for module in map(Module, paths("crates/*/specs/**/*.antt"))}
 
 
@@ -102,8 +94,7 @@ def words_of(definition):
 
 
 def defined(modules, source, name):
-    """The definition of that name in the module, or the data type there of which it is a constructor, if there is
-    one."""
+    """The definition of that name in the module, or the data type there of which it is a constructor, or None."""
     there = modules[source].definitions if source in modules else {}
     if name in there:
         return there[name]
@@ -113,27 +104,23 @@ def defined(modules, source, name):
 
 
 def meant(modules, uses, own, word, text):
-    """What a word of a text means: definitions of the repository, and the module of a type that a crate's code
-    declares. None stands for a definition that is not there. `uses` has for each name the module and the name there,
-    and `own` has the definitions of the file."""
+    """What a word of a text means, by what its file `uses` and its `own` definitions: definitions of the repository,
+    None for one that is not there, and the module of a type that a crate's code declares."""
     source, name = uses.get(word, ("", None))
     if word in own:
         return [own[word]]
-    if source.startswith("Rattle.dine") and ".declared." in source:
+    if not source.startswith("Rattle.dine"):
+        return []
+    if ".declared." in source:
         return [source.removesuffix(".TheVariants")]
-    if source.startswith("Rattle.dine"):
-        names = [name] if name else re.findall(rf"(?<![\w.]){word}\.(\w+)", text)
-        return [defined(modules, source, it) for it in names]
-    return []
+    names = [name] if name else re.findall(rf"(?<![\w.]){word}\.(\w+)", text)
+    return [defined(modules, source, it) for it in names]
 
 
 def used_by(modules, definition):
-    """What a definition uses, in order: definitions of the repository, and the module of each type that a crate's
-    code declares."""
+    """What a definition uses, in order: as `meant` has it."""
     module, found = modules[definition.module], []
-    for word in words_of(definition):
-        if word == definition.name:
-            continue
+    for word in (it for it in words_of(definition) if it != definition.name):
         ones = meant(modules, module.uses, module.definitions, word, "\n".join(definition.lines))
         if None in ones:
             sys.exit(f"{definition.place}: {definition.name} uses {word}, which {module.uses[word][0]} does not define")

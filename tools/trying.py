@@ -1,6 +1,6 @@
-"""What the tools share: their arguments, paths, running a program and comparing what it did with what is wanted, copies
-of crates, and the lines and the count at the end of a check."""
+"""What the tools share: their arguments, paths, running a program, copies of crates, and the count of a check."""
 import argparse
+import collections
 import glob
 import os
 import shutil
@@ -10,11 +10,6 @@ from pathlib import Path
 from typing import NamedTuple
 
 HOME = os.path.dirname(os.path.dirname(os.path.realpath(__file__)))
-DINE = os.path.join(HOME, "dine")
-# How long a program may take, if nothing else is given.
-SECONDS = 120
-# How much of a text is shown before and after the place where it goes wrong.
-SHOWN = 100
 # Before a command: it gets SIGTERM when the process that began it ends, however that ends. PR_SET_PDEATHSIG is 1.
 BOUND = "import ctypes, os, sys; ctypes.CDLL(None).prctl(1, 15); "
 BOUND += "os.getppid() == int(sys.argv[1]) and os.execvp(sys.argv[2], sys.argv[2:])"
@@ -24,8 +19,7 @@ os.environ.pop("DINE_UNPROVED", None)
 
 
 class Words(argparse.ArgumentParser):
-    """The arguments of a tool. Its help is the text at the head of its file. A wrong argument is refused with one
-    line and status 2."""
+    """The arguments of a tool: its help is the text of its file, and a wrong argument ends it with one line and 2."""
 
     def __init__(self, text):
         super().__init__(description=text, formatter_class=argparse.RawDescriptionHelpFormatter)
@@ -35,8 +29,7 @@ class Words(argparse.ArgumentParser):
 
 
 def program_of(crate, is_unproved=False):
-    """Returns where the program of a crate is, once it is built. An unproved program has another path than the proved
-    one."""
+    """Returns the path of a crate's program, or of the one that is built without proof."""
     return f"{HOME}/crates/{crate}/out/{'unproved/' if is_unproved else ''}{crate}"
 
 
@@ -45,25 +38,23 @@ def text_of(path):
     return Path(HOME, path).read_text("utf-8")
 
 
+def write(path, text):
+    Path(HOME, path).write_text(text, "utf-8")
+
+
 def paths(pattern):
     """Returns the paths that match, from the top, sorted."""
     return sorted(glob.glob(pattern, root_dir=HOME, recursive=True))
 
 
-def write(path, text):
-    """Writes the text of a file, by its path from the top."""
-    Path(HOME, path).write_text(text, "utf-8")
-
-
 class Answer(NamedTuple):
-    """The status with which a program ended, None if it did not end, and what it wrote to standard output and to
-    standard error."""
+    """The status of a program, None if it did not end, and what it wrote to standard output and to standard error."""
     status: int
     output: str
     error: str
 
 
-def answer_of(words, program=DINE, seconds=SECONDS, **how):
+def answer_of(words, program=f"{HOME}/dine", seconds=120, **how):
     """Runs a program with arguments, passing `how` to subprocess.run, and returns its status and output."""
     # A build has no limit of time, and starts programs of its own, which end with it.
     bound = BOUND if seconds is None else []
@@ -73,26 +64,6 @@ def answer_of(words, program=DINE, seconds=SECONDS, **how):
         return Answer(None, "", f"no end within {seconds} seconds")
     # A byte that is not UTF-8 becomes a character of its own, so that texts are the same only if all bytes are.
     return Answer(ran.returncode, *(it.decode(errors="surrogateescape") for it in (ran.stdout, ran.stderr)))
-
-
-def first_difference(wanted, got):
-    """Returns where two texts first differ, and what each of them has there."""
-    place = len(os.path.commonprefix([wanted, got]))
-    above = wanted[:place].split("\n")
-    begin = max(place - len(above[-1]), place - SHOWN)
-    return f"line {len(above)}: {got[begin : place + SHOWN]!r}, wanted {wanted[begin : place + SHOWN]!r}"
-
-
-def difference(wanted, got):
-    """Returns in a line how status and output differ from those that are wanted, or an empty text."""
-    if got.status is None:
-        return got.error
-    faults = [f"status {got.status}, wanted {wanted.status}"] if got.status != wanted.status else []
-    for name in ("output", "error"):
-        there, here = getattr(wanted, name), getattr(got, name)
-        if there != here:
-            faults.append(f"standard {name}, {first_difference(there, here)}")
-    return "; ".join(faults)
 
 
 def crates():
@@ -108,8 +79,7 @@ def with_those_below(name, known):
 
 
 def copy_crates(names, folder):
-    """Copies a crate, or several whose names have spaces between them, and those below into a folder, as a repository
-    without what is built."""
+    """Copies crates, whose names have spaces between them, and those below into a folder, as a repository."""
     known = crates()
     copied = set().union(*(with_those_below(name, known) for name in names.split()))
     for it in copied:
@@ -124,8 +94,7 @@ def in_a_line(name, fault):
 
 
 def skip(name, why):
-    """Returns a check as `counted` takes it, of something that this machine cannot do. verify prints its line again
-    at its end."""
+    """Returns a check as `counted` takes it, of what this machine cannot do. verify prints its line again."""
     return f"{name}: skipped: {why}", None
 
 
@@ -134,39 +103,49 @@ def a_line_each(tool, faults):
     return "\n".join(f"{tool}: {fault}" for fault in faults), not faults
 
 
-def counted(tries, skipped=0):
-    """Prints the report of each check, if it has one, and at last the count. A check is its report, and whether it
-    passed: None if it was skipped. Returns the exit status."""
-    passed = failed = 0
+def counted(tries):
+    """Prints reports and their count, and returns the exit status. A check is its report, and whether it passed, or
+    None if it was skipped."""
+    counts = collections.Counter()
     for text, is_right in tries:
         if text:
             print(text, flush=True)
-        if is_right is None:
-            skipped += 1
-        else:
-            passed, failed = passed + is_right, failed + (not is_right)
-    return ended(passed, failed, skipped)
-
-
-def try_program(tool, tries, *others):
-    """Has ./dine build the program if it must, and tools/build the programs of other crates. Then it does the checks
-    and ends the tool."""
-    answer = answer_of(["check"], seconds=None, stdin=subprocess.DEVNULL)
-    # The program itself never ends with 1.
-    failed = answer.error if answer.status == 1 else ""
-    for crate in others:
-        if not failed:
-            built = answer_of([crate], os.path.join(HOME, "tools", "build"), None, stdin=subprocess.DEVNULL)
-            failed = built.error if built.status else ""
-    if failed:
-        sys.stderr.write(failed)
-        print(f"{tool}: the program can't be built")
-        sys.exit(ended(0, 1))
-    sys.exit(counted(tries))
+        counts[is_right] += 1
+    return ended(counts[True], counts[False], counts[None])
 
 
 def ended(passed, failed, skipped=0):
-    """Prints the count, and returns the exit status: 0 if nothing failed, and something passed or was skipped. A
-    check is skipped if this machine cannot do it."""
+    """Prints the count, and returns the exit status: 0 if nothing failed, and something passed or was skipped."""
     print(f"{passed} passed, {failed} failed" + (f", {skipped} skipped" if skipped else ""))
     return 0 if passed + skipped and not failed else 1
+
+
+# ---- What only the tools of the page call
+
+
+def first_difference(wanted, got):
+    """Returns where two texts first differ, and what each of them has there."""
+    place = len(os.path.commonprefix([wanted, got]))
+    above = wanted[:place].split("\n")
+    begin = max(place - len(above[-1]), place - 100)
+    return f"line {len(above)}: {got[begin : place + 100]!r}, wanted {wanted[begin : place + 100]!r}"
+
+
+def difference(wanted, got):
+    """Returns in a line how status and output differ from those that are wanted, or an empty text."""
+    if got.status is None:
+        return got.error
+    faults = [f"status {got.status}, wanted {wanted.status}"] if got.status != wanted.status else []
+    return "; ".join(faults + [f"standard {name}, {first_difference(getattr(wanted, name), getattr(got, name))}"
+                               for name in ("output", "error") if getattr(wanted, name) != getattr(got, name)])
+
+
+def try_program(tool, tries, *others):
+    """Builds dine, if it must, and the programs of other crates. Then it does the checks and ends the tool."""
+    for crate in ("dine_cli", *others):
+        built = answer_of([crate], f"{HOME}/tools/build", None, stdin=subprocess.DEVNULL)
+        if built.status:
+            sys.stderr.write(built.error)
+            print(f"{tool}: the program can't be built")
+            sys.exit(ended(0, 1))
+    sys.exit(counted(tries))

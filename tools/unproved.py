@@ -23,9 +23,8 @@ def catch(room):
 
 
 def build_unproved(crate, to):
-    """Builds the program of the crate in this folder without any proof, and puts it at this path. The program has to
-    run a plan that it reads from its standard input, as dine_cli and dine_trace do. Returns 0 and an empty text, or
-    else a status that is not 0 and the output of `rt try`."""
+    """Builds the program of the crate in this folder, which runs a plan from its standard input, and puts it at this
+    path. Returns 0 and an empty text, or else a status that is not 0 and the output of `rt try`."""
     name = os.path.basename(crate)
     words = ["rt", "try", name, "--", RUN.get(name, "run")]
     # What a build that was stopped has left there goes.

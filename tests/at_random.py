@@ -1,10 +1,9 @@
-"""Random plans, for tests/test_random_plans.py and tools/wasm-answers."""
+"""Random plans, for tests/test_random_plans.py and tests/test_wasm_answers.py."""
 import random
 
 
 def meals_of(fails, resigns):
-    """Returns the number of meals of a site whose jobs fail so. A site that resigns eats none after a job that
-    failed."""
+    """Returns the number of meals of a site, by which jobs fail. A site that resigns eats none after the first."""
     return fails.index(True) + 1 if resigns and True in fails else len(fails)
 
 
