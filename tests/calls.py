@@ -1,4 +1,4 @@
-"""How the tests call the programs, what the head of a plan says of them, and programs that call the crates."""
+"""How the tests call the programs, what the heads of plans and the pages show, and programs that call the crates."""
 import json
 import os
 import re
@@ -87,6 +87,12 @@ def until(what, seconds=15):
 def lists(name):
     """Returns the lists of arguments of a file of tests/words/, which are below its first line."""
     return text_of(f"tests/words/{name}.txt").splitlines()[1:]
+
+
+def blocks(page):
+    """Returns the indented blocks of a page, without the indent."""
+    found = re.findall(r"(?:^    .*\n|^\n(?=    ))+", text_of(page), re.MULTILINE)
+    return [re.sub(r"^    ", "", it, flags=re.MULTILINE).strip("\n") + "\n" for it in found]
 
 
 def add_program(name, line, source, folder):

@@ -22,9 +22,11 @@ def pytest_addoption(parser):
 
 def pytest_configure(config):
     calls.HOW["is_unproved"] = config.getoption("unproved")
-    # With -n the tests of a group are done by one process.
+    # With -n the tests of a group are done by one process. Those processes get the arguments alone, which lack this.
     if getattr(config.option, "dist", "") == "load":
         config.option.dist = "loadgroup"
+    if hasattr(config, "workerinput"):
+        config.option.loadgroup = True
 
 
 @functools.cache

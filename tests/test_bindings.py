@@ -18,11 +18,10 @@ from pathlib import Path
 import exports_c
 import fresh
 import pytest
-from calls import dine
+from calls import blocks, dine
 from trying import HOME, Answer, answer_of, text_of
 
 pytestmark = pytest.mark.timeout(900)
-slow = pytest.mark.slow
 PLANS = ("plans/pair.toml", "plans/ring_of_five.toml", "plans/resigning_site.toml", "tests/cases/values.toml",
          "tests/cases/triangle.toml")
 # How many lists of choices are replayed of each plan.
@@ -113,27 +112,29 @@ class Place:
                     "-lpthread", "-o", to)
         return to
 
+    def rust(self, *words):
+        """Has cargo build the crate with the library that is there, and returns what it prints."""
+        needs("cargo")
+        how = {"at": "bindings/rust", "env": {"DINE_LIB": f"{self.folder}/bindings/lib"}}
+        return self.output("cargo", words[0], "-q", "--offline", *words[1:], **how)
+
 
 def proved_library():
-    """Returns the library that rt makes of dine_ffi, and makes it if the sources were changed."""
-    crate, archive = f"{HOME}/crates/dine_ffi", f"{HOME}/crates/dine_ffi/out/libdine_ffi.a"
+    """Has tools/build make the library of dine_ffi, if it is missing or older than a source, and returns it."""
     # The tests that build a program take turns with it.
     held = fresh.lock(os.path.dirname(__file__))
-    noted, sources = Path(f"{archive}.made"), fresh.sum_of_sources("dine_ffi")
-    if not os.path.exists(archive) or not noted.exists() or noted.read_text("utf-8") != sources:
-        made = answer_of(["lib"], "rt", None, cwd=crate, stdin=subprocess.DEVNULL)
-        if made.status:
-            os.close(held)
-            pytest.fail(made.output + made.error, pytrace=False)
-        fresh.replace(noted, sources)
+    made = answer_of(["dine_ffi"], f"{HOME}/tools/build", None, stdin=subprocess.DEVNULL)
     os.close(held)
-    return archive
+    assert made.status == 0, made.error
+    return f"{HOME}/crates/dine_ffi/out/libdine_ffi.a"
 
 
-@pytest.fixture(scope="module", params=[
-    pytest.param(it, marks=pytest.mark.xdist_group(it)) for it in ("with the kit", "without the kit")])
+WAYS = [pytest.param(it, marks=[pytest.mark.slow, pytest.mark.xdist_group(it)]) for it in ("with kit", "without kit")]
+
+
+@pytest.fixture(scope="module", params=WAYS)
 def place(request):
-    is_hidden = request.param == "without the kit"
+    is_hidden = request.param == "without kit"
     needs("gcc", *[] if is_hidden else ["rt"])
     if is_hidden and KIT and answer_of(["-rm", "true"], "unshare").status:
         pytest.skip("no unshare that makes a namespace")
@@ -149,7 +150,6 @@ def place(request):
 # ---- Programs and tests of the bindings
 
 
-@slow
 def test_c(place):
     """The programs in C: the last one is refused memory by its limit."""
     assert place.output(place.program("bindings/c/pair.c")).endswith("\nevents 22 of 22\n")
@@ -157,15 +157,11 @@ def test_c(place):
     assert place.output("sh", "-c", 'ulimit -v 120000 && exec "$0"', place.program("bindings/c/memory.c"))
 
 
-@slow
 def test_rust(place):
     needs("cargo")
     assert place.output("cargo", "test", "-q", "--offline", at="bindings/rust").count("test result: ok.") == 3
-    printed = place.output("cargo", "run", "-q", "--offline", "--example", "bank", at="bindings/rust")
-    assert printed == "ann ate 50 times, the sum is 600\n"
 
 
-@slow
 def test_python(place):
     """The package as pip installs it, and its tests."""
     site = f"{place.folder}/site"
@@ -173,6 +169,18 @@ def test_python(place):
                  site, "bindings/python")
     tests = [sys.executable, "-m", "pytest", "-q", "-p", "no:cacheprovider", "bindings/python/tests"]
     assert " passed" in place.output(*tests, env={"PYTHONPATH": site})
+
+
+def test_page(place):
+    """What docs/BINDINGS.md shows is so."""
+    rust, printed, c, *_ = blocks("docs/BINDINGS.md")
+    assert text_of("bindings/rust/examples/bank.rs").endswith(rust)
+    assert place.rust("run", "--example", "bank") == printed
+    plan = 'version = 1\\n[[site]]\\nname = \\"a\\"\\njobs = []\\n'
+    main = f'#include "dine.h"\n#include <string.h>\nint main(void) {{ const char *PLAN = "{plan}";\n{c}return 0; }}\n'
+    Path(place.folder, "shown.c").write_text(main, "utf-8")
+    place.output(place.program("shown.c"))
+    assert place.output(sys.executable, "-m", "doctest", f"{HOME}/docs/BINDINGS.md") == ""
 
 
 # ---- Replays
@@ -188,7 +196,6 @@ def replays(plan):
         return "\n".join(lists).encode() + b"\n", "".join(printed)
 
 
-@slow
 @pytest.mark.built("dine_cli")
 @pytest.mark.parametrize("language", ["C", "Rust", "Python"])
 def test_replays(place, language):
@@ -196,8 +203,7 @@ def test_replays(place, language):
     if language == "C":
         words = [place.program("bindings/c/replay.c")]
     elif language == "Rust":
-        needs("cargo")
-        place.output("cargo", "build", "-q", "--offline", "--release", "--example", "replay", at="bindings/rust")
+        place.rust("build", "--release", "--example", "replay")
         words = [f"{place.folder}/target/release/examples/replay"]
     else:
         words = [sys.executable, "bindings/python/replay.py"]
@@ -209,13 +215,11 @@ def test_replays(place, language):
 # ---- Sites as processes
 
 
-@slow
 def test_restart(place):
     journals = f"{place.folder}/journals"
     assert "is accepted" in place.output(sys.executable, "examples/restart/restart.py", "30", journals)
 
 
-@slow
 def test_two_processes(place):
     place.output(sys.executable, "bindings/python/two_processes.py")
 
@@ -230,13 +234,11 @@ def ranks(place, request):
     return ["mpirun", "-n", "4", place.program("examples/mpi/dine_mpi.c", "mpicc")]
 
 
-@slow
-@pytest.mark.parametrize("plan", [[], [f"{HOME}/plans/grid.toml"]], ids=["without a plan", "grid"])
+@pytest.mark.parametrize("plan", [[], [f"{HOME}/plans/grid.toml"]], ids=["its own plan", "grid"])
 def test_mpi(place, ranks, plan):
     assert "is accepted" in place.output(*ranks, *plan)
 
 
-@slow
 def test_rank_that_dies(place, ranks):
     """The job ends with a line about the rank, which would get more letters: Done and Close of each neighbour alone are
     104."""

@@ -2,21 +2,14 @@
 prints what the page says. A program is run by 'rt try', which proves nothing: ./verify proves the crates below. With
 DINE_PROVE=1 each is proved and built by the tools/build of the new repository."""
 import os
-import re
 
 import pytest
-from calls import add_program
-from trying import HOME, Answer, answer_of, text_of
+from calls import add_program, blocks
+from trying import HOME, Answer, answer_of
 
 pytestmark = pytest.mark.early
 VENDOR = f"{HOME}/tools/vendor"
 USAGE = "usage: vendor [-h] DEST [CRATE]"
-
-
-def blocks(page):
-    """Returns the indented blocks of a page, without the indent."""
-    found = re.findall(r"(?:^    .*\n|^\n(?=    ))+", text_of(page), re.MULTILINE)
-    return [re.sub(r"^    ", "", it, flags=re.MULTILINE).strip("\n") + "\n" for it in found]
 
 
 BLOCKS = blocks("docs/LIBRARY.md")

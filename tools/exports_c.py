@@ -1,6 +1,5 @@
 """The exports of dine_ffi, as its sources have them, what C, Rust and Python have to declare for each, and the module
 of the crate as C: the files that tools/bindings writes."""
-import os
 import re
 import shutil
 import subprocess
@@ -31,9 +30,7 @@ NUMBER = '''class Number(c_uint32):
 
 def sources():
     """Returns the sources of dine_ffi, one text."""
-    folder = f"{HOME}/crates/dine_ffi/src"
-    names = [it for it in sorted(os.listdir(folder)) if it.endswith(".rt")]
-    return "\n".join(text_of(f"crates/dine_ffi/src/{name}") for name in names)
+    return "\n".join(map(text_of, paths("crates/dine_ffi/src/*.rt")))
 
 
 def exports():
@@ -71,34 +68,32 @@ def arguments(params):
             c, rust, python = NUMBERS[kind]
             found.append((arg, f"{c} {arg}", rust, python))
             continue
-        c, rust, python = POINTED[re.search(r"\w+\b(?=]?$)", kind)[0]]
-        is_const = not kind.startswith("&mut ")
-        rust = f"*{'const' if is_const else 'mut'} {rust}"
-        found.append((arg, f"{'const ' * is_const}{c} *{arg}", rust, f"POINTER({python})"))
+        c, rust, python = POINTED[re.search(r"\w+(?=]?$)", kind)[0]]
+        of_c, of_rust = ("", "mut") if kind.startswith("&mut ") else ("const ", "const")
+        found.append((arg, f"{of_c}{c} *{arg}", f"*{of_rust} {rust}", f"POINTER({python})"))
         if kind.endswith("]"):
             found.append((f"{arg}_len", f"size_t {arg}_len", "usize", "c_size_t"))
     return found
 
 
-def listed(params, of=1, between=", "):
+def listed(params, of=1):
     """Returns a part of each argument of a call, in a text."""
-    return between.join(it[of] for it in arguments(params))
+    return ", ".join(it[of] for it in arguments(params))
 
 
 def guards(params):
     """Returns the lines of C that answer null pointers, and two handles that are one."""
-    lines = []
+    lines = ""
     for arg, kind in params:
         if kind.endswith("]"):
-            lines.append(f"    if (!{arg}) {{")
-            lines.append(f"        if ({arg}_len)\n            return DINE_NULL;")
-            lines.append(f"        {arg} = (void *)&nothing;\n    }}")
+            lines += f"    if (!{arg}) {{\n        if ({arg}_len)\n            return DINE_NULL;\n"
+            lines += f"        {arg} = (void *)&nothing;\n    }}\n"
         elif kind.startswith("&"):
-            lines.append(f"    if (!{arg})\n        return DINE_NULL;")
+            lines += f"    if (!{arg})\n        return DINE_NULL;\n"
     handles = [arg for arg, kind in params if kind == "&mut Handle"]
     if len(handles) == 2:
-        lines.append(f"    if ({handles[0]} == {handles[1]})\n        return DINE_SAME_HANDLE;")
-    return "\n".join(lines)
+        lines += f"    if ({' == '.join(handles)})\n        return DINE_SAME_HANDLE;\n"
+    return lines
 
 
 def c_text():
@@ -109,34 +104,26 @@ def c_text():
     for name, params in exports().items():
         parts.append(f"int64_t dine_raw_{name}({listed(params)});")
     for name, params in exports().items():
-        parts.append(f"\nint64_t dine_{name}({listed(params)}) {{\n{guards(params)}")
-        parts.append(f"    return dine_raw_{name}({listed(params, 0)});\n}}")
+        parts.append(f"\nint64_t dine_{name}({listed(params)}) {{\n{guards(params)}"
+                     f"    return dine_raw_{name}({listed(params, 0)});\n}}")
     return "\n".join(parts) + "\n"
 
 
-def loan(arg, kind):
-    """Returns how C lends an argument to the module, or nothing if it goes there as it is."""
-    if kind == "&mut Handle":
-        return f"lend_handle(&it, {arg})"
-    if kind.startswith("&"):
-        size = f"{arg}_len * sizeof *{arg}" if kind.endswith("]") else f"sizeof *{arg}"
-        return f"lend(&it, {arg}, {size}, {'true' if kind.startswith('&mut') else 'false'})"
-    return ""
-
-
 def nokit_text():
-    """Returns the text of nokit/calls.c."""
+    """Returns the text of nokit/calls.c, which lends what is behind a pointer to the module."""
     parts = ["/* Written by tools/bindings from the exports of crates/dine_ffi: the calls behind dine.c where the",
              " * library is the module as C, so that a C compiler is all that it needs. */",
              '#include "loans.h"']
     for name, params in exports().items():
-        lent = [(arg, loan(arg, kind)) for arg, kind in params]
-        lines = "".join(f"    u64 {arg}_at = {how};\n" for arg, how in lent if how)
-        words = ["&module"]
-        for (arg, how), (_, kind) in zip(lent, params):
-            words += [f"{arg}_at" if how else arg] + [f"{arg}_len"] * kind.endswith("]")
-        words = ", ".join(words)
-        parts.append(f"\nint64_t dine_raw_{name}({listed(params)}) {{\n    call it = begin();\n{lines}"
+        lent, words = "", "&module"
+        for arg, kind in params:
+            is_list, is_lent = kind.endswith("]"), kind not in NUMBERS
+            size = f"{arg}_len * sizeof *{arg}" if is_list else f"sizeof *{arg}"
+            how = f"lend(&it, {arg}, {size}, {'true' if kind.startswith('&mut') else 'false'})"
+            how = f"lend_handle(&it, {arg})" if kind == "&mut Handle" else how
+            lent += f"    u64 {arg}_at = {how};\n" * is_lent
+            words += f", {arg}" + "_at" * is_lent + f", {arg}_len" * is_list
+        parts.append(f"\nint64_t dine_raw_{name}({listed(params)}) {{\n    call it = begin();\n{lent}"
                      f"    if (!it.fits)\n        return end(&it, DINE_MEMORY);\n"
                      f"    return end(&it, (int64_t)Z_dine_ffiZ_dine_raw_{name}({words}));\n}}")
     return "\n".join(parts) + "\n"

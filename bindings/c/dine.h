@@ -85,12 +85,18 @@ int64_t dine_plan_ends(dine_handle *plan, uint32_t edge, dine_ends *out);
 
 /* A world: all sites of a plan in one thread. */
 int64_t dine_world_open(dine_handle *plan, dine_handle *world);
+/* A bound on the events of any schedule from the start. */
 int64_t dine_world_bound(dine_handle *world);
+/* How many events are enabled now, and event n of them, from 0. docs/FORMAT.md has their order. */
 int64_t dine_world_count(dine_handle *world);
 int64_t dine_world_enabled(dine_handle *world, uint32_t n, dine_event *out);
 int64_t dine_world_step(dine_handle *world, const dine_event *event);
+/* Does for each choice the enabled event of this number, and passes over a choice that has none. Returns the number of
+ * events. */
 int64_t dine_world_replay(dine_handle *world, const uint32_t *choices, size_t choices_len);
+/* Does the first enabled event until none is enabled. Returns the number of events. */
 int64_t dine_world_finish(dine_handle *world);
+/* What the site is doing, as in dine_site_now, and how many meals it began. */
 int64_t dine_world_phase(dine_handle *world, uint32_t site);
 int64_t dine_world_ate(dine_handle *world, uint32_t site);
 /* Returns the number of periods; out_len counts numbers, three for a period: pass (uint32_t *)periods, 3 * n. Writes no

@@ -244,9 +244,9 @@ class World(_Owner):
         _answer(_LIB.dine_world_step(byref(self._handle), byref(_calls.Event(*numbers))))
 
     def replay(self, choices: Sequence[int]) -> int:
-        """Does the enabled event that each choice names by its number. Returns the number of events.
+        """Does for each choice the enabled event of this number, and passes over a choice that has none.
 
-        Raises ``OverflowError`` if a choice is below 0 or has more than 32 bits, and then nothing has changed.
+        Returns the number of events. Raises ``OverflowError`` if a choice is below 0 or has more than 32 bits, and then nothing has changed.
         """
         if not all(0 <= it < 2**32 for it in choices):
             raise OverflowError("a choice is a number from 0 to 2**32 - 1")

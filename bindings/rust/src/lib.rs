@@ -346,7 +346,8 @@ impl World {
         Ok(())
     }
 
-    /// Does the enabled event that each choice names by its number, and returns the number of events.
+    /// Does for each choice the enabled event of this number, and passes over a choice that has none. Returns the number
+    /// of events.
     pub fn replay(&mut self, choices: &[u32]) -> u64 {
         answer(unsafe { sys::dine_world_replay(self.handle.get(), choices.as_ptr(), choices.len()) }).unwrap_or(0)
     }

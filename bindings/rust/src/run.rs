@@ -236,7 +236,8 @@ impl<T> Meal<'_, '_, T> {
         self.values.at(place)
     }
 
-    /// Returns all values of the worker, each with the neighbour that shares it.
+    /// Returns all values of the worker, each with the neighbour that shares it, in the order in which their edges were
+    /// added to the table.
     pub fn values(&mut self) -> impl Iterator<Item = (WorkerId, &mut T)> {
         self.neighbours.iter().copied().zip(self.values.iter_mut())
     }

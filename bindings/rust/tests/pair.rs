@@ -164,8 +164,12 @@ fn transfers_between_accounts_keep_the_sum() {
     let mut table = Table::new();
     let ids: Vec<_> = ["ann", "bob", "cid", "dan"].iter().map(|name| table.worker(name, 50)).collect();
     let edges: Vec<_> = (0..4).map(|i| table.edge(ids[i], ids[(i + 1) % 4], 100i64)).collect();
+    // The edges of each account, in the order in which they were added.
+    let neighbours = [[ids[1], ids[3]], [ids[0], ids[2]], [ids[1], ids[3]], [ids[2], ids[0]]];
     let done = table
         .run(&(), |meal| {
+            let here: Vec<_> = meal.values().map(|it| it.0).collect();
+            assert_eq!(here, neighbours[meal.worker().number() as usize]);
             let mut values = meal.values();
             let (from, to) = (values.next().ok_or("one")?.1, values.next().ok_or("two")?.1);
             if *from == 0 {
