@@ -173,9 +173,9 @@ def test_python(place):
 
 def test_page(place):
     """What docs/BINDINGS.md shows is so."""
-    rust, printed, c, *_ = blocks("docs/BINDINGS.md")
-    assert text_of("bindings/rust/examples/bank.rs").endswith(rust)
-    assert place.rust("run", "--example", "bank") == printed
+    rust, c, *_ = blocks("docs/BINDINGS.md")
+    program = text_of("bindings/rust/examples/bank.rs").partition("\n")[2]
+    assert rust == f"{program}\n{place.rust('run', '--example', 'bank')}"
     plan = 'version = 1\\n[[site]]\\nname = \\"a\\"\\njobs = []\\n'
     main = f'#include "dine.h"\n#include <string.h>\nint main(void) {{ const char *PLAN = "{plan}";\n{c}return 0; }}\n'
     Path(place.folder, "shown.c").write_text(main, "utf-8")

@@ -1,15 +1,21 @@
 //! Measures the Rust crate: `cargo run --release --offline -- [MEALS] [ROUNDS] [GRAPH..]` prints two tables.
 //!
 //! The first has what a call costs. In the second workers with jobs of 0, 1 and 20 microseconds add to the values of
-//! their edges: by `Table`, polite and eager, and by mutexes of std that each worker locks in one order. A time is that
-//! of all, threads included, for each meal; of the rounds the middle one counts. Run it without other work.
+//! their edges: by `Table`, polite and eager, and by mutexes of std that each worker locks in one order. If DINE_BENCH is
+//! the path of the program of crates/dine_bench, its `run` does as many meals, with jobs that count TURNS turns for each
+//! microsecond, and no values. A time is that of all, threads included, for each meal; a ratio is of one round, and the
+//! middle one counts. Run it without other work.
 use dine::{Event, Kind, Plan, Site, Table, World};
 use std::hint::black_box;
+use std::io::Write;
+use std::process::{Command, Stdio};
 use std::sync::Mutex;
 use std::time::{Duration, Instant};
 
 const JOBS: [u64; 3] = [0, 1, 20];
 const GRAPHS: [&str; 4] = ["ring:5", "ring:64", "grid:8", "complete:16"];
+// The turns of a job of `run` that take about a microsecond.
+const TURNS: u64 = 500;
 // The jobs of each site of the worlds whose calls are measured.
 const EACH: usize = 200;
 
@@ -35,8 +41,8 @@ fn graph(name: &str) -> Option<Graph> {
     }
 }
 
-fn plan_text(graph: &Graph, jobs: usize) -> String {
-    let jobs = vec!["{ name = \"x\" }"; jobs].join(", ");
+fn plan_text(graph: &Graph, jobs: usize, turns: u64) -> String {
+    let jobs = vec![format!("{{ name = \"x\", turns = {turns} }}"); jobs].join(", ");
     let sites = (0..graph.workers).map(|i| format!("[[site]]\nname = \"w{i}\"\njobs = [{jobs}]\n"));
     let edges = graph.edges.iter().map(|(i, j)| format!("[[edge]]\nends = [\"w{i}\", \"w{j}\"]\n"));
     format!("version = 1\n{}{}", sites.collect::<String>(), edges.collect::<String>())
@@ -87,28 +93,50 @@ fn by_mutexes(graph: &Graph, meals: u32, us: u64) -> (Duration, u64) {
     (start.elapsed(), values.iter().map(|it| *it.lock().expect("no panic")).sum())
 }
 
+/// Returns how long `run` takes in Rattle, by the program of dine_bench.
+fn by_run(program: &str, graph: &Graph, meals: u32, us: u64, manner: &str) -> Duration {
+    let mut command = Command::new(program);
+    command.args(["ring", "1", "--manner", manner]).stdin(Stdio::piped()).stdout(Stdio::piped()).stderr(Stdio::piped());
+    let mut child = command.spawn().expect("DINE_BENCH is a program");
+    let plan = plan_text(graph, meals as usize, us * TURNS);
+    child.stdin.take().expect("a pipe").write_all(plan.as_bytes()).expect("it reads the plan");
+    let said = String::from_utf8(child.wait_with_output().expect("it ends").stderr).expect("a text");
+    let median = said.split_whitespace().find_map(|it| it.strip_prefix("median=")).expect("it prints the median");
+    Duration::from_micros(median.parse().expect("a number"))
+}
+
 /// Returns the middle one of some numbers.
 fn middle(mut numbers: Vec<f64>) -> f64 {
     numbers.sort_by(f64::total_cmp);
     numbers[numbers.len() / 2]
 }
 
-/// Returns the line of a graph and a job: microseconds a meal by mutexes, and the ratios of the table to them.
+/// Returns the line of a graph and a job: microseconds a meal by mutexes, and the ratios of the others to them.
 fn row(name: &str, graph: &Graph, meals: u32, us: u64, rounds: usize) -> String {
     let wanted = 2 * graph.edges.len() as u64 * u64::from(meals);
-    let time = |(took, sum): (Duration, u64)| {
+    let checked = |(took, sum): (Duration, u64)| {
         assert_eq!(sum, wanted, "a meal got lost");
-        took.as_secs_f64() * 1e6 / (graph.workers as f64 * f64::from(meals))
+        took
     };
-    let (mut mutexes, mut polite, mut eager) = (Vec::new(), Vec::new(), Vec::new());
-    for _ in 0..rounds {
-        let one = time(by_mutexes(graph, meals, us));
-        mutexes.push(one);
-        polite.push(time(by_table(graph, meals, us, false)) / one);
-        eager.push(time(by_table(graph, meals, us, true)) / one);
+    let program = std::env::var("DINE_BENCH").ok();
+    let mut ways: Vec<Box<dyn Fn() -> Duration>> = vec![
+        Box::new(|| checked(by_mutexes(graph, meals, us))),
+        Box::new(|| checked(by_table(graph, meals, us, false))),
+        Box::new(|| checked(by_table(graph, meals, us, true))),
+    ];
+    if let Some(program) = &program {
+        ways.push(Box::new(|| by_run(program, graph, meals, us, "polite")));
+        ways.push(Box::new(|| by_run(program, graph, meals, us, "eager")));
     }
-    let (mutexes, polite, eager) = (middle(mutexes), middle(polite), middle(eager));
-    format!("| {name} | {us} µs | {mutexes:.2} | {polite:.2} | {eager:.2} |")
+    let times: Vec<Vec<f64>> =
+        (0..rounds).map(|_| ways.iter().map(|way| way().as_secs_f64() * 1e6).collect()).collect();
+    let all_meals = graph.workers as f64 * f64::from(meals);
+    let mut line = format!("| {name} | {us} µs | {:.2} |", middle(times.iter().map(|it| it[0] / all_meals).collect()));
+    for way in 1..5 {
+        let ratios: Option<Vec<f64>> = times.iter().map(|it| Some(it.get(way)? / it[0])).collect();
+        line += &ratios.map_or(" |".to_string(), |it| format!(" {:.2} |", middle(it)));
+    }
+    line
 }
 
 /// Returns nanoseconds for each of n things.
@@ -156,8 +184,8 @@ fn exchange(plan: &Plan) -> f64 {
 }
 
 fn calls(rounds: usize) {
-    let ring = Plan::read(&plan_text(&graph("ring:64").expect("a graph"), EACH)).expect("a plan");
-    let pair = Plan::read(&plan_text(&graph("ring:2").expect("a graph"), EACH)).expect("a plan");
+    let ring = Plan::read(&plan_text(&graph("ring:64").expect("a graph"), EACH, 0)).expect("a plan");
+    let pair = Plan::read(&plan_text(&graph("ring:2").expect("a graph"), EACH, 0)).expect("a plan");
     let world = World::open(&ring).expect("a world");
     let events = schedule(&ring);
     let some = 100_000;
@@ -185,7 +213,8 @@ fn main() {
     let named: Vec<&str> = words.iter().skip(2).map(String::as_str).collect();
     let asked = if named.is_empty() { GRAPHS.to_vec() } else { named };
     calls(rounds);
-    println!("\n| Workers | Job | µs a meal, mutexes | Polite | Eager |\n|---|---|---|---|---|");
+    println!("\n| Workers | Job | µs a meal, mutexes | `Table`, polite | Eager | `run`, polite | Eager |");
+    println!("|---|---|---|---|---|---|---|");
     for name in asked {
         let graph = graph(name).expect("ring:N, grid:SIDE or complete:N");
         for us in JOBS {
