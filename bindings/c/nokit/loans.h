@@ -47,7 +47,11 @@ static call begin(void) {
     }
     if (!desk)
         desk = Z_dine_ffiZ_room(&module, DESK);
-    return (call){.fits = desk != 0};
+    call it; /* only what is read: to set all of it to zero takes as long as the rest */
+    it.count = 0;
+    it.used = 0;
+    it.fits = desk != 0;
+    return it;
 }
 
 static u64 room_for(call *it, loan loan) {
