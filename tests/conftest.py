@@ -8,6 +8,7 @@ import pytest
 
 import calls
 import fresh
+from browsing import chromium, page, served, server  # noqa: F401
 from trying import HOME, answer_of
 
 KINDS = ("passed", "failed", "skipped")

@@ -25,7 +25,7 @@ def verified(tmp_path):
     shutil.copy(f"{HOME}/verify", tmp_path)
     for it in os.listdir(f"{HOME}/tools"):
         script(f"{tmp_path}/tools/{it}", "1 passed, 0 failed")
-    script(f"{tmp_path}/tools/page", "page keys: skipped: no browser\n4 passed, 0 failed, 1 skipped")
+    script(f"{tmp_path}/tools/model", "model: skipped: no spin\n4 passed, 0 failed, 1 skipped")
     script(f"{tmp_path}/bin/python3", TESTS)
 
     def call(*words):
@@ -39,9 +39,9 @@ def verified(tmp_path):
 def test_skip(verified):
     status, lines = verified()
     end = lines[lines.index("group passed failed skipped seconds") - 2:]
-    assert (status, end[0]) == (0, "page keys: skipped: no browser")
+    assert (status, end[0]) == (0, "model: skipped: no spin")
     assert re.fullmatch(r"\d+ passed, 0 failed, 1 skipped", end[-1])
-    assert any(re.fullmatch(r"page 4 0 1 \d+", it) for it in end) and end.count("plans 3 0 0 2") == 2
+    assert any(re.fullmatch(r"model 4 0 1 \d+", it) for it in end) and end.count("plans 3 0 0 2") == 2
 
 
 def test_no_skips(verified):

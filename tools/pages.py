@@ -35,7 +35,7 @@ CLAIMS = {
     "nobody sleeps": r"No thread sleeps for ever",
     "every job done": r"[Ee]very schedule ends|schedule goes on for ever",
     "one more meal": r"at most one more (?:meal|job)",
-    "letters": r"put was taken, once and in order|letters taken are the letters put",
+    "letters": r"(?:put|sent) was taken, once and in order|letters taken are the letters put",
     "forks": r"[Oo]ne fork (?:of|for) each edge came back",
     "exit status 0": r"[Tt]he input was (?:a plan|the text of a plan)",
 }

@@ -4,9 +4,12 @@
  *     mpirun -n 4 ./dine_mpi [PLAN]
  *
  * With no plan it takes a grid of 8 by 8 sites with 20 jobs each. At the end rank 0 gathers the journals, and the world
- * of the plan accepts one order of all their events. That MPI carries each letter once and in order is trusted. */
+ * of the plan accepts one order of all their events. That MPI carries each letter once and in order is trusted.
+ *
+ * With DINE_MPI_DIE_AFTER=100 the last rank is killed after 100 letters: mpirun ends the job, and says which rank. */
 #include "dine.h"
 #include <mpi.h>
+#include <signal.h>
 #include <stdio.h>
 #include <stdlib.h>
 #include <string.h>
@@ -38,7 +41,7 @@ static uint32_t count;
 /* For each site of this rank its events: the kind and the place of each. */
 static numbers journals[SITES_MAX];
 static parcel *here, **last = &here, *sending;
-static long long letters;
+static long long letters, dies_at;
 
 static void fail(const char *what, long long status) {
     fprintf(stderr, "rank %d: %s: %lld\n", rank, what, status);
@@ -153,7 +156,8 @@ static void take(void) {
         MPI_Recv(&it, sizeof it, MPI_BYTE, MPI_ANY_SOURCE, 0, MPI_COMM_WORLD, MPI_STATUS_IGNORE);
     }
     must("a letter", dine_site_take(&sites[it.to], it.bytes, it.len));
-    letters++;
+    if (++letters == dies_at)
+        raise(SIGKILL);
     uint32_t edge = it.bytes[1] | it.bytes[2] << 8 | it.bytes[3] << 16 | (uint32_t)it.bytes[4] << 24;
     dine_place place = {0, 0, 0, 0};
     uint32_t i = 0;
@@ -289,6 +293,9 @@ int main(int argc, char **argv) {
     MPI_Init(&argc, &argv);
     MPI_Comm_rank(MPI_COMM_WORLD, &rank);
     MPI_Comm_size(MPI_COMM_WORLD, &ranks);
+    const char *dies = getenv("DINE_MPI_DIE_AFTER");
+    if (dies && rank == ranks - 1)
+        dies_at = atoll(dies);
     char *text = memory(NULL, TEXT_MAX);
     FILE *file = argc > 1 ? fopen(argv[1], "rb") : NULL;
     if ((argc > 1 && !file) || ranks > 1024)

@@ -7,8 +7,12 @@ another, which is all that the links between sites have to do. At the end rank 0
 world of the plan finds one order of all their events, and accepts each event in its turn.
 
 Each site is proved, and so is the world. That MPI carries each letter once and in order is trusted.
+
+With DINE_MPI_DIE_AFTER=100 the last rank is killed after 100 letters: mpirun ends the job, and says which rank.
 """
 
+import os
+import signal
 import sys
 import time
 import traceback
@@ -19,6 +23,7 @@ from mpi4py import MPI
 
 COMM = MPI.COMM_WORLD
 RANK, RANKS = COMM.Get_rank(), COMM.Get_size()
+DIES_AT = int(os.environ.get("DINE_MPI_DIE_AFTER", 0)) if RANK == RANKS - 1 else 0
 
 
 def grid(side: int = 8, jobs: int = 20) -> str:
@@ -73,6 +78,8 @@ class Rank:
         edge = int.from_bytes(letter[1:5], "little")
         self.note(to, Kind.TAKE, next(i for i, place in enumerate(self.places[to]) if place.edge == edge))
         self.letters += 1
+        if self.letters == DIES_AT:
+            os.kill(os.getpid(), signal.SIGKILL)
         self.go(to)
 
     def run(self) -> None:

@@ -58,6 +58,10 @@ has_site s d = nat_lt s (length d.sites)
 abbrev pub site_at : ℕ → Draft → SeenDraftSite
 site_at s d = slice_index_or d.sites s no_draft_site
 
+-- an edge by its number
+abbrev pub edge_at : ℕ → Draft → DraftEdge
+edge_at e d = slice_index_or d.edges e no_draft_edge
+
 -- the draft has the site, and the site has job k, from 1
 abbrev pub has_job : ℕ → ℕ → Draft → Bool
 has_job s k d = nat_le 1 k && nat_le k (length (site_at s d).jobs)

@@ -1,4 +1,5 @@
 pub mod Draft
 pub mod DraftPlan
+pub mod Explanation
 pub mod private
 pub mod Missing

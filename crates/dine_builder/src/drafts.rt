@@ -3,7 +3,7 @@ ghost use Rattle.std.specs.Prelude.{◌≡◌, ◌≢◌, ◌≤◌, Some, None,
 ghost use Rattle.std.specs.Prelude.{IfOk, OnOk, OnErr, IfErr, IfSome, IsTrue, is_some};
 ghost use Rattle.std.specs.List.{range_with_len};
 ghost use Rattle.dine_builder.specs.Draft.{empty_draft, plain_job, with_site, with_edge, has_edge, has_site};
-ghost use Rattle.dine_builder.specs.Draft.{has_job, job_at, with_value, with_resigning, with_job};
+ghost use Rattle.dine_builder.specs.Draft.{edge_at, has_job, job_at, site_at, with_value, with_resigning, with_job};
 ghost use Rattle.dine_builder.specs.Draft.{with_turns, with_failure, with_act};
 ghost use Rattle.dine_graph.specs.Job.{seen_job};
 ghost use Rattle.dine_graph.specs.Site.{seen_site};
@@ -191,6 +191,42 @@ impl PlanBuilder {
         ensures { self.new ≡ with_job site k job self.old }
     {
         self.sites[site as usize].jobs[(k - 1) as usize] = job;
+    }
+
+    // The number of sites.
+    pub(crate) fn site_count(&self) -> usize
+        ensures { result ≡ length self.now.sites }
+    {
+        self.sites.len()
+    }
+
+    // The number of edges.
+    pub(crate) fn edge_count(&self) -> usize
+        ensures { result ≡ length self.now.edges }
+    {
+        self.edges.len()
+    }
+
+    // The name of a site, if there is one of this number.
+    pub(crate) fn site_name(&self, site: u32) -> Option<&str>
+        ensures found { is_some result ≡ has_site site self.now }
+        ensures name { IfSome result (λ name. name.now ≡ (site_at site self.now).name) }
+    {
+        match self.sites.get(site as usize) {
+            Some(site) => Some(site.name.as_str()),
+            None => None,
+        }
+    }
+
+    // The two ends of an edge as they were given, if there is one of this number.
+    pub(crate) fn edge_ends(&self, edge: u32) -> Option<(u32, u32)>
+        ensures found { is_some result ≡ has_edge edge self.now }
+        ensures ends { IfSome result (λ ends. ends ≡ ((edge_at edge self.now).a, (edge_at edge self.now).b)) }
+    {
+        match self.edges.get(edge as usize) {
+            Some(edge) => Some((edge.a, edge.b)),
+            None => None,
+        }
     }
 
     /// Returns the plan of the draft. It is the plan of a text that says the same.

@@ -4,6 +4,8 @@
 mod absent;
 mod by_id;
 mod drafts;
+mod explained;
 
 pub use absent::Missing;
 pub use drafts::PlanBuilder;
+pub use explained::Explained;

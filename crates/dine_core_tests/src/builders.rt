@@ -115,6 +115,18 @@ fn builds_what_is_read(rt: HostRuntime) {
     is_read(&rt, rt.alloc(), THREE, THREE_IN_SHORT);
 }
 
+const THREE_AS_GRAPH: &str =
+    "graph {\n  \"a\";\n  \"b\";\n  \"c\";\n  \"a\" -- \"b\";\n  \"b\" -- \"c\";\n}\n";
+
+#[test]
+fn prints_a_graph(rt: HostRuntime) {
+    let plan = three(&rt, rt.alloc()).finish().expect(&rt, "a plan");
+    let printed = format!(in rt.alloc(); "{plan}").expect(&rt, "memory");
+    same(&rt, &printed.as_str(), &THREE_AS_GRAPH);
+    let dot = plan.to_dot(rt.alloc()).expect(&rt, "memory");
+    same(&rt, &dot.as_str(), &THREE_AS_GRAPH);
+}
+
 #[test]
 fn numbers_sites_and_edges_in_order(rt: HostRuntime) {
     let mut plan = PlanBuilder::open(rt.alloc());
@@ -151,6 +163,58 @@ fn wide(rt: &impl Abort, alloc: Global, sites: u32, has_edges: bool) -> PlanBuil
         }
     }
     plan
+}
+
+// What the fault of a builder says has to be mended; nothing if it has none.
+fn explained(rt: &impl Abort, alloc: Global, plan: &PlanBuilder) -> String {
+    match plan.finish() {
+        Ok(_plan) => String::new(alloc),
+        Err(fault) => in_words(rt, alloc, plan, fault),
+    }
+}
+
+fn in_words(rt: &impl Abort, alloc: Global, plan: &PlanBuilder, fault: PlanFault) -> String {
+    let words = plan.explain(fault);
+    words.to_string(alloc).expect(rt, "memory")
+}
+
+fn explains(rt: &impl Abort, alloc: Global, plan: &PlanBuilder, want: &str) {
+    let words = explained(rt, alloc, plan);
+    same(rt, &words.as_str(), &want);
+}
+
+#[test]
+fn explains_what_to_mend(rt: HostRuntime) {
+    let mut plan = PlanBuilder::open(rt.alloc());
+    let no_site = "number of sites: 0, number of edges: 0; a plan has at least 1 site";
+    explains(&rt, rt.alloc(), &plan, no_site);
+    add_site(&rt, &mut plan, "a", 1);
+    explains(&rt, rt.alloc(), &plan, "");
+    add_edge(&rt, &mut plan, 4, 0);
+    let unknown = "edge 0, between sites 4 and 0 (number of sites: 1): \
+        an end is not the number of a site; the first site is 0";
+    explains(&rt, rt.alloc(), &plan, unknown);
+    add_site(&rt, &mut plan, "b c", 1);
+    let bad_name = "site 1, \"b c\": its name is not 1 to 32 ASCII letters, digits, _ or -";
+    explains(&rt, rt.alloc(), &plan, bad_name);
+}
+
+// Faults that no builder has, or not this one, are explained as far as they can be.
+#[test]
+fn explains_faults_of_others(rt: HostRuntime) {
+    let plan = three(&rt, rt.alloc());
+    for (fault, want) in [
+        (PlanFault::NotToml, "the text is not TOML"),
+        (PlanFault::Memory, "an allocation failed"),
+        (
+            PlanFault::SiteTwice(3),
+            "site 3: an earlier site has the same name",
+        ),
+        (PlanFault::Loop(2), "edge 2: both ends are one site"),
+    ] {
+        let words = in_words(&rt, rt.alloc(), &plan, fault);
+        same(&rt, &words.as_str(), &want);
+    }
 }
 
 // No site can have a name like these.

@@ -77,7 +77,8 @@ module _ (plan : SeenPlan) (s : ℕ) where
   abbrev pub is_open : LocalState → ℕ → Bool
   is_open state i = not (has_close (traffic_at state i).put)
 
-  -- the site holds the fork of place i, and the fork is clean or the neighbour has not asked for it (the token is away)
+  -- The site holds the fork of place i, and the fork is clean, or no request for it was taken: the token is not here.
+  -- The neighbour's Request may be in the link.
   abbrev pub is_ready : LocalState → ℕ → Bool
   is_ready state i = fork_at plan s state i == 1 && (not (is_dirty (hand_at s state i)) || token_at plan s state i == 0)
 
@@ -94,7 +95,7 @@ module _ (plan : SeenPlan) (s : ℕ) where
   -- - Give (release rule): the site does not eat, it holds fork and token, the fork is dirty, and Close was not put.
   -- - Ask (request rule): the site is hungry, it holds the token and not the fork, and Close was not put.
   -- - Hungry: as `may_grow_hungry` says.
-  -- - Begin: the site is hungry and holds all forks, each of them clean or not asked for.
+  -- - Begin: the site is hungry and holds all forks, each of them clean, or no request for it was taken.
   -- - End: the site eats.
   -- - Quit: the site thinks and has to quit.
   -- - Done: the site thinks and has no job left, and neither Done nor Close was put.

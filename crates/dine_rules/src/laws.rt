@@ -166,7 +166,8 @@ pub fn steps_are_counted_as_worked()
     ensures asks { is_give_at 1 (step.Ask 1) ≡ false }
 {}
 
-/// `KeepsStreams` holds of a site at the start, and after each step that its state allows, whatever forks arrive.
+/// `KeepsStreams` holds of a site at the start, and after each step that its state allows, if a Fork that arrives is
+/// a proper one (`IsProper`).
 pub fn streams_are_kept()
     ensures start { (plan : SeenPlan) (s : ℕ) → IsPlan plan → s < site_count plan
         → KeepsStreams plan s (start_of plan s) }

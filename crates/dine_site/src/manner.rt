@@ -7,6 +7,7 @@ pub enum Manner {
     /// and a neighbour that asked may wait for all meals of the site.
     Eager,
     /// Also before each meal, until a check of its bell reports no ring. So a neighbour that has rung for its request
-    /// waits for at most one meal of the site. No contract says this; it is read in the source, and measured.
+    /// waits for at most one meal of the site. This is proved of the protocol in `dine_waking`; no contract of the code
+    /// says it.
     Polite,
 }

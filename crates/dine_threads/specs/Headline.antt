@@ -2,7 +2,7 @@
 -- the letters put on it, and nothing was put after Close. If it returns Ok, all letters that were put were taken, and
 -- exactly one fork for each edge is gathered; its log is lawful, and has every meal that either end ate, exactly once.
 -- If it returns Broken, at most one fork for each edge is found, and each breach that a site reports is a Close that
--- arrived early. No definition says when anything happened, or in which order the sites ate.
+-- arrived early. No definition says when anything happened, or in which order sites ate that are no neighbours.
 use Rattle.std.specs.Prelude.{◌≡◌, ◌≢◌, ℕ, ◌+◌, ◌<◌, ◌≤◌, ◌==◌, List, All, filter, length, map, slice_get, slice_index_or, vec_len, Some, Result, Ok, Err, if◌then◌else◌}
 use Rattle.std.specs.Global.{Vec}
 use Rattle.std.specs.List.{range_with_len}

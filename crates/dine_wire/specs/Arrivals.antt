@@ -46,8 +46,8 @@ arrived plan kept edge Request = letter.Request edge
 arrived plan kept edge Done = letter.Done
 arrived plan kept edge Close = letter.Close
 
--- The letter is one that the other end of the edge may send next, if this end kept this fork when it gave it away: a
--- Fork is that fork after some meals there and a Move, and a Request names the edge.
+-- The letter has the form of one that goes on from the fork that this end kept when it gave it away: a Fork is that
+-- fork after n meals there, whatever n is, and a Move; a Request names the edge.
 abbrev pub GoesOnFrom : SeenPlan → SeenFork → ℕ → Letter → Type 0
 GoesOnFrom plan kept edge (letter.Fork fork) = (n : ℕ) × (fork ≡ carried_on plan kept n)
 GoesOnFrom plan kept edge (letter.Request of) = of ≡ edge

@@ -24,7 +24,7 @@ const { memory, reset, room, ...calls } = new WebAssembly.Instance(new WebAssemb
 const worker = {};
 globalThis.addEventListener = (_, hear) => { worker.hear = (data) => hear({ data }); };
 globalThis.postMessage = (said) => { worker.said = said; };
-await import("../../page/worker.js");
+await import("../page/worker.js");
 worker.hear({ module: bytes });
 
 // A copy of these numbers in the module's memory, as the two arguments of a slice.
