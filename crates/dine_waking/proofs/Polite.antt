@@ -242,7 +242,7 @@ module _ (plan : SeenPlan) (is_plan : IsPlan plan) (s i : ℕ) (is_site : s < si
         elim (at_place is_polite looked old w.0 keeps w.1 (omega (arith, lies.untaken, lies.ringing))) [
           | inr begins ↦
               let none : meals_so_far new s ≡ meals_so_far w.0 s = none_waited m after_it looked_then w.0 new keeps_next (begun_lies k edge does.site old w.0 lies does.step begins.begun) (begun_dirty old w.0 keeps begins.begun)
-                  (own_look_used old s does.site looked begins.here) w.2 given_next in
+              (own_look_used old s does.site looked begins.here) w.2 given_next in
               omega (arith, ap (λ (x : LocalState). x.ate) begins.begun.changes, none)
           | inl at ↦
               let on = waits_on k edge old w.0 keeps lies does (given_first old w.0 new m does.site does.step more given) at in

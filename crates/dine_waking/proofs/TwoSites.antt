@@ -110,7 +110,7 @@ module _ (k : ℕ) (polite : Bool) (bell : List ℕ) (may_eat : polite ≡ true 
       let rest = eats_on (looked_after (at phase.Eating (n + 1)) 0 third) left (n + 1) (omega arith) in (
         rest.0,
         subst (λ (m : ℕ). LeadsInManner plan (λ s. polite) m looked (asked_run n (at_work GoesOn bell) higher) rest.0 (asked_run k (at_work GoesOn bell) higher)) three
-        (at phase.Hungry n, hungers looked n more, (at phase.Eating (n + 1), begins second n more, (at phase.Thinking (n + 1), ends third n more, rest.1))),
+            (at phase.Hungry n, hungers looked n more, (at phase.Eating (n + 1), begins second n more, (at phase.Thinking (n + 1), ends third n more, rest.1))),
       )
 
 -- ---- the two sites are a plan
