@@ -1,4 +1,4 @@
--- What a step does at a place of a site that has a ring left for it, and which sites have looked then.
+-- What a step does at a place of a site that has a ring left for it, and which sites have checked then.
 use Rattle.std.proofs.Common.{◌≡◌, ◌≢◌, ◌⊎◌, ℕ, ◌+◌, ◌<◌, ◌≤◌, ◌==◌, ◌||◌, Bool, true, false, cond, if◌then◌else◌, List, [], ◌∷◌, ◌++◌, length, count_by, get_or, slice_set, Option, Some, refl, sym, ◌∙◌, ap, subst, inl, inr, arith}
 use Rattle.std.proofs.lemmas.Bool.{cases_eq, cond-true, cond-false, eq-eqb, false≢true, ne_eqb}
 use Rattle.std.proofs.lemmas.List.{get_or-set_other}
@@ -17,7 +17,7 @@ use Rattle.dine_rules.proofs.counting.Persistence.{set_cases}
 use Rattle.dine_rules.proofs.links.WorldStreams.{WorldKeeps, event_is_step, option_map_parts, reached_kept}
 use Rattle.dine_site_core.specs.NextEvent.{may_by_itself, own_kinds}
 use Rattle.dine_site_core.specs.Standing.{all_places}
-use Rattle.dine_waking.specs.Manners.{IsInManner, finds_no_ring, has_looked, looked_after, meals_so_far}
+use Rattle.dine_waking.specs.Manners.{IsInManner, finds_no_ring, has_checked, checked_after, meals_so_far}
 use Rattle.dine_waking.specs.Runs.{Acts, ByActing, ByHearing, ByRinging, BySleeping, ByTaking, ByWaking, Doing, FallsAsleep, GoesOn, HasToRing, HasToWake, HearsRing, IsToBeWoken, RingsBell, Run, HasToTake, Sleeps, TakesLetter, Thread, ThreadStep, WakesThread, after_ringing, doing_after, doing_rung, fresh_thread, is_woken_by, places_heard, number_there, rings_left, thread_after_ring, thread_of}
 use Rattle.dine_waking.proofs.Queues.{put_keeps_taken, state_here, taken_elsewhere, taken_here}
 use Rattle.dine_waking.proofs.Bells.{RunKeeps, thread_elsewhere, thread_here}
@@ -231,10 +231,10 @@ module _ (plan : SeenPlan) (is_plan : IsPlan plan) (s i : ℕ) (is_site : s < si
   falls_asleep f = ap (λ (d : Doing). rings_for i (places_heard d ++ (thread_of old s).bell)) f.goes_on ∙ ap (rings_for i) f.silent
 
   -- whatever its manner: it begins a meal, or not
-  pub own_step : (one : ThreadStep plan s old new) → 0 < rings_for i (rings_left (thread_of old s)) → AtPlace plan s i old new ⊎ (Begun plan s i old new × ((looked : ℕ → Bool) → IsInManner plan s looked old new one true → has_looked old looked s ≡ true))
+  pub own_step : (one : ThreadStep plan s old new) → 0 < rings_for i (rings_left (thread_of old s)) → AtPlace plan s i old new ⊎ (Begun plan s i old new × ((checked : ℕ → Bool) → IsInManner plan s checked old new one true → has_checked old checked s ≡ true))
   own_step (ByActing a) ringing = elim (acts a) [
     | inl at ↦ inl at
-    | inr w ↦ inr (w.1, λ looked polite. polite w.0)
+    | inr w ↦ inr (w.1, λ checked polite. polite w.0)
   ]
   own_step (ByRinging r) ringing = inl (rung_stays s r)
   own_step (ByWaking h) ringing = inl (woken_stays s h)
@@ -242,7 +242,7 @@ module _ (plan : SeenPlan) (is_plan : IsPlan plan) (s i : ℕ) (is_site : s < si
   own_step (ByTaking t) ringing = inl (takes t)
   own_step (BySleeping f) ringing = absurd (let none : rings_for i (rings_left (thread_of old s)) ≡ 0 = falls_asleep f in omega arith)
 
--- ---- looks
+-- ---- checks
 
 -- a thread that has a ring left does not find its bell without one
 finds_one : (i : ℕ) (doing : Doing) (bell : List ℕ) → 0 < rings_for i (places_heard doing ++ bell) → finds_no_ring doing bell ≡ false
@@ -254,14 +254,14 @@ finds_one i (HasToTake k) bell ringing = refl
 finds_one i (Sleeps wants) bell ringing = refl
 finds_one i (IsToBeWoken k) bell ringing = refl
 
--- so its site has looked only if it had
-pub yet_to_look : (i : ℕ) (run : Run) (looked : ℕ → Bool) (s : ℕ) → looked s ≡ false → 0 < rings_for i (rings_left (thread_of run s)) → has_looked run looked s ≡ false
-yet_to_look i run looked s yet ringing = ap (λ (b : Bool). b || finds_no_ring (thread_of run s).doing (thread_of run s).bell) yet ∙ finds_one i (thread_of run s).doing (thread_of run s).bell ringing
+-- so its site has checked only if it had
+pub yet_to_check : (i : ℕ) (run : Run) (checked : ℕ → Bool) (s : ℕ) → checked s ≡ false → 0 < rings_for i (rings_left (thread_of run s)) → has_checked run checked s ≡ false
+yet_to_check i run checked s yet ringing = ap (λ (b : Bool). b || finds_no_ring (thread_of run s).doing (thread_of run s).bell) yet ∙ finds_one i (thread_of run s).doing (thread_of run s).bell ringing
 
 -- nor has it after a step of any site
-pub yet_after : (run : Run) (x : ℕ) (looked : ℕ → Bool) (s : ℕ) → has_looked run looked s ≡ false → looked_after run x looked s ≡ false
-yet_after run x looked s yet = ap (λ (b : Bool). if s == x then false else b) yet ∙ neither (s == x)
+pub yet_after : (run : Run) (x : ℕ) (checked : ℕ → Bool) (s : ℕ) → has_checked run checked s ≡ false → checked_after run x checked s ≡ false
+yet_after run x checked s yet = ap (λ (b : Bool). if s == x then false else b) yet ∙ neither (s == x)
 
--- a site that has done a step has yet to look
-pub own_look_used : (run : Run) (s x : ℕ) (looked : ℕ → Bool) → s ≡ x → looked_after run x looked s ≡ false
-own_look_used run s x looked same = cond-true {A = Bool} (s == x) false (has_looked run looked s) (eq-eqb s x same)
+-- a site that has done a step has yet to check
+pub own_check_used : (run : Run) (s x : ℕ) (checked : ℕ → Bool) → s ≡ x → checked_after run x checked s ≡ false
+own_check_used run s x checked same = cond-true {A = Bool} (s == x) false (has_checked run checked s) (eq-eqb s x same)

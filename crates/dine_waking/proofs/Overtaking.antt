@@ -15,7 +15,7 @@ use Rattle.dine_rules.proofs.links.Joined.{Joined, few_requests, forks_coming, f
 use Rattle.dine_rules.proofs.links.Links.{joined}
 use Rattle.dine_rules.proofs.links.WorldStreams.{reached_kept}
 use Rattle.dine_rules.proofs.precedence.PreferenceSteps.{IsStill, begin_eats, step_changes}
-use Rattle.dine_waking.specs.Manners.{HasRungForAll, HoldsCleanFork, HoldsDirtyFork, IsAsked, LeadsInManner, MannerStep, WaitsForFork, forks_given, looked_after, meals_so_far}
+use Rattle.dine_waking.specs.Manners.{HasRungForAll, HoldsCleanFork, HoldsDirtyFork, IsAsked, LeadsInManner, MannerStep, WaitsForFork, forks_given, checked_after, meals_so_far}
 use Rattle.dine_waking.specs.Runs.{LeadsBySteps, Run, RunStep, ThreadStep}
 use Rattle.dine_waking.proofs.AskedPlaces.{asker_waits, waiter_put_more}
 use Rattle.dine_waking.proofs.Bells.{RunKeeps}
@@ -170,29 +170,29 @@ module _ (plan : SeenPlan) (is_plan : IsPlan plan) (s i : ℕ) (is_site : s < si
 
   -- ---- the first step that gives the fork
 
-  pub record FirstGive (is_polite looked looked_then : ℕ → Bool) (old new : Run) : Type 0 where
+  pub record FirstGive (is_polite checked checked_then : ℕ → Bool) (old new : Run) : Type 0 where
     pub before : ℕ
-    pub looked_there : ℕ → Bool
+    pub checked_there : ℕ → Bool
     pub between : Run
     pub next : Run
     pub behind : ℕ
-    pub leads : LeadsInManner plan is_polite before looked old looked_there between
-    pub gives : MannerStep plan is_polite looked_there between next
-    pub goes_on : LeadsInManner plan is_polite behind (looked_after between gives.step.site looked_there) next looked_then new
+    pub leads : LeadsInManner plan is_polite before checked old checked_there between
+    pub gives : MannerStep plan is_polite checked_there between next
+    pub goes_on : LeadsInManner plan is_polite behind (checked_after between gives.step.site checked_there) next checked_then new
     pub not_given : forks_given between s i ≡ forks_given old s i
     pub given : forks_given old s i < forks_given next s i
 
-  pub first_give : (is_polite looked looked_then : ℕ → Bool) (m : ℕ) (old new : Run) → LeadsInManner plan is_polite m looked old looked_then new → forks_given old s i < forks_given new s i → FirstGive is_polite looked looked_then old new
-  first_give is_polite looked looked_then zero old new same more = absurd (omega (arith, ap (λ (run : Run). forks_given run s i) same.1))
-  first_give is_polite looked looked_then (suc m) old new w more =
+  pub first_give : (is_polite checked checked_then : ℕ → Bool) (m : ℕ) (old new : Run) → LeadsInManner plan is_polite m checked old checked_then new → forks_given old s i < forks_given new s i → FirstGive is_polite checked checked_then old new
+  first_give is_polite checked checked_then zero old new same more = absurd (omega (arith, ap (λ (run : Run). forks_given run s i) same.1))
+  first_give is_polite checked checked_then (suc m) old new w more =
       let one : ThreadStep plan w.1.step.site old w.0 = w.1.step.step in
-      let after_it : ℕ → Bool = looked_after old w.1.step.site looked in
+      let after_it : ℕ → Bool = checked_after old w.1.step.site checked in
       elim (same_or_more (forks_given old s i) (forks_given w.0 s i) (longer_forks (traffic_at (state old) i).put (traffic_at (state w.0) i).put (step_put plan w.1.step.site old w.0 one s i))) [
         | inl same ↦
-            let rest : FirstGive is_polite after_it looked_then w.0 new = first_give is_polite after_it looked_then m w.0 new w.2 (omega arith) in
+            let rest : FirstGive is_polite after_it checked_then w.0 new = first_give is_polite after_it checked_then m w.0 new w.2 (omega arith) in
             record {
               before = suc rest.before;
-              looked_there = rest.looked_there;
+              checked_there = rest.checked_there;
               between = rest.between;
               next = rest.next;
               behind = rest.behind;
@@ -204,7 +204,7 @@ module _ (plan : SeenPlan) (is_plan : IsPlan plan) (s i : ℕ) (is_site : s < si
             }
         | inr given ↦ record {
           before = 0;
-          looked_there = looked;
+          checked_there = checked;
           between = old;
           next = w.0;
           behind = m;
@@ -243,75 +243,75 @@ module _ (plan : SeenPlan) (is_plan : IsPlan plan) (s i : ℕ) (is_site : s < si
       ∙ gives_eats_not between next gives.site gives.step (omega (arith, not_given, given))
 
   -- steps in manners gave the fork or did not
-  still_or_given : (is_polite looked looked_then : ℕ → Bool) (m : ℕ) (old new : Run) → LeadsInManner plan is_polite m looked old looked_then new → (forks_given new s i ≡ forks_given old s i) ⊎ FirstGive is_polite looked looked_then old new
-  still_or_given is_polite looked looked_then m old new leads =
-      elim (same_or_more (forks_given old s i) (forks_given new s i) (longer_forks (traffic_at (state old) i).put (traffic_at (state new) i).put (steps_put plan m old new (manner_leads plan is_polite looked looked_then m old new leads) s i))) [
+  still_or_given : (is_polite checked checked_then : ℕ → Bool) (m : ℕ) (old new : Run) → LeadsInManner plan is_polite m checked old checked_then new → (forks_given new s i ≡ forks_given old s i) ⊎ FirstGive is_polite checked checked_then old new
+  still_or_given is_polite checked checked_then m old new leads =
+      elim (same_or_more (forks_given old s i) (forks_given new s i) (longer_forks (traffic_at (state old) i).put (traffic_at (state new) i).put (steps_put plan m old new (manner_leads plan is_polite checked checked_then m old new leads) s i))) [
         | inl same ↦ inl same
-        | inr more ↦ inr (first_give is_polite looked looked_then m old new leads more)
+        | inr more ↦ inr (first_give is_polite checked checked_then m old new leads more)
       ]
 
   -- a bound on the meals up to the give is one up to the neighbour's meal
-  bounded : (is_polite looked : ℕ → Bool) (old : Run) (keeps : RunKeeps plan old) (unused : IsUnused plan there place (far old)) (c : ℕ)
-      → ((m : ℕ) (looked_mid : ℕ → Bool) (mid : Run) → LeadsInManner plan is_polite m looked old looked_mid mid → forks_given mid s i ≡ forks_given old s i → meals_so_far mid s ≤ meals_so_far old s + c)
-      → (m : ℕ) (looked_then : ℕ → Bool) (new : Run) → LeadsInManner plan is_polite m looked old looked_then new → meals_so_far new there ≡ meals_so_far old there → meals_so_far new s ≤ meals_so_far old s + c
-  bounded is_polite looked old keeps unused c bound m looked_then new leads ate = elim (still_or_given is_polite looked looked_then m old new leads) [
-    | inl same ↦ bound m looked_then new leads same
+  bounded : (is_polite checked : ℕ → Bool) (old : Run) (keeps : RunKeeps plan old) (unused : IsUnused plan there place (far old)) (c : ℕ)
+      → ((m : ℕ) (checked_mid : ℕ → Bool) (mid : Run) → LeadsInManner plan is_polite m checked old checked_mid mid → forks_given mid s i ≡ forks_given old s i → meals_so_far mid s ≤ meals_so_far old s + c)
+      → (m : ℕ) (checked_then : ℕ → Bool) (new : Run) → LeadsInManner plan is_polite m checked old checked_then new → meals_so_far new there ≡ meals_so_far old there → meals_so_far new s ≤ meals_so_far old s + c
+  bounded is_polite checked old keeps unused c bound m checked_then new leads ate = elim (still_or_given is_polite checked checked_then m old new leads) [
+    | inl same ↦ bound m checked_then new leads same
     | inr give ↦
-        let to_between : LeadsBySteps plan give.before old give.between = manner_leads plan is_polite looked give.looked_there give.before old give.between give.leads in
-        let from_next : LeadsBySteps plan give.behind give.next new = manner_leads plan is_polite (looked_after give.between give.gives.step.site give.looked_there) looked_then give.behind give.next new give.goes_on in
+        let to_between : LeadsBySteps plan give.before old give.between = manner_leads plan is_polite checked give.checked_there give.before old give.between give.leads in
+        let from_next : LeadsBySteps plan give.behind give.next new = manner_leads plan is_polite (checked_after give.between give.gives.step.site give.checked_there) checked_then give.behind give.next new give.goes_on in
         omega (
           arith,
           none_behind give.before give.behind old give.between give.next new keeps unused to_between give.gives.step from_next give.not_given give.given ate,
-          bound give.before give.looked_there give.between give.leads give.not_given,
+          bound give.before give.checked_there give.between give.leads give.not_given,
         )
   ]
 
-  module _ (is_polite : ℕ → Bool) (polite : is_polite s ≡ true) (looked : ℕ → Bool) (old : Run) (keeps : RunKeeps plan old) (waits : WaitsForFork plan old there place) where
+  module _ (is_polite : ℕ → Bool) (polite : is_polite s ≡ true) (checked : ℕ → Bool) (old : Run) (keeps : RunKeeps plan old) (waits : WaitsForFork plan old there place) where
     unused_now : IsUnused plan there place (far old)
     unused_now one = absurd (omega (arith, waits.0))
 
     -- up to the give, where the fork is not gone
-    to_give : IsAsked plan old s i ⊎ HasTaken plan is_plan s i is_site within old → (m : ℕ) (looked_mid : ℕ → Bool) (mid : Run) → LeadsInManner plan is_polite m looked old looked_mid mid → forks_given mid s i ≡ forks_given old s i → meals_so_far mid s ≤ meals_so_far old s + 1
-    to_give (inl asked) m looked_mid mid leads same = one_meal plan is_plan s i is_site within is_polite polite m looked looked_mid old mid keeps asked waits.2 leads same
-    to_give (inr taken) m looked_mid mid leads same = one_begins plan is_plan s i is_site within m old mid keeps taken (manner_leads plan is_polite looked looked_mid m old mid leads) same
+    to_give : IsAsked plan old s i ⊎ HasTaken plan is_plan s i is_site within old → (m : ℕ) (checked_mid : ℕ → Bool) (mid : Run) → LeadsInManner plan is_polite m checked old checked_mid mid → forks_given mid s i ≡ forks_given old s i → meals_so_far mid s ≤ meals_so_far old s + 1
+    to_give (inl asked) m checked_mid mid leads same = one_meal plan is_plan s i is_site within is_polite polite m checked checked_mid old mid keeps asked waits.2 leads same
+    to_give (inr taken) m checked_mid mid leads same = one_begins plan is_plan s i is_site within m old mid keeps taken (manner_leads plan is_polite checked checked_mid m old mid leads) same
 
-    to_give_dirty : HoldsDirtyFork plan old s i → looked s ≡ false → IsAsked plan old s i ⊎ HasTaken plan is_plan s i is_site within old → (m : ℕ) (looked_mid : ℕ → Bool) (mid : Run) → LeadsInManner plan is_polite m looked old looked_mid mid
+    to_give_dirty : HoldsDirtyFork plan old s i → checked s ≡ false → IsAsked plan old s i ⊎ HasTaken plan is_plan s i is_site within old → (m : ℕ) (checked_mid : ℕ → Bool) (mid : Run) → LeadsInManner plan is_polite m checked old checked_mid mid
         → forks_given mid s i ≡ forks_given old s i → meals_so_far mid s ≤ meals_so_far old s + 0
-    to_give_dirty dirty yet (inl asked) m looked_mid mid leads same = omega (arith, no_meal plan is_plan s i is_site within is_polite polite m looked looked_mid old mid keeps asked waits.2 dirty yet leads same)
-    to_give_dirty dirty yet (inr taken) m looked_mid mid leads same = omega (arith, none_begins plan is_plan s i is_site within m old mid keeps taken dirty.1 (manner_leads plan is_polite looked looked_mid m old mid leads) same)
+    to_give_dirty dirty yet (inl asked) m checked_mid mid leads same = omega (arith, no_meal plan is_plan s i is_site within is_polite polite m checked checked_mid old mid keeps asked waits.2 dirty yet leads same)
+    to_give_dirty dirty yet (inr taken) m checked_mid mid leads same = omega (arith, none_begins plan is_plan s i is_site within m old mid keeps taken dirty.1 (manner_leads plan is_polite checked checked_mid m old mid leads) same)
 
-    pub overtakes_once : (m : ℕ) (looked_then : ℕ → Bool) (new : Run) → LeadsInManner plan is_polite m looked old looked_then new → meals_so_far new there ≡ meals_so_far old there → meals_so_far new s ≤ meals_so_far old s + 1
-    overtakes_once m looked_then new leads ate = elim (where_request old keeps waits) [
-      | inl asked ↦ bounded is_polite looked old keeps unused_now 1 (to_give (inl asked)) m looked_then new leads ate
+    pub overtakes_once : (m : ℕ) (checked_then : ℕ → Bool) (new : Run) → LeadsInManner plan is_polite m checked old checked_then new → meals_so_far new there ≡ meals_so_far old there → meals_so_far new s ≤ meals_so_far old s + 1
+    overtakes_once m checked_then new leads ate = elim (where_request old keeps waits) [
+      | inl asked ↦ bounded is_polite checked old keeps unused_now 1 (to_give (inl asked)) m checked_then new leads ate
       | inr other ↦ elim other [
-        | inl taken ↦ bounded is_polite looked old keeps unused_now 1 (to_give (inr taken)) m looked_then new leads ate
-        | inr gone ↦ omega (arith, gone_for_long m old new keeps unused_now gone (manner_leads plan is_polite looked looked_then m old new leads) ate)
+        | inl taken ↦ bounded is_polite checked old keeps unused_now 1 (to_give (inr taken)) m checked_then new leads ate
+        | inr gone ↦ omega (arith, gone_for_long m old new keeps unused_now gone (manner_leads plan is_polite checked checked_then m old new leads) ate)
       ]
     ]
 
-    pub overtakes_never : HoldsDirtyFork plan old s i → looked s ≡ false → (m : ℕ) (looked_then : ℕ → Bool) (new : Run) → LeadsInManner plan is_polite m looked old looked_then new → meals_so_far new there ≡ meals_so_far old there → meals_so_far new s ≡ meals_so_far old s
-    overtakes_never dirty yet m looked_then new leads ate =
-        let to_new : LeadsBySteps plan m old new = manner_leads plan is_polite looked looked_then m old new leads in
+    pub overtakes_never : HoldsDirtyFork plan old s i → checked s ≡ false → (m : ℕ) (checked_then : ℕ → Bool) (new : Run) → LeadsInManner plan is_polite m checked old checked_then new → meals_so_far new there ≡ meals_so_far old there → meals_so_far new s ≡ meals_so_far old s
+    overtakes_never dirty yet m checked_then new leads ate =
+        let to_new : LeadsBySteps plan m old new = manner_leads plan is_polite checked checked_then m old new leads in
         let more : meals_so_far old s ≤ meals_so_far new s = steps_eat plan m old new to_new s in
         elim (where_request old keeps waits) [
-          | inl asked ↦ omega (arith, more, bounded is_polite looked old keeps unused_now 0 (to_give_dirty dirty yet (inl asked)) m looked_then new leads ate)
+          | inl asked ↦ omega (arith, more, bounded is_polite checked old keeps unused_now 0 (to_give_dirty dirty yet (inl asked)) m checked_then new leads ate)
           | inr other ↦ elim other [
-            | inl taken ↦ omega (arith, more, bounded is_polite looked old keeps unused_now 0 (to_give_dirty dirty yet (inr taken)) m looked_then new leads ate)
+            | inl taken ↦ omega (arith, more, bounded is_polite checked old keeps unused_now 0 (to_give_dirty dirty yet (inr taken)) m checked_then new leads ate)
             | inr gone ↦ gone_for_long m old new keeps unused_now gone to_new ate
           ]
         ]
 
   -- ---- a run to its end gives the fork
 
-  pub gives_soon : (is_polite : ℕ → Bool) → is_polite s ≡ true → (looked looked_then : ℕ → Bool) (old : Run) → RunKeeps plan old → IsAsked plan old s i → HasRungForAll plan old s i → (m : ℕ) (new : Run) → LeadsInManner plan is_polite m looked old looked_then new
+  pub gives_soon : (is_polite : ℕ → Bool) → is_polite s ≡ true → (checked checked_then : ℕ → Bool) (old : Run) → RunKeeps plan old → IsAsked plan old s i → HasRungForAll plan old s i → (m : ℕ) (new : Run) → LeadsInManner plan is_polite m checked old checked_then new
       → forks_given old s i < forks_given new s i
-      → (before : ℕ) × (looked_there : ℕ → Bool) × (between : Run) × (next : Run) × (behind : ℕ) × LeadsInManner plan is_polite before looked old looked_there between × (gives : MannerStep plan is_polite looked_there between next)
-      × LeadsInManner plan is_polite behind (looked_after between gives.step.site looked_there) next looked_then new
+      → (before : ℕ) × (checked_there : ℕ → Bool) × (between : Run) × (next : Run) × (behind : ℕ) × LeadsInManner plan is_polite before checked old checked_there between × (gives : MannerStep plan is_polite checked_there between next)
+      × LeadsInManner plan is_polite behind (checked_after between gives.step.site checked_there) next checked_then new
       × (forks_given between s i ≡ forks_given old s i) × (forks_given old s i < forks_given next s i) × (meals_so_far between s ≤ meals_so_far old s + 1)
-  gives_soon is_polite polite looked looked_then old keeps asked rung m new leads given =
-      let give : FirstGive is_polite looked looked_then old new = first_give is_polite looked looked_then m old new leads given in (
+  gives_soon is_polite polite checked checked_then old keeps asked rung m new leads given =
+      let give : FirstGive is_polite checked checked_then old new = first_give is_polite checked checked_then m old new leads given in (
         give.before,
-        give.looked_there,
+        give.checked_there,
         give.between,
         give.next,
         give.behind,
@@ -320,7 +320,7 @@ module _ (plan : SeenPlan) (is_plan : IsPlan plan) (s i : ℕ) (is_site : s < si
         give.goes_on,
         give.not_given,
         give.given,
-        one_meal plan is_plan s i is_site within is_polite polite give.before looked give.looked_there old give.between keeps asked rung give.leads give.not_given,
+        one_meal plan is_plan s i is_site within is_polite polite give.before checked give.checked_there old give.between keeps asked rung give.leads give.not_given,
       )
 
   -- ---- the neighbour holds the fork clean

@@ -17,19 +17,19 @@ use Rattle.dine_rules.proofs.lists.Counting.{requests_in-append}
 use Rattle.dine_rules.proofs.links.Links.{link_holds}
 use Rattle.dine_rules.proofs.precedence.PreferenceSteps.{IsEaten, begin_eats}
 use Rattle.dine_rules.proofs.links.WorldStreams.{WorldKeeps, reached_kept}
-use Rattle.dine_waking.specs.Manners.{HasRungForAll, HoldsDirtyFork, IsAsked, IsInManner, LeadsInManner, MannerStep, forks_given, has_looked, looked_after, meals_so_far}
+use Rattle.dine_waking.specs.Manners.{HasRungForAll, HoldsDirtyFork, IsAsked, IsInManner, LeadsInManner, MannerStep, forks_given, has_checked, checked_after, meals_so_far}
 use Rattle.dine_waking.specs.Runs.{LeadsBySteps, Run, RunStep, ThreadStep, rings_left, thread_of}
 use Rattle.dine_waking.proofs.Accounts.{account}
 use Rattle.dine_waking.proofs.AskedPlaces.{asked_holds, begins_clean, hand_stays}
 use Rattle.dine_waking.proofs.Bells.{RunKeeps}
 use Rattle.dine_waking.proofs.Bounded.{step_keeps}
-use Rattle.dine_waking.proofs.Heard.{AtPlace, Begun, Stays, Took, other_step, own_look_used, own_step, rings_for, yet_after, yet_to_look}
+use Rattle.dine_waking.proofs.Heard.{AtPlace, Begun, Stays, Took, other_step, own_check_used, own_step, rings_for, yet_after, yet_to_check}
 use Rattle.dine_waking.proofs.SiteMoves.{longer_forks, moves_begin, site_moves, step_put, step_taken, steps_put}
 
 -- steps in a manner are steps
-pub manner_leads : (plan : SeenPlan) (is_polite looked looked_then : ℕ → Bool) (n : ℕ) (old new : Run) → LeadsInManner plan is_polite n looked old looked_then new → LeadsBySteps plan n old new
-manner_leads plan is_polite looked looked_then zero old new same = same.1
-manner_leads plan is_polite looked looked_then (suc n) old new w = (w.0, w.1.step, manner_leads plan is_polite (looked_after old w.1.step.site looked) looked_then n w.0 new w.2)
+pub manner_leads : (plan : SeenPlan) (is_polite checked checked_then : ℕ → Bool) (n : ℕ) (old new : Run) → LeadsInManner plan is_polite n checked old checked_then new → LeadsBySteps plan n old new
+manner_leads plan is_polite checked checked_then zero old new same = same.1
+manner_leads plan is_polite checked checked_then (suc n) old new w = (w.0, w.1.step, manner_leads plan is_polite (checked_after old w.1.step.site checked) checked_then n w.0 new w.2)
 
 -- ---- where a Request lies
 
@@ -146,20 +146,20 @@ module _ (plan : SeenPlan) (is_plan : IsPlan plan) (s i : ℕ) (is_site : s < si
       )
 
   -- a Begin of the site, in its manner
-  record BeginsHere (is_polite looked : ℕ → Bool) (old next : Run) (w : MannerStep plan is_polite looked old next) : Type 0 where
+  record BeginsHere (is_polite checked : ℕ → Bool) (old next : Run) (w : MannerStep plan is_polite checked old next) : Type 0 where
     here : s ≡ w.step.site
     begun : Begun plan s i old next
-    by_look : is_polite s ≡ true → has_looked old looked s ≡ true
+    by_check : is_polite s ≡ true → has_checked old checked s ≡ true
 
   -- the next step of a run, where the site has a ring left
-  at_place : (is_polite looked : ℕ → Bool) (old next : Run) → RunKeeps plan old → (w : MannerStep plan is_polite looked old next) → 0 < rings_for i (rings_left (thread_of old s)) → AtPlace plan s i old next ⊎ BeginsHere is_polite looked old next w
-  at_place is_polite looked old next keeps w ringing = elim (cases_eq s w.step.site) [
+  at_place : (is_polite checked : ℕ → Bool) (old next : Run) → RunKeeps plan old → (w : MannerStep plan is_polite checked old next) → 0 < rings_for i (rings_left (thread_of old s)) → AtPlace plan s i old next ⊎ BeginsHere is_polite checked old next w
+  at_place is_polite checked old next keeps w ringing = elim (cases_eq s w.step.site) [
     | inr other ↦ inl (other_step plan is_plan s i is_site within old next keeps w.step.site other w.step.step)
     | inl same ↦
-        let own : (one : ThreadStep plan s old next) × IsInManner plan s looked old next one (is_polite s) = subst (λ (x : ℕ). (one : ThreadStep plan x old next) × IsInManner plan x looked old next one (is_polite x)) (sym same) (w.step.step, w.in_manner) in
+        let own : (one : ThreadStep plan s old next) × IsInManner plan s checked old next one (is_polite s) = subst (λ (x : ℕ). (one : ThreadStep plan x old next) × IsInManner plan x checked old next one (is_polite x)) (sym same) (w.step.step, w.in_manner) in
         elim (own_step plan is_plan s i is_site within old next keeps own.0 ringing) [
           | inl at ↦ inl at
-          | inr begins ↦ inr (record { here = same; begun = begins.0; by_look = λ polite. begins.1 looked (subst (IsInManner plan s looked old next own.0) polite own.1) })
+          | inr begins ↦ inr (record { here = same; begun = begins.0; by_check = λ polite. begins.1 checked (subst (IsInManner plan s checked old next own.0) polite own.1) })
         ]
   ]
 
@@ -208,55 +208,55 @@ module _ (plan : SeenPlan) (is_plan : IsPlan plan) (s i : ℕ) (is_site : s < si
   )
 
   module _ (is_polite : ℕ → Bool) (polite : is_polite s ≡ true) (k edge : ℕ) where
-    -- where the site has yet to look, it begins no meal
-    none_waited : (m : ℕ) (looked looked_then : ℕ → Bool) (old new : Run) → RunKeeps plan old → Lies old k edge → HoldsDirtyFork plan old s i → looked s ≡ false → LeadsInManner plan is_polite m looked old looked_then new → forks_given new s i ≡ forks_given old s i → meals_so_far new s ≡ meals_so_far old s
-    none_waited zero looked looked_then old new keeps lies dirty yet same given = ap (λ (run : Run). meals_so_far run s) (sym same.1)
-    none_waited (suc m) looked looked_then old new keeps lies dirty yet w given =
+    -- where the site has yet to check, it begins no meal
+    none_waited : (m : ℕ) (checked checked_then : ℕ → Bool) (old new : Run) → RunKeeps plan old → Lies old k edge → HoldsDirtyFork plan old s i → checked s ≡ false → LeadsInManner plan is_polite m checked old checked_then new → forks_given new s i ≡ forks_given old s i → meals_so_far new s ≡ meals_so_far old s
+    none_waited zero checked checked_then old new keeps lies dirty yet same given = ap (λ (run : Run). meals_so_far run s) (sym same.1)
+    none_waited (suc m) checked checked_then old new keeps lies dirty yet w given =
         let does : RunStep plan old w.0 = w.1.step in
-        let after_it : ℕ → Bool = looked_after old does.site looked in
-        let more : LeadsBySteps plan m w.0 new = manner_leads plan is_polite after_it looked_then m w.0 new w.2 in
+        let after_it : ℕ → Bool = checked_after old does.site checked in
+        let more : LeadsBySteps plan m w.0 new = manner_leads plan is_polite after_it checked_then m w.0 new w.2 in
         let keeps_next : RunKeeps plan w.0 = step_keeps plan is_plan old w.0 keeps does.site does.is_site does.step in
         let given_next : forks_given new s i ≡ forks_given w.0 s i = given_then old w.0 new m does.site does.step more given in
         let ringing : 0 < rings_for i (rings_left (thread_of old s)) = omega (arith, lies.untaken, lies.ringing) in
-        let still_yet : has_looked old looked s ≡ false = yet_to_look i old looked s yet ringing in
-        elim (at_place is_polite looked old w.0 keeps w.1 ringing) [
-          | inr begins ↦ absurd (false≢true (sym still_yet ∙ begins.by_look polite))
+        let still_yet : has_checked old checked s ≡ false = yet_to_check i old checked s yet ringing in
+        elim (at_place is_polite checked old w.0 keeps w.1 ringing) [
+          | inr begins ↦ absurd (false≢true (sym still_yet ∙ begins.by_check polite))
           | inl at ↦
               let on = waits_on k edge old w.0 keeps lies does (given_first old w.0 new m does.site does.step more given) at in
               let dirty_next : HoldsDirtyFork plan w.0 s i = still_dirty old w.0 new m does.site does.step more given keeps keeps_next dirty.0 dirty.1 on.0 in
               elim on.1 [
-                | inl lies_next ↦ none_waited m after_it looked_then w.0 new keeps_next lies_next dirty_next (yet_after old does.site looked s still_yet) w.2 given_next ∙ on.0
+                | inl lies_next ↦ none_waited m after_it checked_then w.0 new keeps_next lies_next dirty_next (yet_after old does.site checked s still_yet) w.2 given_next ∙ on.0
                 | inr taken ↦ none_begins m w.0 new keeps_next taken dirty_next.1 more given_next ∙ on.0
               ]
         ]
 
-    -- it begins one meal at most: its look is used then, and the fork is dirty
-    one_waited : (m : ℕ) (looked looked_then : ℕ → Bool) (old new : Run) → RunKeeps plan old → Lies old k edge → LeadsInManner plan is_polite m looked old looked_then new → forks_given new s i ≡ forks_given old s i → meals_so_far new s ≤ meals_so_far old s + 1
-    one_waited zero looked looked_then old new keeps lies same given = omega (arith, ap (λ (run : Run). meals_so_far run s) same.1)
-    one_waited (suc m) looked looked_then old new keeps lies w given =
+    -- it begins one meal at most: its check is used then, and the fork is dirty
+    one_waited : (m : ℕ) (checked checked_then : ℕ → Bool) (old new : Run) → RunKeeps plan old → Lies old k edge → LeadsInManner plan is_polite m checked old checked_then new → forks_given new s i ≡ forks_given old s i → meals_so_far new s ≤ meals_so_far old s + 1
+    one_waited zero checked checked_then old new keeps lies same given = omega (arith, ap (λ (run : Run). meals_so_far run s) same.1)
+    one_waited (suc m) checked checked_then old new keeps lies w given =
         let does : RunStep plan old w.0 = w.1.step in
-        let after_it : ℕ → Bool = looked_after old does.site looked in
-        let more : LeadsBySteps plan m w.0 new = manner_leads plan is_polite after_it looked_then m w.0 new w.2 in
+        let after_it : ℕ → Bool = checked_after old does.site checked in
+        let more : LeadsBySteps plan m w.0 new = manner_leads plan is_polite after_it checked_then m w.0 new w.2 in
         let keeps_next : RunKeeps plan w.0 = step_keeps plan is_plan old w.0 keeps does.site does.is_site does.step in
         let given_next : forks_given new s i ≡ forks_given w.0 s i = given_then old w.0 new m does.site does.step more given in
-        elim (at_place is_polite looked old w.0 keeps w.1 (omega (arith, lies.untaken, lies.ringing))) [
+        elim (at_place is_polite checked old w.0 keeps w.1 (omega (arith, lies.untaken, lies.ringing))) [
           | inr begins ↦
-              let none : meals_so_far new s ≡ meals_so_far w.0 s = none_waited m after_it looked_then w.0 new keeps_next (begun_lies k edge does.site old w.0 lies does.step begins.begun) (begun_dirty old w.0 keeps begins.begun)
-              (own_look_used old s does.site looked begins.here) w.2 given_next in
+              let none : meals_so_far new s ≡ meals_so_far w.0 s = none_waited m after_it checked_then w.0 new keeps_next (begun_lies k edge does.site old w.0 lies does.step begins.begun) (begun_dirty old w.0 keeps begins.begun)
+              (own_check_used old s does.site checked begins.here) w.2 given_next in
               omega (arith, ap (λ (x : LocalState). x.ate) begins.begun.changes, none)
           | inl at ↦
               let on = waits_on k edge old w.0 keeps lies does (given_first old w.0 new m does.site does.step more given) at in
               elim on.1 [
-                | inl lies_next ↦ omega (arith, on.0, one_waited m after_it looked_then w.0 new keeps_next lies_next w.2 given_next)
+                | inl lies_next ↦ omega (arith, on.0, one_waited m after_it checked_then w.0 new keeps_next lies_next w.2 given_next)
                 | inr taken ↦ omega (arith, on.0, one_begins m w.0 new keeps_next taken more given_next)
               ]
         ]
 
   module _ (is_polite : ℕ → Bool) (polite : is_polite s ≡ true) where
-    pub one_meal : (m : ℕ) (looked looked_then : ℕ → Bool) (old new : Run) → RunKeeps plan old → IsAsked plan old s i → HasRungForAll plan old s i → LeadsInManner plan is_polite m looked old looked_then new → forks_given new s i ≡ forks_given old s i
+    pub one_meal : (m : ℕ) (checked checked_then : ℕ → Bool) (old new : Run) → RunKeeps plan old → IsAsked plan old s i → HasRungForAll plan old s i → LeadsInManner plan is_polite m checked old checked_then new → forks_given new s i ≡ forks_given old s i
         → meals_so_far new s ≤ meals_so_far old s + 1
-    one_meal m looked looked_then old new keeps asked rung = let w = asked_lies old keeps asked rung in one_waited is_polite polite w.0 w.1 m looked looked_then old new keeps w.2
+    one_meal m checked checked_then old new keeps asked rung = let w = asked_lies old keeps asked rung in one_waited is_polite polite w.0 w.1 m checked checked_then old new keeps w.2
 
-    pub no_meal : (m : ℕ) (looked looked_then : ℕ → Bool) (old new : Run) → RunKeeps plan old → IsAsked plan old s i → HasRungForAll plan old s i → HoldsDirtyFork plan old s i → looked s ≡ false → LeadsInManner plan is_polite m looked old looked_then new
+    pub no_meal : (m : ℕ) (checked checked_then : ℕ → Bool) (old new : Run) → RunKeeps plan old → IsAsked plan old s i → HasRungForAll plan old s i → HoldsDirtyFork plan old s i → checked s ≡ false → LeadsInManner plan is_polite m checked old checked_then new
         → forks_given new s i ≡ forks_given old s i → meals_so_far new s ≡ meals_so_far old s
-    no_meal m looked looked_then old new keeps asked rung = let w = asked_lies old keeps asked rung in none_waited is_polite polite w.0 w.1 m looked looked_then old new keeps w.2
+    no_meal m checked checked_then old new keeps asked rung = let w = asked_lies old keeps asked rung in none_waited is_polite polite w.0 w.1 m checked checked_then old new keeps w.2

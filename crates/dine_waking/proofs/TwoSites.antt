@@ -15,7 +15,7 @@ use Rattle.dine_token.specs.Log.{is_dirty}
 use Rattle.dine_waking.specs.Examples.{at_work, request, state_in}
 use Rattle.dine_waking.specs.MannerExamples.{asked_run}
 use Rattle.dine_waking.specs.Examples.{named_job, two_sites}
-use Rattle.dine_waking.specs.Manners.{IsInManner, LeadsInManner, MannerStep, finds_no_ring, has_looked, looked_after}
+use Rattle.dine_waking.specs.Manners.{IsInManner, LeadsInManner, MannerStep, finds_no_ring, has_checked, checked_after}
 use Rattle.dine_waking.specs.Runs.{Acts, ByActing, GoesOn, Run, Thread}
 use Rattle.dine_waking.proofs.Queues.{event_happens}
 
@@ -45,26 +45,26 @@ module _ (k : ℕ) (polite : Bool) (bell : List ℕ) (may_eat : polite ≡ true 
   abbrev at : Phase → ℕ → Run
   at does n = record { world = site does n ∷ state_in phase.Hungry (request ∷ []) [] ∷ []; threads = at_work GoesOn bell ∷ higher ∷ [] }
 
-  in_manner : (looked : ℕ → Bool) (old new : Run) (a : Acts plan 0 old new) (b : Bool) → (b ≡ true → a.kind ≡ event.Begin → has_looked old looked 0 ≡ true) → IsInManner plan 0 looked old new (ByActing a) b
-  in_manner looked old new a true looks = looks refl
-  in_manner looked old new a false looks = tt
+  in_manner : (checked : ℕ → Bool) (old new : Run) (a : Acts plan 0 old new) (b : Bool) → (b ≡ true → a.kind ≡ event.Begin → has_checked old checked 0 ≡ true) → IsInManner plan 0 checked old new (ByActing a) b
+  in_manner checked old new a true checks = checks refl
+  in_manner checked old new a false checks = tt
 
-  abbrev one_step : (looked : ℕ → Bool) (old new : Run) (a : Acts plan 0 old new) → (polite ≡ true → a.kind ≡ event.Begin → has_looked old looked 0 ≡ true) → MannerStep plan (λ s. polite) looked old new
-  one_step looked old new a looks = record { step = record { site = 0; is_site = omega arith; step = ByActing a }; in_manner = in_manner looked old new a polite looks }
+  abbrev one_step : (checked : ℕ → Bool) (old new : Run) (a : Acts plan 0 old new) → (polite ≡ true → a.kind ≡ event.Begin → has_checked old checked 0 ≡ true) → MannerStep plan (λ s. polite) checked old new
+  one_step checked old new a checks = record { step = record { site = 0; is_site = omega arith; step = ByActing a }; in_manner = in_manner checked old new a polite checks }
 
-  -- a polite one has no ring, and so it looks now
-  looks_now : (looked : ℕ → Bool) (n : ℕ) → polite ≡ true → has_looked (at phase.Hungry n) looked 0 ≡ true
-  looks_now looked n is = ap (λ (rings : List ℕ). looked 0 || finds_no_ring GoesOn rings) (may_eat is) ∙ or_true (looked 0)
+  -- a polite one has no ring, and so it checks now
+  checks_now : (checked : ℕ → Bool) (n : ℕ) → polite ≡ true → has_checked (at phase.Hungry n) checked 0 ≡ true
+  checks_now checked n is = ap (λ (rings : List ℕ). checked 0 || finds_no_ring GoesOn rings) (may_eat is) ∙ or_true (checked 0)
 
   -- it grows hungry
-  module _ (looked : ℕ → Bool) (n : ℕ) (left : n < k) where
+  module _ (checked : ℕ → Bool) (n : ℕ) (left : n < k) where
     may_hunger : may plan 0 (site phase.Thinking n) step.Hungry ≡ true
     may_hunger =
         let more : nat_lt n (job_count plan 0) ≡ true = lt-ltb n (job_count plan 0) (omega (arith, jobs)) in
         ap (λ (b : Bool). b && true) more
 
-    abbrev hungers : MannerStep plan (λ s. polite) looked (at phase.Thinking n) (at phase.Hungry n)
-    hungers = one_step looked (at phase.Thinking n) (at phase.Hungry n) (record {
+    abbrev hungers : MannerStep plan (λ s. polite) checked (at phase.Thinking n) (at phase.Hungry n)
+    hungers = one_step checked (at phase.Thinking n) (at phase.Hungry n) (record {
       goes_on = refl;
       kind = event.Hungry;
       next = cond-true (may plan 0 (site phase.Thinking n) step.Hungry) (Some event.Hungry) _ may_hunger;
@@ -76,20 +76,20 @@ module _ (k : ℕ) (polite : Bool) (bell : List ℕ) (may_eat : polite ≡ true 
     may_begin : may plan 0 (site phase.Hungry n) step.Begin ≡ true
     may_begin = or_true_and (not (is_dirty (hand_at 0 (site phase.Hungry n) 0)))
 
-    abbrev begins : MannerStep plan (λ s. polite) looked (at phase.Hungry n) (at phase.Eating (n + 1))
-    begins = one_step looked (at phase.Hungry n) (at phase.Eating (n + 1)) (record {
+    abbrev begins : MannerStep plan (λ s. polite) checked (at phase.Hungry n) (at phase.Eating (n + 1))
+    begins = one_step checked (at phase.Hungry n) (at phase.Eating (n + 1)) (record {
       goes_on = refl;
       kind = event.Begin;
       next = cond-true (may plan 0 (site phase.Hungry n) step.Begin) (Some event.Begin) _ may_begin;
       world = event_happens plan (at phase.Hungry n).world 0 event.Begin step.Begin (omega arith) refl may_begin;
       threads = refl;
-    }) (λ is begins. looks_now looked n is)
+    }) (λ is begins. checks_now checked n is)
 
     -- it ends the meal
-    abbrev ends : MannerStep plan (λ s. polite) looked (at phase.Eating (n + 1)) (at phase.Thinking (n + 1))
+    abbrev ends : MannerStep plan (λ s. polite) checked (at phase.Eating (n + 1)) (at phase.Thinking (n + 1))
     ends =
         let failed : Bool = meal_fails plan 0 (site phase.Eating (n + 1)) in
-        one_step looked (at phase.Eating (n + 1)) (at phase.Thinking (n + 1)) (record {
+        one_step checked (at phase.Eating (n + 1)) (at phase.Thinking (n + 1)) (record {
           goes_on = refl;
           kind = event.End;
           next = refl;
@@ -100,17 +100,17 @@ module _ (k : ℕ) (polite : Bool) (bell : List ℕ) (may_eat : polite ≡ true 
         }) (λ polite is. absurd cc)
 
   -- and so on, until it has begun k meals
-  pub eats_on : (looked : ℕ → Bool) (left n : ℕ) → n + left ≡ k → (looked_then : ℕ → Bool) × LeadsInManner plan (λ s. polite) (3 * left) looked (asked_run n (at_work GoesOn bell) higher) looked_then (asked_run k (at_work GoesOn bell) higher)
-  eats_on looked zero n all = (looked, (refl, ap (λ (n : ℕ). asked_run n (at_work GoesOn bell) higher) (let same : n ≡ k = omega arith in same)))
-  eats_on looked (suc left) n all =
+  pub eats_on : (checked : ℕ → Bool) (left n : ℕ) → n + left ≡ k → (checked_then : ℕ → Bool) × LeadsInManner plan (λ s. polite) (3 * left) checked (asked_run n (at_work GoesOn bell) higher) checked_then (asked_run k (at_work GoesOn bell) higher)
+  eats_on checked zero n all = (checked, (refl, ap (λ (n : ℕ). asked_run n (at_work GoesOn bell) higher) (let same : n ≡ k = omega arith in same)))
+  eats_on checked (suc left) n all =
       let three : suc (suc (suc (3 * left))) ≡ 3 * suc left = omega arith in
       let more : n < k = omega arith in
-      let second : ℕ → Bool = looked_after (at phase.Thinking n) 0 looked in
-      let third : ℕ → Bool = looked_after (at phase.Hungry n) 0 second in
-      let rest = eats_on (looked_after (at phase.Eating (n + 1)) 0 third) left (n + 1) (omega arith) in (
+      let second : ℕ → Bool = checked_after (at phase.Thinking n) 0 checked in
+      let third : ℕ → Bool = checked_after (at phase.Hungry n) 0 second in
+      let rest = eats_on (checked_after (at phase.Eating (n + 1)) 0 third) left (n + 1) (omega arith) in (
         rest.0,
-        subst (λ (m : ℕ). LeadsInManner plan (λ s. polite) m looked (asked_run n (at_work GoesOn bell) higher) rest.0 (asked_run k (at_work GoesOn bell) higher)) three
-            (at phase.Hungry n, hungers looked n more, (at phase.Eating (n + 1), begins second n more, (at phase.Thinking (n + 1), ends third n more, rest.1))),
+        subst (λ (m : ℕ). LeadsInManner plan (λ s. polite) m checked (asked_run n (at_work GoesOn bell) higher) rest.0 (asked_run k (at_work GoesOn bell) higher)) three
+            (at phase.Hungry n, hungers checked n more, (at phase.Eating (n + 1), begins second n more, (at phase.Thinking (n + 1), ends third n more, rest.1))),
       )
 
 -- ---- the two sites are a plan

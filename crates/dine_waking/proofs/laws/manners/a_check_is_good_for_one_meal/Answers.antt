@@ -6,9 +6,9 @@ use Rattle.dine_rules.specs.declared.phase.Phase.TheVariants.{Hungry, Thinking}
 use Rattle.dine_rules.specs.Local.{LocalState}
 use Rattle.dine_waking.specs.Examples.{at_work, request, state_in, two_sites}
 use Rattle.dine_waking.specs.MannerExamples.{eats_dirty_run, rung_too_late_run}
-use Rattle.dine_waking.specs.Manners.{MannerStep, has_looked, looked_after}
+use Rattle.dine_waking.specs.Manners.{MannerStep, has_checked, checked_after}
 use Rattle.dine_waking.specs.Runs.{ByActing, ByRinging, Doing, GoesOn, HasToRing, Run, start_run}
-use Rattle.dine_waking.proofs.laws.manners.a_look_is_good_for_one_meal.Goals as goal
+use Rattle.dine_waking.proofs.laws.manners.a_check_is_good_for_one_meal.Goals as goal
 
 -- two sites where no bell has a ring, and the lower thread goes on
 abbrev moment : LocalState → LocalState → Doing → Run
@@ -23,21 +23,21 @@ both_hungry = moment (state_in Hungry [] []) (state_in Hungry [] []) GoesOn
 abbrev asked : Run
 asked = moment (state_in Hungry [] []) (state_in Hungry (request ∷ []) []) (HasToRing 0 kind.Request)
 
--- which sites have looked, if at first none has
+-- which sites have checked, if at first none has
 abbrev none : ℕ → Bool
 none = λ s. false
 
 abbrev first : ℕ → Bool
-first = looked_after (start_run (two_sites 1 1)) 0 none
+first = checked_after (start_run (two_sites 1 1)) 0 none
 
 abbrev second : ℕ → Bool
-second = looked_after lower_hungry 1 first
+second = checked_after lower_hungry 1 first
 
 abbrev third : ℕ → Bool
-third = looked_after both_hungry 1 second
+third = checked_after both_hungry 1 second
 
 abbrev fourth : ℕ → Bool
-fourth = looked_after asked 1 third
+fourth = checked_after asked 1 third
 
 abbrev hungers : MannerStep (two_sites 1 1) (λ s. true) none (start_run (two_sites 1 1)) lower_hungry
 hungers = record {
@@ -63,20 +63,20 @@ rings = record {
   in_manner = tt;
 }
 
-lower_looked : has_looked rung_too_late_run fourth 0 ≡ true
-lower_looked = refl
+lower_checked : has_checked rung_too_late_run fourth 0 ≡ true
+lower_checked = refl
 
 abbrev begins : MannerStep (two_sites 1 1) (λ s. true) fourth rung_too_late_run eats_dirty_run
 begins = record {
   step = record { site = 0; is_site = omega arith; step = ByActing (record { goes_on = refl; kind = event.Begin; next = refl; world = refl; threads = refl }) };
-  in_manner = λ is. lower_looked;
+  in_manner = λ is. lower_checked;
 }
 
 pub returns : goal.returns
 returns c = record {
   eats = (
     fourth,
-    looked_after rung_too_late_run 0 fourth,
+    checked_after rung_too_late_run 0 fourth,
     (lower_hungry, hungers, (both_hungry, higher_hungers, (asked, asks, (rung_too_late_run, rings, (refl, refl))))),
     (eats_dirty_run, begins, (refl, refl)),
   );
