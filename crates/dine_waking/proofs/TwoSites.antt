@@ -13,9 +13,10 @@ use Rattle.dine_rules.specs.Steps as step
 use Rattle.dine_rules.specs.Steps.{may}
 use Rattle.dine_token.specs.Log.{is_dirty}
 use Rattle.dine_waking.specs.Examples.{at_work, request, state_in}
-use Rattle.dine_waking.specs.MannerExamples.{asked_run}
+use Rattle.dine_waking.specs.MannerExamples.{asked_run, rung_run}
 use Rattle.dine_waking.specs.Examples.{named_job, two_sites}
 use Rattle.dine_waking.specs.Manners.{IsInManner, LeadsInManner, MannerStep, finds_no_ring, has_checked, checked_after}
+use Rattle.dine_waking.specs.Mistakes.{LeadsByOneCheck}
 use Rattle.dine_waking.specs.Runs.{Acts, ByActing, GoesOn, Run, Thread}
 use Rattle.dine_waking.proofs.Queues.{event_happens}
 
@@ -31,7 +32,7 @@ or_true : (b : Bool) → (b || true) ≡ true
 or_true true = refl
 or_true false = refl
 
-module _ (k : ℕ) (polite : Bool) (bell : List ℕ) (may_eat : polite ≡ true → bell ≡ []) (higher : Thread) where
+module _ (k : ℕ) (polite : Bool) (bell : List ℕ) (higher : Thread) where
   abbrev plan : SeenPlan
   plan = two_sites k 1
 
@@ -52,9 +53,9 @@ module _ (k : ℕ) (polite : Bool) (bell : List ℕ) (may_eat : polite ≡ true 
   abbrev one_step : (checked : ℕ → Bool) (old new : Run) (a : Acts plan 0 old new) → (polite ≡ true → a.kind ≡ event.Begin → has_checked old checked 0 ≡ true) → MannerStep plan (λ s. polite) checked old new
   one_step checked old new a checks = record { step = record { site = 0; is_site = omega arith; step = ByActing a }; in_manner = in_manner checked old new a polite checks }
 
-  -- a polite one has no ring, and so it checks now
-  checks_now : (checked : ℕ → Bool) (n : ℕ) → polite ≡ true → has_checked (at phase.Hungry n) checked 0 ≡ true
-  checks_now checked n is = ap (λ (rings : List ℕ). checked 0 || finds_no_ring GoesOn rings) (may_eat is) ∙ or_true (checked 0)
+  -- a polite one that has no ring has checked
+  checks_now : (polite ≡ true → bell ≡ []) → (checked : ℕ → Bool) (n : ℕ) → polite ≡ true → has_checked (at phase.Hungry n) checked 0 ≡ true
+  checks_now silent checked n is = ap (λ (rings : List ℕ). checked 0 || finds_no_ring GoesOn rings) (silent is) ∙ or_true (checked 0)
 
   -- it grows hungry
   module _ (checked : ℕ → Bool) (n : ℕ) (left : n < k) where
@@ -76,14 +77,14 @@ module _ (k : ℕ) (polite : Bool) (bell : List ℕ) (may_eat : polite ≡ true 
     may_begin : may plan 0 (site phase.Hungry n) step.Begin ≡ true
     may_begin = or_true_and (not (is_dirty (hand_at 0 (site phase.Hungry n) 0)))
 
-    abbrev begins : MannerStep plan (λ s. polite) checked (at phase.Hungry n) (at phase.Eating (n + 1))
-    begins = one_step checked (at phase.Hungry n) (at phase.Eating (n + 1)) (record {
+    abbrev begins : (polite ≡ true → has_checked (at phase.Hungry n) checked 0 ≡ true) → MannerStep plan (λ s. polite) checked (at phase.Hungry n) (at phase.Eating (n + 1))
+    begins checks = one_step checked (at phase.Hungry n) (at phase.Eating (n + 1)) (record {
       goes_on = refl;
       kind = event.Begin;
       next = cond-true (may plan 0 (site phase.Hungry n) step.Begin) (Some event.Begin) _ may_begin;
       world = event_happens plan (at phase.Hungry n).world 0 event.Begin step.Begin (omega arith) refl may_begin;
       threads = refl;
-    }) (λ is begins. checks_now checked n is)
+    }) (λ is begins. checks is)
 
     -- it ends the meal
     abbrev ends : MannerStep plan (λ s. polite) checked (at phase.Eating (n + 1)) (at phase.Thinking (n + 1))
@@ -100,18 +101,30 @@ module _ (k : ℕ) (polite : Bool) (bell : List ℕ) (may_eat : polite ≡ true 
         }) (λ polite is. absurd cc)
 
   -- and so on, until it has begun k meals
-  pub eats_on : (checked : ℕ → Bool) (left n : ℕ) → n + left ≡ k → (checked_then : ℕ → Bool) × LeadsInManner plan (λ s. polite) (3 * left) checked (asked_run n (at_work GoesOn bell) higher) checked_then (asked_run k (at_work GoesOn bell) higher)
-  eats_on checked zero n all = (checked, (refl, ap (λ (n : ℕ). asked_run n (at_work GoesOn bell) higher) (let same : n ≡ k = omega arith in same)))
-  eats_on checked (suc left) n all =
+  pub eats_on : (polite ≡ true → bell ≡ []) → (checked : ℕ → Bool) (left n : ℕ) → n + left ≡ k → (checked_then : ℕ → Bool) × LeadsInManner plan (λ s. polite) (3 * left) checked (asked_run n (at_work GoesOn bell) higher) checked_then (asked_run k (at_work GoesOn bell) higher)
+  eats_on silent checked zero n all = (checked, (refl, ap (λ (n : ℕ). asked_run n (at_work GoesOn bell) higher) (let same : n ≡ k = omega arith in same)))
+  eats_on silent checked (suc left) n all =
       let three : suc (suc (suc (3 * left))) ≡ 3 * suc left = omega arith in
       let more : n < k = omega arith in
       let second : ℕ → Bool = checked_after (at phase.Thinking n) 0 checked in
       let third : ℕ → Bool = checked_after (at phase.Hungry n) 0 second in
-      let rest = eats_on (checked_after (at phase.Eating (n + 1)) 0 third) left (n + 1) (omega arith) in (
+      let rest = eats_on silent (checked_after (at phase.Eating (n + 1)) 0 third) left (n + 1) (omega arith) in (
         rest.0,
         subst (λ (m : ℕ). LeadsInManner plan (λ s. polite) m checked (asked_run n (at_work GoesOn bell) higher) rest.0 (asked_run k (at_work GoesOn bell) higher)) three
-            (at phase.Hungry n, hungers checked n more, (at phase.Eating (n + 1), begins second n more, (at phase.Thinking (n + 1), ends third n more, rest.1))),
+            (at phase.Hungry n, hungers checked n more, (at phase.Eating (n + 1), begins second n more (checks_now silent second n), (at phase.Thinking (n + 1), ends third n more, rest.1))),
       )
+
+-- the same by one check for all meals
+pub eats_on_by_one_check : (k left n : ℕ) → n + left ≡ k → LeadsByOneCheck (two_sites k 1) (λ s. true) (3 * left) (rung_run n) (rung_run k)
+eats_on_by_one_check k zero n all = ap rung_run (let same : n ≡ k = omega arith in same)
+eats_on_by_one_check k (suc left) n all =
+    let three : suc (suc (suc (3 * left))) ≡ 3 * suc left = omega arith in
+    let more : n < k = omega arith in
+    let bell : List ℕ = 0 ∷ [] in
+    let higher : Thread = at_work GoesOn [] in
+    let checked : ℕ → Bool = λ s. true in
+    subst (λ (m : ℕ). LeadsByOneCheck (two_sites k 1) (λ s. true) m (rung_run n) (rung_run k)) three
+    (at k true bell higher phase.Hungry n, hungers k true bell higher checked n more, (at k true bell higher phase.Eating (n + 1), begins k true bell higher checked n more (λ is. refl), (at k true bell higher phase.Thinking (n + 1), ends k true bell higher checked n more, eats_on_by_one_check k left (n + 1) (omega arith))))
 
 -- ---- the two sites are a plan
 

@@ -10,6 +10,7 @@ ghost use Rattle.dine_waking.specs.MannerExamples.{rung_too_late_run, unrung_run
 ghost use Rattle.dine_waking.specs.Examples.{two_sites};
 ghost use Rattle.dine_waking.specs.Manners.{HasRungForAll, HoldsCleanFork, HoldsDirtyFork, IsAsked, LeadsInManner};
 ghost use Rattle.dine_waking.specs.Manners.{MannerStep, WaitsForFork, checked_after, forks_given, meals_so_far};
+ghost use Rattle.dine_waking.specs.Mistakes.{LeadsByOneCheck};
 ghost use Rattle.dine_waking.specs.Runs.{RunHasEnded, LeadsBySteps, RingsBell, Run, number_there, start_run};
 
 /// A polite site lets a neighbour wait for one meal at most. Take a moment at which the neighbour has asked the site
@@ -41,7 +42,7 @@ pub fn polite_sites_give_after_at_most_one_meal()
         × LeadsInManner plan is_polite before checked old checked_there between
         × (gives : MannerStep plan is_polite checked_there between next)
         × LeadsInManner plan is_polite behind (checked_after between gives.step.site checked_there)
-            next checked_then end
+        next checked_then end
         × (forks_given between s i ≡ forks_given old s i) × (forks_given old s i < forks_given next s i)
         × (meals_so_far between s ≤ meals_so_far old s + 1) }
 {}
@@ -165,4 +166,11 @@ pub fn unheard_neighbours_wait_for_all_meals()
     ensures polite { (k : ℕ) (checked : ℕ → Bool) → (checked_then : ℕ → Bool)
         × LeadsInManner (two_sites k 1) (λ s. true) (3 * k) checked (unrung_run 0) checked_then (unrung_run k) }
     ensures polite_meals { (k : ℕ) → (meals_so_far (unrung_run k) 0 ≡ k) × (forks_given (unrung_run k) 0 0 ≡ 0) }
+{}
+
+/// The bound of one meal can fail: with one mistake a polite site begins all its meals before it gives the fork. The
+/// mistake: it does not check its bell before each meal, but once for all. The two sites are those of
+/// `unheard_neighbours_wait_for_all_meals` when the higher one has rung.
+pub fn one_check_for_all_meals_undoes_the_bound()
+    ensures { (k : ℕ) → LeadsByOneCheck (two_sites k 1) (λ s. true) (3 * k) (rung_run 0) (rung_run k) }
 {}
