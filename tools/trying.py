@@ -120,32 +120,9 @@ def ended(passed, failed, skipped=0):
     return 0 if passed + skipped and not failed else 1
 
 
-# ---- What only the tools of the page call
-
-
 def first_difference(wanted, got):
     """Returns where two texts first differ, and what each of them has there."""
     place = len(os.path.commonprefix([wanted, got]))
     above = wanted[:place].split("\n")
     begin = max(place - len(above[-1]), place - 100)
     return f"line {len(above)}: {got[begin : place + 100]!r}, wanted {wanted[begin : place + 100]!r}"
-
-
-def difference(wanted, got):
-    """Returns in a line how status and output differ from those that are wanted, or an empty text."""
-    if got.status is None:
-        return got.error
-    faults = [f"status {got.status}, wanted {wanted.status}"] if got.status != wanted.status else []
-    return "; ".join(faults + [f"standard {name}, {first_difference(getattr(wanted, name), getattr(got, name))}"
-                               for name in ("output", "error") if getattr(wanted, name) != getattr(got, name)])
-
-
-def try_program(tool, tries, *others):
-    """Builds dine, if it must, and the programs of other crates. Then it does the checks and ends the tool."""
-    for crate in ("dine_cli", *others):
-        built = answer_of([crate], f"{HOME}/tools/build", None, stdin=subprocess.DEVNULL)
-        if built.status:
-            sys.stderr.write(built.error)
-            print(f"{tool}: the program can't be built")
-            sys.exit(ended(0, 1))
-    sys.exit(counted(tries))

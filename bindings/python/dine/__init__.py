@@ -246,7 +246,8 @@ class World(_Owner):
     def replay(self, choices: Sequence[int]) -> int:
         """Does for each choice the enabled event of this number, and passes over a choice that has none.
 
-        Returns the number of events. Raises ``OverflowError`` if a choice is below 0 or has more than 32 bits, and then nothing has changed.
+        Returns the number of events. Raises ``OverflowError`` if a choice is below 0 or has more than 32 bits, and then
+        nothing has changed.
         """
         if not all(0 <= it < 2**32 for it in choices):
             raise OverflowError("a choice is a number from 0 to 2**32 - 1")

@@ -1,5 +1,5 @@
--- A Request that was rung for, in the link to a polite site: no meal begins until the site has taken it.
-use Rattle.std.proofs.Common.{◌≡◌, ◌≢◌, ◌⊎◌, ℕ, ◌+◌, ◌<◌, ◌≤◌, ◌==◌, Bool, true, cond, List, [], ◌∷◌, ◌++◌, length, count_by, get_or, slice_set, Option, Some, refl, sym, ◌∙◌, ap, subst, inl, inr, arith}
+-- What a step does at a place of a site that has a ring left for it, and which sites have checked then.
+use Rattle.std.proofs.Common.{◌≡◌, ◌≢◌, ◌⊎◌, ℕ, ◌+◌, ◌<◌, ◌≤◌, ◌==◌, ◌||◌, Bool, true, false, cond, if◌then◌else◌, List, [], ◌∷◌, ◌++◌, length, count_by, get_or, slice_set, Option, Some, refl, sym, ◌∙◌, ap, subst, inl, inr, arith}
 use Rattle.std.proofs.lemmas.Bool.{cases_eq, cond-true, cond-false, eq-eqb, false≢true, ne_eqb}
 use Rattle.std.proofs.lemmas.List.{get_or-set_other}
 use Rattle.std.proofs.lemmas.List.Sums.{sum_by-append, sum_by-cons}
@@ -17,8 +17,8 @@ use Rattle.dine_rules.proofs.counting.Persistence.{set_cases}
 use Rattle.dine_rules.proofs.links.WorldStreams.{WorldKeeps, event_is_step, option_map_parts, reached_kept}
 use Rattle.dine_site_core.specs.NextEvent.{may_by_itself, own_kinds}
 use Rattle.dine_site_core.specs.Standing.{all_places}
-use Rattle.dine_waking.specs.Manners.{IsInManner, meals_so_far}
-use Rattle.dine_waking.specs.Runs.{Acts, ByActing, ByHearing, ByRinging, BySleeping, ByTaking, ByWaking, Doing, FallsAsleep, GoesOn, HearsRing, RingsBell, Run, HasToTake, TakesLetter, Thread, ThreadStep, WakesThread, after_ringing, doing_after, doing_rung, fresh_thread, is_woken_by, places_heard, number_there, rings_left, thread_after_ring, thread_of}
+use Rattle.dine_waking.specs.Manners.{IsInManner, finds_no_ring, has_checked, checked_after, meals_so_far}
+use Rattle.dine_waking.specs.Runs.{Acts, ByActing, ByHearing, ByRinging, BySleeping, ByTaking, ByWaking, Doing, FallsAsleep, GoesOn, HasToRing, HasToWake, HearsRing, IsToBeWoken, RingsBell, Run, HasToTake, Sleeps, TakesLetter, Thread, ThreadStep, WakesThread, after_ringing, doing_after, doing_rung, fresh_thread, is_woken_by, places_heard, number_there, rings_left, thread_after_ring, thread_of}
 use Rattle.dine_waking.proofs.Queues.{put_keeps_taken, state_here, taken_elsewhere, taken_here}
 use Rattle.dine_waking.proofs.Bells.{RunKeeps, thread_elsewhere, thread_here}
 use Rattle.dine_waking.proofs.Acting.{found_passes}
@@ -38,6 +38,10 @@ rings_for-here i rings = omega (arith, sum_by-cons (λ k. cond (k == i) 1 0) i r
 
 rings_for-other : (i j : ℕ) (rings : List ℕ) → j ≢ i → rings_for i (j ∷ rings) ≡ rings_for i rings
 rings_for-other i j rings other = omega (arith, sum_by-cons (λ k. cond (k == i) 1 0) j rings, cond-false {A = ℕ} (j == i) 1 0 (ne_eqb j i other))
+
+neither : (b : Bool) → (if b then false else false) ≡ false
+neither true = refl
+neither false = refl
 
 -- an event that a site does by itself leaves no ring heard
 none_heard : (kind : EventKind) → places_heard (doing_after kind) ≡ []
@@ -166,7 +170,7 @@ module _ (plan : SeenPlan) (is_plan : IsPlan plan) (s i : ℕ) (is_site : s < si
     other_step (ByTaking t) = stays (away (event.Take t.i) t.world) (apart (record { doing = GoesOn; bell = (thread_of old x).bell }) t.threads)
     other_step (BySleeping f) = stays (ap (λ (world : WorldState). state_of world s) f.world) (apart _ f.threads)
 
-  -- ---- the site itself, which is polite, and has a ring left
+  -- ---- the site itself, which has a ring left
 
   event_here : (kind : EventKind) → world_after plan old.world (record { site = s; kind = kind }) ≡ Some new.world
       → (one : Step) × (step_by (meal_fails plan s (state_of old.world s)) (next_letter plan old.world s) kind ≡ Some one) × (state_of new.world s ≡ after plan s (state_of old.world s) one)
@@ -199,12 +203,6 @@ module _ (plan : SeenPlan) (is_plan : IsPlan plan) (s i : ℕ) (is_site : s < si
         | inr v ↦ inl (Stays (ap (λ (x : LocalState). x.ate) w.2 ∙ v.0) (ap (λ (x : LocalState). (traffic_at x i).taken) w.2 ∙ v.1) rings)
       ]
 
-  acts_politely : (a : Acts plan s old new) → (a.kind ≡ event.Begin → (thread_of old s).bell ≡ []) → 0 < rings_for i (rings_left (thread_of old s)) → AtPlace plan s i old new
-  acts_politely a polite ringing = elim (acts a) [
-    | inl at ↦ at
-    | inr w ↦ absurd (let none : rings_for i (rings_left (thread_of old s)) ≡ 0 = ap (rings_for i) (own_rings a ∙ polite w.0) in omega arith)
-  ]
-
   hears : HearsRing plan s old new → AtPlace plan s i old new
   hears h =
       let thread : Thread = record { doing = HasToTake h.i; bell = h.rest } in
@@ -232,22 +230,38 @@ module _ (plan : SeenPlan) (is_plan : IsPlan plan) (s i : ℕ) (is_site : s < si
   falls_asleep : FallsAsleep plan s old new → rings_for i (rings_left (thread_of old s)) ≡ 0
   falls_asleep f = ap (λ (d : Doing). rings_for i (places_heard d ++ (thread_of old s).bell)) f.goes_on ∙ ap (rings_for i) f.silent
 
-  pub own_step : (one : ThreadStep plan s old new) → IsInManner plan s old new one true → 0 < rings_for i (rings_left (thread_of old s)) → AtPlace plan s i old new
-  own_step (ByActing a) polite ringing = acts_politely a polite ringing
-  own_step (ByRinging r) polite ringing = rung_stays s r
-  own_step (ByWaking h) polite ringing = woken_stays s h
-  own_step (ByHearing h) polite ringing = hears h
-  own_step (ByTaking t) polite ringing = takes t
-  own_step (BySleeping f) polite ringing = absurd (let none : rings_for i (rings_left (thread_of old s)) ≡ 0 = falls_asleep f in omega arith)
-
-  -- the same, whatever its manner
-  pub own_step_anyhow : (one : ThreadStep plan s old new) → 0 < rings_for i (rings_left (thread_of old s)) → AtPlace plan s i old new ⊎ Begun plan s i old new
-  own_step_anyhow (ByActing a) ringing = elim (acts a) [
+  -- whatever its manner: it begins a meal, or not
+  pub own_step : (one : ThreadStep plan s old new) → 0 < rings_for i (rings_left (thread_of old s)) → AtPlace plan s i old new ⊎ (Begun plan s i old new × ((checked : ℕ → Bool) → IsInManner plan s checked old new one true → has_checked old checked s ≡ true))
+  own_step (ByActing a) ringing = elim (acts a) [
     | inl at ↦ inl at
-    | inr w ↦ inr w.1
+    | inr w ↦ inr (w.1, λ checked polite. polite w.0)
   ]
-  own_step_anyhow (ByRinging r) ringing = inl (rung_stays s r)
-  own_step_anyhow (ByWaking h) ringing = inl (woken_stays s h)
-  own_step_anyhow (ByHearing h) ringing = inl (hears h)
-  own_step_anyhow (ByTaking t) ringing = inl (takes t)
-  own_step_anyhow (BySleeping f) ringing = absurd (let none : rings_for i (rings_left (thread_of old s)) ≡ 0 = falls_asleep f in omega arith)
+  own_step (ByRinging r) ringing = inl (rung_stays s r)
+  own_step (ByWaking h) ringing = inl (woken_stays s h)
+  own_step (ByHearing h) ringing = inl (hears h)
+  own_step (ByTaking t) ringing = inl (takes t)
+  own_step (BySleeping f) ringing = absurd (let none : rings_for i (rings_left (thread_of old s)) ≡ 0 = falls_asleep f in omega arith)
+
+-- ---- checks
+
+-- a thread that has a ring left does not find its bell without one
+finds_one : (i : ℕ) (doing : Doing) (bell : List ℕ) → 0 < rings_for i (places_heard doing ++ bell) → finds_no_ring doing bell ≡ false
+finds_one i GoesOn [] ringing = absurd (omega arith)
+finds_one i GoesOn (k ∷ bell) ringing = refl
+finds_one i (HasToRing k kind) bell ringing = refl
+finds_one i (HasToWake k) bell ringing = refl
+finds_one i (HasToTake k) bell ringing = refl
+finds_one i (Sleeps wants) bell ringing = refl
+finds_one i (IsToBeWoken k) bell ringing = refl
+
+-- so its site has checked only if it had
+pub yet_to_check : (i : ℕ) (run : Run) (checked : ℕ → Bool) (s : ℕ) → checked s ≡ false → 0 < rings_for i (rings_left (thread_of run s)) → has_checked run checked s ≡ false
+yet_to_check i run checked s yet ringing = ap (λ (b : Bool). b || finds_no_ring (thread_of run s).doing (thread_of run s).bell) yet ∙ finds_one i (thread_of run s).doing (thread_of run s).bell ringing
+
+-- nor has it after a step of any site
+pub yet_after : (run : Run) (x : ℕ) (checked : ℕ → Bool) (s : ℕ) → has_checked run checked s ≡ false → checked_after run x checked s ≡ false
+yet_after run x checked s yet = ap (λ (b : Bool). if s == x then false else b) yet ∙ neither (s == x)
+
+-- a site that has done a step has yet to check
+pub own_check_used : (run : Run) (s x : ℕ) (checked : ℕ → Bool) → s ≡ x → checked_after run x checked s ≡ false
+own_check_used run s x checked same = cond-true {A = Bool} (s == x) false (has_checked run checked s) (eq-eqb s x same)

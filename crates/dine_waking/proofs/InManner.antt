@@ -1,5 +1,5 @@
 -- A site that can do a step can do one in its manner.
-use Rattle.std.proofs.Common.{◌≡◌, ◌⊎◌, ℕ, ◌<◌, Bool, true, false, List, [], ◌∷◌, slice_set, Option, Some, None, refl, sym, ◌∙◌, ap, inl, inr}
+use Rattle.std.proofs.Common.{◌≡◌, ◌⊎◌, ℕ, ◌<◌, ◌||◌, Bool, true, false, List, [], ◌∷◌, slice_set, Option, Some, None, refl, sym, ◌∙◌, ap, inl, inr}
 use Rattle.std.proofs.lemmas.Bool.{false≢true}
 use Rattle.dine_graph.specs.Plan.{SeenPlan, IsPlan, site_count}
 use Rattle.dine_rules.specs.declared.events.EventKind.{EventKind}
@@ -9,8 +9,8 @@ use Rattle.dine_rules.specs.Steps as step
 use Rattle.dine_rules.specs.World.{state_of}
 use Rattle.dine_site_core.specs.NextEvent.{may_by_itself, next_event, own_kinds}
 use Rattle.dine_site_core.specs.Standing.{all_places}
-use Rattle.dine_waking.specs.Manners.{IsInManner, MannerStep}
-use Rattle.dine_waking.specs.Runs.{Acts, ByActing, ByHearing, ByRinging, BySleeping, ByTaking, ByWaking, RunHasEnded, HearsRing, Run, HasToTake, ThreadStep, doing_after, takes_letters, thread_of}
+use Rattle.dine_waking.specs.Manners.{IsInManner, MannerStep, finds_no_ring, has_checked}
+use Rattle.dine_waking.specs.Runs.{Acts, ByActing, ByHearing, ByRinging, BySleeping, ByTaking, ByWaking, Doing, GoesOn, RunHasEnded, HearsRing, Run, HasToTake, ThreadStep, doing_after, takes_letters, thread_of}
 use Rattle.dine_waking.proofs.Queues.{event_happens}
 use Rattle.dine_waking.proofs.Bells.{RunKeeps}
 use Rattle.dine_waking.proofs.Acting.{found_passes}
@@ -20,14 +20,22 @@ begin_or_not : (kind : EventKind) → (kind ≡ event.Begin) ⊎ (kind ≡ event
 begin_or_not event.Begin = inl refl
 begin_or_not kind = inr (λ is. cc)
 
-module _ (plan : SeenPlan) (run : Run) (s : ℕ) (is_site : s < site_count plan) where
+or_true : (b : Bool) → (b || true) ≡ true
+or_true true = refl
+or_true false = refl
+
+module _ (plan : SeenPlan) (checked : ℕ → Bool) (run : Run) (s : ℕ) (is_site : s < site_count plan) where
   -- the thread of the site can do a step in this manner
   abbrev CanStep : Bool → Type 0
-  CanStep polite = (new : Run) × (one : ThreadStep plan s run new) × IsInManner plan s run new one polite
+  CanStep polite = (new : Run) × (one : ThreadStep plan s run new) × IsInManner plan s checked run new one polite
+
+  -- a thread that goes on and has no ring checks now
+  checks : (thread_of run s).doing ≡ GoesOn → (thread_of run s).bell ≡ [] → has_checked run checked s ≡ true
+  checks goes_on silent = ap (λ (doing : Doing). checked s || finds_no_ring doing (thread_of run s).bell) goes_on ∙ ap (λ (bell : List ℕ). checked s || finds_no_ring GoesOn bell) silent ∙ or_true (checked s)
 
   -- before a meal a polite site hears the next ring, if there is one
   by_bell : (new : Run) (a : Acts plan s run new) → a.kind ≡ event.Begin → (bell : List ℕ) → (thread_of run s).bell ≡ bell → CanStep true
-  by_bell new a begins [] silent = (new, ByActing a, λ is. silent)
+  by_bell new a begins [] silent = (new, ByActing a, λ is. checks a.goes_on silent)
   by_bell new a begins (i ∷ rest) ringing = (
     record { world = run.world; threads = slice_set run.threads s (record { doing = HasToTake i; bell = rest }) },
     ByHearing (record {
@@ -72,10 +80,10 @@ module _ (plan : SeenPlan) (run : Run) (s : ℕ) (is_site : s < site_count plan)
   in_manner polite new (ByTaking t) = (new, ByTaking t, tt)
   in_manner polite new (BySleeping f) = (new, BySleeping f, tt)
 
-pub manner_or_end : (plan : SeenPlan) (is_plan : IsPlan plan) (is_polite : ℕ → Bool) (run : Run) → RunKeeps plan run → ((new : Run) × MannerStep plan is_polite run new) ⊎ RunHasEnded plan run
-manner_or_end plan is_plan is_polite run keeps = elim (step_or_end plan is_plan run keeps) [
+pub manner_or_end : (plan : SeenPlan) (is_plan : IsPlan plan) (is_polite checked : ℕ → Bool) (run : Run) → RunKeeps plan run → ((new : Run) × MannerStep plan is_polite checked run new) ⊎ RunHasEnded plan run
+manner_or_end plan is_plan is_polite checked run keeps = elim (step_or_end plan is_plan run keeps) [
   | inl w ↦
-      let v = in_manner plan run w.1.site w.1.is_site (is_polite w.1.site) w.0 w.1.step in
+      let v = in_manner plan checked run w.1.site w.1.is_site (is_polite w.1.site) w.0 w.1.step in
       inl (v.0, record { step = record { site = w.1.site; is_site = w.1.is_site; step = v.1 }; in_manner = v.2 })
   | inr ended ↦ inr ended
 ]

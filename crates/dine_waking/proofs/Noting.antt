@@ -4,16 +4,15 @@ use Rattle.dine_rules.specs.declared.letters.Kind4.{Kind4}
 use Rattle.dine_rules.specs.Wants.{SeenWants, is_wanted, still_wanted}
 use Rattle.dine_link.specs.declared.sleeper.SleepState.{SleepState}
 use Rattle.dine_link.specs.Waking.{NotesRing, seen_wants, still_wants, wakes}
-use Rattle.dine_waking.specs.Code.{IsNotedAs}
+use Rattle.dine_waking.specs.Code.{IsNotedAs, wakes_anyway}
 use Rattle.dine_waking.specs.Runs.{Doing, GoesOn, HasToRing, HasToTake, HasToWake, IsToBeWoken, Sleeps, doing_rung, is_woken_by}
 
 module _ (number : ℕ) (kind : Kind4) (old new : SleepState) (woken : Bool) (notes : NotesRing number kind old new woken) where
-  -- the ring fills the bell, or the ringer has a high number
   abbrev anyway : Bool
-  anyway = nat_le 64 number || nat_le old.room 1
+  anyway = wakes_anyway number old
 
   abbrev Noted : Doing → Type 0
-  Noted doing = (any : Bool) × (woken ≡ is_woken_by any number kind doing) × IsNotedAs (doing_rung any number kind doing) new
+  Noted doing = (woken ≡ is_woken_by anyway number kind doing) × IsNotedAs (doing_rung anyway number kind doing) new
 
   not_woken : old.asleep ≡ false → woken ≡ false
   not_woken awake = notes.wakes ∙ ap (λ (b : Bool). b && (wakes (seen_wants old.wants) number kind || nat_le old.room 1)) awake
@@ -38,12 +37,12 @@ module _ (number : ℕ) (kind : Kind4) (old new : SleepState) (woken : Bool) (no
         (sleeps, notes.wants sleeps ∙ ap (λ w. still_wants w kind) seen)
 
     noted_asleep : Noted (Sleeps wants)
-    noted_asleep = (anyway, is_woken, after (is_wanted wants number kind || anyway) is_woken)
+    noted_asleep = (is_woken, after (is_wanted wants number kind || anyway) is_woken)
 
   pub noted : (doing : Doing) → IsNotedAs doing old → Noted doing
-  noted GoesOn awake = (false, not_woken awake, still_awake awake)
-  noted (HasToRing i k) awake = (false, not_woken awake, still_awake awake)
-  noted (HasToWake i) awake = (false, not_woken awake, still_awake awake)
-  noted (HasToTake i) awake = (false, not_woken awake, still_awake awake)
+  noted GoesOn awake = (not_woken awake, still_awake awake)
+  noted (HasToRing i k) awake = (not_woken awake, still_awake awake)
+  noted (HasToWake i) awake = (not_woken awake, still_awake awake)
+  noted (HasToTake i) awake = (not_woken awake, still_awake awake)
   noted (Sleeps wants) is = noted_asleep wants is.0 is.1
-  noted (IsToBeWoken i) awake = (false, not_woken awake, still_awake awake)
+  noted (IsToBeWoken i) awake = (not_woken awake, still_awake awake)

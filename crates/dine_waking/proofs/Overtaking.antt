@@ -15,12 +15,12 @@ use Rattle.dine_rules.proofs.links.Joined.{Joined, few_requests, forks_coming, f
 use Rattle.dine_rules.proofs.links.Links.{joined}
 use Rattle.dine_rules.proofs.links.WorldStreams.{reached_kept}
 use Rattle.dine_rules.proofs.precedence.PreferenceSteps.{IsStill, begin_eats, step_changes}
-use Rattle.dine_waking.specs.Manners.{HasRungForAll, HoldsCleanFork, HoldsDirtyFork, IsAsked, LeadsInManner, MannerStep, WaitsForFork, forks_given, meals_so_far}
+use Rattle.dine_waking.specs.Manners.{HasRungForAll, HoldsCleanFork, HoldsDirtyFork, IsAsked, LeadsInManner, MannerStep, WaitsForFork, forks_given, checked_after, meals_so_far}
 use Rattle.dine_waking.specs.Runs.{LeadsBySteps, Run, RunStep, ThreadStep}
 use Rattle.dine_waking.proofs.AskedPlaces.{asker_waits, waiter_put_more}
 use Rattle.dine_waking.proofs.Bells.{RunKeeps}
 use Rattle.dine_waking.proofs.Bounded.{step_keeps, steps_keep}
-use Rattle.dine_waking.proofs.Polite.{HasTaken, manner_leads, no_meal, none_begins, one_begins, one_meal, one_meal_late, steps_then}
+use Rattle.dine_waking.proofs.Polite.{HasTaken, manner_leads, no_meal, none_begins, one_begins, one_meal}
 use Rattle.dine_waking.proofs.SiteMoves.{SiteMoves, longer_forks, moves_begin, site_moves, step_eats, step_put, steps_eat, steps_put}
 
 same_or_more : (a b : ℕ) → a ≤ b → (b ≡ a) ⊎ (a < b)
@@ -170,26 +170,29 @@ module _ (plan : SeenPlan) (is_plan : IsPlan plan) (s i : ℕ) (is_site : s < si
 
   -- ---- the first step that gives the fork
 
-  pub record FirstGive (is_polite : ℕ → Bool) (old new : Run) : Type 0 where
+  pub record FirstGive (is_polite checked checked_then : ℕ → Bool) (old new : Run) : Type 0 where
     pub before : ℕ
+    pub checked_there : ℕ → Bool
     pub between : Run
     pub next : Run
     pub behind : ℕ
-    pub leads : LeadsInManner plan is_polite before old between
-    pub gives : MannerStep plan is_polite between next
-    pub goes_on : LeadsInManner plan is_polite behind next new
+    pub leads : LeadsInManner plan is_polite before checked old checked_there between
+    pub gives : MannerStep plan is_polite checked_there between next
+    pub goes_on : LeadsInManner plan is_polite behind (checked_after between gives.step.site checked_there) next checked_then new
     pub not_given : forks_given between s i ≡ forks_given old s i
     pub given : forks_given old s i < forks_given next s i
 
-  pub first_give : (is_polite : ℕ → Bool) (m : ℕ) (old new : Run) → LeadsInManner plan is_polite m old new → forks_given old s i < forks_given new s i → FirstGive is_polite old new
-  first_give is_polite zero old new same more = absurd (omega (arith, ap (λ (run : Run). forks_given run s i) same))
-  first_give is_polite (suc m) old new w more =
+  pub first_give : (is_polite checked checked_then : ℕ → Bool) (m : ℕ) (old new : Run) → LeadsInManner plan is_polite m checked old checked_then new → forks_given old s i < forks_given new s i → FirstGive is_polite checked checked_then old new
+  first_give is_polite checked checked_then zero old new same more = absurd (omega (arith, ap (λ (run : Run). forks_given run s i) same.1))
+  first_give is_polite checked checked_then (suc m) old new w more =
       let one : ThreadStep plan w.1.step.site old w.0 = w.1.step.step in
+      let after_it : ℕ → Bool = checked_after old w.1.step.site checked in
       elim (same_or_more (forks_given old s i) (forks_given w.0 s i) (longer_forks (traffic_at (state old) i).put (traffic_at (state w.0) i).put (step_put plan w.1.step.site old w.0 one s i))) [
         | inl same ↦
-            let rest : FirstGive is_polite w.0 new = first_give is_polite m w.0 new w.2 (omega arith) in
+            let rest : FirstGive is_polite after_it checked_then w.0 new = first_give is_polite after_it checked_then m w.0 new w.2 (omega arith) in
             record {
               before = suc rest.before;
+              checked_there = rest.checked_there;
               between = rest.between;
               next = rest.next;
               behind = rest.behind;
@@ -201,10 +204,11 @@ module _ (plan : SeenPlan) (is_plan : IsPlan plan) (s i : ℕ) (is_site : s < si
             }
         | inr given ↦ record {
           before = 0;
+          checked_there = checked;
           between = old;
           next = w.0;
           behind = m;
-          leads = refl;
+          leads = (refl, refl);
           gives = w.1;
           goes_on = w.2;
           not_given = refl;
@@ -239,148 +243,84 @@ module _ (plan : SeenPlan) (is_plan : IsPlan plan) (s i : ℕ) (is_site : s < si
       ∙ gives_eats_not between next gives.site gives.step (omega (arith, not_given, given))
 
   -- steps in manners gave the fork or did not
-  still_or_given : (is_polite : ℕ → Bool) (m : ℕ) (old new : Run) → LeadsInManner plan is_polite m old new → (forks_given new s i ≡ forks_given old s i) ⊎ FirstGive is_polite old new
-  still_or_given is_polite m old new leads =
-      elim (same_or_more (forks_given old s i) (forks_given new s i) (longer_forks (traffic_at (state old) i).put (traffic_at (state new) i).put (steps_put plan m old new (manner_leads plan is_polite m old new leads) s i))) [
+  still_or_given : (is_polite checked checked_then : ℕ → Bool) (m : ℕ) (old new : Run) → LeadsInManner plan is_polite m checked old checked_then new → (forks_given new s i ≡ forks_given old s i) ⊎ FirstGive is_polite checked checked_then old new
+  still_or_given is_polite checked checked_then m old new leads =
+      elim (same_or_more (forks_given old s i) (forks_given new s i) (longer_forks (traffic_at (state old) i).put (traffic_at (state new) i).put (steps_put plan m old new (manner_leads plan is_polite checked checked_then m old new leads) s i))) [
         | inl same ↦ inl same
-        | inr more ↦ inr (first_give is_polite m old new leads more)
+        | inr more ↦ inr (first_give is_polite checked checked_then m old new leads more)
       ]
 
   -- a bound on the meals up to the give is one up to the neighbour's meal
-  module _ (is_polite : ℕ → Bool) (old : Run) (keeps : RunKeeps plan old) (unused : IsUnused plan there place (far old)) (c : ℕ)
-      (bound : (m : ℕ) (mid : Run) → LeadsInManner plan is_polite m old mid → forks_given mid s i ≡ forks_given old s i → meals_so_far mid s ≤ meals_so_far old s + c) where
-    -- as steps of any site
-    leads_between : (new : Run) (give : FirstGive is_polite old new) → LeadsBySteps plan give.before old give.between
-    leads_between new give = manner_leads plan is_polite give.before old give.between give.leads
-
-    bounded : (m : ℕ) (new : Run) → LeadsInManner plan is_polite m old new → meals_so_far new there ≡ meals_so_far old there → meals_so_far new s ≤ meals_so_far old s + c
-    bounded m new leads ate = elim (still_or_given is_polite m old new leads) [
-      | inl same ↦ bound m new leads same
-      | inr give ↦ omega (
-        arith,
-        none_behind give.before give.behind old give.between give.next new keeps unused (leads_between new give) give.gives.step (manner_leads plan is_polite give.behind give.next new give.goes_on) give.not_given give.given ate,
-        bound give.before give.between give.leads give.not_given,
-      )
-    ]
-
-    -- one step in between is in no manner
-    module _ (bound_late : (n m : ℕ) (between next mid : Run) → LeadsInManner plan is_polite n old between → RunStep plan between next → LeadsInManner plan is_polite m next mid → forks_given mid s i ≡ forks_given old s i
-        → meals_so_far mid s ≤ meals_so_far old s + c)
-        (n m : ℕ) (between next new : Run) (leads : LeadsInManner plan is_polite n old between) (late : RunStep plan between next) (more : LeadsInManner plan is_polite m next new) (ate : meals_so_far new there ≡ meals_so_far old there) where
-      to_between : LeadsBySteps plan n old between
-      to_between = manner_leads plan is_polite n old between leads
-
-      from_next : LeadsBySteps plan m next new
-      from_next = manner_leads plan is_polite m next new more
-
-      -- the fork is given behind this step
-      late_behind : forks_given next s i ≡ forks_given old s i → FirstGive is_polite next new → meals_so_far new s ≤ meals_so_far old s + c
-      late_behind same give =
-          let from_late : LeadsBySteps plan (suc give.before) between give.between = (next, late, manner_leads plan is_polite give.before next give.between give.leads) in
-          let to_give = steps_then plan n (suc give.before) old between give.between to_between from_late in
-          omega (
-            arith,
-            none_behind to_give.0 give.behind old give.between give.next new keeps unused to_give.1 give.gives.step (manner_leads plan is_polite give.behind give.next new give.goes_on) (give.not_given ∙ same) (omega (arith, give.given)) ate,
-            bound_late n give.before between next give.between leads late give.leads (give.not_given ∙ same),
-          )
-
-      -- before this step
-      late_before : FirstGive is_polite old between → meals_so_far new s ≤ meals_so_far old s + c
-      late_before give =
-          let from_give = steps_then plan give.behind (suc m) give.next between new (manner_leads plan is_polite give.behind give.next between give.goes_on) (next, late, from_next) in
-          omega (
-            arith,
-            none_behind give.before from_give.0 old give.between give.next new keeps unused (leads_between between give) give.gives.step from_give.1 give.not_given give.given ate,
-            bound give.before give.between give.leads give.not_given,
-          )
-
-      -- by this step, or later, or not
-      late_there : forks_given between s i ≡ forks_given old s i → meals_so_far new s ≤ meals_so_far old s + c
-      late_there same = elim (same_or_more (forks_given between s i) (forks_given next s i) (longer_forks (traffic_at (state between) i).put (traffic_at (state next) i).put (step_put plan late.site between next late.step s i))) [
-        | inr given ↦ omega (
+  bounded : (is_polite checked : ℕ → Bool) (old : Run) (keeps : RunKeeps plan old) (unused : IsUnused plan there place (far old)) (c : ℕ)
+      → ((m : ℕ) (checked_mid : ℕ → Bool) (mid : Run) → LeadsInManner plan is_polite m checked old checked_mid mid → forks_given mid s i ≡ forks_given old s i → meals_so_far mid s ≤ meals_so_far old s + c)
+      → (m : ℕ) (checked_then : ℕ → Bool) (new : Run) → LeadsInManner plan is_polite m checked old checked_then new → meals_so_far new there ≡ meals_so_far old there → meals_so_far new s ≤ meals_so_far old s + c
+  bounded is_polite checked old keeps unused c bound m checked_then new leads ate = elim (still_or_given is_polite checked checked_then m old new leads) [
+    | inl same ↦ bound m checked_then new leads same
+    | inr give ↦
+        let to_between : LeadsBySteps plan give.before old give.between = manner_leads plan is_polite checked give.checked_there give.before old give.between give.leads in
+        let from_next : LeadsBySteps plan give.behind give.next new = manner_leads plan is_polite (checked_after give.between give.gives.step.site give.checked_there) checked_then give.behind give.next new give.goes_on in
+        omega (
           arith,
-          none_behind n m old between next new keeps unused to_between late from_next same (omega arith) ate,
-          bound n between leads same,
+          none_behind give.before give.behind old give.between give.next new keeps unused to_between give.gives.step from_next give.not_given give.given ate,
+          bound give.before give.checked_there give.between give.leads give.not_given,
         )
-        | inl still ↦ elim (still_or_given is_polite m next new more) [
-          | inl never ↦ bound_late n m between next new leads late more (never ∙ still ∙ same)
-          | inr give ↦ late_behind (still ∙ same) give
-        ]
-      ]
+  ]
 
-      bounded_late : meals_so_far new s ≤ meals_so_far old s + c
-      bounded_late = elim (still_or_given is_polite n old between leads) [
-        | inl same ↦ late_there same
-        | inr give ↦ late_before give
-      ]
-
-  module _ (is_polite : ℕ → Bool) (polite : is_polite s ≡ true) (old : Run) (keeps : RunKeeps plan old) (waits : WaitsForFork plan old there place) where
+  module _ (is_polite : ℕ → Bool) (polite : is_polite s ≡ true) (checked : ℕ → Bool) (old : Run) (keeps : RunKeeps plan old) (waits : WaitsForFork plan old there place) where
     unused_now : IsUnused plan there place (far old)
     unused_now one = absurd (omega (arith, waits.0))
 
     -- up to the give, where the fork is not gone
-    to_give : IsAsked plan old s i ⊎ HasTaken plan is_plan s i is_site within old → (m : ℕ) (mid : Run) → LeadsInManner plan is_polite m old mid → forks_given mid s i ≡ forks_given old s i → meals_so_far mid s ≤ meals_so_far old s + 1
-    to_give (inl asked) m mid leads same = one_meal plan is_plan s i is_site within is_polite polite m old mid keeps asked waits.2 leads same
-    to_give (inr taken) m mid leads same = one_begins plan is_plan s i is_site within m old mid keeps taken (manner_leads plan is_polite m old mid leads) same
+    to_give : IsAsked plan old s i ⊎ HasTaken plan is_plan s i is_site within old → (m : ℕ) (checked_mid : ℕ → Bool) (mid : Run) → LeadsInManner plan is_polite m checked old checked_mid mid → forks_given mid s i ≡ forks_given old s i → meals_so_far mid s ≤ meals_so_far old s + 1
+    to_give (inl asked) m checked_mid mid leads same = one_meal plan is_plan s i is_site within is_polite polite m checked checked_mid old mid keeps asked waits.2 leads same
+    to_give (inr taken) m checked_mid mid leads same = one_begins plan is_plan s i is_site within m old mid keeps taken (manner_leads plan is_polite checked checked_mid m old mid leads) same
 
-    to_give_late : IsAsked plan old s i ⊎ HasTaken plan is_plan s i is_site within old → (n m : ℕ) (between next mid : Run) → LeadsInManner plan is_polite n old between → RunStep plan between next → LeadsInManner plan is_polite m next mid
-        → forks_given mid s i ≡ forks_given old s i → meals_so_far mid s ≤ meals_so_far old s + 1
-    to_give_late (inl asked) n m between next mid leads late more same = one_meal_late plan is_plan s i is_site within is_polite polite n m old between next mid keeps asked waits.2 leads late more same
-    to_give_late (inr taken) n m between next mid leads late more same =
-        let all = steps_then plan n (suc m) old between mid (manner_leads plan is_polite n old between leads) (next, late, manner_leads plan is_polite m next mid more) in
-        one_begins plan is_plan s i is_site within all.0 old mid keeps taken all.1 same
+    to_give_dirty : HoldsDirtyFork plan old s i → checked s ≡ false → IsAsked plan old s i ⊎ HasTaken plan is_plan s i is_site within old → (m : ℕ) (checked_mid : ℕ → Bool) (mid : Run) → LeadsInManner plan is_polite m checked old checked_mid mid
+        → forks_given mid s i ≡ forks_given old s i → meals_so_far mid s ≤ meals_so_far old s + 0
+    to_give_dirty dirty yet (inl asked) m checked_mid mid leads same = omega (arith, no_meal plan is_plan s i is_site within is_polite polite m checked checked_mid old mid keeps asked waits.2 dirty yet leads same)
+    to_give_dirty dirty yet (inr taken) m checked_mid mid leads same = omega (arith, none_begins plan is_plan s i is_site within m old mid keeps taken dirty.1 (manner_leads plan is_polite checked checked_mid m old mid leads) same)
 
-    to_give_dirty : HoldsDirtyFork plan old s i → IsAsked plan old s i ⊎ HasTaken plan is_plan s i is_site within old → (m : ℕ) (mid : Run) → LeadsInManner plan is_polite m old mid → forks_given mid s i ≡ forks_given old s i → meals_so_far mid s ≤ meals_so_far old s + 0
-    to_give_dirty dirty (inl asked) m mid leads same = omega (arith, no_meal plan is_plan s i is_site within is_polite polite m old mid keeps asked waits.2 dirty leads same)
-    to_give_dirty dirty (inr taken) m mid leads same = omega (arith, none_begins plan is_plan s i is_site within m old mid keeps taken dirty.1 (manner_leads plan is_polite m old mid leads) same)
-
-    pub overtakes_once : (m : ℕ) (new : Run) → LeadsInManner plan is_polite m old new → meals_so_far new there ≡ meals_so_far old there → meals_so_far new s ≤ meals_so_far old s + 1
-    overtakes_once m new leads ate = elim (where_request old keeps waits) [
-      | inl asked ↦ bounded is_polite old keeps unused_now 1 (to_give (inl asked)) m new leads ate
+    pub overtakes_once : (m : ℕ) (checked_then : ℕ → Bool) (new : Run) → LeadsInManner plan is_polite m checked old checked_then new → meals_so_far new there ≡ meals_so_far old there → meals_so_far new s ≤ meals_so_far old s + 1
+    overtakes_once m checked_then new leads ate = elim (where_request old keeps waits) [
+      | inl asked ↦ bounded is_polite checked old keeps unused_now 1 (to_give (inl asked)) m checked_then new leads ate
       | inr other ↦ elim other [
-        | inl taken ↦ bounded is_polite old keeps unused_now 1 (to_give (inr taken)) m new leads ate
-        | inr gone ↦ omega (arith, gone_for_long m old new keeps unused_now gone (manner_leads plan is_polite m old new leads) ate)
+        | inl taken ↦ bounded is_polite checked old keeps unused_now 1 (to_give (inr taken)) m checked_then new leads ate
+        | inr gone ↦ omega (arith, gone_for_long m old new keeps unused_now gone (manner_leads plan is_polite checked checked_then m old new leads) ate)
       ]
     ]
 
-    pub overtakes_never : HoldsDirtyFork plan old s i → (m : ℕ) (new : Run) → LeadsInManner plan is_polite m old new → meals_so_far new there ≡ meals_so_far old there → meals_so_far new s ≡ meals_so_far old s
-    overtakes_never dirty m new leads ate =
-        let to_new : LeadsBySteps plan m old new = manner_leads plan is_polite m old new leads in
+    pub overtakes_never : HoldsDirtyFork plan old s i → checked s ≡ false → (m : ℕ) (checked_then : ℕ → Bool) (new : Run) → LeadsInManner plan is_polite m checked old checked_then new → meals_so_far new there ≡ meals_so_far old there → meals_so_far new s ≡ meals_so_far old s
+    overtakes_never dirty yet m checked_then new leads ate =
+        let to_new : LeadsBySteps plan m old new = manner_leads plan is_polite checked checked_then m old new leads in
         let more : meals_so_far old s ≤ meals_so_far new s = steps_eat plan m old new to_new s in
         elim (where_request old keeps waits) [
-          | inl asked ↦ omega (arith, more, bounded is_polite old keeps unused_now 0 (to_give_dirty dirty (inl asked)) m new leads ate)
+          | inl asked ↦ omega (arith, more, bounded is_polite checked old keeps unused_now 0 (to_give_dirty dirty yet (inl asked)) m checked_then new leads ate)
           | inr other ↦ elim other [
-            | inl taken ↦ omega (arith, more, bounded is_polite old keeps unused_now 0 (to_give_dirty dirty (inr taken)) m new leads ate)
+            | inl taken ↦ omega (arith, more, bounded is_polite checked old keeps unused_now 0 (to_give_dirty dirty yet (inr taken)) m checked_then new leads ate)
             | inr gone ↦ gone_for_long m old new keeps unused_now gone to_new ate
           ]
         ]
 
-    pub overtakes_late : (n m : ℕ) (between next new : Run) → LeadsInManner plan is_polite n old between → RunStep plan between next → LeadsInManner plan is_polite m next new → meals_so_far new there ≡ meals_so_far old there → meals_so_far new s ≤ meals_so_far old s + 1
-    overtakes_late n m between next new leads late more ate = elim (where_request old keeps waits) [
-      | inl asked ↦ bounded_late is_polite old keeps unused_now 1 (to_give (inl asked)) (to_give_late (inl asked)) n m between next new leads late more ate
-      | inr other ↦ elim other [
-        | inl taken ↦ bounded_late is_polite old keeps unused_now 1 (to_give (inr taken)) (to_give_late (inr taken)) n m between next new leads late more ate
-        | inr gone ↦
-            let all = steps_then plan n (suc m) old between new (manner_leads plan is_polite n old between leads) (next, late, manner_leads plan is_polite m next new more) in
-            omega (arith, gone_for_long all.0 old new keeps unused_now gone all.1 ate)
-      ]
-    ]
-
   -- ---- a run to its end gives the fork
 
-  pub gives_soon : (is_polite : ℕ → Bool) → is_polite s ≡ true → (old : Run) → RunKeeps plan old → IsAsked plan old s i → HasRungForAll plan old s i → (m : ℕ) (new : Run) → LeadsInManner plan is_polite m old new → forks_given old s i < forks_given new s i
-      → (n : ℕ) × (between : Run) × (next : Run) × LeadsInManner plan is_polite n old between × MannerStep plan is_polite between next
+  pub gives_soon : (is_polite : ℕ → Bool) → is_polite s ≡ true → (checked checked_then : ℕ → Bool) (old : Run) → RunKeeps plan old → IsAsked plan old s i → HasRungForAll plan old s i → (m : ℕ) (new : Run) → LeadsInManner plan is_polite m checked old checked_then new
+      → forks_given old s i < forks_given new s i
+      → (before : ℕ) × (checked_there : ℕ → Bool) × (between : Run) × (next : Run) × (behind : ℕ) × LeadsInManner plan is_polite before checked old checked_there between × (gives : MannerStep plan is_polite checked_there between next)
+      × LeadsInManner plan is_polite behind (checked_after between gives.step.site checked_there) next checked_then new
       × (forks_given between s i ≡ forks_given old s i) × (forks_given old s i < forks_given next s i) × (meals_so_far between s ≤ meals_so_far old s + 1)
-  gives_soon is_polite polite old keeps asked rung m new leads given =
-      let give : FirstGive is_polite old new = first_give is_polite m old new leads given in (
+  gives_soon is_polite polite checked checked_then old keeps asked rung m new leads given =
+      let give : FirstGive is_polite checked checked_then old new = first_give is_polite checked checked_then m old new leads given in (
         give.before,
+        give.checked_there,
         give.between,
         give.next,
+        give.behind,
         give.leads,
         give.gives,
+        give.goes_on,
         give.not_given,
         give.given,
-        one_meal plan is_plan s i is_site within is_polite polite give.before old give.between keeps asked rung give.leads give.not_given,
+        one_meal plan is_plan s i is_site within is_polite polite give.before checked give.checked_there old give.between keeps asked rung give.leads give.not_given,
       )
 
   -- ---- the neighbour holds the fork clean

@@ -1,6 +1,6 @@
 -- A neighbour that has asked and rung waits for one meal of a polite site at most.
-use Rattle.std.proofs.Common.{◌≡◌, ◌⊎◌, ℕ, zero, suc, ◌+◌, ◌<◌, ◌≤◌, Bool, true, List, [], ◌∷◌, ◌++◌, length, slice_get, Some, refl, sym, ◌∙◌, ap, subst, inl, inr, arith, length-append, zero-add}
-use Rattle.std.proofs.lemmas.Bool.{cases_eq}
+use Rattle.std.proofs.Common.{◌≡◌, ◌⊎◌, ℕ, zero, suc, ◌+◌, ◌<◌, ◌≤◌, Bool, true, false, List, [], ◌∷◌, ◌++◌, length, slice_get, Some, refl, sym, ◌∙◌, ap, subst, inl, inr, arith, length-append, zero-add}
+use Rattle.std.proofs.lemmas.Bool.{cases_eq, false≢true}
 use Rattle.dine_token.specs.Log.{is_dirty}
 use Rattle.dine_graph.specs.Plan.{SeenPlan, IsPlan, site_count, edges_of}
 use Rattle.dine_rules.specs.declared.letters.Letter.{Letter}
@@ -17,24 +17,19 @@ use Rattle.dine_rules.proofs.lists.Counting.{requests_in-append}
 use Rattle.dine_rules.proofs.links.Links.{link_holds}
 use Rattle.dine_rules.proofs.precedence.PreferenceSteps.{IsEaten, begin_eats}
 use Rattle.dine_rules.proofs.links.WorldStreams.{WorldKeeps, reached_kept}
-use Rattle.dine_waking.specs.Manners.{HasRungForAll, HoldsDirtyFork, IsAsked, IsInManner, LeadsInManner, MannerStep, forks_given, meals_so_far}
+use Rattle.dine_waking.specs.Manners.{HasRungForAll, HoldsDirtyFork, IsAsked, IsInManner, LeadsInManner, MannerStep, forks_given, has_checked, checked_after, meals_so_far}
 use Rattle.dine_waking.specs.Runs.{LeadsBySteps, Run, RunStep, ThreadStep, rings_left, thread_of}
 use Rattle.dine_waking.proofs.Accounts.{account}
 use Rattle.dine_waking.proofs.AskedPlaces.{asked_holds, begins_clean, hand_stays}
 use Rattle.dine_waking.proofs.Bells.{RunKeeps}
 use Rattle.dine_waking.proofs.Bounded.{step_keeps}
-use Rattle.dine_waking.proofs.Heard.{AtPlace, Begun, Stays, Took, other_step, own_step, own_step_anyhow, rings_for}
+use Rattle.dine_waking.proofs.Heard.{AtPlace, Begun, Stays, Took, other_step, own_check_used, own_step, rings_for, yet_after, yet_to_check}
 use Rattle.dine_waking.proofs.SiteMoves.{longer_forks, moves_begin, site_moves, step_put, step_taken, steps_put}
 
 -- steps in a manner are steps
-pub manner_leads : (plan : SeenPlan) (is_polite : ℕ → Bool) (n : ℕ) (old new : Run) → LeadsInManner plan is_polite n old new → LeadsBySteps plan n old new
-manner_leads plan is_polite zero old new same = same
-manner_leads plan is_polite (suc n) old new w = (w.0, w.1.step, manner_leads plan is_polite n w.0 new w.2)
-
--- steps after steps
-pub steps_then : (plan : SeenPlan) (n m : ℕ) (old between new : Run) → LeadsBySteps plan n old between → LeadsBySteps plan m between new → (k : ℕ) × LeadsBySteps plan k old new
-steps_then plan zero m old between new same more = (m, subst (λ (run : Run). LeadsBySteps plan m run new) (sym same) more)
-steps_then plan (suc n) m old between new w more = let v = steps_then plan n m w.0 between new w.2 more in (suc v.0, (w.0, w.1, v.1))
+pub manner_leads : (plan : SeenPlan) (is_polite checked checked_then : ℕ → Bool) (n : ℕ) (old new : Run) → LeadsInManner plan is_polite n checked old checked_then new → LeadsBySteps plan n old new
+manner_leads plan is_polite checked checked_then zero old new same = same.1
+manner_leads plan is_polite checked checked_then (suc n) old new w = (w.0, w.1.step, manner_leads plan is_polite (checked_after old w.1.step.site checked) checked_then n w.0 new w.2)
 
 -- ---- where a Request lies
 
@@ -150,129 +145,118 @@ module _ (plan : SeenPlan) (is_plan : IsPlan plan) (s i : ℕ) (is_site : s < si
         },
       )
 
-  -- the next step of a run in which the site is polite
+  -- a Begin of the site, in its manner
+  record BeginsHere (is_polite checked : ℕ → Bool) (old next : Run) (w : MannerStep plan is_polite checked old next) : Type 0 where
+    here : s ≡ w.step.site
+    begun : Begun plan s i old next
+    by_check : is_polite s ≡ true → has_checked old checked s ≡ true
+
+  -- the next step of a run, where the site has a ring left
+  at_place : (is_polite checked : ℕ → Bool) (old next : Run) → RunKeeps plan old → (w : MannerStep plan is_polite checked old next) → 0 < rings_for i (rings_left (thread_of old s)) → AtPlace plan s i old next ⊎ BeginsHere is_polite checked old next w
+  at_place is_polite checked old next keeps w ringing = elim (cases_eq s w.step.site) [
+    | inr other ↦ inl (other_step plan is_plan s i is_site within old next keeps w.step.site other w.step.step)
+    | inl same ↦
+        let own : (one : ThreadStep plan s old next) × IsInManner plan s checked old next one (is_polite s) = subst (λ (x : ℕ). (one : ThreadStep plan x old next) × IsInManner plan x checked old next one (is_polite x)) (sym same) (w.step.step, w.in_manner) in
+        elim (own_step plan is_plan s i is_site within old next keeps own.0 ringing) [
+          | inl at ↦ inl at
+          | inr begins ↦ inr (record { here = same; begun = begins.0; by_check = λ polite. begins.1 checked (subst (IsInManner plan s checked old next own.0) polite own.1) })
+        ]
+  ]
+
+  -- the Request lies there still, or it was taken; no meal has begun
+  waits_on : (k edge : ℕ) (old next : Run) → RunKeeps plan old → Lies old k edge → (w : RunStep plan old next) → forks_given next s i ≡ forks_given old s i → AtPlace plan s i old next
+      → (meals_so_far next s ≡ meals_so_far old s) × (Lies next k edge ⊎ HasTaken next)
+  waits_on k edge old next keeps lies w given (Stays ate taken rings) = (
+    ate,
+    inl (record {
+      request = longer_get (put_to plan old.world s i) (put_to plan next.world s i) k (letter.Request edge) (step_put plan w.site old next w.step (neighbour_at plan s i) (place_of plan (neighbour_at plan s i) (edge_at plan s i))) lies.request;
+      untaken = omega (arith, lies.untaken, ap (λ (letters : List Letter). length letters) taken);
+      ringing = omega (arith, lies.ringing, ap (λ (letters : List Letter). length letters) taken);
+    }),
+  )
+  waits_on k edge old next keeps lies w given (Took ate l first taken rings) =
+      let before : List Letter = (traffic_at (state old) i).taken in
+      let longer : length (traffic_at (state next) i).taken ≡ length before + 1 = ap (λ (letters : List Letter). length letters) taken ∙ length-append before (l ∷ []) in (
+        ate,
+        elim (cases_eq (length before) k) [
+          | inl here ↦
+              let request : l ≡ letter.Request edge = (let e : Some l ≡ Some (letter.Request edge) = sym first ∙ ap (slice_get (put_to plan old.world s i)) here ∙ lies.request in cc) in
+              let more : requests_in (traffic_at (state next) i).taken ≡ requests_in before + 1 = ap requests_in taken ∙ requests_in-append before (l ∷ []) ∙ ap (λ (x : Letter). requests_in before + requests_in (x ∷ [])) request in
+              inr (omega (arith, given, more, (place_keeps old keeps).given_when_asked))
+          | inr further ↦ inl (record {
+            request = longer_get (put_to plan old.world s i) (put_to plan next.world s i) k (letter.Request edge) (step_put plan w.site old next w.step (neighbour_at plan s i) (place_of plan (neighbour_at plan s i) (edge_at plan s i))) lies.request;
+            untaken = grind (arith, lies.untaken, longer, further);
+            ringing = omega (arith, lies.ringing, longer);
+          })
+        ],
+      )
+
+  -- a Begin leaves the Request there, and the fork dirty
+  begun_lies : (k edge x : ℕ) (old next : Run) → Lies old k edge → ThreadStep plan x old next → Begun plan s i old next → Lies next k edge
+  begun_lies k edge x old next lies one begun =
+      let same_taken : (traffic_at (state next) i).taken ≡ (traffic_at (state old) i).taken = ap (λ (x : LocalState). (traffic_at x i).taken) begun.changes in
+      record {
+        request = longer_get (put_to plan old.world s i) (put_to plan next.world s i) k (letter.Request edge) (step_put plan x old next one (neighbour_at plan s i) (place_of plan (neighbour_at plan s i) (edge_at plan s i))) lies.request;
+        untaken = omega (arith, lies.untaken, ap (λ (letters : List Letter). length letters) same_taken);
+        ringing = omega (arith, lies.ringing, begun.rings, ap (λ (letters : List Letter). length letters) same_taken);
+      }
+
+  begun_dirty : (old next : Run) → RunKeeps plan old → Begun plan s i old next → HoldsDirtyFork plan next s i
+  begun_dirty old next keeps begun = (
+    ap (λ (x : LocalState). fork_at plan s x i) begun.changes ∙ (eats old keeps begun.needs).held,
+    ap (λ (x : LocalState). is_dirty (hand_at s x i)) begun.changes ∙ (eats old keeps begun.needs).dirty,
+  )
+
+  module _ (is_polite : ℕ → Bool) (polite : is_polite s ≡ true) (k edge : ℕ) where
+    -- where the site has yet to check, it begins no meal
+    none_waited : (m : ℕ) (checked checked_then : ℕ → Bool) (old new : Run) → RunKeeps plan old → Lies old k edge → HoldsDirtyFork plan old s i → checked s ≡ false → LeadsInManner plan is_polite m checked old checked_then new → forks_given new s i ≡ forks_given old s i → meals_so_far new s ≡ meals_so_far old s
+    none_waited zero checked checked_then old new keeps lies dirty yet same given = ap (λ (run : Run). meals_so_far run s) (sym same.1)
+    none_waited (suc m) checked checked_then old new keeps lies dirty yet w given =
+        let does : RunStep plan old w.0 = w.1.step in
+        let after_it : ℕ → Bool = checked_after old does.site checked in
+        let more : LeadsBySteps plan m w.0 new = manner_leads plan is_polite after_it checked_then m w.0 new w.2 in
+        let keeps_next : RunKeeps plan w.0 = step_keeps plan is_plan old w.0 keeps does.site does.is_site does.step in
+        let given_next : forks_given new s i ≡ forks_given w.0 s i = given_then old w.0 new m does.site does.step more given in
+        let ringing : 0 < rings_for i (rings_left (thread_of old s)) = omega (arith, lies.untaken, lies.ringing) in
+        let still_yet : has_checked old checked s ≡ false = yet_to_check i old checked s yet ringing in
+        elim (at_place is_polite checked old w.0 keeps w.1 ringing) [
+          | inr begins ↦ absurd (false≢true (sym still_yet ∙ begins.by_check polite))
+          | inl at ↦
+              let on = waits_on k edge old w.0 keeps lies does (given_first old w.0 new m does.site does.step more given) at in
+              let dirty_next : HoldsDirtyFork plan w.0 s i = still_dirty old w.0 new m does.site does.step more given keeps keeps_next dirty.0 dirty.1 on.0 in
+              elim on.1 [
+                | inl lies_next ↦ none_waited m after_it checked_then w.0 new keeps_next lies_next dirty_next (yet_after old does.site checked s still_yet) w.2 given_next ∙ on.0
+                | inr taken ↦ none_begins m w.0 new keeps_next taken dirty_next.1 more given_next ∙ on.0
+              ]
+        ]
+
+    -- it begins one meal at most: its check is used then, and the fork is dirty
+    one_waited : (m : ℕ) (checked checked_then : ℕ → Bool) (old new : Run) → RunKeeps plan old → Lies old k edge → LeadsInManner plan is_polite m checked old checked_then new → forks_given new s i ≡ forks_given old s i → meals_so_far new s ≤ meals_so_far old s + 1
+    one_waited zero checked checked_then old new keeps lies same given = omega (arith, ap (λ (run : Run). meals_so_far run s) same.1)
+    one_waited (suc m) checked checked_then old new keeps lies w given =
+        let does : RunStep plan old w.0 = w.1.step in
+        let after_it : ℕ → Bool = checked_after old does.site checked in
+        let more : LeadsBySteps plan m w.0 new = manner_leads plan is_polite after_it checked_then m w.0 new w.2 in
+        let keeps_next : RunKeeps plan w.0 = step_keeps plan is_plan old w.0 keeps does.site does.is_site does.step in
+        let given_next : forks_given new s i ≡ forks_given w.0 s i = given_then old w.0 new m does.site does.step more given in
+        elim (at_place is_polite checked old w.0 keeps w.1 (omega (arith, lies.untaken, lies.ringing))) [
+          | inr begins ↦
+              let none : meals_so_far new s ≡ meals_so_far w.0 s = none_waited m after_it checked_then w.0 new keeps_next (begun_lies k edge does.site old w.0 lies does.step begins.begun) (begun_dirty old w.0 keeps begins.begun)
+              (own_check_used old s does.site checked begins.here) w.2 given_next in
+              omega (arith, ap (λ (x : LocalState). x.ate) begins.begun.changes, none)
+          | inl at ↦
+              let on = waits_on k edge old w.0 keeps lies does (given_first old w.0 new m does.site does.step more given) at in
+              elim on.1 [
+                | inl lies_next ↦ omega (arith, on.0, one_waited m after_it checked_then w.0 new keeps_next lies_next w.2 given_next)
+                | inr taken ↦ omega (arith, on.0, one_begins m w.0 new keeps_next taken more given_next)
+              ]
+        ]
+
   module _ (is_polite : ℕ → Bool) (polite : is_polite s ≡ true) where
-    at_place : (old next : Run) → RunKeeps plan old → MannerStep plan is_polite old next → 0 < rings_for i (rings_left (thread_of old s)) → AtPlace plan s i old next
-    at_place old next keeps w ringing = elim (cases_eq s w.step.site) [
-      | inr other ↦ other_step plan is_plan s i is_site within old next keeps w.step.site other w.step.step
-      | inl same ↦
-          let own : (one : ThreadStep plan s old next) × IsInManner plan s old next one (is_polite s) = subst (λ (x : ℕ). (one : ThreadStep plan x old next) × IsInManner plan x old next one (is_polite x)) (sym same) (w.step.step, w.in_manner) in
-          own_step plan is_plan s i is_site within old next keeps own.0 (subst (IsInManner plan s old next own.0) polite own.1) ringing
-    ]
+    pub one_meal : (m : ℕ) (checked checked_then : ℕ → Bool) (old new : Run) → RunKeeps plan old → IsAsked plan old s i → HasRungForAll plan old s i → LeadsInManner plan is_polite m checked old checked_then new → forks_given new s i ≡ forks_given old s i
+        → meals_so_far new s ≤ meals_so_far old s + 1
+    one_meal m checked checked_then old new keeps asked rung = let w = asked_lies old keeps asked rung in one_waited is_polite polite w.0 w.1 m checked checked_then old new keeps w.2
 
-    -- the same, whatever its manner
-    at_place_anyhow : (old next : Run) → RunKeeps plan old → (w : RunStep plan old next) → 0 < rings_for i (rings_left (thread_of old s)) → AtPlace plan s i old next ⊎ Begun plan s i old next
-    at_place_anyhow old next keeps w ringing = elim (cases_eq s w.site) [
-      | inr other ↦ inl (other_step plan is_plan s i is_site within old next keeps w.site other w.step)
-      | inl same ↦ own_step_anyhow plan is_plan s i is_site within old next keeps (subst (λ (x : ℕ). ThreadStep plan x old next) (sym same) w.step) ringing
-    ]
-
-    -- the Request lies there still, or it was taken; no meal has begun
-    waits_on : (k edge : ℕ) (old next : Run) → RunKeeps plan old → Lies old k edge → (w : RunStep plan old next) → forks_given next s i ≡ forks_given old s i → AtPlace plan s i old next
-        → (meals_so_far next s ≡ meals_so_far old s) × (Lies next k edge ⊎ HasTaken next)
-    waits_on k edge old next keeps lies w given (Stays ate taken rings) = (
-      ate,
-      inl (record {
-        request = longer_get (put_to plan old.world s i) (put_to plan next.world s i) k (letter.Request edge) (step_put plan w.site old next w.step (neighbour_at plan s i) (place_of plan (neighbour_at plan s i) (edge_at plan s i))) lies.request;
-        untaken = omega (arith, lies.untaken, ap (λ (letters : List Letter). length letters) taken);
-        ringing = omega (arith, lies.ringing, ap (λ (letters : List Letter). length letters) taken);
-      }),
-    )
-    waits_on k edge old next keeps lies w given (Took ate l first taken rings) =
-        let before : List Letter = (traffic_at (state old) i).taken in
-        let longer : length (traffic_at (state next) i).taken ≡ length before + 1 = ap (λ (letters : List Letter). length letters) taken ∙ length-append before (l ∷ []) in (
-          ate,
-          elim (cases_eq (length before) k) [
-            | inl here ↦
-                let request : l ≡ letter.Request edge = (let e : Some l ≡ Some (letter.Request edge) = sym first ∙ ap (slice_get (put_to plan old.world s i)) here ∙ lies.request in cc) in
-                let more : requests_in (traffic_at (state next) i).taken ≡ requests_in before + 1 = ap requests_in taken ∙ requests_in-append before (l ∷ []) ∙ ap (λ (x : Letter). requests_in before + requests_in (x ∷ [])) request in
-                inr (omega (arith, given, more, (place_keeps old keeps).given_when_asked))
-            | inr further ↦ inl (record {
-              request = longer_get (put_to plan old.world s i) (put_to plan next.world s i) k (letter.Request edge) (step_put plan w.site old next w.step (neighbour_at plan s i) (place_of plan (neighbour_at plan s i) (edge_at plan s i))) lies.request;
-              untaken = grind (arith, lies.untaken, longer, further);
-              ringing = omega (arith, lies.ringing, longer);
-            })
-          ],
-        )
-
-    module _ (k edge : ℕ) where
-      none_waited : (m : ℕ) (old new : Run) → RunKeeps plan old → Lies old k edge → HoldsDirtyFork plan old s i → LeadsInManner plan is_polite m old new → forks_given new s i ≡ forks_given old s i → meals_so_far new s ≡ meals_so_far old s
-      none_waited zero old new keeps lies dirty same given = ap (λ (run : Run). meals_so_far run s) (sym same)
-      none_waited (suc m) old new keeps lies dirty w given =
-          let does : RunStep plan old w.0 = w.1.step in
-          let more : LeadsBySteps plan m w.0 new = manner_leads plan is_polite m w.0 new w.2 in
-          let keeps_next : RunKeeps plan w.0 = step_keeps plan is_plan old w.0 keeps does.site does.is_site does.step in
-          let given_next : forks_given new s i ≡ forks_given w.0 s i = given_then old w.0 new m does.site does.step more given in
-          let on = waits_on k edge old w.0 keeps lies does (given_first old w.0 new m does.site does.step more given) (at_place old w.0 keeps w.1 (omega (arith, lies.untaken, lies.ringing))) in
-          let dirty_next : HoldsDirtyFork plan w.0 s i = still_dirty old w.0 new m does.site does.step more given keeps keeps_next dirty.0 dirty.1 on.0 in
-          elim on.1 [
-            | inl lies_next ↦ none_waited m w.0 new keeps_next lies_next dirty_next w.2 given_next ∙ on.0
-            | inr taken ↦ none_begins m w.0 new keeps_next taken dirty_next.1 more given_next ∙ on.0
-          ]
-
-      one_waited : (m : ℕ) (old new : Run) → RunKeeps plan old → Lies old k edge → LeadsInManner plan is_polite m old new → forks_given new s i ≡ forks_given old s i → meals_so_far new s ≤ meals_so_far old s + 1
-      one_waited zero old new keeps lies same given = omega (arith, ap (λ (run : Run). meals_so_far run s) same)
-      one_waited (suc m) old new keeps lies w given =
-          let does : RunStep plan old w.0 = w.1.step in
-          let more : LeadsBySteps plan m w.0 new = manner_leads plan is_polite m w.0 new w.2 in
-          let keeps_next : RunKeeps plan w.0 = step_keeps plan is_plan old w.0 keeps does.site does.is_site does.step in
-          let given_next : forks_given new s i ≡ forks_given w.0 s i = given_then old w.0 new m does.site does.step more given in
-          let on = waits_on k edge old w.0 keeps lies does (given_first old w.0 new m does.site does.step more given) (at_place old w.0 keeps w.1 (omega (arith, lies.untaken, lies.ringing))) in
-          elim on.1 [
-            | inl lies_next ↦ omega (arith, on.0, one_waited m w.0 new keeps_next lies_next w.2 given_next)
-            | inr taken ↦ omega (arith, on.0, one_begins m w.0 new keeps_next taken more given_next)
-          ]
-
-      -- the first step is in no manner: if it begins a meal, this is the only one
-      late_first : (m : ℕ) (old next new : Run) → RunKeeps plan old → Lies old k edge → RunStep plan old next → LeadsInManner plan is_polite m next new → forks_given new s i ≡ forks_given old s i → meals_so_far new s ≤ meals_so_far old s + 1
-      late_first m old next new keeps lies does w given =
-          let more : LeadsBySteps plan m next new = manner_leads plan is_polite m next new w in
-          let keeps_next : RunKeeps plan next = step_keeps plan is_plan old next keeps does.site does.is_site does.step in
-          let same_given : forks_given next s i ≡ forks_given old s i = given_first old next new m does.site does.step more given in
-          let given_next : forks_given new s i ≡ forks_given next s i = given_then old next new m does.site does.step more given in
-          elim (at_place_anyhow old next keeps does (omega (arith, lies.untaken, lies.ringing))) [
-            | inl at ↦
-                let on = waits_on k edge old next keeps lies does same_given at in
-                elim on.1 [
-                  | inl lies_next ↦ omega (arith, on.0, one_waited m next new keeps_next lies_next w given_next)
-                  | inr taken ↦ omega (arith, on.0, one_begins m next new keeps_next taken more given_next)
-                ]
-            | inr begun ↦
-                let same_taken : (traffic_at (state next) i).taken ≡ (traffic_at (state old) i).taken = ap (λ (x : LocalState). (traffic_at x i).taken) begun.changes in
-                let lies_next : Lies next k edge = record {
-                  request = longer_get (put_to plan old.world s i) (put_to plan next.world s i) k (letter.Request edge) (step_put plan does.site old next does.step (neighbour_at plan s i) (place_of plan (neighbour_at plan s i) (edge_at plan s i))) lies.request;
-                  untaken = omega (arith, lies.untaken, ap (λ (letters : List Letter). length letters) same_taken);
-                  ringing = omega (arith, lies.ringing, begun.rings, ap (λ (letters : List Letter). length letters) same_taken);
-                } in
-                let dirty : HoldsDirtyFork plan next s i = (
-                  ap (λ (x : LocalState). fork_at plan s x i) begun.changes ∙ (eats old keeps begun.needs).held,
-                  ap (λ (x : LocalState). is_dirty (hand_at s x i)) begun.changes ∙ (eats old keeps begun.needs).dirty,
-                ) in
-                omega (arith, ap (λ (x : LocalState). x.ate) begun.changes, none_waited m next new keeps_next lies_next dirty w given_next)
-          ]
-
-      -- one step in between is in no manner
-      one_late : (n m : ℕ) (old between next new : Run) → RunKeeps plan old → Lies old k edge → LeadsInManner plan is_polite n old between → RunStep plan between next → LeadsInManner plan is_polite m next new
-          → forks_given new s i ≡ forks_given old s i → meals_so_far new s ≤ meals_so_far old s + 1
-      one_late zero m old between next new keeps lies same late w given = late_first m old next new keeps lies (subst (λ (run : Run). RunStep plan run next) (sym same) late) w given
-      one_late (suc n) m old between next new keeps lies w late v given =
-          let does : RunStep plan old w.0 = w.1.step in
-          let behind : LeadsBySteps plan (suc m) between new = (next, late, manner_leads plan is_polite m next new v) in
-          let more = steps_then plan n (suc m) w.0 between new (manner_leads plan is_polite n w.0 between w.2) behind in
-          let keeps_next : RunKeeps plan w.0 = step_keeps plan is_plan old w.0 keeps does.site does.is_site does.step in
-          let given_next : forks_given new s i ≡ forks_given w.0 s i = given_then old w.0 new more.0 does.site does.step more.1 given in
-          let on = waits_on k edge old w.0 keeps lies does (given_first old w.0 new more.0 does.site does.step more.1 given) (at_place old w.0 keeps w.1 (omega (arith, lies.untaken, lies.ringing))) in
-          elim on.1 [
-            | inl lies_next ↦ omega (arith, on.0, one_late n m w.0 between next new keeps_next lies_next w.2 late v given_next)
-            | inr taken ↦ omega (arith, on.0, one_begins more.0 w.0 new keeps_next taken more.1 given_next)
-          ]
-
-    pub one_meal : (m : ℕ) (old new : Run) → RunKeeps plan old → IsAsked plan old s i → HasRungForAll plan old s i → LeadsInManner plan is_polite m old new → forks_given new s i ≡ forks_given old s i → meals_so_far new s ≤ meals_so_far old s + 1
-    one_meal m old new keeps asked rung = let w = asked_lies old keeps asked rung in one_waited w.0 w.1 m old new keeps w.2
-
-    pub no_meal : (m : ℕ) (old new : Run) → RunKeeps plan old → IsAsked plan old s i → HasRungForAll plan old s i → HoldsDirtyFork plan old s i → LeadsInManner plan is_polite m old new → forks_given new s i ≡ forks_given old s i → meals_so_far new s ≡ meals_so_far old s
-    no_meal m old new keeps asked rung = let w = asked_lies old keeps asked rung in none_waited w.0 w.1 m old new keeps w.2
-
-    pub one_meal_late : (n m : ℕ) (old between next new : Run) → RunKeeps plan old → IsAsked plan old s i → HasRungForAll plan old s i → LeadsInManner plan is_polite n old between → RunStep plan between next → LeadsInManner plan is_polite m next new
-        → forks_given new s i ≡ forks_given old s i → meals_so_far new s ≤ meals_so_far old s + 1
-    one_meal_late n m old between next new keeps asked rung = let w = asked_lies old keeps asked rung in one_late w.0 w.1 n m old between next new keeps w.2
+    pub no_meal : (m : ℕ) (checked checked_then : ℕ → Bool) (old new : Run) → RunKeeps plan old → IsAsked plan old s i → HasRungForAll plan old s i → HoldsDirtyFork plan old s i → checked s ≡ false → LeadsInManner plan is_polite m checked old checked_then new
+        → forks_given new s i ≡ forks_given old s i → meals_so_far new s ≡ meals_so_far old s
+    no_meal m checked checked_then old new keeps asked rung = let w = asked_lies old keeps asked rung in none_waited is_polite polite w.0 w.1 m checked checked_then old new keeps w.2

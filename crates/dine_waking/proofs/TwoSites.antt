@@ -13,10 +13,11 @@ use Rattle.dine_rules.specs.Steps as step
 use Rattle.dine_rules.specs.Steps.{may}
 use Rattle.dine_token.specs.Log.{is_dirty}
 use Rattle.dine_waking.specs.Examples.{at_work, request, state_in}
-use Rattle.dine_waking.specs.MannerExamples.{asked_run}
+use Rattle.dine_waking.specs.MannerExamples.{asked_run, rung_run}
 use Rattle.dine_waking.specs.Examples.{named_job, two_sites}
-use Rattle.dine_waking.specs.Manners.{IsInManner, LeadsInManner, MannerStep}
-use Rattle.dine_waking.specs.Runs.{Acts, ByActing, GoesOn, Run, Thread, thread_of}
+use Rattle.dine_waking.specs.Manners.{IsInManner, LeadsInManner, MannerStep, finds_no_ring, has_checked, checked_after}
+use Rattle.dine_waking.specs.Mistakes.{LeadsByOneCheck}
+use Rattle.dine_waking.specs.Runs.{Acts, ByActing, GoesOn, Run, Thread}
 use Rattle.dine_waking.proofs.Queues.{event_happens}
 
 or_true_and : (b : Bool) → ((b || true) && true) ≡ true
@@ -27,7 +28,11 @@ never_drops : (failed : Bool) (more : Bool) → (failed && false && more) ≡ fa
 never_drops true more = refl
 never_drops false more = refl
 
-module _ (k : ℕ) (polite : Bool) (bell : List ℕ) (may_eat : polite ≡ true → bell ≡ []) (higher : Thread) where
+or_true : (b : Bool) → (b || true) ≡ true
+or_true true = refl
+or_true false = refl
+
+module _ (k : ℕ) (polite : Bool) (bell : List ℕ) (higher : Thread) where
   abbrev plan : SeenPlan
   plan = two_sites k 1
 
@@ -41,22 +46,26 @@ module _ (k : ℕ) (polite : Bool) (bell : List ℕ) (may_eat : polite ≡ true 
   abbrev at : Phase → ℕ → Run
   at does n = record { world = site does n ∷ state_in phase.Hungry (request ∷ []) [] ∷ []; threads = at_work GoesOn bell ∷ higher ∷ [] }
 
-  in_manner : (old new : Run) (a : Acts plan 0 old new) (b : Bool) → (b ≡ true → a.kind ≡ event.Begin → (thread_of old 0).bell ≡ []) → IsInManner plan 0 old new (ByActing a) b
-  in_manner old new a true silent = silent refl
-  in_manner old new a false silent = tt
+  in_manner : (checked : ℕ → Bool) (old new : Run) (a : Acts plan 0 old new) (b : Bool) → (b ≡ true → a.kind ≡ event.Begin → has_checked old checked 0 ≡ true) → IsInManner plan 0 checked old new (ByActing a) b
+  in_manner checked old new a true checks = checks refl
+  in_manner checked old new a false checks = tt
 
-  one_step : (old new : Run) (a : Acts plan 0 old new) → (polite ≡ true → a.kind ≡ event.Begin → (thread_of old 0).bell ≡ []) → MannerStep plan (λ s. polite) old new
-  one_step old new a silent = record { step = record { site = 0; is_site = omega arith; step = ByActing a }; in_manner = in_manner old new a polite silent }
+  abbrev one_step : (checked : ℕ → Bool) (old new : Run) (a : Acts plan 0 old new) → (polite ≡ true → a.kind ≡ event.Begin → has_checked old checked 0 ≡ true) → MannerStep plan (λ s. polite) checked old new
+  one_step checked old new a checks = record { step = record { site = 0; is_site = omega arith; step = ByActing a }; in_manner = in_manner checked old new a polite checks }
+
+  -- a polite one that has no ring has checked
+  checks_now : (polite ≡ true → bell ≡ []) → (checked : ℕ → Bool) (n : ℕ) → polite ≡ true → has_checked (at phase.Hungry n) checked 0 ≡ true
+  checks_now silent checked n is = ap (λ (rings : List ℕ). checked 0 || finds_no_ring GoesOn rings) (silent is) ∙ or_true (checked 0)
 
   -- it grows hungry
-  module _ (n : ℕ) (left : n < k) where
+  module _ (checked : ℕ → Bool) (n : ℕ) (left : n < k) where
     may_hunger : may plan 0 (site phase.Thinking n) step.Hungry ≡ true
     may_hunger =
         let more : nat_lt n (job_count plan 0) ≡ true = lt-ltb n (job_count plan 0) (omega (arith, jobs)) in
         ap (λ (b : Bool). b && true) more
 
-    hungers : MannerStep plan (λ s. polite) (at phase.Thinking n) (at phase.Hungry n)
-    hungers = one_step (at phase.Thinking n) (at phase.Hungry n) (record {
+    abbrev hungers : MannerStep plan (λ s. polite) checked (at phase.Thinking n) (at phase.Hungry n)
+    hungers = one_step checked (at phase.Thinking n) (at phase.Hungry n) (record {
       goes_on = refl;
       kind = event.Hungry;
       next = cond-true (may plan 0 (site phase.Thinking n) step.Hungry) (Some event.Hungry) _ may_hunger;
@@ -68,20 +77,20 @@ module _ (k : ℕ) (polite : Bool) (bell : List ℕ) (may_eat : polite ≡ true 
     may_begin : may plan 0 (site phase.Hungry n) step.Begin ≡ true
     may_begin = or_true_and (not (is_dirty (hand_at 0 (site phase.Hungry n) 0)))
 
-    begins : MannerStep plan (λ s. polite) (at phase.Hungry n) (at phase.Eating (n + 1))
-    begins = one_step (at phase.Hungry n) (at phase.Eating (n + 1)) (record {
+    abbrev begins : (polite ≡ true → has_checked (at phase.Hungry n) checked 0 ≡ true) → MannerStep plan (λ s. polite) checked (at phase.Hungry n) (at phase.Eating (n + 1))
+    begins checks = one_step checked (at phase.Hungry n) (at phase.Eating (n + 1)) (record {
       goes_on = refl;
       kind = event.Begin;
       next = cond-true (may plan 0 (site phase.Hungry n) step.Begin) (Some event.Begin) _ may_begin;
       world = event_happens plan (at phase.Hungry n).world 0 event.Begin step.Begin (omega arith) refl may_begin;
       threads = refl;
-    }) (λ polite is. may_eat polite)
+    }) (λ is begins. checks is)
 
     -- it ends the meal
-    ends : MannerStep plan (λ s. polite) (at phase.Eating (n + 1)) (at phase.Thinking (n + 1))
+    abbrev ends : MannerStep plan (λ s. polite) checked (at phase.Eating (n + 1)) (at phase.Thinking (n + 1))
     ends =
         let failed : Bool = meal_fails plan 0 (site phase.Eating (n + 1)) in
-        one_step (at phase.Eating (n + 1)) (at phase.Thinking (n + 1)) (record {
+        one_step checked (at phase.Eating (n + 1)) (at phase.Thinking (n + 1)) (record {
           goes_on = refl;
           kind = event.End;
           next = refl;
@@ -92,13 +101,30 @@ module _ (k : ℕ) (polite : Bool) (bell : List ℕ) (may_eat : polite ≡ true 
         }) (λ polite is. absurd cc)
 
   -- and so on, until it has begun k meals
-  pub eats_on : (left n : ℕ) → n + left ≡ k → LeadsInManner plan (λ s. polite) (3 * left) (asked_run n (at_work GoesOn bell) higher) (asked_run k (at_work GoesOn bell) higher)
-  eats_on zero n all = ap (λ (n : ℕ). asked_run n (at_work GoesOn bell) higher) (let same : n ≡ k = omega arith in same)
-  eats_on (suc left) n all =
+  pub eats_on : (polite ≡ true → bell ≡ []) → (checked : ℕ → Bool) (left n : ℕ) → n + left ≡ k → (checked_then : ℕ → Bool) × LeadsInManner plan (λ s. polite) (3 * left) checked (asked_run n (at_work GoesOn bell) higher) checked_then (asked_run k (at_work GoesOn bell) higher)
+  eats_on silent checked zero n all = (checked, (refl, ap (λ (n : ℕ). asked_run n (at_work GoesOn bell) higher) (let same : n ≡ k = omega arith in same)))
+  eats_on silent checked (suc left) n all =
       let three : suc (suc (suc (3 * left))) ≡ 3 * suc left = omega arith in
       let more : n < k = omega arith in
-      subst (λ (m : ℕ). LeadsInManner plan (λ s. polite) m (asked_run n (at_work GoesOn bell) higher) (asked_run k (at_work GoesOn bell) higher)) three
-      (at phase.Hungry n, hungers n more, (at phase.Eating (n + 1), begins n more, (at phase.Thinking (n + 1), ends n more, eats_on left (n + 1) (omega arith))))
+      let second : ℕ → Bool = checked_after (at phase.Thinking n) 0 checked in
+      let third : ℕ → Bool = checked_after (at phase.Hungry n) 0 second in
+      let rest = eats_on silent (checked_after (at phase.Eating (n + 1)) 0 third) left (n + 1) (omega arith) in (
+        rest.0,
+        subst (λ (m : ℕ). LeadsInManner plan (λ s. polite) m checked (asked_run n (at_work GoesOn bell) higher) rest.0 (asked_run k (at_work GoesOn bell) higher)) three
+            (at phase.Hungry n, hungers checked n more, (at phase.Eating (n + 1), begins second n more (checks_now silent second n), (at phase.Thinking (n + 1), ends third n more, rest.1))),
+      )
+
+-- the same by one check for all meals
+pub eats_on_by_one_check : (k left n : ℕ) → n + left ≡ k → LeadsByOneCheck (two_sites k 1) (λ s. true) (3 * left) (rung_run n) (rung_run k)
+eats_on_by_one_check k zero n all = ap rung_run (let same : n ≡ k = omega arith in same)
+eats_on_by_one_check k (suc left) n all =
+    let three : suc (suc (suc (3 * left))) ≡ 3 * suc left = omega arith in
+    let more : n < k = omega arith in
+    let bell : List ℕ = 0 ∷ [] in
+    let higher : Thread = at_work GoesOn [] in
+    let checked : ℕ → Bool = λ s. true in
+    subst (λ (m : ℕ). LeadsByOneCheck (two_sites k 1) (λ s. true) m (rung_run n) (rung_run k)) three
+    (at k true bell higher phase.Hungry n, hungers k true bell higher checked n more, (at k true bell higher phase.Eating (n + 1), begins k true bell higher checked n more (λ is. refl), (at k true bell higher phase.Thinking (n + 1), ends k true bell higher checked n more, eats_on_by_one_check k left (n + 1) (omega arith))))
 
 -- ---- the two sites are a plan
 

@@ -37,14 +37,14 @@ module _ (plan : SeenPlan) (is_plan : IsPlan plan) (t j : ℕ) (within : j < len
       let none = asked_waits plan is_plan end number (across plan t j is_plan within).is_site (across plan t j is_plan within).within run keeps asked in
       seen_here (WaitsForFork plan run) (none.0, none.1, rung)
 
-  module _ (is_polite : ℕ → Bool) (polite : is_polite end ≡ true) (m : ℕ) (old new : Run) (keeps : RunKeeps plan old) (leads : LeadsInManner plan is_polite m old new) (ate : meals_so_far new t ≡ meals_so_far old t) where
+  module _ (is_polite : ℕ → Bool) (polite : is_polite end ≡ true) (checked checked_then : ℕ → Bool) (m : ℕ) (old new : Run) (keeps : RunKeeps plan old) (leads : LeadsInManner plan is_polite m checked old checked_then new) (ate : meals_so_far new t ≡ meals_so_far old t) where
     ate_there : meals_so_far new (neighbour_at plan end number) ≡ meals_so_far old (neighbour_at plan end number)
     ate_there = subst (λ (x : ℕ). meals_so_far new x ≡ meals_so_far old x) (sym back) ate
 
     pub waits_for_one : HoldsCleanFork plan old t j ⊎ WaitsForFork plan old t j → meals_so_far new end ≤ meals_so_far old end + 1
     waits_for_one (inl clean) =
         let there : HoldsCleanFork plan old (neighbour_at plan end number) (number_there plan end number) = seen_there (HoldsCleanFork plan old) clean in
-        omega (arith, clean_eats_first plan is_plan end number (across plan t j is_plan within).is_site (across plan t j is_plan within).within m old new keeps there (manner_leads plan is_polite m old new leads) ate_there)
+        omega (arith, clean_eats_first plan is_plan end number (across plan t j is_plan within).is_site (across plan t j is_plan within).within m old new keeps there (manner_leads plan is_polite checked checked_then m old new leads) ate_there)
     waits_for_one (inr waits) =
         let there : WaitsForFork plan old (neighbour_at plan end number) (number_there plan end number) = seen_there (WaitsForFork plan old) waits in
-        overtakes_once plan is_plan end number (across plan t j is_plan within).is_site (across plan t j is_plan within).within is_polite polite old keeps there m new leads ate_there
+        overtakes_once plan is_plan end number (across plan t j is_plan within).is_site (across plan t j is_plan within).within is_polite polite checked old keeps there m checked_then new leads ate_there

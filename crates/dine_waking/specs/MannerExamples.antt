@@ -32,3 +32,18 @@ eats_first_run = record {
   world = state_in Hungry (fork_given_first ∷ request ∷ []) (request ∷ []) ∷ record (state_in Eating (request ∷ []) (fork_given_first ∷ request ∷ [])) { ate = 1 } ∷ [];
   threads = at_work GoesOn [] ∷ at_work GoesOn [] ∷ [];
 }
+
+-- The lower of the two workers grew hungry, and found no ring in its bell. Then the higher one asked it for the fork,
+-- and rang.
+abbrev pub rung_too_late_run : Run
+rung_too_late_run = record {
+  world = state_in Hungry [] [] ∷ state_in Hungry (request ∷ []) [] ∷ [];
+  threads = at_work GoesOn (0 ∷ []) ∷ at_work GoesOn [] ∷ [];
+}
+
+-- the lower site has begun its meal all the same
+abbrev pub eats_dirty_run : Run
+eats_dirty_run = record {
+  world = record (state_in Eating [] []) { ate = 1 } ∷ state_in Hungry (request ∷ []) [] ∷ [];
+  threads = at_work GoesOn (0 ∷ []) ∷ at_work GoesOn [] ∷ [];
+}

@@ -1,5 +1,6 @@
--- Steps of a thread in which one thing is wrong. One of them is enough to make a run of two workers hang.
-use Rattle.std.specs.Prelude.{◌≡◌, ℕ, ◌+◌, false, List, [], ◌∷◌, ◌++◌, slice_set, Some, None}
+-- Steps of a thread in which one thing is wrong. One of them is enough to make a run of two workers hang, or to make a
+-- neighbour of a polite site wait for all its meals.
+use Rattle.std.specs.Prelude.{◌≡◌, ℕ, zero, suc, ◌+◌, Bool, true, false, List, [], ◌∷◌, ◌++◌, slice_set, Some, None}
 use Rattle.dine_graph.specs.Plan.{SeenPlan}
 use Rattle.dine_rules.specs.declared.events.EventKind.{EventKind}
 use Rattle.dine_rules.specs.declared.letters.Kind4.{Kind4}
@@ -11,6 +12,7 @@ use Rattle.dine_site_core.specs.CoreWants.{wants_by_lists}
 use Rattle.dine_site_core.specs.NextEvent.{next_event}
 use Rattle.dine_site_core.specs.Standing.{has_finished}
 use Rattle.dine_waking.specs.Examples.{at_work, fork_given_first, request, state_in, two_workers}
+use Rattle.dine_waking.specs.Manners.{MannerStep}
 use Rattle.dine_waking.specs.Runs.{GoesOn, HasToRing, IsStuck, LeadsBySteps, Run, Sleeps, number_there, start_run, thread_of}
 
 -- these wants, with one Fork more than the site lacks
@@ -80,3 +82,9 @@ hung_run rings = record {
   threads = at_work (Sleeps (wants_by_lists two_workers 0 (state_of hung_world 0))) []
       ∷ at_work (Sleeps (wants_by_lists two_workers 1 (state_of hung_world 1))) rings ∷ [];
 }
+
+-- n steps of polite sites lead from one moment of a run to the other, as in `LeadsInManner`. The mistake: a site that
+-- has checked its bell once does not check it again after its own steps. `checked` says which sites have.
+abbrev pub LeadsByOneCheck : SeenPlan → (ℕ → Bool) → ℕ → Run → Run → Type 0
+LeadsByOneCheck plan checked zero old new = old ≡ new
+LeadsByOneCheck plan checked (suc n) old new = (next : Run) × MannerStep plan (λ s. true) checked old next × LeadsByOneCheck plan checked n next new

@@ -16,18 +16,18 @@ ghost use Rattle.dine_site.specs.Doings.{IsInTurn, own_event};
 ghost use Rattle.dine_site.specs.declared.manner.Manner.{Manner};
 ghost use Rattle.dine_site.specs.declared.manner.Manner.TheVariants.{Eager};
 ghost use Rattle.dine_site_core.specs.NextEvent.{next_event};
-ghost use Rattle.dine_waking.specs.Code.{IsNotedAs};
+ghost use Rattle.dine_waking.specs.Code.{IsNotedAs, wakes_anyway};
 ghost use Rattle.dine_waking.specs.Runs.{Doing, Sleeps, doing_rung, is_woken_by, takes_letters};
 
 /// A bell notes a ring as the step `RingsBell` of a run does: by `NotesRing`, which is the contract of the code, the
-/// ring wakes the thread exactly if the run says so, and the state after it is that of the thread after the step.
-/// `anyway` is true for the ring that fills the bell, and for a ringer whose number is 64 or more. And a bell that is
-/// noted as asleep with these wants is that of a thread that sleeps and waits for these letters.
+/// ring wakes the thread exactly if the run says so, and the state after it is that of the thread after the step. The
+/// `anyway` of this step is true exactly if the ring fills the bell, or the number of the ringer is 64 or more. And a
+/// bell that is noted as asleep with these wants is that of a thread that sleeps and waits for these letters.
 pub fn bells_note_rings_as_runs_do()
     ensures rung { (doing : Doing) (number : ℕ) (kind : Kind4) (old new : SleepState) (woken : Bool)
         → IsNotedAs doing old → NotesRing number kind old new woken
-        → (anyway : Bool) × (woken ≡ is_woken_by anyway number kind doing)
-        × IsNotedAs (doing_rung anyway number kind doing) new }
+        → (woken ≡ is_woken_by (wakes_anyway number old) number kind doing)
+        × IsNotedAs (doing_rung (wakes_anyway number old) number kind doing) new }
     ensures asleep { (wants : Wants) (seen : SeenWants) (room : ℕ) → seen_wants wants ≡ Some seen
         → IsNotedAs (Sleeps seen) (record { asleep = true; wants = wants; room = room }) }
 {}

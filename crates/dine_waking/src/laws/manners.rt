@@ -5,72 +5,66 @@ ghost use Rattle.std.specs.Prelude.{◌≡◌, ◌<◌, ◌≤◌, ◌+◌, ◌*
 ghost use Rattle.dine_graph.specs.Plan.{IsPlan, SeenPlan, edges_of, site_count};
 ghost use Rattle.dine_rules.specs.Local.{neighbour_at};
 ghost use Rattle.dine_rules.specs.declared.letters.Kind4.TheVariants as kind;
-ghost use Rattle.dine_waking.specs.MannerExamples.{asked_back_run, eats_first_run, rung_run, unrung_run};
+ghost use Rattle.dine_waking.specs.MannerExamples.{asked_back_run, eats_dirty_run, eats_first_run, rung_run};
+ghost use Rattle.dine_waking.specs.MannerExamples.{rung_too_late_run, unrung_run};
 ghost use Rattle.dine_waking.specs.Examples.{two_sites};
 ghost use Rattle.dine_waking.specs.Manners.{HasRungForAll, HoldsCleanFork, HoldsDirtyFork, IsAsked, LeadsInManner};
-ghost use Rattle.dine_waking.specs.Manners.{MannerStep, WaitsForFork, forks_given, meals_so_far};
-ghost use Rattle.dine_waking.specs.Runs.{RunHasEnded, LeadsBySteps, RingsBell, Run, RunStep, number_there, start_run};
+ghost use Rattle.dine_waking.specs.Manners.{MannerStep, WaitsForFork, checked_after, forks_given, meals_so_far};
+ghost use Rattle.dine_waking.specs.Mistakes.{LeadsByOneCheck};
+ghost use Rattle.dine_waking.specs.Runs.{RunHasEnded, LeadsBySteps, RingsBell, Run, number_there, start_run};
 
 /// A polite site lets a neighbour wait for one meal at most. Take a moment at which the neighbour has asked the site
 /// for a fork, and has rung. As long as the site has not given this fork, it begins at most one meal. It begins none if
-/// at that moment it held the fork, and the fork was dirty. It also begins at most one if one step in between is in no
-/// manner: on threads a ring may come after a check that found no ring, and before the meal for which it was made.
+/// at that moment it held the fork, the fork was dirty, and the site had not checked its bell. For the bound of one
+/// meal it does not matter which sites had checked at that moment: each may have done so before rings came.
 pub fn polite_sites_begin_at_most_one_meal()
-    ensures one { (plan : SeenPlan) (is_polite : ℕ → Bool) (n m : ℕ) (old new : Run) (s i : ℕ) → IsPlan plan
-        → LeadsBySteps plan n (start_run plan) old → s < site_count plan → i < length (edges_of plan s)
-        → is_polite s ≡ true → IsAsked plan old s i → HasRungForAll plan old s i
-        → LeadsInManner plan is_polite m old new → forks_given new s i ≡ forks_given old s i
-        → meals_so_far new s ≤ meals_so_far old s + 1 }
-    ensures none { (plan : SeenPlan) (is_polite : ℕ → Bool) (n m : ℕ) (old new : Run) (s i : ℕ) → IsPlan plan
-        → LeadsBySteps plan n (start_run plan) old → s < site_count plan → i < length (edges_of plan s)
-        → is_polite s ≡ true → IsAsked plan old s i → HasRungForAll plan old s i → HoldsDirtyFork plan old s i
-        → LeadsInManner plan is_polite m old new → forks_given new s i ≡ forks_given old s i
-        → meals_so_far new s ≡ meals_so_far old s }
-    ensures late { (plan : SeenPlan) (is_polite : ℕ → Bool) (n k m : ℕ) (old between next new : Run) (s i : ℕ)
+    ensures one { (plan : SeenPlan) (is_polite checked checked_then : ℕ → Bool) (n m : ℕ) (old new : Run) (s i : ℕ)
         → IsPlan plan → LeadsBySteps plan n (start_run plan) old → s < site_count plan → i < length (edges_of plan s)
         → is_polite s ≡ true → IsAsked plan old s i → HasRungForAll plan old s i
-        → LeadsInManner plan is_polite k old between → RunStep plan between next
-        → LeadsInManner plan is_polite m next new → forks_given new s i ≡ forks_given old s i
+        → LeadsInManner plan is_polite m checked old checked_then new → forks_given new s i ≡ forks_given old s i
         → meals_so_far new s ≤ meals_so_far old s + 1 }
+    ensures none { (plan : SeenPlan) (is_polite checked checked_then : ℕ → Bool) (n m : ℕ) (old new : Run) (s i : ℕ)
+        → IsPlan plan → LeadsBySteps plan n (start_run plan) old → s < site_count plan → i < length (edges_of plan s)
+        → is_polite s ≡ true → IsAsked plan old s i → HasRungForAll plan old s i → HoldsDirtyFork plan old s i
+        → checked s ≡ false
+        → LeadsInManner plan is_polite m checked old checked_then new → forks_given new s i ≡ forks_given old s i
+        → meals_so_far new s ≡ meals_so_far old s }
 {}
 
 /// A polite site that was asked gives, after one meal at most. Take such a moment, and a run in manners from there to
 /// an end. It comes to a step that gives the fork, and before this step the site begins at most one meal.
 pub fn polite_sites_give_after_at_most_one_meal()
-    ensures { (plan : SeenPlan) (is_polite : ℕ → Bool) (n m : ℕ) (old end : Run) (s i : ℕ) → IsPlan plan
-        → LeadsBySteps plan n (start_run plan) old → s < site_count plan → i < length (edges_of plan s)
+    ensures { (plan : SeenPlan) (is_polite checked checked_then : ℕ → Bool) (n m : ℕ) (old end : Run) (s i : ℕ)
+        → IsPlan plan → LeadsBySteps plan n (start_run plan) old → s < site_count plan → i < length (edges_of plan s)
         → is_polite s ≡ true → IsAsked plan old s i → HasRungForAll plan old s i
-        → LeadsInManner plan is_polite m old end → RunHasEnded plan end
-        → (k : ℕ) × (between : Run) × (next : Run) × LeadsInManner plan is_polite k old between
-        × MannerStep plan is_polite between next
+        → LeadsInManner plan is_polite m checked old checked_then end → RunHasEnded plan end
+        → (before : ℕ) × (checked_there : ℕ → Bool) × (between : Run) × (next : Run) × (behind : ℕ)
+        × LeadsInManner plan is_polite before checked old checked_there between
+        × (gives : MannerStep plan is_polite checked_there between next)
+        × LeadsInManner plan is_polite behind (checked_after between gives.step.site checked_there)
+        next checked_then end
         × (forks_given between s i ≡ forks_given old s i) × (forks_given old s i < forks_given next s i)
         × (meals_so_far between s ≤ meals_so_far old s + 1) }
 {}
 
 /// A polite site overtakes a neighbour at most once. Take a moment at which the neighbour waits for the fork between
 /// the two, and has rung. Until the neighbour begins its next meal, the site begins at most one. It begins none if at
-/// that moment it held the fork, and the fork was dirty. It also begins at most one if one step in between is in no
-/// manner. And a site of any manner begins none from a moment on at which the neighbour holds the fork clean.
+/// that moment it held the fork, the fork was dirty, and the site had not checked its bell. And a site of any manner
+/// begins none from a moment on at which the neighbour holds the fork clean.
 pub fn polite_sites_overtake_at_most_once()
-    ensures once { (plan : SeenPlan) (is_polite : ℕ → Bool) (n m : ℕ) (old new : Run) (s i : ℕ) → IsPlan plan
-        → LeadsBySteps plan n (start_run plan) old → s < site_count plan → i < length (edges_of plan s)
-        → is_polite s ≡ true → WaitsForFork plan old (neighbour_at plan s i) (number_there plan s i)
-        → LeadsInManner plan is_polite m old new
-        → meals_so_far new (neighbour_at plan s i) ≡ meals_so_far old (neighbour_at plan s i)
-        → meals_so_far new s ≤ meals_so_far old s + 1 }
-    ensures never { (plan : SeenPlan) (is_polite : ℕ → Bool) (n m : ℕ) (old new : Run) (s i : ℕ) → IsPlan plan
-        → LeadsBySteps plan n (start_run plan) old → s < site_count plan → i < length (edges_of plan s)
-        → is_polite s ≡ true → WaitsForFork plan old (neighbour_at plan s i) (number_there plan s i)
-        → HoldsDirtyFork plan old s i → LeadsInManner plan is_polite m old new
-        → meals_so_far new (neighbour_at plan s i) ≡ meals_so_far old (neighbour_at plan s i)
-        → meals_so_far new s ≡ meals_so_far old s }
-    ensures late { (plan : SeenPlan) (is_polite : ℕ → Bool) (n k m : ℕ) (old between next new : Run) (s i : ℕ)
+    ensures once { (plan : SeenPlan) (is_polite checked checked_then : ℕ → Bool) (n m : ℕ) (old new : Run) (s i : ℕ)
         → IsPlan plan → LeadsBySteps plan n (start_run plan) old → s < site_count plan → i < length (edges_of plan s)
         → is_polite s ≡ true → WaitsForFork plan old (neighbour_at plan s i) (number_there plan s i)
-        → LeadsInManner plan is_polite k old between → RunStep plan between next
-        → LeadsInManner plan is_polite m next new
+        → LeadsInManner plan is_polite m checked old checked_then new
         → meals_so_far new (neighbour_at plan s i) ≡ meals_so_far old (neighbour_at plan s i)
         → meals_so_far new s ≤ meals_so_far old s + 1 }
+    ensures never { (plan : SeenPlan) (is_polite checked checked_then : ℕ → Bool) (n m : ℕ) (old new : Run) (s i : ℕ)
+        → IsPlan plan → LeadsBySteps plan n (start_run plan) old → s < site_count plan → i < length (edges_of plan s)
+        → is_polite s ≡ true → WaitsForFork plan old (neighbour_at plan s i) (number_there plan s i)
+        → HoldsDirtyFork plan old s i → checked s ≡ false
+        → LeadsInManner plan is_polite m checked old checked_then new
+        → meals_so_far new (neighbour_at plan s i) ≡ meals_so_far old (neighbour_at plan s i)
+        → meals_so_far new s ≡ meals_so_far old s }
     ensures clean_first { (plan : SeenPlan) (n m : ℕ) (old new : Run) (s i : ℕ) → IsPlan plan
         → LeadsBySteps plan n (start_run plan) old → s < site_count plan → i < length (edges_of plan s)
         → HoldsCleanFork plan old (neighbour_at plan s i) (number_there plan s i) → LeadsBySteps plan m old new
@@ -81,10 +75,10 @@ pub fn polite_sites_overtake_at_most_once()
 /// A site waits for one meal of each polite neighbour at most. Take a moment at which the site holds the fork of each
 /// of its places clean, or waits for it. Until the site begins its next meal, each polite neighbour begins at most one.
 pub fn waiters_wait_for_one_meal_of_each_polite_neighbour()
-    ensures { (plan : SeenPlan) (is_polite : ℕ → Bool) (n m : ℕ) (old new : Run) (s : ℕ) → IsPlan plan
-        → LeadsBySteps plan n (start_run plan) old → s < site_count plan
+    ensures { (plan : SeenPlan) (is_polite checked checked_then : ℕ → Bool) (n m : ℕ) (old new : Run) (s : ℕ)
+        → IsPlan plan → LeadsBySteps plan n (start_run plan) old → s < site_count plan
         → ((i : ℕ) → i < length (edges_of plan s) → HoldsCleanFork plan old s i ⊎ WaitsForFork plan old s i)
-        → LeadsInManner plan is_polite m old new → meals_so_far new s ≡ meals_so_far old s
+        → LeadsInManner plan is_polite m checked old checked_then new → meals_so_far new s ≡ meals_so_far old s
         → (i : ℕ) → i < length (edges_of plan s) → is_polite (neighbour_at plan s i) ≡ true
         → meals_so_far new (neighbour_at plan s i) ≤ meals_so_far old (neighbour_at plan s i) + 1 }
 {}
@@ -103,13 +97,14 @@ pub fn nobody_asks_in_vain()
 {}
 
 /// No run gets stuck because sites keep to their manners: at each moment of a run some site can do a step in its
-/// manner, or the run has ended. What steps in manners lead to, steps lead to; so the laws on runs hold of it.
+/// manner, whichever sites had checked their bells, or the run has ended. What steps in manners lead to, steps lead to;
+/// so the laws on runs hold of it.
 pub fn runs_in_manners_go_on_to_their_end()
-    ensures step_or_end { (plan : SeenPlan) (is_polite : ℕ → Bool) (n : ℕ) (run : Run) → IsPlan plan
+    ensures step_or_end { (plan : SeenPlan) (is_polite checked : ℕ → Bool) (n : ℕ) (run : Run) → IsPlan plan
         → LeadsBySteps plan n (start_run plan) run
-        → ((new : Run) × MannerStep plan is_polite run new) ⊎ RunHasEnded plan run }
-    ensures are_runs { (plan : SeenPlan) (is_polite : ℕ → Bool) (n : ℕ) (old new : Run)
-        → LeadsInManner plan is_polite n old new → LeadsBySteps plan n old new }
+        → ((new : Run) × MannerStep plan is_polite checked run new) ⊎ RunHasEnded plan run }
+    ensures are_runs { (plan : SeenPlan) (is_polite checked checked_then : ℕ → Bool) (n : ℕ) (old new : Run)
+        → LeadsInManner plan is_polite n checked old checked_then new → LeadsBySteps plan n old new }
 {}
 
 /// A site that has just rung for a Request has asked its neighbour there, and has rung for each letter that it put
@@ -124,16 +119,33 @@ pub fn a_ring_for_a_request_asks()
         → ring.kind ≡ kind.Request → WaitsForFork plan new s ring.i }
 {}
 
-/// A polite site may begin one meal after it was asked. The higher of two sites with one job each has a Fork and a
-/// Request in its link, and two rings left. It takes both letters, and it begins its meal before it gives the fork.
+/// A polite site may begin one meal after it was asked, even if it had not checked its bell. The higher of two sites
+/// with one job each has a Fork and a Request in its link, and two rings left. It takes both letters, checks its bell,
+/// and begins its meal before it gives the fork.
 pub fn a_polite_site_may_begin_one_meal()
     ensures is_plan { IsPlan (two_sites 1 1) }
     ensures asked { LeadsBySteps (two_sites 1 1) 10 (start_run (two_sites 1 1)) asked_back_run }
     ensures has_rung { IsAsked (two_sites 1 1) asked_back_run 1 0 × HasRungForAll (two_sites 1 1) asked_back_run 1 0 }
     ensures waits { WaitsForFork (two_sites 1 1) asked_back_run 0 0 }
-    ensures eats { LeadsInManner (two_sites 1 1) (λ s. true) 5 asked_back_run eats_first_run }
+    ensures eats { (checked : ℕ → Bool) → (checked_then : ℕ → Bool)
+        × LeadsInManner (two_sites 1 1) (λ s. true) 5 checked asked_back_run checked_then eats_first_run }
     ensures meals { (meals_so_far asked_back_run 1 ≡ 0) × (meals_so_far eats_first_run 1 ≡ 1) }
     ensures not_given { (forks_given asked_back_run 1 0 ≡ 0) × (forks_given eats_first_run 1 0 ≡ 0) }
+{}
+
+/// A check is good for one meal, whatever comes after it. The lower of two polite sites with one job each is hungry,
+/// has a dirty fork, and finds no ring in its bell. Then the higher one asks it for the fork, and rings. All the same
+/// the lower one begins its meal, and has not given the fork.
+pub fn a_check_is_good_for_one_meal()
+    ensures eats { (checked : ℕ → Bool) × (checked_then : ℕ → Bool)
+        × LeadsInManner (two_sites 1 1) (λ s. true) 4 (λ s. false) (start_run (two_sites 1 1)) checked rung_too_late_run
+        × LeadsInManner (two_sites 1 1) (λ s. true) 1 checked rung_too_late_run checked_then eats_dirty_run }
+    ensures has_rung { IsAsked (two_sites 1 1) rung_too_late_run 0 0
+        × HasRungForAll (two_sites 1 1) rung_too_late_run 0 0 }
+    ensures waits { WaitsForFork (two_sites 1 1) rung_too_late_run 1 0 }
+    ensures holds_dirty_fork { HoldsDirtyFork (two_sites 1 1) rung_too_late_run 0 0 }
+    ensures meals { (meals_so_far rung_too_late_run 0 ≡ 0) × (meals_so_far eats_dirty_run 0 ≡ 1) }
+    ensures not_given { (forks_given rung_too_late_run 0 0 ≡ 0) × (forks_given eats_dirty_run 0 0 ≡ 0) }
 {}
 
 /// A neighbour may wait for all meals of an eager site, and for all meals of a polite one before it rings. The lower of
@@ -146,10 +158,19 @@ pub fn unheard_neighbours_wait_for_all_meals()
     ensures has_rung { (k : ℕ) → IsAsked (two_sites k 1) (rung_run 0) 0 0
         × HasRungForAll (two_sites k 1) (rung_run 0) 0 0 }
     ensures holds_dirty_fork { (k : ℕ) → HoldsDirtyFork (two_sites k 1) (rung_run 0) 0 0 }
-    ensures eager { (k : ℕ) → LeadsInManner (two_sites k 1) (λ s. false) (3 * k) (rung_run 0) (rung_run k) }
+    ensures eager { (k : ℕ) (checked : ℕ → Bool) → (checked_then : ℕ → Bool)
+        × LeadsInManner (two_sites k 1) (λ s. false) (3 * k) checked (rung_run 0) checked_then (rung_run k) }
     ensures eager_meals { (k : ℕ) → (meals_so_far (rung_run k) 0 ≡ k) × (forks_given (rung_run k) 0 0 ≡ 0) }
     ensures unrung { (k : ℕ) → LeadsBySteps (two_sites k 1) 2 (start_run (two_sites k 1)) (unrung_run 0) }
     ensures is_asked { (k : ℕ) → IsAsked (two_sites k 1) (unrung_run 0) 0 0 }
-    ensures polite { (k : ℕ) → LeadsInManner (two_sites k 1) (λ s. true) (3 * k) (unrung_run 0) (unrung_run k) }
+    ensures polite { (k : ℕ) (checked : ℕ → Bool) → (checked_then : ℕ → Bool)
+        × LeadsInManner (two_sites k 1) (λ s. true) (3 * k) checked (unrung_run 0) checked_then (unrung_run k) }
     ensures polite_meals { (k : ℕ) → (meals_so_far (unrung_run k) 0 ≡ k) × (forks_given (unrung_run k) 0 0 ≡ 0) }
+{}
+
+/// The bound of one meal can fail: with one mistake a polite site begins all its meals before it gives the fork. The
+/// mistake: it does not check its bell before each meal, but once for all. The two sites are those of
+/// `unheard_neighbours_wait_for_all_meals` when the higher one has rung.
+pub fn one_check_for_all_meals_undoes_the_bound()
+    ensures { (k : ℕ) → LeadsByOneCheck (two_sites k 1) (λ s. true) (3 * k) (rung_run 0) (rung_run k) }
 {}

@@ -1,5 +1,5 @@
 -- each step is computed
-use Rattle.std.proofs.Common.{ℕ, true, false, List, [], ◌∷◌, refl, arith}
+use Rattle.std.proofs.Common.{ℕ, Bool, true, false, List, [], ◌∷◌, refl, arith}
 use Rattle.dine_rules.specs.declared.events.EventKind.TheVariants as event
 use Rattle.dine_rules.specs.declared.letters.Kind4.TheVariants as kind
 use Rattle.dine_rules.specs.declared.phase.Phase.TheVariants.{Hungry, Thinking}
@@ -7,7 +7,7 @@ use Rattle.dine_rules.specs.Local.{LocalState}
 use Rattle.dine_waking.specs.Examples.{at_work, request, state_in}
 use Rattle.dine_waking.specs.MannerExamples.{asked_back_run, eats_first_run, rung_run, unrung_run}
 use Rattle.dine_waking.specs.Examples.{fork_given_first, two_sites}
-use Rattle.dine_waking.specs.Manners.{IsInManner, MannerStep}
+use Rattle.dine_waking.specs.Manners.{IsInManner, MannerStep, checked_after}
 use Rattle.dine_waking.specs.Runs.{ByActing, ByHearing, ByRinging, ByTaking, Doing, GoesOn, HasToRing, Run, RunStep, HasToTake, ThreadStep, start_run}
 use Rattle.dine_waking.proofs.TwoSites.{is_plan}
 use Rattle.dine_waking.proofs.laws.manners.a_polite_site_may_begin_one_meal.Goals as goal
@@ -80,8 +80,8 @@ rings_back = lower_does asked asked_back_run (ByRinging (record { i = 0; kind = 
 
 -- ---- up to the meal
 
-politely : (old new : Run) (one : ThreadStep (two_sites 1 1) 1 old new) → IsInManner (two_sites 1 1) 1 old new one true → MannerStep (two_sites 1 1) (λ s. true) old new
-politely old new one polite = record { step = record { site = 1; is_site = omega arith; step = one }; in_manner = polite }
+abbrev politely : (checked : ℕ → Bool) (old new : Run) (one : ThreadStep (two_sites 1 1) 1 old new) → IsInManner (two_sites 1 1) 1 checked old new one true → MannerStep (two_sites 1 1) (λ s. true) checked old new
+politely checked old new one polite = record { step = record { site = 1; is_site = omega arith; step = one }; in_manner = polite }
 
 -- the lower site, which asked back
 abbrev low : LocalState
@@ -99,20 +99,20 @@ heard_request = moment low (state_in Hungry (request ∷ []) (fork_given_first �
 abbrev took_request : Run
 took_request = moment low (state_in Hungry (request ∷ []) (fork_given_first ∷ request ∷ [])) GoesOn [] GoesOn []
 
-hears_fork : MannerStep (two_sites 1 1) (λ s. true) asked_back_run heard_fork
-hears_fork = politely asked_back_run heard_fork (ByHearing (record { goes_on = refl; turn = refl; i = 0; rest = 0 ∷ []; bell = refl; world = refl; threads = refl })) tt
+abbrev hears_fork : (checked : ℕ → Bool) → MannerStep (two_sites 1 1) (λ s. true) checked asked_back_run heard_fork
+hears_fork checked = politely checked asked_back_run heard_fork (ByHearing (record { goes_on = refl; turn = refl; i = 0; rest = 0 ∷ []; bell = refl; world = refl; threads = refl })) tt
 
-takes_fork : MannerStep (two_sites 1 1) (λ s. true) heard_fork took_fork
-takes_fork = politely heard_fork took_fork (ByTaking (record { i = 0; takes = refl; world = refl; threads = refl })) tt
+abbrev takes_fork : (checked : ℕ → Bool) → MannerStep (two_sites 1 1) (λ s. true) checked heard_fork took_fork
+takes_fork checked = politely checked heard_fork took_fork (ByTaking (record { i = 0; takes = refl; world = refl; threads = refl })) tt
 
-hears_request : MannerStep (two_sites 1 1) (λ s. true) took_fork heard_request
-hears_request = politely took_fork heard_request (ByHearing (record { goes_on = refl; turn = refl; i = 0; rest = []; bell = refl; world = refl; threads = refl })) tt
+abbrev hears_request : (checked : ℕ → Bool) → MannerStep (two_sites 1 1) (λ s. true) checked took_fork heard_request
+hears_request checked = politely checked took_fork heard_request (ByHearing (record { goes_on = refl; turn = refl; i = 0; rest = []; bell = refl; world = refl; threads = refl })) tt
 
-takes_request : MannerStep (two_sites 1 1) (λ s. true) heard_request took_request
-takes_request = politely heard_request took_request (ByTaking (record { i = 0; takes = refl; world = refl; threads = refl })) tt
+abbrev takes_request : (checked : ℕ → Bool) → MannerStep (two_sites 1 1) (λ s. true) checked heard_request took_request
+takes_request checked = politely checked heard_request took_request (ByTaking (record { i = 0; takes = refl; world = refl; threads = refl })) tt
 
-begins : MannerStep (two_sites 1 1) (λ s. true) took_request eats_first_run
-begins = politely took_request eats_first_run (ByActing (record { goes_on = refl; kind = event.Begin; next = refl; world = refl; threads = refl })) (λ is. refl)
+abbrev begins : (checked : ℕ → Bool) → MannerStep (two_sites 1 1) (λ s. true) (checked_after heard_request 1 checked) took_request eats_first_run
+begins checked = politely (checked_after heard_request 1 checked) took_request eats_first_run (ByActing (record { goes_on = refl; kind = event.Begin; next = refl; world = refl; threads = refl })) (λ is. refl)
 
 pub returns : goal.returns
 returns c = record {
@@ -124,7 +124,18 @@ returns c = record {
   );
   has_rung = (refl, refl);
   waits = (refl, refl, refl);
-  eats = (heard_fork, hears_fork, (took_fork, takes_fork, (heard_request, hears_request, (took_request, takes_request, (eats_first_run, begins, refl)))));
+  eats = λ checked.
+      let after_first : ℕ → Bool = checked_after asked_back_run 1 checked in
+      let after_second : ℕ → Bool = checked_after heard_fork 1 after_first in
+      let after_third : ℕ → Bool = checked_after took_fork 1 after_second in
+      let after_fourth : ℕ → Bool = checked_after heard_request 1 after_third in (
+        checked_after took_request 1 after_fourth,
+        (
+          heard_fork,
+          hears_fork checked,
+          (took_fork, takes_fork after_first, (heard_request, hears_request after_second, (took_request, takes_request after_third, (eats_first_run, begins after_third, (refl, refl))))),
+        ),
+      );
   meals = (refl, refl);
   not_given = (refl, refl);
 }

@@ -1,13 +1,11 @@
 use Rattle.dine_waking.proofs.Bounded.{reached_keeps}
-use Rattle.dine_waking.proofs.Polite.{no_meal, one_meal, one_meal_late}
+use Rattle.dine_waking.proofs.Polite.{no_meal, one_meal}
 use Rattle.dine_waking.proofs.laws.manners.polite_sites_begin_at_most_one_meal.Goals as goal
 
 pub returns : goal.returns
 returns c = record {
-  one = λ plan is_polite n m old new s i is_plan leads is_site within polite asked rung more given.
-      one_meal plan is_plan s i is_site within is_polite polite m old new (reached_keeps plan is_plan n old leads) asked rung more given;
-  none = λ plan is_polite n m old new s i is_plan leads is_site within polite asked rung dirty more given.
-      no_meal plan is_plan s i is_site within is_polite polite m old new (reached_keeps plan is_plan n old leads) asked rung dirty more given;
-  late = λ plan is_polite n k m old between next new s i is_plan leads is_site within polite asked rung first late more given.
-      one_meal_late plan is_plan s i is_site within is_polite polite k m old between next new (reached_keeps plan is_plan n old leads) asked rung first late more given;
+  one = λ plan is_polite checked checked_then n m old new s i is_plan leads is_site within polite asked rung more given.
+      one_meal plan is_plan s i is_site within is_polite polite m checked checked_then old new (reached_keeps plan is_plan n old leads) asked rung more given;
+  none = λ plan is_polite checked checked_then n m old new s i is_plan leads is_site within polite asked rung dirty yet more given.
+      no_meal plan is_plan s i is_site within is_polite polite m checked checked_then old new (reached_keeps plan is_plan n old leads) asked rung dirty yet more given;
 }

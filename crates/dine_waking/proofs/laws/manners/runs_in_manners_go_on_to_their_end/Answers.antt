@@ -5,6 +5,6 @@ use Rattle.dine_waking.proofs.laws.manners.runs_in_manners_go_on_to_their_end.Go
 
 pub returns : goal.returns
 returns c = record {
-  step_or_end = λ plan is_polite n run is_plan leads. manner_or_end plan is_plan is_polite run (reached_keeps plan is_plan n run leads);
+  step_or_end = λ plan is_polite checked n run is_plan leads. manner_or_end plan is_plan is_polite checked run (reached_keeps plan is_plan n run leads);
   are_runs = manner_leads;
 }

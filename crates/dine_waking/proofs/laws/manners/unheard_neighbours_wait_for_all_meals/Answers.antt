@@ -31,10 +31,10 @@ returns c = record {
   rung = λ k. (hungry k, grows_hungry k, (unrung_run 0, asks k, (rung_run 0, rings k, refl)));
   has_rung = λ k. (refl, refl);
   holds_dirty_fork = λ k. (refl, refl);
-  eager = λ k. eats_on k false (0 ∷ []) (λ polite. absurd cc) (at_work GoesOn []) k 0 (omega arith);
+  eager = λ k checked. eats_on k false (0 ∷ []) (at_work GoesOn []) (λ polite. absurd cc) checked k 0 (omega arith);
   eager_meals = λ k. (refl, refl);
   unrung = λ k. (hungry k, grows_hungry k, (unrung_run 0, asks k, refl));
   is_asked = λ k. refl;
-  polite = λ k. eats_on k true [] (λ polite. refl) (at_work (HasToRing 0 kind.Request) []) k 0 (omega arith);
+  polite = λ k checked. eats_on k true [] (at_work (HasToRing 0 kind.Request) []) (λ polite. refl) checked k 0 (omega arith);
   polite_meals = λ k. (refl, refl);
 }
