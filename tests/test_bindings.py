@@ -51,6 +51,12 @@ def test_header():
 
 
 @pytest.mark.early
+def test_lock_file():
+    """The cargo of rustc 1.63 reads no newer form."""
+    assert "\nversion = 3\n" in text_of("bindings/rust/Cargo.lock")
+
+
+@pytest.mark.early
 def test_module_as_c(tmp_path):
     """It is up to date: if not, run tools/bindings --write. If this wasm2c is not the noted one, the note counts."""
     noted, here = text_of(exports_c.MADE).split("\n"), exports_c.makers().split("\n")
