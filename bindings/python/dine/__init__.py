@@ -165,6 +165,8 @@ class Plan(_Owner):
 
     def __init__(self, text: str) -> None:
         super().__init__()
+        if not isinstance(text, str):
+            raise TypeError(f"the text of a plan is a str, not {type(text).__name__}")
         data = text.encode()
         status = _LIB.dine_plan_open(_buffer(data), len(data), byref(self._handle))
         if status <= -101:

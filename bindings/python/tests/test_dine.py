@@ -28,6 +28,11 @@ def test_a_text_that_is_no_plan_is_refused():
     assert (refused.value.cause, refused.value.position) == (Cause.UnknownEnd, 0)
 
 
+def test_bytes_are_no_text():
+    with pytest.raises(TypeError, match="a str, not bytes"):
+        World(PAIR.encode())
+
+
 def test_a_number_of_more_than_32_bits_is_none():
     world = World(PAIR)
     for choices in ([2**32], [-1], [0, 2**64 + 1]):
