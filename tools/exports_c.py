@@ -196,15 +196,12 @@ class Cause(IntEnum):
 
 
 def faults_of_header():
-    """Returns what dine.h declares otherwise than the exports."""
+    """Returns what dine.h declares otherwise than the exports. Its arguments may have other names, which say more."""
     text = re.sub(r"/\*.*?\*/", "", text_of("bindings/c/dine.h"), flags=re.S)
     there = {name: " ".join(params.split()) for name, params in re.findall(r"int64_t dine_(\w+)\(([^)]*)\);", text)}
     wanted = {name: listed(params) for name, params in exports().items()}
-    # The header may have other names of arguments, which say more.
-    types = {name: re.sub(r"\w+(?=,|$)", "", params) for name, params in wanted.items()}
-    faults = [f"dine_{name} is not declared" for name in wanted.keys() - there.keys()]
-    faults += [f"dine_{name}: {params}" for name, params in there.items()
-               if re.sub(r"\w+(?=,|$)", "", params) != types.get(name)]
+    there, wanted = ({name: re.sub(r"\w+(?=,|$)", "", it[name]) for name in it} for it in (there, wanted))
+    faults = [f"dine_{it}" for it in there.keys() | wanted.keys() if there.get(it) != wanted.get(it)]
     faults += [f"dine_{name} lends more than MOST of loans.h" for name, params in exports().items()
                if sum(kind.startswith("&") for _, kind in params) > 3]
     for name, fields in structs().items():
