@@ -1,6 +1,7 @@
 """Tries ./show: its arguments, who may ask its server and how, the build of the program that runs threads, runs on
 threads, and the files that --export writes."""
 import contextlib
+import glob
 import http.client
 import json
 import os
@@ -22,6 +23,7 @@ import fresh
 import pytest
 import server
 from calls import REFUSED, check_whole_run, dine, state_after, until
+from graphs import graph_of, plan_of
 from shown import shown
 from trying import HOME, Answer, answer_of, paths, text_of
 
@@ -175,9 +177,8 @@ def test_pace(port):
 
 # ---- Programs
 
-# A plan whose run takes longer than the server waits.
-JOBS = ", ".join(['{ name = "x", turns = 1000000 }'] * 1000)
-SLOW = "version = 1\n" + "".join(f'[[site]]\nname = "s{site}"\njobs = [{JOBS}]\n' for site in range(64))
+# A plan whose run takes longer than is waited for: one site eats at a time.
+SLOW = plan_of([1000] * 8, graph_of("complete:8")[1], 1_000_000).decode()
 
 
 def stat_of(process):
@@ -197,7 +198,8 @@ def test_end_by_interrupt():
     """The server ends by Ctrl-C, with the program that it has begun."""
     with shown(*how()) as it, contextlib.closing(http.client.HTTPConnection("127.0.0.1", it.port)) as line:
         line.request("POST", "/run", f"\n{SLOW}".encode())
-        begun = until(lambda: children_of(it.pid))
+        # Its threads are at work: before, it would end by itself, since its input is cut off.
+        begun = until(lambda: [at for at in children_of(it.pid) if len(glob.glob(f"/proc/{at}/task/*")) > 2], 60)
         it.send_signal(signal.SIGINT)
         assert begun and it.wait(20) == -signal.SIGINT
     assert until(lambda: all(stat_of(it)[:1] in ([], ["Z"]) for it in begun), 4)

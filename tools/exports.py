@@ -5,6 +5,7 @@ import json
 import os
 import re
 import zlib
+from pathlib import Path
 
 IMPORT = re.compile(r'^import\s*\{[^}]*\}\s*from\s*"\./([\w-]+)\.js";\n', re.M)
 EXPORT = re.compile(r"^export (?=(?:async )?function|class|const|let)", re.M)
@@ -12,7 +13,7 @@ EXPORT = re.compile(r"^export (?=(?:async )?function|class|const|let)", re.M)
 PACKED = re.compile('<script type="text/plain" id="(?:catalog|module)">([^<]*)</script>')
 # How long an event is in a trace, in its microseconds: then a viewer counts events as milliseconds.
 LONG = 1000
-# What a viewer is asked to show: sites in the plan's order, in one process.
+# The sites are lines of one process.
 PROCESS = 1
 
 
@@ -34,14 +35,12 @@ def modules_of(folder, name="page", above=()):
 
 
 def text_of(path):
-    with open(path, encoding="utf-8") as file:
-        return file.read()
+    return Path(path).read_text("utf-8")
 
 
 def script_of(folder):
     """Returns the modules of the page as one."""
-    parts = [EXPORT.sub("", IMPORT.sub("", text_of(f"{folder}/{name}.js"))) for name in modules_of(folder)]
-    script = "\n".join(parts)
+    script = "\n".join(EXPORT.sub("", IMPORT.sub("", text_of(f"{folder}/{it}.js"))) for it in modules_of(folder))
     if re.search(r"^(import|export)\b", script, re.M) or "</script" in script:
         raise Fault("the modules of the page can't be joined")
     return script
@@ -62,24 +61,19 @@ def unpacked(page):
 
 
 def page_of(folder, catalog):
-    """Returns the page as one file, with the proved rules and this catalog of plans and lessons in it. It loads nothing."""
+    """Returns the page as one file, with the proved rules and this catalog of plans and lessons. It loads nothing."""
     style, script = f"\n{text_of(f'{folder}/page.css')}", f"\n{script_of(folder)}"
-    with open(f"{folder}/dine.wasm", "rb") as file:
-        held = {"catalog": packed(json.dumps(catalog, separators=(",", ":")).encode()), "module": packed(file.read())}
-    held["worker"] = text_of(f"{folder}/worker.js")
-    policy = (
-        f"default-src 'none'; script-src {hash_of(script)} 'wasm-unsafe-eval'; worker-src blob:; style-src {hash_of(style)}; img-src data:; "
-        "base-uri 'none'; form-action 'none'"
-    )
-    parts = {
-        r'<link rel="stylesheet" href="page\.css">': f"<style>{style}</style>",
-        r'<script type="module" src="page\.js"></script>': "".join(
-            f'<script type="text/plain" id="{name}">{text}</script>\n' for name, text in held.items()
-        ) + f'<script type="module">{script}</script>',
-        r'<meta charset="utf-8">': f'<meta charset="utf-8">\n<meta http-equiv="Content-Security-Policy" content="{policy}">',
-    }  # fmt: skip
-    page = text_of(f"{folder}/index.html")
-    for wanted, part in parts.items():
+    held = {"catalog": packed(json.dumps(catalog, separators=(",", ":")).encode()),
+            "module": packed(Path(folder, "dine.wasm").read_bytes()), "worker": text_of(f"{folder}/worker.js")}
+    texts = "".join(f'<script type="text/plain" id="{name}">{text}</script>\n' for name, text in held.items())
+    policy = f"default-src 'none'; script-src {hash_of(script)} 'wasm-unsafe-eval'; worker-src blob:; "
+    policy += f"style-src {hash_of(style)}; img-src data:; base-uri 'none'; form-action 'none'"
+    charset, page = '<meta charset="utf-8">', text_of(f"{folder}/index.html")
+    for wanted, part in (
+        (r'<link rel="stylesheet" href="page\.css">', f"<style>{style}</style>"),
+        (r'<script type="module" src="page\.js"></script>', f'{texts}<script type="module">{script}</script>'),
+        (charset, f'{charset}\n<meta http-equiv="Content-Security-Policy" content="{policy}">'),
+    ):
         page, count = re.subn(wanted, lambda _, part=part: part, page)
         if count != 1:
             raise Fault(f"page/index.html has {wanted} {count} times")
@@ -89,30 +83,30 @@ def page_of(folder, catalog):
 # ---- A trace
 
 
+# What an event of each kind does, as a slice names it.
+WORDS = {
+    "h": "grows hungry", "a": "asks {}", "g": "gives {} their fork", "b": "begins", "e": "ends", "x": "ends",
+    "q": "quits", "d": "says done to {}", "c": "closes to {}", "A": "takes the request of {}",
+    "G": "takes the fork of {}", "D": "takes done of {}", "C": "takes close of {}",
+}
+
+
+def entry(phase, site, **details):
+    """Returns an entry in a site's line."""
+    return {"ph": phase, "pid": PROCESS, "tid": site + 1, **details}
+
+
 def slice_of(site, place, end, name, **details):
     """Returns a slice of a site's line, from an event to a time, which is in events too."""
-    return {"ph": "X", "pid": PROCESS, "tid": site + 1, "ts": place * LONG, "dur": round((end - place) * LONG), "name": name, "args": details}
-
-
-def flow_of(phase, site, place, number, name):
-    """Returns an end of an arrow: it begins (s) or ends (f) in the slice of an event."""
-    bound = {"bp": "e"} if phase == "f" else {}
-    return {"ph": phase, "pid": PROCESS, "tid": site + 1, "ts": place * LONG + LONG // 2, "id": number, "name": name, "cat": "fork", **bound}
-
-
-WORDS = {
-    "h": "grows hungry", "a": "asks {}", "g": "gives {} their fork", "b": "begins", "e": "ends", "x": "ends", "q": "quits",
-    "d": "says done to {}", "c": "closes to {}", "A": "takes the request of {}", "G": "takes the fork of {}", "D": "takes done of {}",
-    "C": "takes close of {}",
-}  # fmt: skip
+    return entry("X", site, ts=place * LONG, dur=round((end - place) * LONG), name=name, args=details)
 
 
 def names_of_lines(title, names):
     """Yields what names the lines of a trace."""
     yield {"ph": "M", "pid": PROCESS, "name": "process_name", "args": {"name": title}}
     for site, name in enumerate(names):
-        yield {"ph": "M", "pid": PROCESS, "tid": site + 1, "name": "thread_name", "args": {"name": name}}
-        yield {"ph": "M", "pid": PROCESS, "tid": site + 1, "name": "thread_sort_index", "args": {"sort_index": site}}
+        yield entry("M", site, name="thread_name", args={"name": name})
+        yield entry("M", site, name="thread_sort_index", args={"sort_index": site})
 
 
 def phases_of(events):
@@ -138,17 +132,17 @@ def steps_of(events, ends, names):
         other = None if edge is None else sum(ends[edge]) - site
         details = {"event": place} if edge is None else {"event": place, "edge": edge}
         yield slice_of(site, place, place + 0.9, WORDS[kind].format("" if other is None else names[other]), **details)
-        if kind == "g":
-            sent[edge] = place
-            yield flow_of("s", site, place, place, f"fork of edge {edge}")
-        elif kind == "G":
-            yield flow_of("f", site, place, sent[edge], f"fork of edge {edge}")
+        if kind in "gG":
+            # An arrow begins (s) or ends (f) in the middle of a slice.
+            sent[edge] = place if kind == "g" else sent[edge]
+            details = {"id": sent[edge], "name": f"fork of edge {edge}", "cat": "fork"}
+            end = {"bp": "e"} if kind == "G" else {}
+            yield entry("s" if kind == "g" else "f", site, ts=place * LONG + LONG // 2, **details, **end)
 
 
 def trace_of(ask, run, is_unproved):
-    """Returns a run in the trace-event format, which Perfetto and chrome://tracing read. A millisecond of it is an event. The run is the
-    path and the text of its plan, and its choices. `ask` calls dine_trace with arguments and an input, and returns what it printed. The
-    name of the run says so if the program is unproved."""
+    """Returns a run (the path and the text of a plan, and choices) in the trace-event format, of which a millisecond is
+    an event. `ask` calls dine_trace with arguments and an input, and returns what it printed."""
     path, text, choices = run
     events = json.loads(ask(["--events", "-"], f"{choices}\n{text}".encode()))
     start = json.loads(ask(["--states", "0", "-"], f"\n{text}".encode()))
