@@ -12,8 +12,6 @@ const USAGE: &str =
 
 const NO_LIST: &str = "dine_trace: the first line of the input is no LIST";
 
-const NO_ORDER: &str = "dine_trace: no order of the run";
-
 /// A fault that ended the program.
 #[derive(Clone, Copy, Debug, PartialEq, Eq)]
 pub enum Fault {
@@ -21,9 +19,6 @@ pub enum Fault {
     Usage,
     /// The first line of the input should be a LIST, and is none.
     NoList,
-    /// There is no order of what the threads of a run did that leads a world of the plan to the logs that were
-    /// gathered.
-    NoOrder,
     /// A fault that ends `dine` too, with its line.
     Dine(dine::Fault),
 }
@@ -40,10 +35,6 @@ impl Fault {
             Fault::NoList => {
                 let _ = write_line(faults, NO_LIST);
                 Status::Usage
-            }
-            Fault::NoOrder => {
-                let _ = write_line(faults, NO_ORDER);
-                Status::RunFailed
             }
             Fault::Dine(fault) => fault.end(faults),
         }
