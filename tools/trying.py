@@ -148,23 +148,6 @@ def counted(tries, skipped=0):
     return ended(passed, failed, skipped)
 
 
-def try_program(tool, tries, *others):
-    """Has ./dine build the program if it must, and tools/build the programs of other crates. Then it does the checks
-    and ends the tool."""
-    answer = answer_of(["check"], seconds=None, stdin=subprocess.DEVNULL)
-    # The program itself never ends with 1.
-    failed = answer.error if answer.status == 1 else ""
-    for crate in others:
-        if not failed:
-            built = answer_of([crate], os.path.join(HOME, "tools", "build"), None, stdin=subprocess.DEVNULL)
-            failed = built.error if built.status else ""
-    if failed:
-        sys.stderr.write(failed)
-        print(f"{tool}: the program can't be built")
-        sys.exit(ended(0, 1))
-    sys.exit(counted(tries))
-
-
 def ended(passed, failed, skipped=0):
     """Prints the count, and returns the exit status: 0 if nothing failed, and something passed or was skipped. A
     check is skipped if this machine cannot do it."""
