@@ -52,11 +52,12 @@ def test_question(page, path, place):
     page.look(motion="reduce")
     page.open(f"lesson={path}&moment={place + 1}")
     wrong = f"#question label:nth-of-type({moment['answer'] % len(moment['options']) + 1})"
+    answers = "#question output", "it.className"
     page.do(wrong, "#question button")
-    assert page.count("#question output.wrong")
+    assert page.each(*answers) == ["wrong"]
     # The right one is above it, or the first again, which the keys of a choice go to.
     page.do(wrong, "ArrowUp", "#question button")
-    assert page.count("#question output.right")
+    assert page.each(*answers) == ["right"]
     begun, rest = moment.get("choices", ""), following.get("choices", "")
     goes_on = rest != begun and rest.startswith(begun and f"{begun},") and moment.get("see", True)
     assert (page.unseen("#question .main") == []) == goes_on
@@ -65,7 +66,7 @@ def test_question(page, path, place):
         assert (page.event(), page.text("#moment-title")) == (following["at"], moment["title"])
         page.do("#return")
     page.do("#step", "#back")
-    assert page.count("#question output.right")
+    assert page.each(*answers) == ["right"]
     page.do("#next")
     is_shown(page, following)
 
