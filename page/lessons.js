@@ -1,6 +1,6 @@
 // A lesson: moments of schedules, one after the other, each with a note and perhaps a question.
 
-import { setOff, setText, textElement } from "./marks.js";
+import { choiceElement, rowElement, setOff, setText, textElement } from "./marks.js";
 import { OWN } from "./moments.js";
 
 // The words that have the colour of their mark, and *what is stressed*.
@@ -94,23 +94,13 @@ export class LessonPanel {
     this.question.hidden = options.length === 0;
     document.body.classList.toggle("has-question", options.length > 0);
     if (options.length === 0) return;
-    const items = options.map((text, place) => {
-      const label = document.createElement("label");
-      const choice = document.createElement("input");
-      choice.type = "radio";
-      choice.name = "answer";
-      choice.value = place + 1;
-      label.append(choice, textElement("span", text));
-      return label;
-    });
+    const items = options.map((text, place) => choiceElement("radio", "answer", place + 1, text));
     this.answer = document.createElement("output");
     const button = textElement("button", "Check");
     this.showing = textElement("button", "See what happens", "main");
     Object.assign(this.showing, { type: "button", hidden: true });
     this.showing.addEventListener("click", this.play);
-    const row = document.createElement("div");
-    row.className = "row";
-    row.append(button, this.showing);
+    const row = rowElement(button, this.showing);
     this.question.replaceChildren(textElement("p", moment.question), ...items, row, this.answer);
   }
 

@@ -23,6 +23,21 @@ export function textElement(name, text, kind = "") {
   return made;
 }
 
+// A choice and its words: a radio button or a box, in a label.
+export function choiceElement(type, name, value, text) {
+  const [label, choice] = [document.createElement("label"), document.createElement("input")];
+  Object.assign(choice, { type, name, value });
+  label.append(choice, textElement("span", text));
+  return label;
+}
+
+// Elements in a row.
+export function rowElement(...parts) {
+  const row = textElement("div", "", "row");
+  row.append(...parts);
+  return row;
+}
+
 // Changes an attribute or a text only if it is another, since a change costs the browser a new layout.
 export function setAttribute(node, name, value) {
   if (node.getAttribute(name) !== String(value)) node.setAttribute(name, value);

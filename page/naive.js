@@ -1,15 +1,12 @@
 // What happens without the rules: plain forks, which a hungry site takes one by one and holds until it has eaten. This
 // is no work of the proved program: the page computes it by itself, to show the deadlock beside the real thing.
 
+import { neighboursOf } from "./places.js";
 import { otherEnd } from "./sentences.js";
 
 // The sites of a ring in the graph, in turn, or null if there is none.
 function ringOf(count, edges) {
-  const near = Array.from({ length: count }, () => []);
-  for (const { ends: [low, high] } of edges) {
-    near[low].push(high);
-    near[high].push(low);
-  }
+  const near = neighboursOf(count, edges);
   const before = new Map();
   const path = [];
   const search = (site, from) => {

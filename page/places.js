@@ -17,6 +17,16 @@ function hubOf(count, edges) {
   return hub ?? null;
 }
 
+// The sites with which each site has an edge.
+export function neighboursOf(count, edges) {
+  const near = Array.from({ length: count }, () => []);
+  for (const { ends: [low, high] } of edges) {
+    near[low].push(high);
+    near[high].push(low);
+  }
+  return near;
+}
+
 // How many edges each site is away from this one, undefined if none lead there.
 function distancesFrom(begin, near) {
   const far = [];
@@ -54,11 +64,7 @@ function cellsBetween(left, right, near, edges) {
 // The cells of a grid or of a row of sites, with the longer side across. Null if the edges are neither.
 function gridOf(count, edges) {
   if (count < 3 || count === edges.length) return null;
-  const near = Array.from({ length: count }, () => []);
-  for (const { ends: [low, high] } of edges) {
-    near[low].push(high);
-    near[high].push(low);
-  }
+  const near = neighboursOf(count, edges);
   const isRow = edges.length === count - 1;
   const corners = near.flatMap((others, site) => (others.length === (isRow ? 1 : 2) ? [site] : []));
   if (corners.length !== (isRow ? 2 : 4)) return null;

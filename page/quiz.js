@@ -1,7 +1,7 @@
 // The question mode: the list of enabled events is hidden, the reader says which of some events may happen next, and
 // the answer is checked by what the program says of each.
 
-import { textElement } from "./marks.js";
+import { choiceElement, rowElement, textElement } from "./marks.js";
 import { drawn } from "./schedule.js";
 import { whyNot } from "./sentences.js";
 
@@ -47,20 +47,11 @@ export class Quiz {
     this.key = key;
     this.isChecked = false;
     this.candidates = candidatesOf(state, seed);
-    const items = this.candidates.map(({ words }, place) => {
-      const label = document.createElement("label");
-      const box = document.createElement("input");
-      box.type = "checkbox";
-      box.name = String(place);
-      label.append(box, textElement("span", words));
-      return label;
-    });
+    const items = this.candidates.map(({ words }, place) => choiceElement("checkbox", place, "on", words));
     this.button = textElement("button", "Check", "main");
     this.button.type = "submit";
     this.answer = textElement("output", this.asked ? this.score() : "");
-    const row = document.createElement("div");
-    row.className = "row";
-    row.append(this.button, this.answer);
+    const row = rowElement(this.button, this.answer);
     this.form.replaceChildren(textElement("p", "Tick all that may happen next."), ...items, row);
   }
 

@@ -1,11 +1,8 @@
 // node answers.mjs MODULE: answers questions by page/dine.wasm. Each line of the input is a question as JSON, and each line
 // of the output is its answer.
 //
-// A question to an export has its name as the `call`, the bytes of the `plan` in base64, `choices` and `places`. Others are
-// - `worker`: page/worker.js is asked for the states, at places in any order;
-// - `speed`: how many milliseconds of a processor it takes that worker to add an event to these choices, the median;
-// - `handle`: does `steps` with one handle, and answers with a list of their answers. A step has the name of a call, and
-//   a number if the call takes one; or it has `fill`, and a byte with which the handle is filled.
+// A question to an export has its name as the `call`, the bytes of the `plan` in base64, `choices` and `places`. If the
+// call is `worker`, page/worker.js is asked for the states, at places in any order.
 import fs from "fs";
 import readline from "readline";
 
@@ -15,7 +12,6 @@ const CALLS = {
   dine_check: () => [],
 };
 const SIZE = 1 << 12;
-const [ADDED, HANDLE] = [40, 16];
 
 const bytes = fs.readFileSync(process.argv[2]);
 const { memory, reset, room, ...calls } = new WebAssembly.Instance(new WebAssembly.Module(bytes), {}).exports;
@@ -57,42 +53,15 @@ function doneBy({ plan, choices }) {
   return JSON.parse(worker.said.text);
 }
 
-function byWorker(question) {
+function byWorker({ places, ...question }) {
   const { done, refused } = doneBy(question);
-  return refused ? JSON.stringify({ refused }) : statesAt(question, done, question.places);
-}
-
-function statesAt({ plan }, list, places) {
-  worker.hear({ name: "states", plan: Buffer.from(plan, "base64").toString(), list: Uint32Array.from(list), places });
+  if (refused) return JSON.stringify({ refused });
+  const plan = Buffer.from(question.plan, "base64").toString();
+  worker.hear({ name: "states", plan, list: Uint32Array.from(done), places });
   return worker.said.text ?? worker.said.fault;
 }
 
-function speed(question) {
-  const list = doneBy(question).done;
-  statesAt(question, list, [list.length]);
-  const times = Array.from({ length: ADDED }, () => {
-    list.push(0);
-    const begun = process.cpuUsage();
-    statesAt(question, list, [list.length]);
-    const { user, system } = process.cpuUsage(begun);
-    return (user + system) / 1000;
-  });
-  return times.sort((a, b) => a - b)[ADDED / 2].toFixed(1);
-}
-
-function byHandle({ steps, ...question }) {
-  reset();
-  const [handle] = slice(new Uint8Array(HANDLE));
-  const given = { dine_open: slice(bytesOf(question)) };
-  return JSON.stringify(steps.map(([call, ...numbers]) => {
-    if (call !== "fill") return answer(call, [...(given[call] ?? []), handle, ...numbers], 1 << 20);
-    new Uint8Array(memory.buffer, Number(handle), HANDLE).fill(numbers[0]);
-    return "";
-  }));
-}
-
-const WAYS = { worker: byWorker, speed, handle: byHandle };
 for await (const line of readline.createInterface({ input: process.stdin })) {
   const question = JSON.parse(line);
-  process.stdout.write((WAYS[question.call] ?? plain)(question) + "\n");
+  process.stdout.write((question.call === "worker" ? byWorker : plain)(question) + "\n");
 }

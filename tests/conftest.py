@@ -8,9 +8,10 @@ import pytest
 
 import calls
 import fresh
-from browsing import chromium, page, served, server  # noqa: F401
 from trying import HOME, answer_of
 
+# Its fixtures are for all tests, and its assertions say what differs.
+pytest_plugins = ["browsing"]
 KINDS = ("passed", "failed", "skipped")
 
 

@@ -21,26 +21,6 @@ HAS_NODE = pytest.mark.skipif(not shutil.which("node"), reason="node is not inst
 pytestmark = [pytest.mark.built("dine_trace"), pytest.mark.slow, HAS_NODE]
 PLACES = 40
 CALLS = ("dine_states", "dine_events", "dine_check")
-# The most milliseconds of a processor that a step of a large plan may take.
-SLOWEST = 50
-
-
-def json_of(value):
-    return json.dumps(value, separators=(",", ":"))
-
-
-def refused(line):
-    """Returns an answer that refuses for this cause, which is none of a plan."""
-    return json_of({"refused": {"line": line}})
-
-
-def answers_of(questions):
-    """Returns the answers of the module to these questions, in order."""
-    lines = [json.dumps({**it, "plan": base64.b64encode(it["plan"]).decode()}) for it in questions]
-    given = "\n".join(lines).encode()
-    ran = answer_of([f"{HOME}/tests/answers.mjs", f"{HOME}/page/dine.wasm"], "node", input=given)
-    assert ran.status == 0, ran.error
-    return ran.output.splitlines()
 
 
 def refusal_of(error):
@@ -49,7 +29,7 @@ def refusal_of(error):
     number, _, at = line.removeprefix("plan refused: ").partition(" ")
     place = at.split(" at ")[1].split() if " at " in at else []
     at = {place[0]: int(place[1])} if place else {}
-    return json_of({"refused": {"line": line, "fault": int(number), "at": at}})
+    return json.dumps({"refused": {"line": line, "fault": int(number), "at": at}}, separators=(",", ":"))
 
 
 @functools.lru_cache(4)
@@ -74,9 +54,12 @@ def printed(call, plan, choices, places):
 
 
 def compare(questions):
-    """Compares the answers to these questions with what the program prints."""
-    answers = answers_of(questions)
-    assert len(answers) == len(questions)
+    """Compares the answers of the module to these questions with what the program prints."""
+    lines = [json.dumps({**it, "plan": base64.b64encode(it["plan"]).decode()}) for it in questions]
+    given = "\n".join(lines).encode()
+    ran = answer_of([f"{HOME}/tests/answers.mjs", f"{HOME}/page/dine.wasm"], "node", input=given)
+    answers = ran.output.splitlines()
+    assert (ran.status, len(answers)) == (0, len(questions)), ran.error
     for question, answer in zip(questions, answers):
         if (wanted := printed(**question)) != answer:
             pytest.fail(f"{question['call']} of {question['plan']!r}: {first_difference(wanted, answer)}", False)
@@ -110,38 +93,3 @@ def test_hundred_texts(seed):
         choices = [dice.randrange(3)] * 3
         questions.append({"call": dice.choice(CALLS), "plan": bytes(text), "choices": choices, "places": [0, 2]})
     compare(questions)
-
-
-def test_answer_that_has_no_room():
-    """The answer has more bytes than the module can have."""
-    plan = Path(HOME, "plans/star_of_64.toml").read_bytes()
-    question = {"call": "dine_states", "plan": plan, "choices": [], "places": [0] * 40_000}
-    assert [it[:200] for it in answers_of([question])] == [refused("out of memory")]
-
-
-def test_handle():
-    """A handle that is closed, has bytes that are no handle, is opened twice, and is used."""
-    plan = Path(HOME, "plans/pair.toml").read_bytes()
-    closed, start = refused("the handle is closed"), printed("dine_states", plan, [], [0])[1:-1]
-    unopened = [(["dine_choose", 0], closed), *(([f"dine_{it}"], closed) for it in ("restart", "now", "close"))]
-    steps = [
-        *unopened, (["fill", 255], ""), *unopened, (["fill", 0], ""),
-        (["dine_open"], "{}"), (["dine_open"], refused("the handle is open")),
-        (["dine_choose", 9], refused("no such event")), (["dine_now"], start), (["dine_choose", 0], "{}"),
-        (["dine_restart"], "{}"), (["dine_now"], start), (["dine_close"], "{}"), *unopened,
-    ]
-    (answer,) = answers_of([{"call": "handle", "plan": plan, "steps": [it for it, _ in steps]}])
-    assert json.loads(answer) == [it for _, it in steps]
-
-
-@pytest.mark.parametrize("reach", [1, 8])
-def test_speed(reach):
-    """How long the worker takes to add an event to a schedule of 64 sites in a circle with 1,000 jobs each. Sites share
-    an edge if they are this near."""
-    jobs, dice = ", ".join(['{ name = "x", turns = 0, fails = false }'] * 1000), random.Random(reach)
-    sites = [f'[[site]]\nname = "s{it}"\njobs = [{jobs}]\n' for it in range(64)]
-    edges = [f'[[edge]]\nends = ["s{it}", "s{(it + more) % 64}"]\n' for it in range(64) for more in range(1, reach + 1)]
-    plan = ("version = 1\n" + "".join(sites + edges)).encode()
-    choices = [dice.randrange(64) for _ in range(20_000)]
-    (answer,) = answers_of([{"call": "speed", "plan": plan, "choices": choices, "places": []}])
-    assert float(answer) < SLOWEST
