@@ -1,19 +1,20 @@
-use Rattle.std.proofs.Common.{◌≡◌, ◌⊎◌, inl, inr, ◌∙◌, ◌<◌, ◌+◌, ℕ, Some, true, slice_get, ap, sym, arith}
+use Rattle.std.proofs.Common.{◌≡◌, inl, inr, ◌∙◌, ◌<◌, Some, slice_get, ap, sym, arith}
 use Rattle.std.proofs.lemmas.Option.{slice_get_within}
-use Rattle.dine_rules.specs.World.{WorldState, enabled_events}
-use Rattle.dine_core.specs.Worlds.{IsWorldOf}
+use Rattle.dine_rules.specs.World.{enabled_events}
 use Rattle.dine_trace.proofs.Choices.{below_or_at}
 use Rattle.dine_trace.proofs.runs.number_of.Goals as goal
 
 pub loop-number-preserved : goal.loop-number-preserved
-loop-number-preserved c = record { passed = λ state n stands below is.
-    elim (below_or_at n c.loop-number.number below) [
-      | inl less ↦ c.loop-number.invariant.passed state n stands less is
-      | inr here ↦
-        let at : c.enabled.result ≡ Some c.args.event =
-        c.enabled.ensures c.args.plan.now state stands ∙ ap (slice_get (enabled_events c.args.plan.now state)) (sym here) ∙ is in
-        c.is_same.ensures.differs c.if-is_same.false at
-    ] }
+loop-number-preserved c = record {
+  passed = λ state n stands below is.
+      elim (below_or_at n c.loop-number.number below) [
+        | inl less ↦ c.loop-number.invariant.passed state n stands less is
+        | inr here ↦
+            let at : c.enabled.result ≡ Some c.args.event =
+            c.enabled.ensures c.args.plan.now state stands ∙ ap (slice_get (enabled_events c.args.plan.now state)) (sym here) ∙ is in
+            c.is_same.ensures.differs c.if-is_same.false at
+      ];
+}
 
 -- an enabled event is in the list
 pub unreachable-requires : goal.unreachable-requires
