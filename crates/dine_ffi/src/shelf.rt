@@ -35,12 +35,7 @@ pub(crate) fn first_shelf(
 
 // The fork that the site keeps of the edge at the start, if it is the higher end.
 #[tactic(auto, using(crate::proofs::FirstKept::kept_low, crate::proofs::FirstKept::kept_high))]
-fn first_kept(
-    alloc: Global,
-    plan: &Plan,
-    site: u32,
-    edge: u32,
-) -> Result<Option<Fork>, AllocError>
+fn first_kept(alloc: Global, plan: &Plan, site: u32, edge: u32) -> Result<Option<Fork>, AllocError>
     requires { edge < edge_count plan.now }
     ensures { IfOk result (λ kept. kept ≡ first_kept plan.now site edge) }
 {

@@ -127,8 +127,7 @@ module _ (plan : SeenPlan) (is_plan : IsPlan plan) (edge : ℕ) (kept : SeenFork
       let is_fork = IsFork-carried_on plan kept n is_plan is of_plan may in
       let note = fork_note-carried_on plan kept n is (IsEnd-location kept is) in
       let ate : (fork_note fork).ate ≡ meals_here kept + n = ap (λ (x : ForkNote). x.ate) note in
-      let site = end_of_plan plan kept (location kept) is_plan is of_plan (IsEnd-location kept is) in
-      (
+      let site = end_of_plan plan kept (location kept) is_plan is of_plan (IsEnd-location kept is) in (
         small,
         (
           omega (arith, moves-fork fork is_fork),
