@@ -3,7 +3,7 @@ import re
 
 import pytest
 from browsing import ASKED, RING
-from graphs import plan_of, ring
+from graphs import graph_of, plan_of
 from trying import text_of
 
 STAR = "plans/star_of_locks.toml"
@@ -51,7 +51,7 @@ def test_marks_of_star(page, width, height):
 def test_many_sites(page):
     """Above 16 sites one site and its neighbours are shown, and a click on another site shows that one."""
     page.open()
-    page.write_plan(plan_of([1] * 20, ring(20)).decode())
+    page.write_plan(plan_of([1] * 20, graph_of("ring:20")[1]).decode())
     assert (page.count("#picture .site"), page.count("#enabled button")) == (3, 3)
     page.do("#picture .site[data-site='1']")
     assert page.each("#picture .site", "it.dataset.site") == ["0", "1", "2"]

@@ -8,7 +8,7 @@ import urllib.parse
 import pytest
 from browsing import ASKED, RING
 from calls import dine
-from graphs import band, plan_of, ring
+from graphs import graph_of, plan_of
 from trying import Answer, text_of
 
 pytestmark = pytest.mark.built("dine_cli", "dine_trace")
@@ -20,7 +20,7 @@ PLANS = [f"plans/{it}.toml" for it in (*PLAYED, "grid", "star_of_64")]
 PLANS += ["tests/cases/triangle.toml", "tests/cases/values.toml"]
 # Choices on the ring of five after which its arrows have turned.
 MEALS = "4,4,3,3,4,4,0,0,4,4,4,2,1,0,4,2,1,1,3,3"
-LONG = plan_of([3] * 40, ring(40) + [(it, (it + 7) % 40) for it in range(40)]).decode()
+LONG = plan_of([3] * 40, graph_of("ring:40")[1] + [(it, (it + 7) % 40) for it in range(40)]).decode()
 
 
 def test_beginning(page):
@@ -287,7 +287,7 @@ def test_timeline(page):
 def test_long_run(served):
     """A run of threads with over 7,000 events is drawn whole, zoomed and gone through, with words for each event."""
     served.open()
-    served.write_plan(plan_of([500] * 5, ring(5)).decode())
+    served.write_plan(plan_of([500] * 5, graph_of("ring:5")[1]).decode())
     served.one("#threads").click()
     served.until("one('#play').textContent === 'Pause'", 60)
     served.do(" ", "End")
@@ -310,8 +310,8 @@ STEPS = {"few": 2 * 40, "many": 2 * 120, "long": 2 * 100, "large": 2 * 50}
 # How often the page may be laid out for a step: 3 to 5 times were page.
 LAYOUTS = 8
 # 16 sites in a ring with further edges, 64 sites with 512 edges, and 64 sites with 1,000 jobs each.
-LARGE = {"few": ([2] * 16, ring(16) + [(it, it + 2) for it in range(14)]), "many": ([2] * 64, band(64)),
-         "large": ([1000] * 64, ring(64))}
+LARGE = {"few": ([2] * 16, graph_of("ring:16")[1] + [(it, it + 2) for it in range(14)]),
+         "many": ([2] * 64, graph_of("band:64")[1]), "large": ([1000] * 64, graph_of("ring:64")[1])}
 
 
 def steps_cost_little(page, kind):

@@ -4,10 +4,10 @@ from contextlib import contextmanager
 import pytest
 from browsing import ASKED, FILE, RING, opened, started
 from calls import HOW
-from graphs import plan_of, ring
+from graphs import graph_of, plan_of
 from trying import HOME, answer_of
 
-EIGHT = plan_of([2] * 8, ring(8)).decode()
+EIGHT = plan_of([2] * 8, graph_of("ring:8")[1]).decode()
 PAIR = "plans/pair.toml"
 LESSON = f'title = "Two"\n[[moment]]\nplan = "{PAIR}"\nchoices = "1,1"\ntitle = "one"\n'
 LESSON += f'[[moment]]\ntext = """{EIGHT}"""\ntitle = "own"\nat = 0\n'
