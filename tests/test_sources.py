@@ -1,12 +1,12 @@
 """Tries what needs no build: the planted bugs and the mutants are changes of the sources as they are now, the models of
-waking name the functions that are there, and flake8, shellcheck and tidy find no fault."""
+waking name functions that are there, the crates are laid out, and flake8, shellcheck and tidy find no fault."""
 import os
 import shutil
 from pathlib import Path
 
 import pytest
 from planted import BUGS, POLITE, applied, mutant
-from trying import HOME, answer_of, paths, text_of
+from trying import HOME, answer_of, copy_crates, crates, paths, text_of
 
 pytestmark = pytest.mark.early
 PAGE = "page/index.html"
@@ -43,17 +43,23 @@ def test_models_are_of_the_sources():
     assert ran.status == 0, ran.output
 
 
-def output_of(tool, *words):
-    """Returns the output of a tool at the top. Skips the test if this machine does not have it."""
+def output_of(tool, *words, at=HOME):
+    """Returns the output of a tool in this folder. Skips the test if this machine does not have it."""
     if not shutil.which(tool):
         pytest.skip(f"{tool} is not installed")
-    ran = answer_of(words, tool, cwd=HOME)
+    ran = answer_of(words, tool, cwd=at)
     return (ran.output + ran.error).splitlines()
 
 
 @pytest.mark.parametrize("path", PYTHON)
 def test_flake8(path):
     assert output_of("flake8", path) == []
+
+
+def test_layout_of_the_crates(tmp_path):
+    copy_crates(" ".join(crates()), tmp_path)
+    changed = [it for name in crates() for it in output_of("rt", "fmt", at=f"{tmp_path}/crates/{name}")]
+    assert changed == [], "run rt fmt in the folder of the crate"
 
 
 def test_shellcheck():
