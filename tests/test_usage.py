@@ -15,7 +15,7 @@ TOOLS = [it for it in FOUND if text_of(it).startswith("#!/usr/bin/env python3\n"
 def test_help(tool):
     ran = answer_of(["--help"], f"{HOME}/{tool}")
     assert (ran.status, ran.error) == (0, "")
-    assert re.match(rf"usage: {os.path.basename(tool)} \[-h\].*\n\n\w", ran.output, re.S)
+    assert re.match(rf"usage: {os.path.basename(tool)} \[-h\].*\n\n[A-Z]", ran.output, re.S)
 
 
 @pytest.mark.parametrize("tool", TOOLS)
