@@ -3,3 +3,4 @@ pub mod JobRuns
 pub mod JobFaults
 pub mod JobSites
 pub mod Places
+pub mod Rounds

@@ -1,14 +1,13 @@
 //! Runs of one plan, one after the other.
-ghost use Rattle.std.specs.Prelude.{◌≡◌, ◌≤◌, ℕ, IfErr, IfOk, map, vec_capacity, vec_len};
+ghost use Rattle.std.specs.Prelude.{◌≡◌, ◌-◌, ◌≤◌, ℕ, IfErr, IfOk, map, vec_capacity, vec_len};
 ghost use Rattle.dine_graph.specs.Plan.{edge_count, site_count};
 ghost use Rattle.dine_jobs.specs.JobFaults.{IsFaultOf};
-ghost use Rattle.dine_jobs.specs.JobRuns.{IsDoneRun};
+ghost use Rattle.dine_jobs.specs.Rounds.{HasRounds, IsRoundOf};
 
 use crate::done::{JobsCause, JobsDone, JobsFault};
 use crate::job::Job;
 use crate::runs::{counted, run_jobs};
 use dine_graph::Plan;
-use dine_site::Manner;
 use std::alloc::Global;
 use std::sync::Wait;
 use std::thread::Threads;
@@ -39,8 +38,7 @@ where
     F: FnMut(u32, &mut [T], &mut [J]) + Drop,
     requires callable { F.IsAlwaysCallable step }
     requires anywhere { (job : J) (site : ℕ) → J.expects job plan.now site }
-    ensures ok { IfOk result (λ done. (values : _) × (jobs : _)
-        × IsDoneRun J.after Manner.Polite plan.now values jobs done) }
+    ensures ok { IfOk result (HasRounds F.step J.after plan.now (rounds - 1) 1 step values jobs) }
     ensures fault { IfErr result (λ fault. (values : _) × (jobs : _) × IsFaultOf plan.now values jobs fault) }
 {
     let (mut values, mut jobs) = (values, jobs);
@@ -63,6 +61,7 @@ where
     T: Drop + Send + 'static,
     J: Job<T> + 'static,
     requires anywhere { (job : J) (site : ℕ) → J.expects job plan.now site }
+    ensures ok { IfOk result (λ back. IsRoundOf J.Fault J.after plan.now values jobs back.0.items back.1.items) }
     ensures fault { IfErr result (λ fault. (values : _) × (jobs : _) × IsFaultOf plan.now values jobs fault) }
 {
     let (values, jobs) = match counted(plan, values, jobs) {
