@@ -1,6 +1,8 @@
 pub mod Arrived
 pub mod AsBox
 pub mod FirstKept
+pub mod ListsOfCalls
+pub mod NotTaken
 pub mod OfSites
 pub mod OverFront
 pub mod PutBack
