@@ -9,7 +9,8 @@
  *
  * ANSWERS. A number from 0 on is an answer. A number below 0 says why there is none, and then nothing has changed. A
  * null pointer, a closed handle, a handle of another kind, a number out of range and bytes that are no letter are such
- * answers.
+ * answers. Else a call for a step does it if the rules allow it now, and refuses if they do not. Two things more may
+ * stop it: the memory for a letter is too small, or an allocation failed.
  *
  * WHAT YOU PROMISE, since nothing can check it:
  *   - a handle is set to zero before its first use, and after that only these calls write into it; no copy of an open

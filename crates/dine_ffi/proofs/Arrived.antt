@@ -1,21 +1,23 @@
 -- A fork that arrives and goes on from the fork that was kept is allowed, if the site waits for it.
 use Rattle.std.proofs.Common.{◌≡◌, ◌≢◌, ◌⊎◌, ℕ, zero, suc, ◌+◌, ◌<◌, ◌≤◌, ◌==◌, ◌&&◌, ◌||◌, not, Bool, true, false, cond, List, [], ◌∷◌, ◌++◌, length, slice_get, Option, Some, None, is_some, refl, sym, ◌∙◌, ap, subst, inl, inr, arith}
-use Rattle.std.proofs.lemmas.Bool.{cases_Bool, cond-false, cond-true, eq-eqb, eqb-true, ne_eqb, true≢false}
+use Rattle.std.proofs.lemmas.Bool.{cases_Bool, cond-false, cond-true, eq-eqb, ne_eqb, true≢false}
 use Rattle.std.proofs.lemmas.Option.{same_Some}
 use Rattle.dine_token.specs.declared.log_entry.Entry.{Entry}
 use Rattle.dine_token.specs.declared.log_entry.Entry.TheVariants.{Move}
 use Rattle.dine_token.specs.Fork.{SeenFork, location, other_end}
 use Rattle.dine_token.specs.Log.{is_dirty, location_of, meals_of}
 use Rattle.dine_token.proofs.Logs.{is_dirty-push_move, location_of-push_move, meals_of-push_move}
-use Rattle.dine_graph.specs.Plan.{SeenPlan, edge_count, edges_of, hi_of, job_count, lo_of, other_of, resigns}
+use Rattle.dine_graph.specs.Plan.{SeenPlan, hi_of, job_count, lo_of, other_of, resigns, site_count}
+use Rattle.dine_rules.specs.declared.breach.Breach.{Breach}
+use Rattle.dine_rules.specs.declared.breach.Breach.TheVariants as breach
 use Rattle.dine_rules.specs.declared.letters.Letter.{Letter}
 use Rattle.dine_rules.specs.declared.letters.Letter.TheVariants as letter
-use Rattle.dine_rules.specs.Breach.{has_all_of_neighbour, is_allowed, is_fork_of, was_sent_to}
-use Rattle.dine_rules.specs.Holdings.{fork_at, forks_held, meals_from, token_at}
-use Rattle.dine_rules.specs.Letters.{forks_among, forks_in, has_close, has_done, last_log_or}
-use Rattle.dine_rules.specs.Local.{LocalState, Traffic, edge_at, is_eating, neighbour_at, traffic_at}
+use Rattle.dine_rules.specs.Breach.{first_breach, has_all_of_neighbour, is_allowed, is_fork_of, was_sent_to}
+use Rattle.dine_rules.specs.Holdings.{fork_at, meals_from, token_at}
+use Rattle.dine_rules.specs.Letters.{forks_among, forks_in, has_close, has_done}
+use Rattle.dine_rules.specs.Local.{LocalState, Traffic, edge_at, is_eating, traffic_at}
 use Rattle.dine_rules.specs.Steps.{fork_with, hand_fork_at, opened_fork}
-use Rattle.dine_rules.specs.Streams.{IsChained, KeepsStreamsAt, logs_of}
+use Rattle.dine_rules.specs.Streams.{KeepsStreamsAt}
 use Rattle.dine_rules.proofs.lists.Counting.{last_log_or-none}
 use Rattle.dine_rules.proofs.lists.Forks.{last_fork, logs_of-at}
 use Rattle.dine_rules.proofs.one_place.Hands.{with_meals}
@@ -26,12 +28,13 @@ use Rattle.dine_site_core.specs.declared.site.places.Place.{Place}
 use Rattle.dine_site_core.specs.Core.{kept_at as place_kept}
 use Rattle.dine_site_core.specs.Places.{is_held, neighbour_of, no_place, place_at}
 use Rattle.dine_site_core.proofs.one_site.Eating.{slot_held}
-use Rattle.dine_wire.specs.Arrivals.{carried_on}
-use Rattle.dine_wire.specs.Carried.{GoesOn, IsCarriedOn, fork_for_next, kept_forks}
+use Rattle.dine_wire.specs.Arrivals.{IsOfPlan}
+use Rattle.dine_wire.specs.Carried.{GoesOn, IsCarriedOn, fork_for_next}
 use Rattle.dine_wire.specs.Notes.{fork_note}
 use Rattle.dine_wire.specs.declared.note.ForkNote.{ForkNote}
-use Rattle.dine_ffi.specs.OwnSites.{SeenOwnSite, StandsFor}
-use Rattle.dine_ffi.specs.Shelves.{AwaitsFork, kept_at}
+use Rattle.dine_wire.proofs.CarriedForks.{of_plan}
+use Rattle.dine_ffi.specs.OwnSites.{ForEachFork, SeenOwnSite, StandsFor}
+use Rattle.dine_ffi.specs.Shelves.{AwaitsFork, IsForkBreach, IsNotCarriedOn, kept_at}
 
 -- ---- small facts
 
@@ -42,6 +45,10 @@ few_zero : (n : ℕ) → n ≤ 1 → (n == 1) ≡ false → n ≡ 0
 few_zero zero few h = refl
 few_zero (suc zero) few h = absurd (true≢false h)
 few_zero (suc (suc n)) few h = absurd (omega (arith, few))
+
+either : (a b : Bool) → b ≡ true → (a || b) ≡ true
+either true b h = refl
+either false b h = h
 
 token_there : (b : Bool) (edge : ℕ) → is_some (cond b (Some edge) None) ≡ b
 token_there true edge = refl
@@ -129,7 +136,7 @@ module _ (plan : SeenPlan) (s : ℕ) (state : LocalState) (i : ℕ) (keeps : Kee
 
 -- ---- the fork that arrives
 
-module _ (state : LocalState) (own : SeenOwnSite) (is : StandsFor state own) (i : ℕ) (note : ForkNote) (awaits : AwaitsFork own.plan own.core i note) where
+module _ (state : LocalState) (own : SeenOwnSite) (is : StandsFor state own) (i : ℕ) (note : ForkNote) (i_within : i < length own.core.places) where
   abbrev plan : SeenPlan
   plan = own.plan
 
@@ -143,25 +150,29 @@ module _ (state : LocalState) (own : SeenOwnSite) (is : StandsFor state own) (i 
   here = traffic_at state i
 
   within : i < length state.traffic
-  within = omega (arith, awaits.within, is.core.degree)
+  within = omega (arith, i_within, is.core.degree)
 
   keeps_at : KeepsStreamsAt plan s state i
   keeps_at = is.keeps.places i within
 
   place_is : place_at own.core i ≡ place_kept plan s state i
-  place_is = is.core.places i no_place awaits.within
+  place_is = is.core.places i no_place i_within
 
-  -- what was seen of the place
-  open_there : has_close here.taken ≡ false
-  open_there = sym (ap (λ (p : Place). p.close_taken) place_is) ∙ awaits.unclosed
+  -- what is seen of the place
+  close_is : (place_at own.core i).close_taken ≡ has_close here.taken
+  close_is = ap (λ (p : Place). p.close_taken) place_is
 
-  no_fork : fork_at plan s state i ≡ 0
-  no_fork = few_zero (fork_at plan s state i) keeps_at.one_fork
-      (sym (slot_held (fork_at plan s state i == 1) state.phase _ (hand_fork_at plan s state i)) ∙ sym (ap (λ (p : Place). is_held p.fork) place_is) ∙ awaits.no_fork)
+  fork_is : is_held (place_at own.core i).fork ≡ (fork_at plan s state i == 1)
+  fork_is = ap (λ (p : Place). is_held p.fork) place_is ∙ slot_held (fork_at plan s state i == 1) state.phase _ (hand_fork_at plan s state i)
 
-  no_token : token_at plan s state i ≡ 0
-  no_token = few_zero (token_at plan s state i) keeps_at.one_token
-      (sym (token_there (token_at plan s state i == 1) e) ∙ sym (ap (λ (p : Place). is_some p.token) place_is) ∙ awaits.no_token)
+  token_is : is_some (place_at own.core i).token ≡ (token_at plan s state i == 1)
+  token_is = ap (λ (p : Place). is_some p.token) place_is ∙ token_there (token_at plan s state i == 1) e
+
+  no_fork_if : is_held (place_at own.core i).fork ≡ false → fork_at plan s state i ≡ 0
+  no_fork_if none = few_zero (fork_at plan s state i) keeps_at.one_fork (sym fork_is ∙ none)
+
+  no_token_if : is_some (place_at own.core i).token ≡ false → token_at plan s state i ≡ 0
+  no_token_if none = few_zero (token_at plan s state i) keeps_at.one_token (sym token_is ∙ none)
 
   place : IsPlaced plan s i
   place = placed plan s i is.core.is_plan (omega (arith, within, is.keeps.every_place))
@@ -181,7 +192,14 @@ module _ (state : LocalState) (own : SeenOwnSite) (is : StandsFor state own) (i 
     )
   ]
 
-  module _ (kept fork : SeenFork) (shelf : kept_at i own.shelf ≡ Some kept) (carried : IsCarriedOn plan kept fork) (note_is : note ≡ fork_note fork) where
+  -- a site that eats has the fork
+  pub eater_has_fork : is_eating own.core.phase ≡ true → is_held (place_at own.core i).fork ≡ false → ⊥
+  eater_has_fork eats none = omega (arith, no_fork_if none, is.eats_with_all (sym (ap is_eating is.core.phase) ∙ eats) i within)
+
+  module _ (kept fork : SeenFork) (away : is_held (place_at own.core i).fork ≡ false) (shelf : kept_at i own.shelf ≡ Some kept) (carried : IsCarriedOn plan kept fork) (note_is : note ≡ fork_note fork) where
+    no_fork : fork_at plan s state i ≡ 0
+    no_fork = no_fork_if away
+
     was : IsKept plan s e state.ate kept
     was = is_kept plan s state i keeps_at no_fork kept (sym (is.shelf.each i within) ∙ shelf)
 
@@ -227,24 +245,84 @@ module _ (state : LocalState) (own : SeenOwnSite) (is : StandsFor state own) (i 
     neighbour_is : neighbour_of s (place_at own.core i) ≡ other_of plan e s
     neighbour_is = ap (neighbour_of s) place_is
 
-    done_is : has_done here.taken ≡ true → has_all_of_neighbour plan s state i fork.log ≡ true
-    done_is h = by (awaits.done (ap (λ (p : Place). p.done_taken) place_is ∙ h))
-      where
-        by : (resigns plan (neighbour_of s (place_at own.core i)) ≡ true) ⊎ (job_count plan (neighbour_of s (place_at own.core i)) ≡ note.ate) → has_all_of_neighbour plan s state i fork.log ≡ true
-        by (inl quits) = ap (λ (b : Bool). b || (meals_of (other_of plan e s) fork.log == job_count plan (other_of plan e s))) (sym (ap (resigns plan) neighbour_is) ∙ quits)
-        by (inr all) = either (resigns plan (other_of plan e s)) _ (eq-eqb _ _ (sym ate_is ∙ sym all ∙ ap (job_count plan) neighbour_is))
-          where
-            either : (a b : Bool) → b ≡ true → (a || b) ≡ true
-            either true b h = refl
-            either false b h = h
+    -- what the log has of the neighbour's meals
+    has_all_is : has_all_of_neighbour plan s state i fork.log ≡ (resigns plan (neighbour_of s (place_at own.core i)) || note.ate == job_count plan (neighbour_of s (place_at own.core i)))
+    has_all_is =
+        ap (λ (n : ℕ). resigns plan (other_of plan e s) || n == job_count plan (other_of plan e s)) (sym ate_is)
+        ∙ ap (λ (x : ℕ). resigns plan x || note.ate == job_count plan x) (sym neighbour_is)
 
-    all_if_done : (not (has_done here.taken) || has_all_of_neighbour plan s state i fork.log) ≡ true
-    all_if_done = elim (cases_Bool (has_done here.taken)) [
-      | inl done ↦ ap (λ (b : Bool). not b || has_all_of_neighbour plan s state i fork.log) done ∙ done_is done
-      | inr not_done ↦ ap (λ (b : Bool). not b || has_all_of_neighbour plan s state i fork.log) not_done
-    ]
+    module _ (awaits : AwaitsFork own.plan own.core i note) where
+      done_is : has_done here.taken ≡ true → has_all_of_neighbour plan s state i fork.log ≡ true
+      done_is h = by (awaits.done (ap (λ (p : Place). p.done_taken) place_is ∙ h))
+        where
+          by : (resigns plan (neighbour_of s (place_at own.core i)) ≡ true) ⊎ (job_count plan (neighbour_of s (place_at own.core i)) ≡ note.ate) → has_all_of_neighbour plan s state i fork.log ≡ true
+          by (inl quits) = has_all_is ∙ ap (λ (b : Bool). b || note.ate == job_count plan (neighbour_of s (place_at own.core i))) quits
+          by (inr all) = has_all_is ∙ either (resigns plan (neighbour_of s (place_at own.core i))) _ (eq-eqb _ _ (sym all))
 
-    pub fork_allowed : is_allowed plan s state i (letter.Fork fork) ≡ true
-    fork_allowed =
-        both _ _ (ap not open_there)
-        (both _ _ (both _ _ (both _ _ own_fork (both _ _ (eq-eqb _ 0 no_fork) (eq-eqb _ 0 no_token))) (both _ _ sent_here (eq-eqb _ state.ate meals_are))) all_if_done)
+      all_if_done : (not (has_done here.taken) || has_all_of_neighbour plan s state i fork.log) ≡ true
+      all_if_done = elim (cases_Bool (has_done here.taken)) [
+        | inl done ↦ ap (λ (b : Bool). not b || has_all_of_neighbour plan s state i fork.log) done ∙ done_is done
+        | inr not_done ↦ ap (λ (b : Bool). not b || has_all_of_neighbour plan s state i fork.log) not_done
+      ]
+
+      allowed : is_allowed plan s state i (letter.Fork fork) ≡ true
+      allowed =
+          both _ _ (ap not (sym close_is ∙ awaits.unclosed))
+          (both _ _ (both _ _ (both _ _ own_fork (both _ _ (eq-eqb _ 0 no_fork) (eq-eqb _ 0 (no_token_if awaits.no_token)))) (both _ _ sent_here (eq-eqb _ state.ate meals_are))) all_if_done)
+
+    -- the sender has meals left
+    module _ (done : (place_at own.core i).done_taken ≡ true)
+        (left : neighbour_of s (place_at own.core i) < site_count plan → (resigns plan (neighbour_of s (place_at own.core i)) ≡ false) × (job_count plan (neighbour_of s (place_at own.core i)) ≢ note.ate)) where
+      is_site : neighbour_of s (place_at own.core i) < site_count plan
+      is_site = elim place.sides [
+        | inl low ↦ omega (arith, neighbour_is, low.1, is.core.is_plan.within e place.edge_within)
+        | inr high ↦ omega (arith, neighbour_is, high.1, place.ordered, is.core.is_plan.within e place.edge_within)
+      ]
+
+      not_all : (has_done here.taken && not (has_all_of_neighbour plan s state i fork.log)) ≡ true
+      not_all = both _ _ (sym (ap (λ (p : Place). p.done_taken) place_is) ∙ done)
+          (ap not (has_all_is ∙ ap (λ (b : Bool). b || note.ate == job_count plan (neighbour_of s (place_at own.core i))) (left is_site).0
+          ∙ ne_eqb _ _ (λ same. (left is_site).1 (sym same))))
+
+  -- ---- why it is not taken
+
+  -- the breach that is seen of the place is the first one of the fork that arrives
+  pub fork_breach : (b : Breach) → IsForkBreach plan own.core i note b → ForEachFork i note own (λ fork. first_breach plan s state i (letter.Fork fork) ≡ Some b)
+  fork_breach breach.AfterClose closed fork note_is goes = cond-true (has_close here.taken) (Some breach.AfterClose) _ (sym close_is ∙ closed)
+  fork_breach breach.ForkOutOfTurn is_out fork note_is goes =
+      cond-false (has_close here.taken) (Some breach.AfterClose) _ (sym close_is ∙ is_out.0)
+      ∙ cond-true (not (fork_at plan s state i == 0) || not (token_at plan s state i == 0)) (Some breach.ForkOutOfTurn) _ (out is_out.1)
+    where
+      one_not_zero : (n : ℕ) → (n == 1) ≡ true → not (n == 0) ≡ true
+      one_not_zero zero h = h
+      one_not_zero (suc n) h = ap not (ne_eqb (suc n) 0 (λ same. omega (arith, same)))
+
+      out : (is_held (place_at own.core i).fork ≡ true) ⊎ (is_some (place_at own.core i).token ≡ true) → (not (fork_at plan s state i == 0) || not (token_at plan s state i == 0)) ≡ true
+      out (inl held) = ap (λ (b : Bool). b || not (token_at plan s state i == 0)) (one_not_zero (fork_at plan s state i) (sym fork_is ∙ held))
+      out (inr token) = either (not (fork_at plan s state i == 0)) _ (one_not_zero (token_at plan s state i) (sym token_is ∙ token))
+  fork_breach breach.StrangeFork strange fork note_is goes =
+      cond-false (has_close here.taken) (Some breach.AfterClose) _ (sym close_is ∙ strange.0)
+      ∙ cond-false (not (fork_at plan s state i == 0) || not (token_at plan s state i == 0)) (Some breach.ForkOutOfTurn) _
+      (ap (λ (n : ℕ). not (n == 0) || not (token_at plan s state i == 0)) (no_fork_if strange.1) ∙ ap (λ (n : ℕ). not (n == 0)) (no_token_if strange.2))
+      ∙ cond-true _ (Some breach.StrangeFork) None (either _ _ (by (kept_at i own.shelf) refl goes))
+    where
+      by : (o : Option SeenFork) → kept_at i own.shelf ≡ o → GoesOn plan o fork → (has_done here.taken && not (has_all_of_neighbour plan s state i fork.log)) ≡ true
+      by None shelf on = absurd on
+      by (Some kept) shelf on = not_all kept fork strange.1 shelf on note_is strange.3 strange.4
+  fork_breach breach.RequestOutOfTurn never fork note_is goes = absurd never
+  fork_breach breach.DoneOutOfTurn never fork note_is goes = absurd never
+  fork_breach breach.ClosedEarly never fork note_is goes = absurd never
+
+  -- no fork goes on from the one that is kept
+  pub none_goes_on : is_held (place_at own.core i).fork ≡ false → IsNotCarriedOn plan (kept_at i own.shelf) note → ForEachFork i note own (λ fork. ⊥)
+  none_goes_on away none fork note_is goes = by (kept_at i own.shelf) refl goes none
+    where
+      by : (o : Option SeenFork) → kept_at i own.shelf ≡ o → GoesOn plan o fork → IsNotCarriedOn plan o note → ⊥
+      by None shelf on not_on = on
+      by (Some kept) shelf on not_on =
+          let own_kept = (was kept fork away shelf on note_is).own in
+          not_on (subst (IsOfPlan plan) (sym own_kept) (of_plan plan is.core.is_plan e place.edge_within kept.log kept.value)) on.meals on.may (note_is ∙ ap fork_note on.is)
+
+module _ (state : LocalState) (own : SeenOwnSite) (is : StandsFor state own) (i : ℕ) (note : ForkNote) (awaits : AwaitsFork own.plan own.core i note) where
+  pub fork_allowed : (kept fork : SeenFork) → kept_at i own.shelf ≡ Some kept → IsCarriedOn own.plan kept fork → note ≡ fork_note fork → is_allowed own.plan own.core.site state i (letter.Fork fork) ≡ true
+  fork_allowed kept fork shelf carried note_is = allowed state own is i note awaits.within kept fork awaits.no_fork shelf carried note_is awaits

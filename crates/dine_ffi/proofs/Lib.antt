@@ -1,7 +1,10 @@
 pub mod Arrived
 pub mod AsBox
 pub mod FirstKept
+pub mod ListsOfCalls
+pub mod NotTaken
 pub mod OfSites
+pub mod OnSites
 pub mod OverFront
 pub mod PutBack
 pub mod Refused

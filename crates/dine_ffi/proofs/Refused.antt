@@ -1,5 +1,5 @@
 -- An open call that refuses a plan for want of memory.
-use Rattle.std.proofs.Common.{◌≡◌, ◌≢◌, ℕ, ℤ, pos, negsuc, List, refl}
+use Rattle.std.proofs.Common.{◌≡◌, ℕ, ℤ, pos, negsuc, List, refl}
 use Rattle.dine_draft.specs.declared.plan_fault.PlanFault.{PlanFault}
 use Rattle.dine_draft.specs.declared.plan_fault.PlanFault.TheVariants.{Memory}
 use Rattle.dine_ffi.specs.Answers.{IsDoneOr, memory}

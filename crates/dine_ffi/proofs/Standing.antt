@@ -1,36 +1,34 @@
 -- A site that represents a state, after each of its steps.
-use Rattle.std.proofs.Common.{◌≡◌, ◌≢◌, ◌⊎◌, ℕ, zero, suc, ◌+◌, ◌<◌, ◌≤◌, ◌==◌, ◌&&◌, not, nat_lt, Bool, true, false, cond, List, [], ◌∷◌, ◌++◌, append-nil, length, get_or, map, slice_get, slice_index_or, slice_set, Option, Some, None, MatchOption, is_some, refl, sym, ◌∙◌, ap, subst, inl, inr, arith, if◌then◌else◌}
-use Rattle.std.proofs.lemmas.Bool.{and_parts, cases_Bool, cases_eq, cond-false, cond-true, eqb-true, false≢true, ltb-true, not-true, true≢false}
+use Rattle.std.proofs.Common.{◌≡◌, ◌≢◌, ℕ, ◌+◌, ◌<◌, ◌≤◌, ◌==◌, Bool, true, false, cond, List, [], ◌∷◌, ◌++◌, append-nil, length, get_or, map, slice_get, slice_set, Option, Some, None, refl, sym, ◌∙◌, ap, subst, inl, inr, arith}
+use Rattle.std.proofs.lemmas.Bool.{and_parts, cases_Bool, cases_eq, cond-false, cond-true, false≢true}
 use Rattle.std.proofs.lemmas.List.{get_or-map, get_or-set_other, get_or-set_same, length-map, length-set, same_from_push}
 use Rattle.std.proofs.lemmas.Option.{same_Some}
 use Rattle.dine_token.specs.Fork.{SeenFork}
 use Rattle.dine_token.specs.Meal.{SeenMeal}
-use Rattle.dine_graph.specs.Plan.{SeenPlan, IsPlan, edges_of, lo_of, site_count}
+use Rattle.dine_graph.specs.Plan.{SeenPlan, edges_of, lo_of}
 use Rattle.dine_rules.specs.declared.letters.Letter.{Letter}
 use Rattle.dine_rules.specs.declared.letters.Letter.TheVariants.{Fork, Request, Done, Close}
 use Rattle.dine_rules.specs.declared.phase.Phase.{Phase}
 use Rattle.dine_rules.specs.declared.phase.Phase.TheVariants as phase
-use Rattle.dine_rules.specs.Holdings.{EatsWithAll, fork_at, forks_held}
+use Rattle.dine_rules.specs.Holdings.{EatsWithAll, forks_held}
 use Rattle.dine_rules.specs.Letters.{forks_among, forks_in}
-use Rattle.dine_rules.specs.Local.{LocalState, Traffic, edge_at, is_eating, is_hungry, is_thinking, no_traffic, start_of, traffic_at}
+use Rattle.dine_rules.specs.Local.{LocalState, Traffic, edge_at, is_eating, is_thinking, no_traffic, start_of, traffic_at}
 use Rattle.dine_rules.specs.Steps as step
 use Rattle.dine_rules.specs.Steps.{Step, after, may, opened_fork, with_put, with_taken}
 use Rattle.dine_rules.specs.Streams.{KeepsStreams}
 use Rattle.dine_rules.proofs.links.Eaters.{start_eats_with_all, step_eats_with_all}
 use Rattle.dine_rules.proofs.lists.Counting.{forks_in-append}
-use Rattle.dine_rules.proofs.one_place.Values.{is_no_fork}
 use Rattle.dine_rules.proofs.one_site.Site.{start_keeps}
-use Rattle.dine_site_core.specs.Core.{SeenCore, Refines, forks_in_hand}
+use Rattle.dine_site_core.specs.Core.{Refines, forks_in_hand}
 use Rattle.dine_site_core.specs.Places.{IsMealOf}
 use Rattle.dine_site_core.specs.Standing.{CorePuts, CoreStep, CoreSteps, all_places}
 use Rattle.dine_core.specs.WorldSites.{meal_of}
-use Rattle.dine_core.proofs.all_sites.MealFits.{meal_fits}
 use Rattle.dine_core.proofs.all_sites.OpenedSites.{meal-taken, meal_is, within_of}
 use Rattle.dine_wire.specs.Carried.{fork_for_next, kept_forks}
-use Rattle.dine_wire.proofs.CarriedGrowth.{kept-append, last_is_kept, length-kept, none_is_kept}
+use Rattle.dine_wire.proofs.CarriedGrowth.{kept-append, last_is_kept, none_is_kept}
 use Rattle.dine_ffi.specs.Acts.{put_step as step_of_put}
 use Rattle.dine_ffi.specs.OwnSites.{IsOpened, IsShelfOf, OwnStep, OwnSteps, SeenOwnSite, SiteBegins, SiteEnds, SitePuts, SiteSteps, SiteTakes, StandsFor}
-use Rattle.dine_ffi.specs.Shelves.{first_kept, kept_at, put_away, taken_off}
+use Rattle.dine_ffi.specs.Shelves.{first_kept, kept_at, put_away}
 use Rattle.dine_ffi.specs.declared.acts.PutKind.{PutKind}
 use Rattle.dine_ffi.specs.declared.acts.PutKind.TheVariants as kind
 

@@ -1,5 +1,5 @@
 -- A letter other than a Fork that a site takes: its meal stays that of its core.
-use Rattle.std.proofs.Common.{◌≡◌, ◌≢◌, ℕ, suc, ◌<◌, ℤ, pos, true, false, List, [], ◌∷◌, length, get_or, slice_set, Option, Some, None, MatchOption, Result, Ok, Err, MatchResult, refl, sym, ◌∙◌, ap, subst, inl, inr, arith}
+use Rattle.std.proofs.Common.{◌≡◌, ℕ, ◌<◌, ℤ, pos, true, false, [], ◌∷◌, length, get_or, slice_set, Option, Some, None, MatchOption, Result, Ok, Err, MatchResult, refl, sym, ◌∙◌, ap, subst, inl, inr, arith}
 use Rattle.std.proofs.lemmas.Bool.{cases_eq}
 use Rattle.std.proofs.lemmas.List.{get_or-set_other, get_or-set_same, length-set}
 use Rattle.dine_token.specs.Fork.{SeenFork}
@@ -12,7 +12,7 @@ use Rattle.dine_rules.specs.Local.{is_eating}
 use Rattle.dine_rules.specs.Steps as step
 use Rattle.dine_site_core.specs.declared.site.places.Place.{Place}
 use Rattle.dine_site_core.specs.Core.{SeenCore}
-use Rattle.dine_site_core.specs.Places.{FitsMeal, FitsPlace, IsMealOf, meals_in, neighbour_of, no_place, place_after_take, place_at, after_take}
+use Rattle.dine_site_core.specs.Places.{FitsPlace, IsMealOf, meals_in, neighbour_of, no_place, place_after_take, place_at, after_take}
 use Rattle.dine_site_core.specs.Standing.{CoreSteps}
 use Rattle.dine_ffi.specs.Answers.{done}
 use Rattle.dine_ffi.specs.OwnSites.{SeenOwnSite, SiteSteps}

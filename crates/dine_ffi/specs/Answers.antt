@@ -1,6 +1,10 @@
 -- What calls return: a number from 0 on is an answer, and a number below 0 says why there is none.
-use Rattle.std.specs.Prelude.{◌≡◌, ◌<◌, ◌≤◌, ◌^◌, ℕ, ℤ, pos, negsuc}
+use Rattle.std.specs.Prelude.{◌≡◌, ◌+◌, ◌<◌, ◌≤◌, ◌^◌, ℕ, ℤ, pos, negsuc}
+use Rattle.dine_rules.specs.Breach as rule
+use Rattle.dine_rules.specs.declared.breach.Breach.{Breach}
 use Rattle.dine_rules.specs.declared.phase.Phase.{Phase}
+use Rattle.dine_wire.specs.declared.wire_fault.WireFault.{WireFault}
+use Rattle.dine_wire.specs.declared.wire_fault.WireFault.TheVariants as fault
 use Rattle.dine_rules.specs.declared.phase.Phase.TheVariants.{Thinking, Hungry, Eating}
 
 -- done, with nothing to report
@@ -38,6 +42,21 @@ eating = negsuc 6
 -- the handle is open already
 abbrev pub open_already : ℤ
 open_already = negsuc 7
+
+-- the bytes are those of no letter that may arrive: -11 to -14
+abbrev pub IsNoLetter : ℤ → Type 0
+IsNoLetter result = (n : ℕ) × (n < 4) × (result ≡ negsuc (10 + n))
+
+-- what is returned of bytes that are refused
+abbrev pub wire_status : WireFault → ℤ
+wire_status fault.Length = negsuc 10
+wire_status fault.Kind = negsuc 11
+wire_status fault.Unlawful = negsuc 12
+wire_status fault.Memory = memory
+
+-- the rules do not allow the letter: -20, less the number of its first breach
+abbrev pub breach_status : Breach → ℤ
+breach_status breach = negsuc (19 + rule.number_of breach)
 
 -- the call refused: it returned a number below 0
 abbrev pub IsRefused : ℤ → Type 0

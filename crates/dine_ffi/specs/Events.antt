@@ -1,6 +1,5 @@
 -- The numbers of the kinds of events.
 use Rattle.std.specs.Prelude.{ℕ, ◌==◌, Option, Some, None, if◌then◌else◌}
-use Rattle.dine_rules.specs.declared.events.Event.{Event}
 use Rattle.dine_rules.specs.declared.events.EventKind.{EventKind}
 use Rattle.dine_rules.specs.declared.events.EventKind.TheVariants.{Take, Give, End, Begin, Quit, Hungry, Ask, Done, Close}
 use Rattle.dine_ffi.specs.declared.event.DineEvent.{DineEvent}

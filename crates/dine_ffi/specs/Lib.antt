@@ -1,5 +1,6 @@
 pub mod Acts
 pub mod Answers
+pub mod Calls
 pub mod Events
 pub mod OwnSites
 pub mod Shelves

@@ -1,11 +1,14 @@
 -- A site with its plan, its meal and the forks that it keeps, as contracts see it; and what its calls do.
-use Rattle.std.specs.Prelude.{◌≡◌, ℕ, ℤ, ◌<◌, Bool, false, true, List, Option, Some, None, length, map, slice_set}
+use Rattle.std.specs.Prelude.{◌≡◌, ◌≢◌, ◌⊎◌, ℕ, ℤ, ◌<◌, ◌≤◌, Bool, false, true, List, [], ◌∷◌, Option, Some, None, length, map, nat_le, nat_lt, slice_set, if◌then◌else◌}
 use Rattle.dine_token.specs.Fork.{SeenFork}
 use Rattle.dine_token.specs.Meal.{SeenMeal}
-use Rattle.dine_graph.specs.Plan.{SeenPlan, edges_of}
+use Rattle.dine_graph.specs.Plan.{SeenPlan, edges_of, site_count}
 use Rattle.dine_rules.specs.declared.letters.Letter.{Letter}
 use Rattle.dine_rules.specs.declared.letters.Letter.TheVariants as letter
+use Rattle.dine_rules.specs.declared.breach.Breach.{Breach}
+use Rattle.dine_rules.specs.Breach.{first_breach}
 use Rattle.dine_rules.specs.Holdings.{EatsWithAll}
+use Rattle.dine_rules.specs.Letters.{forks_in}
 use Rattle.dine_rules.specs.Local.{LocalState, edge_at, is_eating, traffic_at}
 use Rattle.dine_rules.specs.Steps as step
 use Rattle.dine_rules.specs.Steps.{Step, after, may}
@@ -15,9 +18,9 @@ use Rattle.dine_site_core.specs.Places.{IsMealOf}
 use Rattle.dine_site_core.specs.Standing.{CorePuts, CoreStep, CoreSteps, ForEachState, IsFreshFor, all_places}
 use Rattle.dine_core.specs.WorldSites.{meal_of}
 use Rattle.dine_wire.specs.Carried.{ArrivesWith, GoesOn, fork_for_next}
-use Rattle.dine_wire.specs.Notes.{fork_note}
+use Rattle.dine_wire.specs.Notes.{IsInBytes, fork_note, told_of}
 use Rattle.dine_wire.specs.declared.note.ForkNote.{ForkNote}
-use Rattle.dine_ffi.specs.Answers.{IsDoneOr, done}
+use Rattle.dine_ffi.specs.Answers.{IsDoneOr, IsNoLetter, breach_status, done, eating, memory, no_such, not_now, small}
 use Rattle.dine_ffi.specs.Shelves.{first_kept, kept_at, put_away, taken_off}
 use Rattle.dine_ffi.specs.Written.{AreWritten}
 
@@ -124,27 +127,85 @@ pub record SiteEnds (failed : Bool) (old new : SeenOwnSite) : Type 0 where
 
 -- ---- what calls return
 
--- a call for a step does the step, or it refuses and nothing changes
+-- the rules do not allow the step, in any state that the site represents
+abbrev pub MayNot : Step → SeenOwnSite → Type 0
+MayNot step own = (state : LocalState) → StandsFor state own → may own.plan own.core.site state step ≡ false
+
+-- the site has no such place
+abbrev pub IsNoPlace : ℕ → SeenOwnSite → Type 0
+IsNoPlace i own = (state : LocalState) → StandsFor state own → length own.core.places ≤ i
+
+-- what a call for a step returns if it refuses: that the site eats; else that the rules do not allow the step now
+abbrev pub step_refusal : SeenOwnSite → ℤ
+step_refusal own = if is_eating own.core.phase then eating else not_now
+
+-- A call for a step does the step. Or it refuses and nothing changes; then the rules do not allow the step.
 abbrev pub StepsOrRefuses : Step → ℤ → SeenOwnSite → SeenOwnSite → Type 0
-StepsOrRefuses step result old new = IsDoneOr result (SiteSteps step old new) (new ≡ old)
+StepsOrRefuses step result old new = IsDoneOr result (SiteSteps step old new) ((new ≡ old) × MayNot step old × (result ≡ step_refusal old))
+
+-- What a call returns that refuses to put a letter at place i: that the site eats; else that `out` has fewer than 21
+-- bytes; else that there is no such place; else that the rules do not allow the step now.
+abbrev pub put_refusal : ℕ → List ℕ → SeenOwnSite → ℤ
+put_refusal i out own = if is_eating own.core.phase then eating
+    else (if nat_lt (length out) 21 then small
+    else (if nat_le (length own.core.places) i then no_such
+    else not_now))
+
+-- Why a call refuses to put the letter of the step at place i. If `out` is not too small, the rules do not allow the
+-- step.
+pub record PutRefuses (i : ℕ) (step : Step) (out : List ℕ) (result : ℤ) (own : SeenOwnSite) : Type 0 where
+  pub status : (state : LocalState) → StandsFor state own → result ≡ put_refusal i out own
+  pub may_not : result ≢ small → MayNot step own
 
 -- A call that puts a letter at place i does the step, writes the bytes of its letter to the front of `out`, and returns
 -- their number; or it refuses, and neither the site nor `out` changes.
 abbrev pub PutsOrRefuses : ℕ → Step → List ℕ → List ℕ → ℤ → SeenOwnSite → SeenOwnSite → Type 0
 PutsOrRefuses i step out out_new result old new =
     IsDoneOr result ((letter : Letter) × SitePuts i step old new letter × AreWritten letter (edge_at old.plan old.core.site i) out out_new result)
-    ((new ≡ old) × (out_new ≡ out))
+    ((new ≡ old) × (out_new ≡ out) × PutRefuses i step out result old)
 
--- a call to begin a meal begins one, or it refuses and nothing changes
+-- a call to begin a meal begins one; or it refuses and nothing changes, and then the rules allow no meal
 abbrev pub BeginsOrRefuses : ℤ → SeenOwnSite → SeenOwnSite → Type 0
-BeginsOrRefuses result old new = IsDoneOr result (SiteBegins old new) (new ≡ old)
+BeginsOrRefuses result old new = IsDoneOr result (SiteBegins old new) ((new ≡ old) × MayNot step.Begin old × (result ≡ step_refusal old))
 
 -- a call to end a meal ends it, or there is none and nothing changes
 abbrev pub EndsOrRefuses : Bool → ℤ → SeenOwnSite → SeenOwnSite → Type 0
-EndsOrRefuses failed result old new = IsDoneOr result (SiteEnds failed old new) (new ≡ old)
+EndsOrRefuses failed result old new = IsDoneOr result (SiteEnds failed old new) ((new ≡ old) × MayNot (step.End failed) old × (result ≡ not_now))
 
--- A call with the bytes of a letter takes the letter that arrives with them at one of the places, and returns 0; or it
+-- P holds of each letter that may arrive with these bytes, and of the place where it arrives. The numbers of a letter
+-- fit into its bytes.
+abbrev pub ForEachLetter : List ℕ → SeenOwnSite → (ℕ → Letter → Type 0) → Type 0
+ForEachLetter bytes own P = (i : ℕ) (letter : Letter) → i < length own.core.places
+    → ArrivesWith own.plan (kept_at i own.shelf) (edge_at own.plan own.core.site i) bytes letter
+    → IsInBytes (record { edge = edge_at own.plan own.core.site i; told = told_of letter }) → P i letter
+
+-- P holds of each fork that may arrive with this note at place i
+abbrev pub ForEachFork : ℕ → ForkNote → SeenOwnSite → (SeenFork → Type 0) → Type 0
+ForEachFork i note own P = (fork : SeenFork) → note ≡ fork_note fork → GoesOn own.plan (kept_at i own.shelf) fork → P fork
+
+-- Why a fork that arrives at place i with this note is refused. An allocation failed; or no fork may arrive with the
+-- note; or the rules do not allow the fork that arrives with it.
+abbrev pub ForkRefuses : ℕ → ForkNote → ℤ → LocalState → SeenOwnSite → Type 0
+ForkRefuses i note result state own =
+    (result ≡ memory)
+    ⊎ (IsNoLetter result × ForEachFork i note own (λ fork. ⊥))
+    ⊎ ((breach : Breach) × (result ≡ breach_status breach) × ForEachFork i note own (λ fork. first_breach own.plan own.core.site state i (letter.Fork fork) ≡ Some breach))
+
+-- no place of the site is of this edge
+abbrev pub IsEdgeOfNone : ℕ → SeenOwnSite → Type 0
+IsEdgeOfNone edge own = own.core.site < site_count own.plan → (i : ℕ) → i < length (edges_of own.plan own.core.site) → edge_at own.plan own.core.site i ≢ edge
+
+-- Why a call with these bytes refuses. An allocation failed, and the letter is a Fork: no other needs memory. Or no
+-- letter may arrive with the bytes. Or the rules do not allow the letter that arrives with them, and the status is that
+-- of its first breach.
+abbrev pub TakeRefuses : List ℕ → ℤ → LocalState → SeenOwnSite → Type 0
+TakeRefuses bytes result state own =
+    ((result ≡ memory) × ForEachLetter bytes own (λ i letter. forks_in (letter ∷ []) ≡ 1))
+    ⊎ (IsNoLetter result × ForEachLetter bytes own (λ i letter. ⊥))
+    ⊎ ((breach : Breach) × (result ≡ breach_status breach) × ForEachLetter bytes own (λ i letter. first_breach own.plan own.core.site state i letter ≡ Some breach))
+
+-- A call with the bytes of a letter takes the letter that arrives with them at one of the places, and returns 0. Or it
 -- refuses, and a site that represents a state is as it was.
 pub record TakesOrRefuses (bytes : List ℕ) (result : ℤ) (old new : SeenOwnSite) : Type 0 where
-  pub takes : result ≡ done → (i : ℕ) × (letter : Letter) × SiteTakes bytes i letter old new
-  pub refuses : (result ≡ done → ⊥) → (state : LocalState) → StandsFor state old → new ≡ old
+  pub outcome : IsDoneOr result ((result ≡ done) × ((i : ℕ) × (letter : Letter) × SiteTakes bytes i letter old new))
+      ((state : LocalState) → StandsFor state old → (new ≡ old) × TakeRefuses bytes result state old)

@@ -1,12 +1,16 @@
 -- The forks that a site keeps: what a letter changes of them, and what it needs to be taken.
-use Rattle.std.specs.Prelude.{◌≡◌, ◌⊎◌, ℕ, ◌<◌, ◌==◌, false, true, List, Option, Some, None, is_some, length, slice_index_or, slice_set, if◌then◌else◌}
+use Rattle.std.specs.Prelude.{◌≡◌, ◌≢◌, ◌⊎◌, ℕ, ◌<◌, ◌==◌, false, true, List, Option, Some, None, is_some, length, slice_index_or, slice_set, if◌then◌else◌}
 use Rattle.dine_token.specs.Fork.{SeenFork}
-use Rattle.dine_graph.specs.Plan.{SeenPlan, job_count, lo_of, resigns}
+use Rattle.dine_graph.specs.Plan.{SeenPlan, job_count, lo_of, resigns, site_count}
+use Rattle.dine_rules.specs.declared.breach.Breach.{Breach}
+use Rattle.dine_rules.specs.declared.breach.Breach.TheVariants as breach
 use Rattle.dine_rules.specs.declared.letters.Letter.{Letter}
 use Rattle.dine_rules.specs.declared.letters.Letter.TheVariants.{Fork, Request, Done, Close}
 use Rattle.dine_rules.specs.Steps.{opened_fork}
 use Rattle.dine_site_core.specs.Core.{SeenCore}
 use Rattle.dine_site_core.specs.Places.{is_held, neighbour_of, place_at}
+use Rattle.dine_wire.specs.Arrivals.{IsOfPlan, MayCarryOn, carried_on}
+use Rattle.dine_wire.specs.Notes.{fork_note}
 use Rattle.dine_wire.specs.declared.note.ForkNote.{ForkNote}
 
 -- the fork that a site keeps of an edge at the start: that of the start, if the site is the higher end
@@ -31,6 +35,11 @@ taken_off i (Request edge) shelf = shelf
 taken_off i Done shelf = shelf
 taken_off i Close shelf = shelf
 
+-- no fork goes on from the one that is kept, if one is, with this note
+abbrev pub IsNotCarriedOn : SeenPlan → Option SeenFork → ForkNote → Type 0
+IsNotCarriedOn plan None note = Unit {0}
+IsNotCarriedOn plan (Some kept) note = IsOfPlan plan kept → (n : ℕ) → MayCarryOn kept n → note ≡ fork_note (carried_on plan kept n) → ⊥
+
 -- A site waits for a Fork with this note at place i, as far as it can know without the fork. It took no Close there,
 -- and has neither fork nor token. If it took Done, the sender has eaten all its meals or resigns.
 pub record AwaitsFork (plan : SeenPlan) (core : SeenCore) (i : ℕ) (note : ForkNote) : Type 0 where
@@ -40,3 +49,15 @@ pub record AwaitsFork (plan : SeenPlan) (core : SeenCore) (i : ℕ) (note : Fork
   pub no_token : is_some (place_at core i).token ≡ false
   pub done : (place_at core i).done_taken ≡ true → (resigns plan (neighbour_of core.site (place_at core i)) ≡ true)
       ⊎ (job_count plan (neighbour_of core.site (place_at core i)) ≡ note.ate)
+
+-- Why a Fork with this note may not arrive at place i, as far as a site can know without the fork: Close was taken
+-- there; or fork or token is there; or Done was taken, and the sender has not eaten all its meals and does not resign.
+abbrev pub IsForkBreach : SeenPlan → SeenCore → ℕ → ForkNote → Breach → Type 0
+IsForkBreach plan core i note breach.AfterClose = (place_at core i).close_taken ≡ true
+IsForkBreach plan core i note breach.ForkOutOfTurn = ((place_at core i).close_taken ≡ false)
+    × ((is_held (place_at core i).fork ≡ true) ⊎ (is_some (place_at core i).token ≡ true))
+IsForkBreach plan core i note breach.StrangeFork = ((place_at core i).close_taken ≡ false)
+    × (is_held (place_at core i).fork ≡ false) × (is_some (place_at core i).token ≡ false) × ((place_at core i).done_taken ≡ true)
+    × (neighbour_of core.site (place_at core i) < site_count plan → (resigns plan (neighbour_of core.site (place_at core i)) ≡ false)
+    × (job_count plan (neighbour_of core.site (place_at core i)) ≢ note.ate))
+IsForkBreach plan core i note _ = ⊥

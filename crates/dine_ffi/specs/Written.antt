@@ -1,5 +1,5 @@
 -- What calls write into the caller's memory.
-use Rattle.std.specs.Prelude.{◌≡◌, ℕ, ℤ, List, [], ◌∷◌, ◌++◌, drop, length, pos, take}
+use Rattle.std.specs.Prelude.{◌≡◌, ◌≤◌, ℕ, ℤ, List, [], ◌∷◌, ◌++◌, drop, length, pos, take}
 use Rattle.dine_token.specs.declared.log_period.Period.{Period}
 use Rattle.dine_token.specs.Fork.{SeenFork}
 use Rattle.dine_token.specs.Periods.{periods_of}
@@ -24,7 +24,9 @@ pub record ArePeriods (fork : SeenFork) (old new : List ℕ) (result : ℤ) : Ty
   pub number : result ≡ pos (length (fork_periods fork))
   pub numbers : new ≡ over_front (period_numbers (fork_periods fork)) old
 
--- The number of the letter's bytes is returned. They are at the front of `out`, and the rest of `out` is as before.
+-- The number of the letter's bytes is returned. They are at the front of `out`, which has at least 21, and the rest of
+-- `out` is as before.
 pub record AreWritten (letter : Letter) (edge : ℕ) (old new : List ℕ) (result : ℤ) : Type 0 where
+  pub enough : 21 ≤ length old
   pub number : result ≡ pos (length (letter_bytes edge letter))
   pub bytes : new ≡ letter_bytes edge letter ++ drop (length (letter_bytes edge letter)) old

@@ -4,8 +4,9 @@ ghost use Rattle.dine_rules.specs.declared.breach.Breach.{Breach as SeenBreach};
 ghost use Rattle.dine_rules.specs.Local.{is_eating};
 ghost use Rattle.dine_rules.specs.Steps as step;
 ghost use Rattle.dine_site_core.specs.Places.{after_take};
-ghost use Rattle.dine_site_core.specs.Standing.{CorePuts, CoreSteps, ReportsBreach};
+ghost use Rattle.dine_site_core.specs.Standing.{CorePuts, CoreSteps, ReportsBreach, ReportsMay};
 ghost use Rattle.dine_ffi.specs.Acts.{put_step};
+ghost use Rattle.dine_ffi.specs.Answers.{IsRefused, breach_status};
 
 use crate::status::{NO_SUCH, breach_status};
 use dine_rules::Letter;
@@ -25,6 +26,7 @@ pub(crate) enum PutKind {
 pub(crate) fn put(core: &mut SiteCore, what: PutKind, i: u32) -> Option<Letter>
     requires { is_eating core.old.phase ≡ false }
     ensures put { MatchOption result (core.new ≡ core.old) (CorePuts i (put_step what i) core.old core.new) }
+    ensures may { MatchOption result (ReportsMay core.old (put_step what i) false) (λ _. Unit {0}) }
     ensures phase { is_eating core.new.phase ≡ false }
     ensures site { core.new.site ≡ core.old.site }
 {
@@ -46,7 +48,9 @@ pub(crate) fn take(core: &mut SiteCore, i: u32, letter: Letter) -> Result<(), (L
     ensures phase { core.new.phase ≡ core.old.phase }
     ensures core { MatchResult result (λ _. core.new ≡ after_take i letter core.old) (λ _. Unit {0}) }
     ensures breach { MatchResult result (λ _. Unit {0})
-        (λ _. i < length core.old.places → (b : SeenBreach) × ReportsBreach core.old i letter (Some b)) }
+        (λ e. i < length core.old.places
+        → (b : SeenBreach) × ReportsBreach core.old i letter (Some b) × (e.1 ≡ breach_status b)) }
+    ensures refused { MatchResult result (λ _. Unit {0}) (λ e. IsRefused e.1) }
     ensures step { MatchResult result (λ _. CoreSteps (step.Take i letter) core.old core.new)
         (λ e. (core.new ≡ core.old) × (e.0 ≡ letter) × (e.1 ≡ pos 0 → ⊥)) }
 {

@@ -1,10 +1,12 @@
 //! Laws over the definitions alone. Each function does nothing: its contract is the law.
-ghost use Rattle.std.specs.Prelude.{Bool, List, ℕ};
+ghost use Rattle.std.specs.Prelude.{Bool, List, ℕ, ℤ};
 ghost use Rattle.dine_graph.specs.Plan.{SeenPlan};
 ghost use Rattle.dine_rules.specs.declared.letters.Letter.{Letter};
-ghost use Rattle.dine_rules.specs.Local.{start_of};
+ghost use Rattle.dine_rules.specs.Local.{LocalState, start_of};
 ghost use Rattle.dine_rules.specs.Steps as step;
+ghost use Rattle.dine_rules.specs.Steps.{Step};
 ghost use Rattle.dine_ffi.specs.Acts.{put_step};
+ghost use Rattle.dine_ffi.specs.Calls.{AreStepsOf, Call, CallsLead, StepsLead};
 ghost use Rattle.dine_ffi.specs.OwnSites.{IsOpened, OwnSteps, SeenOwnSite, SiteBegins, SiteEnds, SitePuts, SiteSteps};
 ghost use Rattle.dine_ffi.specs.OwnSites.{SiteTakes, StandsFor};
 ghost use Rattle.dine_ffi.specs.declared.acts.PutKind.{PutKind};
@@ -24,4 +26,14 @@ pub fn calls_are_steps()
         → SitePuts i (put_step kind i) old new letter → OwnSteps (put_step kind i) old new }
     ensures takes { (bytes : List ℕ) (i : ℕ) (letter : Letter) (old new : SeenOwnSite)
         → SiteTakes bytes i letter old new → OwnSteps (step.Take i letter) old new }
+{}
+
+/// Any list of calls does what the rules allow. Suppose that calls, one after the other, lead from a site that was
+/// opened to another, each as its contract says. Then the site represents a state to which the rules lead from the
+/// start, by the steps of the calls that did not refuse, in order.
+pub fn lists_of_calls_are_steps()
+    ensures { (plan : SeenPlan) (number : ℕ) (opened own : SeenOwnSite) (calls : List (Call × ℤ))
+        → IsOpened plan number opened → CallsLead calls opened own
+        → (steps : List Step) × (state : LocalState) × AreStepsOf plan number calls steps
+        × StepsLead plan number steps (start_of plan number) state × StandsFor state own }
 {}

@@ -1,17 +1,20 @@
 //! One site with its plan and its meal, which may be dropped.
-ghost use Rattle.std.specs.Prelude.{◌≡◌, ◌<◌, ◌∷◌, [], IfOk, IfSome, MatchOption, MatchResult, false, is_some, length};
-ghost use Rattle.std.specs.Prelude.{option_map, pos, true, if◌then◌else◌};
+ghost use Rattle.std.specs.Prelude.{◌≡◌, ◌<◌, ◌≤◌, ◌∷◌, [], IfOk, MatchOption, MatchResult, Some, false, is_some};
+ghost use Rattle.std.specs.Prelude.{length, option_map, pos, true, if◌then◌else◌};
 ghost use Rattle.dine_token.specs.Fork.{SeenFork};
-ghost use Rattle.dine_graph.specs.Plan.{site_count};
+ghost use Rattle.dine_graph.specs.Plan.{edges_of, site_count};
+ghost use Rattle.dine_rules.specs.declared.breach.Breach.{Breach as SeenBreach};
 ghost use Rattle.dine_rules.specs.Letters.{forks_in};
 ghost use Rattle.dine_rules.specs.Local.{LocalState, edge_at, is_eating};
 ghost use Rattle.dine_rules.specs.Steps as step;
 ghost use Rattle.dine_site_core.specs.NextEvent.{next_of};
 ghost use Rattle.dine_site_core.specs.Places.{IsMealOf, hand_of, has_all_said, is_held, neighbour_of, place_at};
+ghost use Rattle.dine_site_core.specs.Standing.{ReportsBreach};
 ghost use Rattle.dine_ffi.specs.Acts.{put_step};
-ghost use Rattle.dine_ffi.specs.Answers.{IsDoneOr, Reports, done, no_such, number_of};
+ghost use Rattle.dine_ffi.specs.Answers.{IsDoneOr, IsRefused, Reports, breach_status, done, no_such, number_of};
 ghost use Rattle.dine_ffi.specs.Events.{seen_event};
-ghost use Rattle.dine_ffi.specs.OwnSites.{BeginsOrRefuses, EndsOrRefuses, IsOpened, PutsOrRefuses, SiteSteps};
+ghost use Rattle.dine_ffi.specs.OwnSites.{BeginsOrRefuses, EndsOrRefuses, ForkRefuses, IsEdgeOfNone, IsNoPlace};
+ghost use Rattle.dine_ffi.specs.OwnSites.{IsOpened, PutsOrRefuses, SiteSteps};
 ghost use Rattle.dine_ffi.specs.OwnSites.{SiteTakesFork, StandsFor, StepsOrRefuses, TakesOrRefuses};
 ghost use Rattle.dine_ffi.specs.Written.{ArePeriods};
 
@@ -260,6 +263,9 @@ impl OwnSite {
         requires { forks_in (letter ∷ []) ≡ 0 }
         ensures done { result ≡ pos 0 → SiteSteps (step.Take i letter) self.old self.new }
         ensures refused { (result ≡ pos 0 → ⊥) → self.new ≡ self.old }
+        ensures negative { (result ≡ pos 0 → ⊥) → IsRefused result }
+        ensures why { (result ≡ pos 0 → ⊥) → i < length self.old.core.places
+            → (b : SeenBreach) × ReportsBreach self.old.core i letter (Some b) × (result ≡ breach_status b) }
     {
         status_of(take(&mut self.core, i, letter))
     }
@@ -270,6 +276,9 @@ impl OwnSite {
         ensures done { result ≡ pos 0 → (fork : SeenFork) × SiteTakesFork i note fork self.old self.new }
         ensures refused { (result ≡ pos 0 → ⊥)
             → (state : LocalState) → StandsFor state self.old → self.new ≡ self.old }
+        ensures negative { (result ≡ pos 0 → ⊥) → IsRefused result }
+        ensures why { (result ≡ pos 0 → ⊥) → (state : LocalState) → StandsFor state self.old
+            → i < length self.old.core.places → ForkRefuses i note result state self.old }
     {
         if let Some(status) = refusal_of(self.plan.plan(), &self.core, i, note) {
             return status;
@@ -293,7 +302,9 @@ impl OwnSite {
 
     // The edge of the place.
     pub(crate) fn edge(&self, i: u32) -> Option<u32>
-        ensures { IfSome result (λ edge. edge ≡ edge_at self.now.plan self.now.core.site i) }
+        ensures { MatchOption result
+            (self.now.core.site < site_count self.now.plan → length (edges_of self.now.plan self.now.core.site) ≤ i)
+            (λ edge. edge ≡ edge_at self.now.plan self.now.core.site i) }
     {
         let (plan, site) = (self.plan.plan(), self.core.site());
         if plan.sites() <= site {
@@ -304,7 +315,9 @@ impl OwnSite {
 
     // The place of the edge.
     fn place(&self, edge: u32) -> Option<u32>
-        ensures { IfSome result (λ i. edge_at self.now.plan self.now.core.site i ≡ edge) }
+        ensures { MatchOption result (IsEdgeOfNone edge self.now)
+            (λ i. (edge_at self.now.plan self.now.core.site i ≡ edge)
+            × (i < length (edges_of self.now.plan self.now.core.site))) }
     {
         let (plan, site) = (self.plan.plan(), self.core.site());
         if plan.sites() <= site {
@@ -344,7 +357,7 @@ impl OwnSite {
           neighbour = neighbour_of self.now.core.site (place_at self.now.core i);
           has_fork = if is_held (place_at self.now.core i).fork then 1 else 0;
           has_token = if is_some (place_at self.now.core i).token then 1 else 0;
-        })) ((result ≡ no_such) × (out.new ≡ out.old)) }
+        })) ((result ≡ no_such) × (out.new ≡ out.old) × IsNoPlace i self.now) }
     {
         if self.core.degree() <= i {
             return NO_SUCH;

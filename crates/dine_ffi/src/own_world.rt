@@ -3,9 +3,10 @@ ghost use Rattle.std.specs.Prelude.{◌≡◌, ℕ, IfOk, MatchOption, length, p
 ghost use Rattle.dine_rules.specs.Bound.{bound_of};
 ghost use Rattle.dine_rules.specs.Schedules.{finish_within, from_here, replay};
 ghost use Rattle.dine_rules.specs.World.{IsComplete, enabled_events, start};
-ghost use Rattle.dine_core.specs.Worlds.{ForEachWorld, IsWorldOf, RunsTo, WorldSteps, forks_seen};
-ghost use Rattle.dine_ffi.specs.Answers.{IsDoneOr, Reports, done, no_such, not_now, number_of};
+ghost use Rattle.dine_core.specs.Worlds.{ForEachWorld, IsWorldOf, RunsTo, forks_seen};
+ghost use Rattle.dine_ffi.specs.Answers.{Reports, done, no_such, number_of};
 ghost use Rattle.dine_ffi.specs.Events.{kind_numbered, seen_event};
+ghost use Rattle.dine_ffi.specs.Things.{StepsWorldOrRefuses};
 ghost use Rattle.dine_ffi.specs.Written.{ArePeriods};
 
 use crate::event::{DineEvent, event_of, kind_of};
@@ -77,8 +78,7 @@ impl OwnWorld {
     pub(crate) fn step(&mut self, event: DineEvent) -> i64
         ensures { MatchOption (kind_numbered event.kind event.place)
             ((result ≡ no_such) × (self.new ≡ self.old))
-            (λ kind. IsDoneOr result (WorldSteps (record { site = event.site; kind = kind }) self.old self.new)
-            ((result ≡ not_now) × (self.new ≡ self.old))) }
+            (λ kind. StepsWorldOrRefuses (record { site = event.site; kind = kind }) result self.old self.new) }
     {
         let Some(kind) = kind_of(event.kind, event.place) else {
             return NO_SUCH;

@@ -1,11 +1,13 @@
 // The forks that a site gave away, as they were then.
-ghost use Rattle.std.specs.Prelude.{◌≡◌, ◌⊎◌, ◌<◌, ℕ, IfOk, MatchOption, MatchResult, None, Some, length, map, pos};
-ghost use Rattle.std.specs.Prelude.{slice_get, slice_set, true};
+ghost use Rattle.std.specs.Prelude.{◌≡◌, ◌≢◌, ◌⊎◌, ◌<◌, ℕ, IfOk, MatchOption, MatchResult, None, Some, false, length};
+ghost use Rattle.std.specs.Prelude.{map, pos, slice_get, slice_set, true};
 ghost use Rattle.dine_graph.specs.Plan.{edge_count, edges_of, job_count, resigns, site_count};
 ghost use Rattle.dine_token.specs.Fork.{SeenFork};
 ghost use Rattle.dine_wire.specs.Arrivals.{MayCarryOn, carried_on};
 ghost use Rattle.dine_wire.specs.Notes.{fork_note};
-ghost use Rattle.dine_ffi.specs.Shelves.{AwaitsFork, first_kept, put_away};
+ghost use Rattle.dine_rules.specs.declared.breach.Breach.{Breach as SeenBreach};
+ghost use Rattle.dine_ffi.specs.Answers.{IsNoLetter, IsRefused, breach_status, memory};
+ghost use Rattle.dine_ffi.specs.Shelves.{AwaitsFork, IsForkBreach, IsNotCarriedOn, first_kept, kept_at, put_away};
 
 use crate::status::{NO_SUCH, breach_status, wire_status};
 use dine_graph::Plan;
@@ -66,11 +68,15 @@ pub(crate) fn take_back(
     i: u32,
     note: ForkNote,
 ) -> Result<Fork, i64>
-    ensures { MatchResult result
+    ensures back { MatchResult result
         (λ fork. (kept : SeenFork) × (n : ℕ) × (slice_get shelf.old.items i ≡ Some (Some kept)) × MayCarryOn kept n
         × (fork ≡ carried_on plan.now kept n) × (note ≡ fork_note fork)
         × (shelf.new.items ≡ slice_set shelf.old.items i None))
         (λ status. (status ≡ pos 0 → ⊥) × (shelf.new.items ≡ shelf.old.items)) }
+    ensures refused { MatchResult result (λ _. Unit {0}) IsRefused }
+    ensures why { MatchResult result (λ _. Unit {0})
+        (λ status. i < length shelf.old.items → (status ≡ memory)
+        ⊎ (IsNoLetter status × IsNotCarriedOn plan.now (kept_at i shelf.old.items) note)) }
 {
     let i = i as usize;
     if shelf.len() <= i {
@@ -91,7 +97,10 @@ pub(crate) fn take_back(
 
 /// Why a fork with this note may not arrive at place `i` now, as far as that can be known before it arrives.
 pub(crate) fn refusal_of(plan: &Plan, core: &SiteCore, i: u32, note: ForkNote) -> Option<i64>
-    ensures { MatchOption result (AwaitsFork plan.now core.now i note) (λ status. status ≡ pos 0 → ⊥) }
+    ensures awaits { MatchOption result (AwaitsFork plan.now core.now i note) (λ status. status ≡ pos 0 → ⊥) }
+    ensures refused { MatchOption result (Unit {0}) IsRefused }
+    ensures breach { MatchOption result (Unit {0}) (λ status. i < length core.now.places
+        → (b : SeenBreach) × IsForkBreach plan.now core.now i note b × (status ≡ breach_status b)) }
 {
     if core.degree() <= i {
         return Some(NO_SUCH);
@@ -110,7 +119,9 @@ pub(crate) fn refusal_of(plan: &Plan, core: &SiteCore, i: u32, note: ForkNote) -
 
 // Whether the site has eaten all its meals if it has eaten these, or need not eat them all.
 fn has_all(plan: &Plan, site: u32, ate: u32) -> bool
-    ensures { result ≡ true → (resigns plan.now site ≡ true) ⊎ (job_count plan.now site ≡ ate) }
+    ensures has { result ≡ true → (resigns plan.now site ≡ true) ⊎ (job_count plan.now site ≡ ate) }
+    ensures has_not { result ≡ false → site < site_count plan.now
+        → (resigns plan.now site ≡ false) × (job_count plan.now site ≢ ate) }
 {
     site < plan.sites() && (plan.resigns(site) || plan.jobs(site) == ate)
 }

@@ -1,14 +1,15 @@
 //! The calls of one site, whose letters are bytes.
-ghost use Rattle.std.specs.Prelude.{◌≡◌, ◌<◌, ◌≤◌, MatchOption, None, is_some, length, pos, if◌then◌else◌};
+ghost use Rattle.std.specs.Prelude.{◌≡◌, ◌≢◌, ◌<◌, MatchOption, None, is_some, length, pos, if◌then◌else◌};
+ghost use Rattle.dine_graph.specs.Plan.{site_count};
 ghost use Rattle.dine_rules.specs.Local.{edge_at};
 ghost use Rattle.dine_rules.specs.Steps as step;
 ghost use Rattle.dine_site_core.specs.NextEvent.{next_of};
 ghost use Rattle.dine_site_core.specs.Places.{hand_of, has_all_said, is_held, neighbour_of, place_at};
-ghost use Rattle.dine_ffi.specs.Answers.{IsDoneOr, Reports, done, no_such, number_of};
+ghost use Rattle.dine_ffi.specs.Answers.{IsDoneOr, IsWithin, Reports, done, memory, no_such, number_of, open_already};
 ghost use Rattle.dine_ffi.specs.Events.{seen_event};
-ghost use Rattle.dine_ffi.specs.OwnSites.{BeginsOrRefuses, EndsOrRefuses, IsOpened, PutsOrRefuses};
+ghost use Rattle.dine_ffi.specs.OwnSites.{BeginsOrRefuses, EndsOrRefuses, IsNoPlace, IsOpened, PutsOrRefuses};
 ghost use Rattle.dine_ffi.specs.OwnSites.{StepsOrRefuses, TakesOrRefuses};
-ghost use Rattle.dine_ffi.specs.Things.{HoldsPlan, HoldsSite, OfHeld, OfSite, OnPlan, SiteCall};
+ghost use Rattle.dine_ffi.specs.Things.{HoldsPlan, HoldsSite, OfHeld, OfPlan, OfSite, OnPlan, SiteCall};
 ghost use Rattle.dine_ffi.specs.Written.{ArePeriods};
 
 use crate::acts::PutKind;
@@ -33,6 +34,9 @@ pub extern "C" fn dine_raw_site_open(
     ensures site { IsDoneOr result
         (HoldsPlan (λ p. HoldsSite (IsOpened p number) site.new.slot.held) plan.old.slot.held)
         (site.new.slot.held ≡ site.old.slot.held) }
+    ensures open { site.old.slot.held ≢ None → result ≡ open_already }
+    ensures refused { site.old.slot.held ≡ None → IsDoneOr result Unit (OfHeld plan.old.slot.held result
+        (λ kept. OfPlan kept result (λ p. IsWithin number (site_count p) result (result ≡ memory)))) }
 {
     if site.is_open() {
         return OPEN_ALREADY;
@@ -47,9 +51,11 @@ pub extern "C" fn dine_raw_site_open(
 
 fn open_site(alloc: Global, thing: &Thing, number: u32, handle: &mut Handle) -> i64
     requires { handle.old.slot.held ≡ None }
-    ensures { IsDoneOr result
+    ensures site { IsDoneOr result
         (OnPlan (λ p. HoldsSite (IsOpened p number) handle.new.slot.held) thing.now.kept)
         (handle.new.slot.held ≡ handle.old.slot.held) }
+    ensures refused { IsDoneOr result Unit (OfPlan thing.now.kept result
+        (λ p. IsWithin number (site_count p) result (result ≡ memory))) }
 {
     match &thing.kept {
         Kept::Plan(plan) => open_site_of(alloc, plan, number, handle),
@@ -59,9 +65,10 @@ fn open_site(alloc: Global, thing: &Thing, number: u32, handle: &mut Handle) -> 
 
 fn open_site_of(alloc: Global, plan: &OwnPlan, number: u32, handle: &mut Handle) -> i64
     requires { handle.old.slot.held ≡ None }
-    ensures { IsDoneOr result
+    ensures site { IsDoneOr result
         (HoldsSite (IsOpened plan.now number) handle.new.slot.held)
         (handle.new.slot.held ≡ handle.old.slot.held) }
+    ensures refused { IsDoneOr result Unit (IsWithin number (site_count plan.now) result (result ≡ memory)) }
 {
     if plan.plan().sites() <= number {
         return NO_SUCH;
@@ -120,7 +127,7 @@ pub extern "C" fn dine_raw_site_place(
           has_fork = if is_held (place_at own.core i).fork then 1 else 0;
           has_token = if is_some (place_at own.core i).token then 1 else 0;
         })) ((result ≡ no_such)
-        × (out.new ≡ out.old)))) }
+        × (out.new ≡ out.old) × IsNoPlace i own))) }
 {
     let Some(thing) = handle.take(alloc) else {
         return CLOSED;

@@ -1,6 +1,6 @@
 // What the calls answer. A number from 0 on is an answer, and a number below 0 says why there is none.
 ghost use Rattle.std.specs.Prelude.{◌≡◌, pos};
-ghost use Rattle.dine_ffi.specs.Answers.{IsRefused, Reports, number_of};
+ghost use Rattle.dine_ffi.specs.Answers.{IsRefused, Reports, breach_status, number_of, wire_status};
 ghost use Rattle.dine_ffi.specs.Refusals.{plan_status};
 
 use dine_reader::PlanFault;
@@ -40,6 +40,7 @@ pub(crate) const OTHER_EDGE: i64 = -14;
 pub(crate) fn wire_status(fault: WireFault) -> i64
     ensures refused { IsRefused result }
     ensures nonzero { result ≡ pos 0 → ⊥ }
+    ensures status { result ≡ wire_status fault }
 {
     match fault {
         WireFault::Length => -11,
@@ -53,6 +54,7 @@ pub(crate) fn wire_status(fault: WireFault) -> i64
 pub(crate) fn breach_status(breach: Breach) -> i64
     ensures refused { IsRefused result }
     ensures nonzero { result ≡ pos 0 → ⊥ }
+    ensures status { result ≡ breach_status breach }
 {
     match breach {
         Breach::AfterClose => -21,

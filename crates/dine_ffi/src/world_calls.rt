@@ -1,12 +1,13 @@
 //! The calls of a world.
-ghost use Rattle.std.specs.Prelude.{◌≡◌, ℕ, MatchOption, None, length, pos, slice_get};
+ghost use Rattle.std.specs.Prelude.{◌≡◌, ◌≢◌, ℕ, MatchOption, None, length, pos, slice_get};
 ghost use Rattle.dine_rules.specs.Bound.{bound_of};
 ghost use Rattle.dine_rules.specs.Schedules.{finish_within, from_here, replay};
 ghost use Rattle.dine_rules.specs.World.{IsComplete, enabled_events, start};
-ghost use Rattle.dine_core.specs.Worlds.{ForEachWorld, IsWorldOf, RunsTo, WorldSteps, forks_seen};
-ghost use Rattle.dine_ffi.specs.Answers.{IsDoneOr, Reports, done, no_such, not_now, number_of};
+ghost use Rattle.dine_core.specs.Worlds.{ForEachWorld, IsWorldOf, RunsTo, forks_seen};
+ghost use Rattle.dine_ffi.specs.Answers.{IsDoneOr, Reports, done, memory, no_such, number_of, open_already};
 ghost use Rattle.dine_ffi.specs.Events.{kind_numbered, seen_event};
-ghost use Rattle.dine_ffi.specs.Things.{HoldsPlan, HoldsWorld, OfHeld, OfWorld, OnPlan, WorldCall};
+ghost use Rattle.dine_ffi.specs.Things.{HoldsPlan, HoldsWorld, OfHeld, OfPlan, OfWorld, OnPlan, StepsWorldOrRefuses};
+ghost use Rattle.dine_ffi.specs.Things.{WorldCall};
 ghost use Rattle.dine_ffi.specs.Written.{ArePeriods};
 
 use crate::event::DineEvent;
@@ -24,6 +25,9 @@ pub extern "C" fn dine_raw_world_open(alloc: Global, plan: &mut Handle, world: &
     ensures world { IsDoneOr result
         (HoldsPlan (λ p. HoldsWorld (IsWorldOf p (start p)) world.new.slot.held) plan.old.slot.held)
         (world.new.slot.held ≡ world.old.slot.held) }
+    ensures open { world.old.slot.held ≢ None → result ≡ open_already }
+    ensures refused { world.old.slot.held ≡ None → IsDoneOr result Unit
+        (OfHeld plan.old.slot.held result (λ kept. OfPlan kept result (λ _. result ≡ memory))) }
 {
     if world.is_open() {
         return OPEN_ALREADY;
@@ -38,9 +42,10 @@ pub extern "C" fn dine_raw_world_open(alloc: Global, plan: &mut Handle, world: &
 
 fn open_world(alloc: Global, thing: &Thing, handle: &mut Handle) -> i64
     requires { handle.old.slot.held ≡ None }
-    ensures { IsDoneOr result
+    ensures world { IsDoneOr result
         (OnPlan (λ p. HoldsWorld (IsWorldOf p (start p)) handle.new.slot.held) thing.now.kept)
         (handle.new.slot.held ≡ handle.old.slot.held) }
+    ensures refused { IsDoneOr result Unit (OfPlan thing.now.kept result (λ _. result ≡ memory)) }
 {
     match &thing.kept {
         Kept::Plan(plan) => match OwnWorld::open(alloc, plan.plan()) {
@@ -117,8 +122,7 @@ pub extern "C" fn dine_raw_world_enabled(
 pub extern "C" fn dine_raw_world_step(alloc: Global, handle: &mut Handle, event: &DineEvent) -> i64
     ensures becomes { WorldCall (λ result old new. MatchOption (kind_numbered event.now.kind event.now.place)
         ((result ≡ no_such) × (new ≡ old))
-        (λ kind. IsDoneOr result (WorldSteps (record { site = event.now.site; kind = kind }) old new)
-        ((result ≡ not_now) × (new ≡ old)))) result
+        (λ kind. StepsWorldOrRefuses (record { site = event.now.site; kind = kind }) result old new)) result
         handle.old.slot.held handle.new.slot.held }
 {
     let Some(mut thing) = handle.take(alloc) else {

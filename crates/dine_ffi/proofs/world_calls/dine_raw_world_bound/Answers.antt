@@ -1,11 +1,10 @@
 use mir.Syntax.{w64}
 use mir.Val.{SFits, to_z}
 use Rattle.std.proofs.lemmas.Int.{to_z-of_z}
-use Rattle.std.proofs.Common.{rules, ◌≡◌, ℤ, pos, Option, MatchOption, slice_get, sym, ◌∙◌, ap, subst}
+use Rattle.std.proofs.Common.{rules, ℤ, Option, sym, ◌∙◌, ap, subst}
 use Rattle.dine_rules.specs.Bound.{bound_of}
-use Rattle.dine_rules.specs.Local.{LocalState}
 use Rattle.dine_core.specs.Worlds.{ForEachWorld, SeenWorld}
-use Rattle.dine_ffi.specs.Answers.{Reports, no_such, number_of}
+use Rattle.dine_ffi.specs.Answers.{Reports}
 use Rattle.dine_ffi.specs.Things.{OfHeld, OfWorld}
 use Rattle.dine_ffi.specs.declared.thing.Kept.{Kept}
 use Rattle.dine_ffi.specs.declared.thing.Thing.{Thing}

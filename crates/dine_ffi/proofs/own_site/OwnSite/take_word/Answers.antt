@@ -1,9 +1,8 @@
 use mir.Syntax.{w64}
 use mir.Val.{SFits}
-use Rattle.std.proofs.Common.{rules, ◌≡◌, sym, ◌∙◌, ap, subst}
+use Rattle.std.proofs.Common.{rules, ◌≡◌, sym, ◌∙◌, subst}
 use Rattle.std.proofs.lemmas.Int.{to_z-of_z}
 use Rattle.dine_rules.specs.Steps as step
-use Rattle.dine_site_core.specs.Core.{SeenCore}
 use Rattle.dine_ffi.specs.OwnSites.{SeenOwnSite, SiteSteps}
 use Rattle.dine_ffi.specs.private.OwnSiteFields.{seen_own_site}
 use Rattle.dine_ffi.proofs.Words.{word_done, word_keeps_meal, word_refused}

@@ -1,9 +1,7 @@
 use mir.Syntax.{w64}
 use mir.Val.{SFits}
-use Rattle.std.proofs.Common.{rules, ◌≡◌, ℕ, ◌<◌, ◌^◌, pos, slice_get, sym, ◌∙◌, ap, subst}
+use Rattle.std.proofs.Common.{rules, pos, slice_get, sym, ◌∙◌, ap, subst}
 use Rattle.std.proofs.lemmas.Int.{to_z-of_z}
-use Rattle.dine_rules.specs.declared.phase.Phase.{Phase}
-use Rattle.dine_rules.specs.Bound.{bound_of}
 use Rattle.dine_rules.specs.Local.{LocalState}
 use Rattle.dine_core.specs.Worlds.{IsWorldOf}
 use Rattle.dine_ffi.specs.Answers.{number_of}
