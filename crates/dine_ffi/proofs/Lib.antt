@@ -4,6 +4,7 @@ pub mod FirstKept
 pub mod ListsOfCalls
 pub mod NotTaken
 pub mod OfSites
+pub mod OnSites
 pub mod OverFront
 pub mod PutBack
 pub mod Refused

@@ -23,7 +23,7 @@ did_step (End failed) n old new is = record { did = step.End failed; names = ref
 did_step Quit n old new is = record { did = step.Quit; names = refl; steps = quit_call old new is }
 did_step (Put kind i) n old new is = record { did = put_step kind i; names = refl; steps = put_call kind i is.2.0 old new is.2.1 }
 did_step (Take bytes) n old new is =
-    let w = is.1 in
+    let w = is.outcome.1 in
     record { did = step.Take w.0 w.1; names = (w.0, w.1, refl, w.2.arrives.are); steps = take_call bytes w.0 w.1 old new w.2 }
 
 -- a call that refused changed nothing
@@ -33,7 +33,7 @@ did_nothing Begin n state old new stands is = is.0
 did_nothing (End failed) n state old new stands is = is.0
 did_nothing Quit n state old new stands is = is.0
 did_nothing (Put kind i) n state old new stands is = is.2.0
-did_nothing (Take bytes) n state old new stands is = (is state stands).0
+did_nothing (Take bytes) n state old new stands is = (is.outcome state stands).0
 
 abbrev Leads : SeenPlan → ℕ → List (Call × ℤ) → LocalState → SeenOwnSite → Type 0
 Leads plan s calls start new = (steps : List Step) × (state : LocalState) × AreStepsOf plan s calls steps × StepsLead plan s steps start state × StandsFor state new

@@ -206,7 +206,6 @@ TakeRefuses bytes result state own =
 
 -- A call with the bytes of a letter takes the letter that arrives with them at one of the places, and returns 0. Or it
 -- refuses, and a site that represents a state is as it was.
-abbrev pub TakesOrRefuses : List ℕ → ℤ → SeenOwnSite → SeenOwnSite → Type 0
-TakesOrRefuses bytes result old new =
-    IsDoneOr result ((result ≡ done) × ((i : ℕ) × (letter : Letter) × SiteTakes bytes i letter old new))
-    ((state : LocalState) → StandsFor state old → (new ≡ old) × TakeRefuses bytes result state old)
+pub record TakesOrRefuses (bytes : List ℕ) (result : ℤ) (old new : SeenOwnSite) : Type 0 where
+  pub outcome : IsDoneOr result ((result ≡ done) × ((i : ℕ) × (letter : Letter) × SiteTakes bytes i letter old new))
+      ((state : LocalState) → StandsFor state old → (new ≡ old) × TakeRefuses bytes result state old)

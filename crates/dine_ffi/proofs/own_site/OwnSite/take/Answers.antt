@@ -15,13 +15,13 @@ returns-in-Err c =
     let r = c.wire_status.result in
     let fits : SFits w64 r = search rules in
     subst (λ (r : ℤ). TakesOrRefuses c.args.bytes.now r old old) (sym (to_z-of_z w64 r fits))
-    (refused_is r _ _ c.wire_status.ensures.refused (λ state is. (refl, wire_refuses c.args.bytes.now old state c.in-Err.fault r c.wire_status.ensures.status c.in-Err.ensures)))
+    (record { outcome = refused_is r _ _ c.wire_status.ensures.refused (λ state is. (refl, wire_refuses c.args.bytes.now old state c.in-Err.fault r c.wire_status.ensures.status c.in-Err.ensures)) })
 
 pub returns-in_default : goal.returns-in_default
 returns-in_default c =
     let note = c.in-Ok.note in
     let in_bytes : IsInBytes note = search rules in
-    λ state is. (refl, other_edge_refuses c.args.bytes.now note c.args.self.now c.in-Ok.ensures in_bytes state is _ refl c.in_default.ensures)
+    record { outcome = λ state is. (refl, other_edge_refuses c.args.bytes.now note c.args.self.now c.in-Ok.ensures in_bytes state is _ refl c.in_default.ensures) }
 
 pub returns-in-Fork : goal.returns-in-Fork
 returns-in-Fork c =
@@ -33,13 +33,13 @@ returns-in-Fork c =
     let place = c.in-Some.ensures.0 in
     let in_bytes : IsInBytes note = search rules in
     let fits : SFits w64 r = search rules in
-    subst (λ (r : ℤ). TakesOrRefuses c.args.bytes.now r old new) (sym (to_z-of_z w64 r fits)) (done_or r _ _
+    subst (λ (r : ℤ). TakesOrRefuses c.args.bytes.now r old new) (sym (to_z-of_z w64 r fits)) (record { outcome = done_or r _ _
     (λ zero. (zero, (let w = c.take_fork.ensures.done zero in (i, letter.Fork w.0, fork_takes c.args.bytes.now note i old new c.in-Ok.ensures place c.in-Fork.fork w.0 c.in-Fork.is w.1))))
     c.take_fork.ensures.negative
     (λ refused state is. (
       c.take_fork.ensures.refused refused state is,
       fork_refuses c.args.bytes.now note old c.in-Ok.ensures in_bytes state is i place c.in-Some.ensures.1 c.in-Fork.fork r c.in-Fork.is (c.take_fork.ensures.why refused state is),
-    )))
+    )) })
 
 pub returns-in-Request : goal.returns-in-Request
 returns-in-Request c =
@@ -52,13 +52,13 @@ returns-in-Request c =
     let l = letter.Request c.open.result in
     let in_bytes : IsInBytes note = search rules in
     let fits : SFits w64 r = search rules in
-    subst (λ (r : ℤ). TakesOrRefuses c.args.bytes.now r old new) (sym (to_z-of_z w64 r fits)) (done_or r _ _
+    subst (λ (r : ℤ). TakesOrRefuses c.args.bytes.now r old new) (sym (to_z-of_z w64 r fits)) (record { outcome = done_or r _ _
     (λ zero. (zero, (i, l, word_takes c.args.bytes.now note i old new c.in-Ok.ensures place l c.in-Request.is (c.open.ensures ∙ sym place) refl (c.take_word.ensures.done zero))))
     c.take_word.ensures.negative
     (λ refused state is. (
       c.take_word.ensures.refused refused,
       word_refuses c.args.bytes.now note old c.in-Ok.ensures in_bytes state is i place c.in-Some.ensures.1 l r refl c.in-Request.is (c.open.ensures ∙ sym place) (c.take_word.ensures.why refused),
-    )))
+    )) })
 
 pub returns-in-Done : goal.returns-in-Done
 returns-in-Done c =
@@ -70,13 +70,13 @@ returns-in-Done c =
     let place = c.in-Some.ensures.0 in
     let in_bytes : IsInBytes note = search rules in
     let fits : SFits w64 r = search rules in
-    subst (λ (r : ℤ). TakesOrRefuses c.args.bytes.now r old new) (sym (to_z-of_z w64 r fits)) (done_or r _ _
+    subst (λ (r : ℤ). TakesOrRefuses c.args.bytes.now r old new) (sym (to_z-of_z w64 r fits)) (record { outcome = done_or r _ _
     (λ zero. (zero, (i, letter.Done, word_takes c.args.bytes.now note i old new c.in-Ok.ensures place letter.Done c.in-Done.is tt refl (c.take_word-in-Done.ensures.done zero))))
     c.take_word-in-Done.ensures.negative
     (λ refused state is. (
       c.take_word-in-Done.ensures.refused refused,
       word_refuses c.args.bytes.now note old c.in-Ok.ensures in_bytes state is i place c.in-Some.ensures.1 letter.Done r refl c.in-Done.is tt (c.take_word-in-Done.ensures.why refused),
-    )))
+    )) })
 
 pub returns-in-Close : goal.returns-in-Close
 returns-in-Close c =
@@ -88,10 +88,10 @@ returns-in-Close c =
     let place = c.in-Some.ensures.0 in
     let in_bytes : IsInBytes note = search rules in
     let fits : SFits w64 r = search rules in
-    subst (λ (r : ℤ). TakesOrRefuses c.args.bytes.now r old new) (sym (to_z-of_z w64 r fits)) (done_or r _ _
+    subst (λ (r : ℤ). TakesOrRefuses c.args.bytes.now r old new) (sym (to_z-of_z w64 r fits)) (record { outcome = done_or r _ _
     (λ zero. (zero, (i, letter.Close, word_takes c.args.bytes.now note i old new c.in-Ok.ensures place letter.Close c.in-Close.is tt refl (c.take_word-in-Close.ensures.done zero))))
     c.take_word-in-Close.ensures.negative
     (λ refused state is. (
       c.take_word-in-Close.ensures.refused refused,
       word_refuses c.args.bytes.now note old c.in-Ok.ensures in_bytes state is i place c.in-Some.ensures.1 letter.Close r refl c.in-Close.is tt (c.take_word-in-Close.ensures.why refused),
-    )))
+    )) })
