@@ -164,6 +164,7 @@ def rust_causes():
     """Returns the text of causes.rs."""
     cases = "".join(f"    /// {words}\n    {name} = {number},\n" for number, name, words in causes())
     arms = "".join(f"            {number} => {name},\n" for number, name, _ in causes())
+    said = "".join(f"            {name} => {chr(34)}{words}{chr(34)},\n" for _, name, words in causes())
     return f"""//! Written by tools/bindings from `PlanFault`: why a text is no plan.
 
 /// Why a text is no plan. The number of a cause is that of `docs/FORMAT.md`.
@@ -172,6 +173,13 @@ pub enum Cause {{
 {cases}}}
 
 impl Cause {{
+    /// Returns the cause in a sentence.
+    pub fn words(self) -> &'static str {{
+        use Cause::*;
+        match self {{
+{said}        }}
+    }}
+
     pub(crate) fn of(number: i64) -> Option<Cause> {{
         use Cause::*;
         Some(match number {{

@@ -44,6 +44,32 @@ pub enum Cause {
 }
 
 impl Cause {
+    /// Returns the cause in a sentence.
+    pub fn words(self) -> &'static str {
+        use Cause::*;
+        match self {
+            NotToml => "The text is no TOML.",
+            Version => "`version` is absent or is not the whole number 1 or 2.",
+            UnknownKey => "The document, a site, a job or an edge has a key that its version of the format does not name for it.",
+            MissingKey => "A site or a job has no `name`, or an edge no `ends`.",
+            WrongKind => "A value is of another kind than the format names for its key.",
+            BadName => "The name of this site, or of one of its jobs, is no name.",
+            SiteTwice => "An earlier site has the name of this site.",
+            NoSite => "There is no site.",
+            TooManySites => "There are more than 64 sites.",
+            TooManyJobs => "This site has more than 1,000 jobs.",
+            TurnsTooLarge => "A job of this site has `turns` above 1,000,000.",
+            UnknownEnd => "An end of this edge is no site's name.",
+            Loop => "Both ends of this edge are one site.",
+            EdgeTwice => "An earlier edge joins the two sites of this one.",
+            TooManyEdges => "There are more than 512 edges.",
+            TwoActs => "A job of this site both adds and sets.",
+            ActTooLarge => "A job of this site adds or sets more than 1,000,000.",
+            ValueTooLarge => "The value of this edge is above 1,000,000.",
+            UnknownPolicy => "`on_fault` of this site is neither `go` nor `resign`.",
+        }
+    }
+
     pub(crate) fn of(number: i64) -> Option<Cause> {
         use Cause::*;
         Some(match number {

@@ -37,7 +37,7 @@ pub enum Error {
     NoLetter(i64),
     /// The rules do not allow this letter now, for this reason.
     Breach(u8),
-    /// The text is no plan, for this reason.
+    /// The text is no plan, or the workers and edges of a table are none, for this reason.
     NoPlan(Refusal),
     /// A worker is of another table.
     OtherTable,
@@ -101,7 +101,7 @@ impl fmt::Display for Error {
             Error::Eating => f.write_str("the site eats"),
             Error::NoLetter(n) => write!(f, "the bytes are no letter ({n})"),
             Error::Breach(n) => write!(f, "the rules do not allow this letter now (breach {n})"),
-            Error::NoPlan(refusal) => write!(f, "the text is no plan: {refusal}"),
+            Error::NoPlan(refusal) => write!(f, "no plan: {refusal}. {}", refusal.cause.words()),
             Error::OtherTable => f.write_str("a worker is of another table"),
             Error::Gone => f.write_str("a neighbour is gone"),
             Error::MealsLeft => f.write_str("the worker has meals left"),

@@ -39,7 +39,8 @@ fn a_text_that_is_no_plan_is_refused() {
     let twice = refused("version = 1\n[[site]]\nname = \"a\"\n[[site]]\nname = \"a\"\n");
     assert_eq!((twice.cause, twice.position), (Cause::SiteTwice, Some(Position::Site(1))));
     let unknown = refused(&PAIR.replace("\"b\"]", "\"c\"]"));
-    assert_eq!(Error::NoPlan(unknown).to_string(), "the text is no plan: 12 UnknownEnd at edge 0");
+    let words = "no plan: 12 UnknownEnd at edge 0. An end of this edge is no site's name.";
+    assert_eq!(Error::NoPlan(unknown).to_string(), words);
     assert_eq!(Site::open(&Plan::read(PAIR).unwrap(), 2).err(), Some(Error::NoSuch));
 }
 
