@@ -128,10 +128,9 @@ def test_motion_between_moments(page):
     assert len({round(it) for it in between}) >= 5 and {*events} >= {5, 6} and page.event() == 6
     page.one("#next").click()
     page.until("one('#moment-title').textContent === 'A clean fork says: wait'")
-    begun = time.monotonic()
-    page.do("#next")
+    page.one("#next").click()
+    assert {event for event, _ in page.wait("flight")} <= {8}
     assert (page.event(), page.text("#moment-title")) == (8, "A clean fork says: wait")
-    assert time.monotonic() - begun < 1
 
 
 def test_site_to_starve(page):
