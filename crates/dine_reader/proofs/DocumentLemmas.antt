@@ -1,5 +1,5 @@
 -- The parts of a value, and the data that it is seen as.
-use Rattle.std.proofs.Common.{◌≡◌, ℕ, ◌≤◌, List, [], ◌∷◌, map, Bool, true, false, cond, Option, Some, None, String, Global, string_bytes, refl, sym, ap, ◌∙◌, arith}
+use Rattle.std.proofs.Common.{◌≡◌, ◌≤◌, List, [], ◌∷◌, map, Bool, true, false, cond, Some, None, String, Global, string_bytes, refl, sym, ap, ◌∙◌, arith}
 use Rattle.std.specs.Option.{option_or}
 use Rattle.std.specs.Map.{keys_of as map_keys}
 use Rattle.toml.specs.Data.{Data, as_array}
@@ -9,7 +9,7 @@ use Rattle.dine_graph.specs.Plan.{IsPlan}
 use Rattle.dine_draft.specs.Refusals.{draft_refusals, first_of_draft, first_some}
 use Rattle.dine_draft.proofs.ListLemmas.{first_some-append}
 use Rattle.dine_draft.proofs.PlanLemmas.{option_or_none, plan_of_fine}
-use Rattle.dine_reader.specs.Document.{list_of, keys_of, items_in, is_second, version_in}
+use Rattle.dine_reader.specs.Document.{list_of, keys_of, items_in, is_second}
 use Rattle.dine_reader.specs.PlanOf.{draft_of, plan_of_document}
 use Rattle.dine_reader.specs.RefusalTests.{first_refusal, form_refusals}
 

@@ -1,4 +1,6 @@
 pub mod DocumentLemmas
 pub mod FirstLemmas
+pub mod FormLemmas
 pub mod IndexLemmas
+pub mod ReadLemmas
 pub mod VersionLemmas

@@ -1,2 +1,3 @@
 -- What no public contract names: what private functions promise one another.
+pub mod Forms
 pub mod Index

@@ -1,12 +1,11 @@
 //! The values at the keys of a table.
-ghost use Rattle.std.specs.Prelude.{◌≡◌, ◌≤◌, codes, false, [], map, unwrap_or};
+ghost use Rattle.std.specs.Prelude.{◌≡◌, ◌≤◌, [], map, unwrap_or};
 ghost use Rattle.std.specs.Option.{option_map_or};
 ghost use Rattle.toml.specs.View.{view};
-ghost use Rattle.toml.specs.Data.{as_str, as_integer, as_bool};
-ghost use Rattle.dine_reader.specs.Document.{act_in, end_in, fails_in, has_key, is_second, items_at, items_in};
+ghost use Rattle.toml.specs.Data.{as_str, as_integer};
+ghost use Rattle.dine_reader.specs.Document.{end_in, has_key, is_second, items_at, items_in};
 ghost use Rattle.dine_reader.specs.Document.{natural, number_at, resigns_in, text_at, version_in};
 
-use dine_token::Act;
 use toml::Value;
 
 /// Returns the items of the array at a key, none if there is no array.
@@ -61,8 +60,8 @@ pub(crate) fn number_at(table: &Value, key: &str) -> u64
     table.get(key).map_or(0, natural_in)
 }
 
-// The whole number that a value is, 0 if it is none or below 0.
-fn natural_in(value: &Value) -> u64
+/// Returns the whole number that a value is, 0 if it is none or below 0.
+pub(crate) fn natural_in(value: &Value) -> u64
     ensures { result ≡ option_map_or natural (as_integer (view value.now)) 0 }
 {
     match value.as_integer() {
@@ -87,39 +86,12 @@ pub(crate) fn version_in(document: &Value) -> u32
     if is_second(document) { 2 } else { 1 }
 }
 
-/// Returns what a meal of a job does to a value: it sets, or else adds, and it adds 0 if the job names neither.
-#[tactic(auto, unfolding(crate::specs::Document::act_in))]
-pub(crate) fn act_in(job: &Value) -> Act
-    ensures { result ≡ act_in (view job.now) }
-{
-    if has_key(job, "set") {
-        Act::Set(number_at(job, "set"))
-    } else {
-        Act::Add(number_at(job, "add"))
-    }
-}
-
 /// Returns whether a site drops the jobs that it has left after one failed, false if it has no `on_fault`.
 #[tactic(auto, unfolding(crate::specs::Document::resigns_in))]
 pub(crate) fn resigns_in(site: &Value) -> bool
     ensures { result ≡ resigns_in (view site.now) }
 {
     text_at(site, "on_fault") == "resign"
-}
-
-/// Returns whether a job fails, false if it has no `fails`.
-#[tactic(auto, unfolding(crate::specs::Document::fails_in))]
-pub(crate) fn fails_in(job: &Value) -> bool
-    ensures { result ≡ fails_in (view job.now) }
-{
-    job.get("fails").is_some_and(truth_in)
-}
-
-// The truth value that a value is, false if it is none.
-fn truth_in(value: &Value) -> bool
-    ensures { result ≡ unwrap_or (as_bool (view value.now)) false }
-{
-    value.as_bool().unwrap_or(false)
 }
 
 /// Returns the name at a place of an edge's ends, empty if there is none.

@@ -1,96 +1,80 @@
 //! A draft of a plan from the tables of a document whose form is as the format says.
 ghost use Rattle.std.specs.Prelude.{◌≡◌, ◌≤◌, ℕ, List, None, Some, if◌then◌else◌, length, map, IfOk, OnOk};
+ghost use Rattle.std.specs.List.{list_any};
 ghost use Rattle.std.specs.Option.{option_or};
 ghost use Rattle.std.specs.Str.{bytes_eq};
 ghost use Rattle.toml.specs.View.{view};
-ghost use Rattle.dine_graph.specs.Job.{seen_job};
 ghost use Rattle.dine_graph.specs.Site.{seen_site};
 ghost use Rattle.dine_draft.specs.Draft.{names_of, seen_draft};
-ghost use Rattle.dine_reader.specs.Document.{turns_in};
-ghost use Rattle.dine_reader.specs.PlanOf.{draft_in, edge_in, job_in, number_of, site_in};
+ghost use Rattle.dine_reader.specs.PlanOf.{draft_in, edge_in, number_of, site_in};
+ghost use Rattle.dine_reader.specs.RefusalTests.{site_is_wrong};
 ghost use Rattle.dine_reader.specs.private.Index.{IsIndex, number_under};
 
 use crate::acts::{first_other_policy, first_with_two_acts};
-use crate::documents::{act_in, end_in, fails_in, items_at, number_at, resigns_in, text_at};
+use crate::documents::{end_in, items_at, number_at, resigns_in, text_at};
+use crate::forms::{has_no_tables, has_no_text};
+use crate::jobs::jobs_in;
 use dine_draft::{Draft, DraftEdge};
-use dine_graph::{Job, JobName, Site};
+use dine_graph::Site;
 use std::alloc::{AllocError, Global};
 use std::collections::BTreeMap;
 use toml::Value;
 
-/// Makes the draft of this version, these site tables and these edge tables.
+/// Makes the draft of this version, these site tables and these edge tables, and says whether a value of a site or of
+/// one of its jobs is of another kind than the format names for its key.
 pub(crate) fn draft_in(
     alloc: Global,
     version: u32,
     site_tables: &[Value],
     edge_tables: &[Value],
-) -> Result<Draft, AllocError>
+) -> Result<(Draft, bool), AllocError>
     requires { length site_tables.now ≤ u32.MAX }
-    ensures { IfOk result (λ d. seen_draft d ≡ draft_in version (map view site_tables.now) (map view edge_tables.now)) }
+    ensures draft { IfOk result (λ read.
+        seen_draft read.0 ≡ draft_in version (map view site_tables.now) (map view edge_tables.now)) }
+    ensures wrong { IfOk result (λ read. read.1 ≡ list_any site_is_wrong (map view site_tables.now)) }
 {
-    let sites = sites_in(alloc, site_tables)?;
+    let (sites, wrong) = sites_in(alloc, site_tables)?;
     let edges = edges_in(alloc, sites.as_slice(), edge_tables)?;
-    Ok(Draft {
+    let draft = Draft {
         version,
         sites,
         edges,
         two_acts: first_with_two_acts(site_tables),
         other_policy: first_other_policy(site_tables),
-    })
+    };
+    Ok((draft, wrong))
 }
 
-fn sites_in(alloc: Global, tables: &[Value]) -> Result<Vec<Site>, AllocError>
-    ensures { IfOk result (λ v. map seen_site v.items ≡ map site_in (map view tables.now)) }
+fn sites_in(alloc: Global, tables: &[Value]) -> Result<(Vec<Site>, bool), AllocError>
+    ensures sites { IfOk result (λ read. map seen_site read.0.items ≡ map site_in (map view tables.now)) }
+    ensures wrong { IfOk result (λ read. read.1 ≡ list_any site_is_wrong (map view tables.now)) }
 {
     let mut sites = Vec::new(alloc);
+    let mut wrong = false;
     for table in tables {
-        sites.push(site_in(alloc, table)?)?;
+        let (site, is_wrong) = site_in(alloc, table)?;
+        sites.push(site)?;
+        wrong = wrong | is_wrong;
     }
-    Ok(sites)
+    Ok((sites, wrong))
 }
 
-fn site_in(alloc: Global, site: &Value) -> Result<Site, AllocError>
-    ensures { IfOk result (λ s. seen_site s ≡ site_in (view site.now)) }
+#[tactic(auto, unfolding(crate::specs::PlanOf::site_in, crate::specs::RefusalTests::site_is_wrong))]
+fn site_in(alloc: Global, site: &Value) -> Result<(Site, bool), AllocError>
+    ensures site { IfOk result (λ read. seen_site read.0 ≡ site_in (view site.now)) }
+    ensures wrong { IfOk result (λ read. read.1 ≡ site_is_wrong (view site.now)) }
 {
-    let jobs = jobs_in(alloc, items_at(site, "jobs"))?;
+    let (jobs, wrong_jobs) = jobs_in(alloc, items_at(site, "jobs"))?;
     let name = String::from_str(alloc, text_at(site, "name"))?;
     let resigns = resigns_in(site);
-    Ok(Site {
+    let no_texts = has_no_text(site, "name") || has_no_text(site, "on_fault");
+    let is_wrong = no_texts || has_no_tables(site, "jobs") || wrong_jobs;
+    let site = Site {
         name,
         jobs,
         resigns,
-    })
-}
-
-fn jobs_in(alloc: Global, tables: &[Value]) -> Result<Vec<Job>, AllocError>
-    ensures { IfOk result (λ v. map seen_job v.items ≡ map job_in (map view tables.now)) }
-{
-    let mut jobs = Vec::new(alloc);
-    for table in tables {
-        jobs.push(job_in(alloc, table)?)?;
-    }
-    Ok(jobs)
-}
-
-#[tactic(auto, unfolding(crate::specs::PlanOf::job_in))]
-fn job_in(alloc: Global, job: &Value) -> Result<Job, AllocError>
-    ensures { IfOk result (λ j. seen_job j ≡ job_in (view job.now)) }
-{
-    let name = String::from_str(alloc, text_at(job, "name"))?;
-    Ok(Job {
-        name: JobName::Own(name),
-        turns: turns_in(job),
-        fails: fails_in(job),
-        act: act_in(job),
-    })
-}
-
-// The turns of a job. A number that no `u32` has is read as the greatest.
-#[tactic(auto, unfolding(crate::specs::Document::turns_in))]
-fn turns_in(job: &Value) -> u32
-    ensures { result ≡ turns_in (view job.now) }
-{
-    number_at(job, "turns").min(u32::MAX as u64) as u32
+    };
+    Ok((site, is_wrong))
 }
 
 fn edges_in(alloc: Global, sites: &[Site], tables: &[Value]) -> Result<Vec<DraftEdge>, AllocError>

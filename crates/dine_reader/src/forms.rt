@@ -1,24 +1,25 @@
-//! The checks on the form of a document: its version, its keys and the kinds of its values.
+//! The checks on the form of a document: its version, its keys, and the kinds of its values except those of sites and
+//! jobs, which are checked where they are read.
 ghost use Rattle.std.specs.Prelude.{◌≡◌, codes, map};
 ghost use Rattle.std.specs.List.{list_any};
 ghost use Rattle.std.specs.Str.{bytes_eq};
 ghost use Rattle.toml.specs.View.{view};
 ghost use Rattle.dine_reader.specs.RefusalTests.{document_keys, site_keys, job_keys, edge_keys, has_other_key};
-ghost use Rattle.dine_reader.specs.RefusalTests.{lacks_key, is_wrong, is_version, is_text, is_truth, is_whole};
+ghost use Rattle.dine_reader.specs.RefusalTests.{lacks_key, is_wrong, is_version, is_text, is_whole};
 ghost use Rattle.dine_reader.specs.RefusalTests.{is_tables, is_two_texts, refuses_version, site_has_other_key};
 ghost use Rattle.dine_reader.specs.RefusalTests.{refuses_unknown_key, site_lacks_key, refuses_missing_key};
-ghost use Rattle.dine_reader.specs.RefusalTests.{job_is_wrong, site_is_wrong, edge_is_wrong, refuses_wrong_kind};
+ghost use Rattle.dine_reader.specs.RefusalTests.{edge_is_wrong};
 ghost use Rattle.dine_draft.specs.Refusals.{first_some};
-ghost use Rattle.dine_reader.specs.RefusalTests.{form_refusals};
+ghost use Rattle.dine_reader.specs.private.Forms.{has_wrong_kind_outside, outer_refusals};
 
 use crate::documents::{is_second, items_at, items_in};
 use dine_draft::PlanFault;
 use toml::Value;
 
-/// Returns the first fault in the form of a document.
-#[tactic(auto, unfolding(crate::specs::RefusalTests::form_refusals))]
-pub(crate) fn first_form_fault(document: &Value) -> Option<PlanFault>
-    ensures { result ≡ first_some (form_refusals (view document.now)) }
+/// Returns the first fault in the form of a document, without the kinds of what its sites and jobs have.
+#[tactic(auto, unfolding(crate::specs::private::Forms::outer_refusals))]
+pub(crate) fn first_outer_fault(document: &Value) -> Option<PlanFault>
+    ensures { result ≡ first_some (outer_refusals (view document.now)) }
 {
     if has_other_version(document) {
         return Some(PlanFault::Version);
@@ -160,11 +161,10 @@ fn lacks_key(table: &Value, key: &str) -> bool
     table.is_table() && table.get(key).is_none()
 }
 
-// Whether a value is of another kind than the format names for its key.
+// Whether a value that is not of a site is of another kind than the format names for its key.
 fn has_wrong_kind(document: &Value) -> bool
-    ensures { result ≡ refuses_wrong_kind (view document.now) }
+    ensures { result ≡ has_wrong_kind_outside (view document.now) }
 {
-    let sites = items_at(document, "site");
     let edges = items_at(document, "edge");
     if has_no_tables(document, "site") {
         return true;
@@ -172,37 +172,7 @@ fn has_wrong_kind(document: &Value) -> bool
     if has_no_tables(document, "edge") {
         return true;
     }
-    if sites.iter().any(site_is_wrong) {
-        return true;
-    }
     edges.iter().any(edge_is_wrong)
-}
-
-fn site_is_wrong(site: &Value) -> bool
-    ensures { result ≡ site_is_wrong (view site.now) }
-{
-    let jobs = items_at(site, "jobs");
-    if has_no_text(site, "name") {
-        return true;
-    }
-    if has_no_text(site, "on_fault") {
-        return true;
-    }
-    if has_no_tables(site, "jobs") {
-        return true;
-    }
-    jobs.iter().any(job_is_wrong)
-}
-
-#[tactic(auto, unfolding(crate::specs::RefusalTests::job_is_wrong))]
-fn job_is_wrong(job: &Value) -> bool
-    ensures { result ≡ job_is_wrong (view job.now) }
-{
-    has_no_text(job, "name")
-        || has_no_whole_number(job, "turns")
-        || has_no_truth(job)
-        || has_no_whole_number(job, "add")
-        || has_no_whole_number(job, "set")
 }
 
 #[tactic(auto, unfolding(crate::specs::RefusalTests::edge_is_wrong))]
@@ -223,17 +193,17 @@ fn has_no_two_texts(edge: &Value) -> bool
     }
 }
 
-// Whether the value at the key is no text.
+/// Returns whether the value at the key is no text.
 #[tactic(auto, unfolding(crate::specs::RefusalTests::is_wrong))]
-fn has_no_text(table: &Value, key: &str) -> bool
+pub(crate) fn has_no_text(table: &Value, key: &str) -> bool
     ensures { result ≡ is_wrong is_text key.now (view table.now) }
 {
     table.get(key).is_some_and(|value| !value.is_str())
 }
 
-// Whether the value at the key is no array of tables.
+/// Returns whether the value at the key is no array of tables.
 #[tactic(auto, unfolding(crate::specs::RefusalTests::is_wrong))]
-fn has_no_tables(table: &Value, key: &str) -> bool
+pub(crate) fn has_no_tables(table: &Value, key: &str) -> bool
     ensures { result ≡ is_wrong is_tables key.now (view table.now) }
 {
     table.get(key).is_some_and(|value| !is_tables(value))
@@ -247,15 +217,8 @@ fn has_no_whole_number(table: &Value, key: &str) -> bool
     table.get(key).is_some_and(|value| !is_whole(value))
 }
 
-// Whether `fails` of the job is no truth value.
-#[tactic(auto, unfolding(crate::specs::RefusalTests::is_wrong))]
-fn has_no_truth(job: &Value) -> bool
-    ensures { result ≡ is_wrong is_truth (codes "fails") (view job.now) }
-{
-    job.get("fails").is_some_and(|value| !value.is_bool())
-}
-
-fn is_whole(value: &Value) -> bool
+/// Returns whether a value is a whole number that is not below 0.
+pub(crate) fn is_whole(value: &Value) -> bool
     ensures { result ≡ is_whole (view value.now) }
 {
     value.as_integer().is_some_and(|number| number >= 0)

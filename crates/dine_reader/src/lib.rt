@@ -5,6 +5,7 @@ mod acts;
 mod documents;
 mod drafts;
 mod forms;
+mod jobs;
 pub mod laws;
 mod reading;
 

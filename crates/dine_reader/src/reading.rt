@@ -8,7 +8,7 @@ ghost use Rattle.dine_reader.specs.RefusalTests.{first_refusal, first_fault};
 
 use crate::documents::{items_at, version_in};
 use crate::drafts::draft_in;
-use crate::forms::first_form_fault;
+use crate::forms::first_outer_fault;
 use dine_draft::PlanFault;
 use dine_graph::Plan;
 use std::alloc::Global;
@@ -39,7 +39,7 @@ fn read_tables(alloc: Global, document: &Value) -> Result<Plan, PlanFault>
     ensures plan { IfOk result (λ p. p ≡ plan_of_document (view document.now)) }
     ensures refused { IfErr result (λ f. f ≢ PlanFault.Memory → first_refusal (view document.now) ≡ Some f) }
 {
-    if let Some(fault) = first_form_fault(document) {
+    if let Some(fault) = first_outer_fault(document) {
         return Err(fault);
     }
     let sites = items_at(document, "site");
@@ -48,7 +48,10 @@ fn read_tables(alloc: Global, document: &Value) -> Result<Plan, PlanFault>
     if sites.len() > MAX_TABLES || edges.len() > MAX_TABLES {
         return Err(PlanFault::Memory);
     }
-    let draft = draft_in(alloc, version_in(document), sites, edges)?;
+    let (draft, wrong) = draft_in(alloc, version_in(document), sites, edges)?;
+    if wrong {
+        return Err(PlanFault::WrongKind);
+    }
     draft.finish(alloc)
 }
 

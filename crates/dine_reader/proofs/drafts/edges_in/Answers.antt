@@ -1,7 +1,5 @@
-use Rattle.std.proofs.Common.{map, ◌∙◌}
+use Rattle.std.proofs.Common.{◌∙◌}
 use Rattle.toml.specs.View.{view}
-use Rattle.dine_graph.specs.Site.{seen_site}
-use Rattle.dine_draft.specs.Draft.{names_of}
 use Rattle.dine_reader.specs.PlanOf.{edge_in}
 use Rattle.dine_draft.proofs.ListLemmas.{each_kept_more}
 use Rattle.dine_draft.proofs.NameLemmas.{names_seen, length-names_seen}

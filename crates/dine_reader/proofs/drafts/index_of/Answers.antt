@@ -1,4 +1,4 @@
-use Rattle.std.proofs.Common.{[], length, cond, Some, None, string_bytes, ap, sym, ◌∙◌, arith}
+use Rattle.std.proofs.Common.{[], cond, Some, None, ap, sym, ◌∙◌, arith}
 use Rattle.std.specs.Option.{option_or}
 use Rattle.std.specs.Str.{bytes_eq}
 use Rattle.dine_draft.proofs.NameLemmas.{names_seen, names_seen-at, length-names_seen}

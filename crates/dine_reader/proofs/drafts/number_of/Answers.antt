@@ -1,4 +1,4 @@
-use Rattle.std.proofs.Common.{length, unwrap_or, sym, ap, ◌∙◌}
+use Rattle.std.proofs.Common.{unwrap_or, sym, ap, ◌∙◌}
 use Rattle.std.specs.List.{position}
 use Rattle.std.specs.Str.{bytes_eq}
 use Rattle.dine_reader.proofs.IndexLemmas.{position_or_length}

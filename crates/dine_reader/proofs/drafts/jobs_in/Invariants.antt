@@ -1,8 +1,0 @@
-use Rattle.std.proofs.Common.{◌≡◌, map, take}
-use Rattle.toml.specs.View.{view}
-use Rattle.dine_graph.specs.Job.{seen_job}
-use Rattle.dine_reader.specs.PlanOf.{job_in}
-use Rattle.dine_reader.proofs.drafts.jobs_in.Given as goal
-
-abbrev pub invariant-loop-table : goal.invariant-loop-table
-invariant-loop-table l = map seen_job l.jobs.items ≡ map job_in (map view (take l.table-index l.tables))
