@@ -1,5 +1,5 @@
 //! The table of a meal: what a job sees and opens while it runs.
-ghost use Rattle.std.specs.Prelude.{◌≡◌, ◌<◌, ◌≤◌, ◌↔◌, IfOk, IfSome, IsErrOf, IsNone, OnOk, Some, length};
+ghost use Rattle.std.specs.Prelude.{◌≡◌, ◌==◌, ◌<◌, ◌≤◌, ◌↔◌, IfOk, IfSome, IsErrOf, IsNone, OnOk, Some, false, length};
 ghost use Rattle.std.specs.Prelude.{slice_get, vec_len};
 ghost use Rattle.dine_token.specs.Fork.{SeenFork, other_end};
 ghost use Rattle.dine_jobs.specs.EdgeValues.{edge_open};
@@ -124,6 +124,20 @@ impl<'a, T: Drop> Table<'a, T> {
         } else {
             lower
         }))
+    }
+
+    /// Returns whether the site is the lower end of the edge at a place: whether its number is less than that of the
+    /// neighbour there. It is false if the site has no such place.
+    pub fn is_lower(&self, place: Place) -> bool
+        ensures end { (fork : SeenFork) → slice_get self.now.forks place.0 ≡ Some fork
+            → result ≡ (self.now.site == fork.ends.0) }
+        ensures none { length self.now.forks ≤ place.0 → result ≡ false }
+    {
+        if place.0 >= self.meal.len() {
+            return false;
+        }
+        let (lower, _) = self.meal.fork(place.0).ends();
+        self.meal.site() == lower
     }
 
     /// Opens the value of the edge at a place, until what is returned is dropped, and at most for this meal. It never
