@@ -9,6 +9,10 @@ fn main() {
         println!("cargo:rerun-if-env-changed={name}");
     }
     let here = Path::new("../lib");
+    if here.is_dir() {
+        // The library may be built later.
+        println!("cargo:rerun-if-changed={}", here.display());
+    }
     let folder = match var("DINE_LIB") {
         Ok(folder) => existing(Path::new(&folder)),
         Err(_) if var("DINE_NOKIT").is_err() && here.join("libdine.a").is_file() => existing(here),

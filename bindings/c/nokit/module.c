@@ -653,37 +653,38 @@ static u32 w2c_f42(Z_dine_ffi_instance_t*, u64, u64, u64);
 static void w2c_f43(Z_dine_ffi_instance_t*, u64, u64, u64);
 static u32 w2c_f44(Z_dine_ffi_instance_t*, u64, u64, u64);
 static u32 w2c_f45(Z_dine_ffi_instance_t*, u64, u64);
-static u32 w2c_f46(Z_dine_ffi_instance_t*, u64);
-static void w2c_f47(Z_dine_ffi_instance_t*, u64, u64, u64, u64);
-static void w2c_f48(Z_dine_ffi_instance_t*, u64, u64, u32);
-static void w2c_f49(Z_dine_ffi_instance_t*, u64, u64, u64);
-static u32 w2c_f50(Z_dine_ffi_instance_t*, u64);
-static void w2c_f51(Z_dine_ffi_instance_t*, u64);
-static void w2c_f52(Z_dine_ffi_instance_t*, u64);
-static u32 w2c_f53(Z_dine_ffi_instance_t*, u64);
-static void w2c_f54(Z_dine_ffi_instance_t*, u64, u64, u64);
-static u32 w2c_f55(Z_dine_ffi_instance_t*, u64);
-static u64 w2c_f56(Z_dine_ffi_instance_t*, u64, u64);
-static void w2c_f57(Z_dine_ffi_instance_t*, u64);
+static void w2c_f46(Z_dine_ffi_instance_t*, u64, u64, u64, u64);
+static u32 w2c_f47(Z_dine_ffi_instance_t*, u64);
+static void w2c_f48(Z_dine_ffi_instance_t*, u64, u64, u64, u64);
+static void w2c_f49(Z_dine_ffi_instance_t*, u64, u64, u32);
+static void w2c_f50(Z_dine_ffi_instance_t*, u64);
+static void w2c_f51(Z_dine_ffi_instance_t*, u64, u64, u64);
+static u32 w2c_f52(Z_dine_ffi_instance_t*, u64);
+static void w2c_f53(Z_dine_ffi_instance_t*, u64);
+static u32 w2c_f54(Z_dine_ffi_instance_t*, u64);
+static void w2c_f55(Z_dine_ffi_instance_t*, u64, u64, u64);
+static u32 w2c_f56(Z_dine_ffi_instance_t*, u64);
+static u64 w2c_f57(Z_dine_ffi_instance_t*, u64, u64);
 static void w2c_f58(Z_dine_ffi_instance_t*, u64);
 static void w2c_f59(Z_dine_ffi_instance_t*, u64);
 static void w2c_f60(Z_dine_ffi_instance_t*, u64);
 static void w2c_f61(Z_dine_ffi_instance_t*, u64);
-static void w2c_f62(Z_dine_ffi_instance_t*, u64, u64, u32);
-static void w2c_f63(Z_dine_ffi_instance_t*, u64, u64);
+static void w2c_f62(Z_dine_ffi_instance_t*, u64);
+static void w2c_f63(Z_dine_ffi_instance_t*, u64, u64, u32);
 static void w2c_f64(Z_dine_ffi_instance_t*, u64, u64);
 static void w2c_f65(Z_dine_ffi_instance_t*, u64, u64);
-static void w2c_f66(Z_dine_ffi_instance_t*, u64, u64, u32);
+static void w2c_f66(Z_dine_ffi_instance_t*, u64, u64);
 static void w2c_f67(Z_dine_ffi_instance_t*, u64, u64, u32);
-static void w2c_f68(Z_dine_ffi_instance_t*, u64, u64, u32, u64, u64);
-static void w2c_f69(Z_dine_ffi_instance_t*, u64);
-static u32 w2c_f70(Z_dine_ffi_instance_t*, u64, u32);
-static void w2c_f71(Z_dine_ffi_instance_t*, u64, u64, u32);
-static void w2c_f72(Z_dine_ffi_instance_t*, u64, u64);
-static void w2c_f73(Z_dine_ffi_instance_t*, u64, u32, u64);
-static void w2c_f74(Z_dine_ffi_instance_t*, u64, u64, u32);
-static void w2c_f75(Z_dine_ffi_instance_t*, u64, u64, u32, u64);
-static u32 w2c_f76(Z_dine_ffi_instance_t*, u64, u64, u64);
+static void w2c_f68(Z_dine_ffi_instance_t*, u64, u64, u32);
+static void w2c_f69(Z_dine_ffi_instance_t*, u64, u64, u32, u64, u64);
+static void w2c_f70(Z_dine_ffi_instance_t*, u64);
+static u32 w2c_f71(Z_dine_ffi_instance_t*, u64, u32);
+static void w2c_f72(Z_dine_ffi_instance_t*, u64, u64, u32);
+static void w2c_f73(Z_dine_ffi_instance_t*, u64, u64);
+static void w2c_f74(Z_dine_ffi_instance_t*, u64, u32, u64);
+static void w2c_f75(Z_dine_ffi_instance_t*, u64, u64, u32);
+static void w2c_f76(Z_dine_ffi_instance_t*, u64, u64, u32, u64);
+static u32 w2c_f77(Z_dine_ffi_instance_t*, u64, u64, u64);
 static u64 w2c_dine_raw_plan_open(Z_dine_ffi_instance_t*, u64, u64, u64);
 static u64 w2c_dine_raw_close(Z_dine_ffi_instance_t*, u64);
 static u64 w2c_dine_raw_plan_edges(Z_dine_ffi_instance_t*, u64);
@@ -720,13 +721,13 @@ static u64 w2c_dine_raw_site_take(Z_dine_ffi_instance_t*, u64, u64, u64);
 static u64 w2c_dine_raw_site_fork(Z_dine_ffi_instance_t*, u64, u32, u64, u64);
 static u64 w2c_dine_raw_world_fork(Z_dine_ffi_instance_t*, u64, u32, u64, u64);
 static u64 w2c_dine_raw_plan_refusal(Z_dine_ffi_instance_t*, u64, u64, u64, u64);
-static void w2c_f113(Z_dine_ffi_instance_t*, u64, u64);
+static void w2c_f114(Z_dine_ffi_instance_t*, u64, u64);
 static void w2c_leave(Z_dine_ffi_instance_t*, u64);
-static void w2c_f115(Z_dine_ffi_instance_t*, u64, u64, u64, u64);
+static void w2c_f116(Z_dine_ffi_instance_t*, u64, u64, u64, u64);
 static u64 w2c_room(Z_dine_ffi_instance_t*, u64);
 static void w2c_reset(Z_dine_ffi_instance_t*);
-static void w2c_f118(Z_dine_ffi_instance_t*, u64, u64, u64, u64);
-static void w2c_f119(Z_dine_ffi_instance_t*, u64, u64, u64, u32);
+static void w2c_f119(Z_dine_ffi_instance_t*, u64, u64, u64, u64);
+static void w2c_f120(Z_dine_ffi_instance_t*, u64, u64, u64, u32);
 
 static void init_globals(Z_dine_ffi_instance_t* instance) {
   instance->w2c_g0 = 1048576ull;
@@ -1757,10 +1758,10 @@ static const u8 data_segment_data_w2c_d25[] = {
   0x6e, 0x64, 0x73, 0x76, 0x61, 0x6c, 0x75, 0x65, 0x00, 0x00, 0x00, 0x00, 
   0x00, 0x00, 0x00, 0xd0, 0x2c, 0x10, 0x00, 0x00, 0x00, 0x00, 0x00, 0x04, 
   0x00, 0x00, 0x00, 0x00, 0x00, 0x00, 0x00, 0x65, 0x6e, 0x64, 0x73, 0x00, 
-  0x00, 0x00, 0x00, 0x6e, 0x61, 0x6d, 0x65, 0x65, 0x6e, 0x64, 0x73, 0x6f, 
-  0x6e, 0x5f, 0x66, 0x61, 0x75, 0x6c, 0x74, 0x74, 0x75, 0x72, 0x6e, 0x73, 
-  0x61, 0x64, 0x64, 0x73, 0x65, 0x74, 0x66, 0x61, 0x69, 0x6c, 0x73, 0x76, 
-  0x61, 0x6c, 0x75, 0x65, 0x72, 0x65, 0x73, 0x69, 0x67, 0x6e, 0x67, 0x6f, 
+  0x00, 0x00, 0x00, 0x6e, 0x61, 0x6d, 0x65, 0x65, 0x6e, 0x64, 0x73, 0x76, 
+  0x61, 0x6c, 0x75, 0x65, 0x6f, 0x6e, 0x5f, 0x66, 0x61, 0x75, 0x6c, 0x74, 
+  0x74, 0x75, 0x72, 0x6e, 0x73, 0x66, 0x61, 0x69, 0x6c, 0x73, 0x61, 0x64, 
+  0x64, 0x73, 0x65, 0x74, 0x72, 0x65, 0x73, 0x69, 0x67, 0x6e, 0x67, 0x6f, 
   0x31, 0x20, 0x4e, 0x6f, 0x74, 0x54, 0x6f, 0x6d, 0x6c, 0x32, 0x20, 0x56, 
   0x65, 0x72, 0x73, 0x69, 0x6f, 0x6e, 0x33, 0x20, 0x55, 0x6e, 0x6b, 0x6e, 
   0x6f, 0x77, 0x6e, 0x4b, 0x65, 0x79, 0x34, 0x20, 0x4d, 0x69, 0x73, 0x73, 
@@ -1838,7 +1839,8 @@ static void init_data_instances(Z_dine_ffi_instance_t *instance) {
 }
 
 static void w2c_f0(Z_dine_ffi_instance_t* instance, u64 w2c_p0, u64 w2c_p1, u64 w2c_p2) {
-  u32 w2c_l37 = 0, w2c_l38 = 0, w2c_l39 = 0, w2c_l40 = 0, w2c_l41 = 0, w2c_l42 = 0, w2c_l43 = 0;
+  u32 w2c_l37 = 0, w2c_l38 = 0, w2c_l39 = 0, w2c_l40 = 0, w2c_l41 = 0, w2c_l42 = 0, w2c_l43 = 0, w2c_l44 = 0, 
+      w2c_l45 = 0, w2c_l46 = 0, w2c_l47 = 0, w2c_l48 = 0;
   u64 w2c_l3 = 0, w2c_l4 = 0, w2c_l5 = 0, w2c_l6 = 0, w2c_l7 = 0, w2c_l8 = 0, w2c_l9 = 0, w2c_l10 = 0, 
       w2c_l11 = 0, w2c_l12 = 0, w2c_l13 = 0, w2c_l14 = 0, w2c_l15 = 0, w2c_l16 = 0, w2c_l17 = 0, w2c_l18 = 0, 
       w2c_l19 = 0, w2c_l20 = 0, w2c_l21 = 0, w2c_l22 = 0, w2c_l23 = 0, w2c_l24 = 0, w2c_l25 = 0, w2c_l26 = 0, 
@@ -1851,66 +1853,66 @@ static void w2c_f0(Z_dine_ffi_instance_t* instance, u64 w2c_p0, u64 w2c_p1, u64 
   w2c_j0 = instance->w2c_g0;
   w2c_j1 = 928ull;
   w2c_j0 -= w2c_j1;
-  w2c_l8 = w2c_j0;
+  w2c_l7 = w2c_j0;
   instance->w2c_g0 = w2c_j0;
-  w2c_j0 = w2c_l8;
+  w2c_j0 = w2c_l7;
   w2c_i0 = (u32)(w2c_j0);
   w2c_j1 = 0ull;
   i64_store(&instance->w2c_memory, (u64)(w2c_i0) + 88, w2c_j1);
-  w2c_j0 = w2c_l8;
+  w2c_j0 = w2c_l7;
   w2c_i0 = (u32)(w2c_j0);
   w2c_j1 = 0ull;
   i64_store(&instance->w2c_memory, (u64)(w2c_i0) + 80, w2c_j1);
-  w2c_j0 = w2c_l8;
+  w2c_j0 = w2c_l7;
   w2c_i0 = (u32)(w2c_j0);
   w2c_j1 = 0ull;
   i64_store(&instance->w2c_memory, (u64)(w2c_i0) + 72, w2c_j1);
-  w2c_j0 = w2c_l8;
+  w2c_j0 = w2c_l7;
   w2c_i0 = (u32)(w2c_j0);
   w2c_j1 = 0ull;
   i64_store(&instance->w2c_memory, (u64)(w2c_i0) + 48, w2c_j1);
-  w2c_j0 = w2c_l8;
+  w2c_j0 = w2c_l7;
   w2c_i0 = (u32)(w2c_j0);
   w2c_j1 = 0ull;
   i64_store(&instance->w2c_memory, (u64)(w2c_i0) + 56, w2c_j1);
-  w2c_j0 = w2c_l8;
+  w2c_j0 = w2c_l7;
   w2c_i0 = (u32)(w2c_j0);
   w2c_j1 = 0ull;
   i64_store(&instance->w2c_memory, (u64)(w2c_i0) + 64, w2c_j1);
-  w2c_j0 = w2c_l8;
+  w2c_j0 = w2c_l7;
   w2c_j1 = 72ull;
   w2c_j0 += w2c_j1;
-  w2c_l13 = w2c_j0;
+  w2c_l17 = w2c_j0;
   w2c_j0 = w2c_p1;
-  w2c_l11 = w2c_j0;
+  w2c_l12 = w2c_j0;
   w2c_j0 = instance->w2c_g0;
   w2c_j1 = 16ull;
   w2c_j0 -= w2c_j1;
-  w2c_l10 = w2c_j0;
+  w2c_l9 = w2c_j0;
   instance->w2c_g0 = w2c_j0;
   w2c_j0 = w2c_p2;
   w2c_i0 = !(w2c_j0);
   if (w2c_i0) {goto w2c_B1;}
-  w2c_j0 = w2c_l11;
+  w2c_j0 = w2c_l12;
   w2c_j1 = w2c_p2;
   w2c_j2 = 8ull;
   w2c_j1 -= w2c_j2;
   w2c_l16 = w2c_j1;
   w2c_j0 += w2c_j1;
-  w2c_l9 = w2c_j0;
+  w2c_l19 = w2c_j0;
   w2c_L2: 
-    w2c_j0 = w2c_l11;
-    w2c_j1 = w2c_l7;
+    w2c_j0 = w2c_l12;
+    w2c_j1 = w2c_l6;
     w2c_p1 = w2c_j1;
     w2c_j0 += w2c_j1;
-    w2c_l7 = w2c_j0;
+    w2c_l6 = w2c_j0;
     w2c_i0 = (u32)(w2c_j0);
     w2c_i0 = i32_load8_u(&instance->w2c_memory, (u64)(w2c_i0));
     w2c_l38 = w2c_i0;
     w2c_j0 = w2c_p2;
     w2c_j1 = w2c_p1;
     w2c_j0 -= w2c_j1;
-    w2c_l6 = w2c_j0;
+    w2c_l8 = w2c_j0;
     w2c_j1 = 2ull;
     w2c_i0 = w2c_j0 < w2c_j1;
     w2c_l40 = w2c_i0;
@@ -1922,7 +1924,7 @@ static void w2c_f0(Z_dine_ffi_instance_t* instance, u64 w2c_p0, u64 w2c_p1, u64 
     if (w2c_i0) {goto w2c_B9;}
     w2c_j0 = 1ull;
     w2c_l14 = w2c_j0;
-    w2c_j0 = w2c_l7;
+    w2c_j0 = w2c_l6;
     w2c_j1 = 1ull;
     w2c_j0 += w2c_j1;
     w2c_i0 = (u32)(w2c_j0);
@@ -1930,37 +1932,37 @@ static void w2c_f0(Z_dine_ffi_instance_t* instance, u64 w2c_p0, u64 w2c_p1, u64 
     w2c_i1 = 0u;
     w2c_i0 = (u32)((s32)w2c_i0 < (s32)w2c_i1);
     if (w2c_i0) {goto w2c_B7;}
-    w2c_j0 = w2c_l10;
+    w2c_j0 = w2c_l9;
     w2c_i0 = (u32)(w2c_j0);
     w2c_j1 = w2c_p2;
     i64_store(&instance->w2c_memory, (u64)(w2c_i0) + 8, w2c_j1);
-    w2c_j0 = w2c_l10;
+    w2c_j0 = w2c_l9;
     w2c_i0 = (u32)(w2c_j0);
-    w2c_j1 = w2c_l11;
+    w2c_j1 = w2c_l12;
     i64_store(&instance->w2c_memory, (u64)(w2c_i0), w2c_j1);
-    w2c_j0 = w2c_l6;
+    w2c_j0 = w2c_l8;
     w2c_j1 = 7ull;
     w2c_i0 = w2c_j0 <= w2c_j1;
     if (w2c_i0) {
-      w2c_j0 = w2c_l7;
+      w2c_j0 = w2c_l6;
       w2c_i0 = (u32)(w2c_j0);
       w2c_i0 = i32_load8_s(&instance->w2c_memory, (u64)(w2c_i0));
       w2c_i1 = 0u;
       w2c_i0 = (u32)((s32)w2c_i0 < (s32)w2c_i1);
       if (w2c_i0) {
         w2c_j0 = w2c_p1;
-        w2c_l7 = w2c_j0;
+        w2c_l6 = w2c_j0;
         goto w2c_B3;
       }
       w2c_j0 = w2c_p1;
       w2c_j1 = 1ull;
       w2c_j0 += w2c_j1;
-      w2c_l7 = w2c_j0;
+      w2c_l6 = w2c_j0;
       w2c_j1 = w2c_p2;
       w2c_i0 = w2c_j0 == w2c_j1;
       if (w2c_i0) {goto w2c_B1;}
-      w2c_j0 = w2c_l7;
-      w2c_j1 = w2c_l11;
+      w2c_j0 = w2c_l6;
+      w2c_j1 = w2c_l12;
       w2c_j0 += w2c_j1;
       w2c_i0 = (u32)(w2c_j0);
       w2c_i0 = i32_load8_s(&instance->w2c_memory, (u64)(w2c_i0));
@@ -1970,12 +1972,12 @@ static void w2c_f0(Z_dine_ffi_instance_t* instance, u64 w2c_p0, u64 w2c_p1, u64 
       w2c_j0 = w2c_p1;
       w2c_j1 = 2ull;
       w2c_j0 += w2c_j1;
-      w2c_l7 = w2c_j0;
+      w2c_l6 = w2c_j0;
       w2c_j1 = w2c_p2;
       w2c_i0 = w2c_j0 == w2c_j1;
       if (w2c_i0) {goto w2c_B1;}
-      w2c_j0 = w2c_l7;
-      w2c_j1 = w2c_l11;
+      w2c_j0 = w2c_l6;
+      w2c_j1 = w2c_l12;
       w2c_j0 += w2c_j1;
       w2c_i0 = (u32)(w2c_j0);
       w2c_i0 = i32_load8_s(&instance->w2c_memory, (u64)(w2c_i0));
@@ -1985,12 +1987,12 @@ static void w2c_f0(Z_dine_ffi_instance_t* instance, u64 w2c_p0, u64 w2c_p1, u64 
       w2c_j0 = w2c_p1;
       w2c_j1 = 3ull;
       w2c_j0 += w2c_j1;
-      w2c_l7 = w2c_j0;
+      w2c_l6 = w2c_j0;
       w2c_j1 = w2c_p2;
       w2c_i0 = w2c_j0 == w2c_j1;
       if (w2c_i0) {goto w2c_B1;}
-      w2c_j0 = w2c_l7;
-      w2c_j1 = w2c_l11;
+      w2c_j0 = w2c_l6;
+      w2c_j1 = w2c_l12;
       w2c_j0 += w2c_j1;
       w2c_i0 = (u32)(w2c_j0);
       w2c_i0 = i32_load8_s(&instance->w2c_memory, (u64)(w2c_i0));
@@ -2000,12 +2002,12 @@ static void w2c_f0(Z_dine_ffi_instance_t* instance, u64 w2c_p0, u64 w2c_p1, u64 
       w2c_j0 = w2c_p1;
       w2c_j1 = 4ull;
       w2c_j0 += w2c_j1;
-      w2c_l7 = w2c_j0;
+      w2c_l6 = w2c_j0;
       w2c_j1 = w2c_p2;
       w2c_i0 = w2c_j0 == w2c_j1;
       if (w2c_i0) {goto w2c_B1;}
-      w2c_j0 = w2c_l7;
-      w2c_j1 = w2c_l11;
+      w2c_j0 = w2c_l6;
+      w2c_j1 = w2c_l12;
       w2c_j0 += w2c_j1;
       w2c_i0 = (u32)(w2c_j0);
       w2c_i0 = i32_load8_s(&instance->w2c_memory, (u64)(w2c_i0));
@@ -2015,12 +2017,12 @@ static void w2c_f0(Z_dine_ffi_instance_t* instance, u64 w2c_p0, u64 w2c_p1, u64 
       w2c_j0 = w2c_p1;
       w2c_j1 = 5ull;
       w2c_j0 += w2c_j1;
-      w2c_l7 = w2c_j0;
+      w2c_l6 = w2c_j0;
       w2c_j1 = w2c_p2;
       w2c_i0 = w2c_j0 == w2c_j1;
       if (w2c_i0) {goto w2c_B1;}
-      w2c_j0 = w2c_l7;
-      w2c_j1 = w2c_l11;
+      w2c_j0 = w2c_l6;
+      w2c_j1 = w2c_l12;
       w2c_j0 += w2c_j1;
       w2c_i0 = (u32)(w2c_j0);
       w2c_i0 = i32_load8_s(&instance->w2c_memory, (u64)(w2c_i0));
@@ -2030,12 +2032,12 @@ static void w2c_f0(Z_dine_ffi_instance_t* instance, u64 w2c_p0, u64 w2c_p1, u64 
       w2c_j0 = w2c_p1;
       w2c_j1 = 6ull;
       w2c_j0 += w2c_j1;
-      w2c_l7 = w2c_j0;
+      w2c_l6 = w2c_j0;
       w2c_j1 = w2c_p2;
       w2c_i0 = w2c_j0 == w2c_j1;
       if (w2c_i0) {goto w2c_B1;}
-      w2c_j0 = w2c_l7;
-      w2c_j1 = w2c_l11;
+      w2c_j0 = w2c_l6;
+      w2c_j1 = w2c_l12;
       w2c_j0 += w2c_j1;
       w2c_i0 = (u32)(w2c_j0);
       w2c_i0 = i32_load8_s(&instance->w2c_memory, (u64)(w2c_i0));
@@ -2045,35 +2047,35 @@ static void w2c_f0(Z_dine_ffi_instance_t* instance, u64 w2c_p0, u64 w2c_p1, u64 
       goto w2c_B1;
     }
     w2c_j0 = 8ull;
-    w2c_j1 = w2c_l7;
+    w2c_j1 = w2c_l6;
     w2c_i1 = (u32)(w2c_j1);
     w2c_j1 = i64_load(&instance->w2c_memory, (u64)(w2c_i1));
     w2c_j2 = 9259542123273814144ull;
     w2c_j1 &= w2c_j2;
-    w2c_l7 = w2c_j1;
+    w2c_l6 = w2c_j1;
     w2c_j1 = I64_CTZ(w2c_j1);
     w2c_j2 = 3ull;
     w2c_j1 >>= (w2c_j2 & 63);
-    w2c_j2 = w2c_l7;
+    w2c_j2 = w2c_l6;
     w2c_i2 = !(w2c_j2);
     w2c_j0 = w2c_i2 ? w2c_j0 : w2c_j1;
     w2c_j1 = w2c_p1;
     w2c_j0 += w2c_j1;
-    w2c_l7 = w2c_j0;
+    w2c_l6 = w2c_j0;
     w2c_j1 = w2c_p1;
     w2c_j2 = 8ull;
     w2c_j1 += w2c_j2;
     w2c_i0 = w2c_j0 < w2c_j1;
     if (w2c_i0) {goto w2c_B3;}
     w2c_j0 = w2c_p2;
-    w2c_j1 = w2c_l7;
+    w2c_j1 = w2c_l6;
     w2c_j0 -= w2c_j1;
     w2c_j1 = 32ull;
     w2c_i0 = w2c_j0 < w2c_j1;
     if (w2c_i0) {goto w2c_B12;}
     w2c_L13: 
-      w2c_j0 = w2c_l7;
-      w2c_j1 = w2c_l11;
+      w2c_j0 = w2c_l6;
+      w2c_j1 = w2c_l12;
       w2c_j0 += w2c_j1;
       w2c_p1 = w2c_j0;
       w2c_j1 = 8ull;
@@ -2101,25 +2103,25 @@ static void w2c_f0(Z_dine_ffi_instance_t* instance, u64 w2c_p0, u64 w2c_p1, u64 
       w2c_j1 = 0ull;
       w2c_i0 = w2c_j0 != w2c_j1;
       if (w2c_i0) {goto w2c_B12;}
-      w2c_j0 = w2c_l10;
-      w2c_l6 = w2c_j0;
+      w2c_j0 = w2c_l9;
+      w2c_l8 = w2c_j0;
       w2c_j0 = w2c_p2;
-      w2c_j1 = w2c_l7;
+      w2c_j1 = w2c_l6;
       w2c_j2 = 32ull;
       w2c_j1 += w2c_j2;
-      w2c_l7 = w2c_j1;
+      w2c_l6 = w2c_j1;
       w2c_j0 -= w2c_j1;
       w2c_l14 = w2c_j0;
       w2c_j1 = 64ull;
       w2c_i0 = w2c_j0 < w2c_j1;
       if (w2c_i0) {goto w2c_B14;}
-      w2c_j0 = w2c_l6;
+      w2c_j0 = w2c_l8;
       w2c_i0 = (u32)(w2c_j0);
       w2c_j0 = i64_load(&instance->w2c_memory, (u64)(w2c_i0));
-      w2c_l6 = w2c_j0;
+      w2c_l8 = w2c_j0;
       w2c_L15: 
         w2c_j0 = w2c_l6;
-        w2c_j1 = w2c_l7;
+        w2c_j1 = w2c_l8;
         w2c_j0 += w2c_j1;
         w2c_p1 = w2c_j0;
         w2c_j1 = 16ull;
@@ -2171,10 +2173,10 @@ static void w2c_f0(Z_dine_ffi_instance_t* instance, u64 w2c_p0, u64 w2c_p1, u64 
         w2c_j1 = 0ull;
         w2c_i0 = w2c_j0 != w2c_j1;
         if (w2c_i0) {goto w2c_B14;}
-        w2c_j0 = w2c_l7;
+        w2c_j0 = w2c_l6;
         w2c_j1 = 18446744073709551552ull;
         w2c_j0 -= w2c_j1;
-        w2c_l7 = w2c_j0;
+        w2c_l6 = w2c_j0;
         w2c_j0 = w2c_l14;
         w2c_j1 = 18446744073709551552ull;
         w2c_j0 += w2c_j1;
@@ -2184,14 +2186,14 @@ static void w2c_f0(Z_dine_ffi_instance_t* instance, u64 w2c_p0, u64 w2c_p1, u64 
         if (w2c_i0) {goto w2c_L15;}
       w2c_B14:;
       w2c_j0 = w2c_p2;
-      w2c_j1 = w2c_l7;
+      w2c_j1 = w2c_l6;
       w2c_j0 -= w2c_j1;
       w2c_j1 = 31ull;
       w2c_i0 = w2c_j0 > w2c_j1;
       if (w2c_i0) {goto w2c_L13;}
     w2c_B12:;
     w2c_j0 = w2c_p2;
-    w2c_j1 = w2c_l7;
+    w2c_j1 = w2c_l6;
     w2c_j0 -= w2c_j1;
     w2c_p1 = w2c_j0;
     w2c_L16: 
@@ -2204,35 +2206,35 @@ static void w2c_f0(Z_dine_ffi_instance_t* instance, u64 w2c_p0, u64 w2c_p1, u64 
       w2c_j0 -= w2c_j1;
       w2c_p1 = w2c_j0;
       w2c_j0 = 8ull;
-      w2c_j1 = w2c_l7;
-      w2c_j2 = w2c_l11;
+      w2c_j1 = w2c_l6;
+      w2c_j2 = w2c_l12;
       w2c_j1 += w2c_j2;
       w2c_i1 = (u32)(w2c_j1);
       w2c_j1 = i64_load(&instance->w2c_memory, (u64)(w2c_i1));
       w2c_j2 = 9259542123273814144ull;
       w2c_j1 &= w2c_j2;
-      w2c_l6 = w2c_j1;
+      w2c_l8 = w2c_j1;
       w2c_j1 = I64_CTZ(w2c_j1);
       w2c_j2 = 3ull;
       w2c_j1 >>= (w2c_j2 & 63);
-      w2c_j2 = w2c_l6;
+      w2c_j2 = w2c_l8;
       w2c_i2 = !(w2c_j2);
       w2c_j0 = w2c_i2 ? w2c_j0 : w2c_j1;
-      w2c_l6 = w2c_j0;
-      w2c_j1 = w2c_l7;
+      w2c_l8 = w2c_j0;
+      w2c_j1 = w2c_l6;
       w2c_j0 += w2c_j1;
-      w2c_j1 = w2c_l7;
+      w2c_j1 = w2c_l6;
       w2c_j2 = 8ull;
       w2c_j1 += w2c_j2;
-      w2c_l7 = w2c_j1;
+      w2c_l6 = w2c_j1;
       w2c_i0 = w2c_j0 >= w2c_j1;
       if (w2c_i0) {goto w2c_L16;}
     w2c_j0 = w2c_l6;
-    w2c_j1 = w2c_l7;
+    w2c_j1 = w2c_l8;
     w2c_j0 += w2c_j1;
     w2c_j1 = 8ull;
     w2c_j0 -= w2c_j1;
-    w2c_l7 = w2c_j0;
+    w2c_l6 = w2c_j0;
     goto w2c_B3;
     w2c_B9:;
     w2c_i0 = w2c_l38;
@@ -2243,11 +2245,11 @@ static void w2c_f0(Z_dine_ffi_instance_t* instance, u64 w2c_p0, u64 w2c_p1, u64 
       w2c_j0 = w2c_p1;
       w2c_j1 = 1ull;
       w2c_j0 += w2c_j1;
-      w2c_l7 = w2c_j0;
+      w2c_l6 = w2c_j0;
       goto w2c_B3;
     }
     w2c_j0 = 1ull;
-    w2c_l18 = w2c_j0;
+    w2c_l15 = w2c_j0;
     w2c_i0 = w2c_l38;
     w2c_i1 = 194u;
     w2c_i0 = w2c_i0 < w2c_i1;
@@ -2258,7 +2260,7 @@ static void w2c_f0(Z_dine_ffi_instance_t* instance, u64 w2c_p0, u64 w2c_p1, u64 
     if (w2c_i0) {
       w2c_i0 = w2c_l40;
       if (w2c_i0) {goto w2c_B6;}
-      w2c_j0 = w2c_l7;
+      w2c_j0 = w2c_l6;
       w2c_j1 = 1ull;
       w2c_j0 += w2c_j1;
       w2c_i0 = (u32)(w2c_j0);
@@ -2275,11 +2277,11 @@ static void w2c_f0(Z_dine_ffi_instance_t* instance, u64 w2c_p0, u64 w2c_p1, u64 
     w2c_i1 = 239u;
     w2c_i0 = w2c_i0 <= w2c_i1;
     if (w2c_i0) {
-      w2c_j0 = w2c_l6;
+      w2c_j0 = w2c_l8;
       w2c_j1 = 3ull;
       w2c_i0 = w2c_j0 < w2c_j1;
       if (w2c_i0) {goto w2c_B20;}
-      w2c_j0 = w2c_l7;
+      w2c_j0 = w2c_l6;
       w2c_j1 = 1ull;
       w2c_j0 += w2c_j1;
       w2c_i0 = (u32)(w2c_j0);
@@ -2290,7 +2292,7 @@ static void w2c_f0(Z_dine_ffi_instance_t* instance, u64 w2c_p0, u64 w2c_p1, u64 
       w2c_i1 = 4294967231u;
       w2c_i0 = (u32)((s32)w2c_i0 > (s32)w2c_i1);
       if (w2c_i0) {goto w2c_B18;}
-      w2c_j0 = w2c_l7;
+      w2c_j0 = w2c_l6;
       w2c_j1 = 2ull;
       w2c_j0 += w2c_j1;
       w2c_i0 = (u32)(w2c_j0);
@@ -2323,11 +2325,11 @@ static void w2c_f0(Z_dine_ffi_instance_t* instance, u64 w2c_p0, u64 w2c_p1, u64 
       w2c_j0 = w2c_i2 ? w2c_j0 : w2c_j1;
       goto w2c_B22;
     }
-    w2c_j0 = w2c_l6;
+    w2c_j0 = w2c_l8;
     w2c_j1 = 4ull;
     w2c_i0 = w2c_j0 < w2c_j1;
     if (w2c_i0) {goto w2c_B21;}
-    w2c_j0 = w2c_l7;
+    w2c_j0 = w2c_l6;
     w2c_j1 = 1ull;
     w2c_j0 += w2c_j1;
     w2c_i0 = (u32)(w2c_j0);
@@ -2336,7 +2338,7 @@ static void w2c_f0(Z_dine_ffi_instance_t* instance, u64 w2c_p0, u64 w2c_p1, u64 
     w2c_i1 = 4294967231u;
     w2c_i0 = (u32)((s32)w2c_i0 > (s32)w2c_i1);
     if (w2c_i0) {goto w2c_B21;}
-    w2c_j0 = w2c_l7;
+    w2c_j0 = w2c_l6;
     w2c_j1 = 2ull;
     w2c_j0 += w2c_j1;
     w2c_i0 = (u32)(w2c_j0);
@@ -2344,7 +2346,7 @@ static void w2c_f0(Z_dine_ffi_instance_t* instance, u64 w2c_p0, u64 w2c_p1, u64 
     w2c_i1 = 4294967231u;
     w2c_i0 = (u32)((s32)w2c_i0 > (s32)w2c_i1);
     if (w2c_i0) {goto w2c_B21;}
-    w2c_j0 = w2c_l7;
+    w2c_j0 = w2c_l6;
     w2c_j1 = 3ull;
     w2c_j0 += w2c_j1;
     w2c_i0 = (u32)(w2c_j0);
@@ -2382,11 +2384,11 @@ static void w2c_f0(Z_dine_ffi_instance_t* instance, u64 w2c_p0, u64 w2c_p1, u64 
     w2c_i0 = w2c_i0 > w2c_i1;
     if (w2c_i0) {goto w2c_B4;}
     w2c_B20:;
-    w2c_j0 = w2c_l6;
+    w2c_j0 = w2c_l8;
     w2c_j1 = 2ull;
     w2c_i0 = w2c_j0 < w2c_j1;
     if (w2c_i0) {goto w2c_B6;}
-    w2c_j0 = w2c_l7;
+    w2c_j0 = w2c_l6;
     w2c_i0 = (u32)(w2c_j0);
     w2c_i0 = i32_load8_u(&instance->w2c_memory, (u64)(w2c_i0) + 1u);
     w2c_l40 = w2c_i0;
@@ -2426,12 +2428,12 @@ static void w2c_f0(Z_dine_ffi_instance_t* instance, u64 w2c_p0, u64 w2c_p1, u64 
     w2c_i1 &= w2c_i2;
     w2c_i0 = w2c_i0 > w2c_i1;
     if (w2c_i0) {goto w2c_B4;}
-    w2c_j0 = w2c_l6;
+    w2c_j0 = w2c_l8;
     w2c_j1 = 2ull;
     w2c_i0 = w2c_j0 == w2c_j1;
     if (w2c_i0) {goto w2c_B6;}
     w2c_j0 = 513ull;
-    w2c_j1 = w2c_l7;
+    w2c_j1 = w2c_l6;
     w2c_i1 = (u32)(w2c_j1);
     w2c_i1 = i32_load8_s(&instance->w2c_memory, (u64)(w2c_i1) + 2u);
     w2c_i2 = 4294967231u;
@@ -2439,200 +2441,200 @@ static void w2c_f0(Z_dine_ffi_instance_t* instance, u64 w2c_p0, u64 w2c_p1, u64 
     if (w2c_i1) {goto w2c_B5;}
     w2c_j0 = 769ull;
     w2c_j1 = 0ull;
-    w2c_j2 = w2c_l6;
+    w2c_j2 = w2c_l8;
     w2c_j3 = 3ull;
     w2c_i2 = w2c_j2 > w2c_j3;
     w2c_j0 = w2c_i2 ? w2c_j0 : w2c_j1;
     goto w2c_B5;
     w2c_B8:;
     w2c_j0 = 8ull;
-    w2c_j1 = w2c_l9;
+    w2c_j1 = w2c_l19;
     w2c_i1 = (u32)(w2c_j1);
     w2c_j1 = i64_load(&instance->w2c_memory, (u64)(w2c_i1));
     w2c_j2 = 9259542123273814144ull;
     w2c_j1 &= w2c_j2;
-    w2c_l7 = w2c_j1;
+    w2c_l6 = w2c_j1;
     w2c_j1 = I64_CTZ(w2c_j1);
     w2c_j2 = 3ull;
     w2c_j1 >>= (w2c_j2 & 63);
-    w2c_j2 = w2c_l7;
+    w2c_j2 = w2c_l6;
     w2c_i2 = !(w2c_j2);
     w2c_j0 = w2c_i2 ? w2c_j0 : w2c_j1;
     w2c_j1 = w2c_l16;
     w2c_j0 += w2c_j1;
-    w2c_l7 = w2c_j0;
+    w2c_l6 = w2c_j0;
     goto w2c_B3;
     w2c_B7:;
     w2c_j0 = w2c_p1;
     w2c_j1 = w2c_l14;
     w2c_j0 += w2c_j1;
-    w2c_l7 = w2c_j0;
+    w2c_l6 = w2c_j0;
     goto w2c_B3;
     w2c_B6:;
     w2c_j0 = 0ull;
     w2c_B5:;
     w2c_p2 = w2c_j0;
     w2c_j0 = w2c_p1;
-    w2c_l11 = w2c_j0;
+    w2c_l12 = w2c_j0;
     goto w2c_B0;
     w2c_B4:;
     w2c_j0 = w2c_p1;
-    w2c_l11 = w2c_j0;
+    w2c_l12 = w2c_j0;
     w2c_j0 = 257ull;
     w2c_p2 = w2c_j0;
     goto w2c_B0;
     w2c_B3:;
     w2c_j0 = w2c_p2;
-    w2c_j1 = w2c_l7;
+    w2c_j1 = w2c_l6;
     w2c_i0 = w2c_j0 > w2c_j1;
     if (w2c_i0) {goto w2c_L2;}
   w2c_B1:;
   w2c_j0 = 0ull;
-  w2c_l18 = w2c_j0;
+  w2c_l15 = w2c_j0;
   w2c_B0:;
-  w2c_j0 = w2c_l13;
+  w2c_j0 = w2c_l17;
   w2c_i0 = (u32)(w2c_j0);
-  w2c_j1 = w2c_l18;
+  w2c_j1 = w2c_l15;
   i64_store(&instance->w2c_memory, (u64)(w2c_i0), w2c_j1);
-  w2c_j0 = w2c_l13;
+  w2c_j0 = w2c_l17;
   w2c_j1 = 16ull;
   w2c_j0 += w2c_j1;
   w2c_i0 = (u32)(w2c_j0);
   w2c_j1 = w2c_p2;
   i64_store(&instance->w2c_memory, (u64)(w2c_i0), w2c_j1);
-  w2c_j0 = w2c_l13;
+  w2c_j0 = w2c_l17;
   w2c_j1 = 8ull;
   w2c_j0 += w2c_j1;
   w2c_i0 = (u32)(w2c_j0);
-  w2c_j1 = w2c_l11;
+  w2c_j1 = w2c_l12;
   i64_store(&instance->w2c_memory, (u64)(w2c_i0), w2c_j1);
-  w2c_j0 = w2c_l10;
+  w2c_j0 = w2c_l9;
   w2c_j1 = 16ull;
   w2c_j0 += w2c_j1;
   instance->w2c_g0 = w2c_j0;
   w2c_i0 = 1u;
-  w2c_l43 = w2c_i0;
-  w2c_j0 = w2c_l8;
+  w2c_l46 = w2c_i0;
+  w2c_j0 = w2c_l7;
   w2c_i0 = (u32)(w2c_j0);
   w2c_i0 = i32_load8_u(&instance->w2c_memory, (u64)(w2c_i0) + 72u);
   if (w2c_i0) {goto w2c_B24;}
-  w2c_j0 = w2c_l8;
+  w2c_j0 = w2c_l7;
   w2c_i0 = (u32)(w2c_j0);
   w2c_j0 = i64_load(&instance->w2c_memory, (u64)(w2c_i0) + 80u);
-  w2c_l10 = w2c_j0;
-  w2c_j0 = w2c_l8;
+  w2c_l9 = w2c_j0;
+  w2c_j0 = w2c_l7;
   w2c_i0 = (u32)(w2c_j0);
   w2c_j0 = i64_load(&instance->w2c_memory, (u64)(w2c_i0) + 88u);
   w2c_l14 = w2c_j0;
-  w2c_j0 = w2c_l8;
+  w2c_j0 = w2c_l7;
   w2c_j1 = 136ull;
   w2c_j0 += w2c_j1;
   w2c_i0 = (u32)(w2c_j0);
   w2c_i1 = 0u;
   w2c_i2 = 136u;
   memory_fill(&instance->w2c_memory, w2c_i0, w2c_i1, w2c_i2);
-  w2c_j0 = w2c_l8;
+  w2c_j0 = w2c_l7;
   w2c_i0 = (u32)(w2c_j0);
   w2c_j1 = 0ull;
   i64_store(&instance->w2c_memory, (u64)(w2c_i0) + 128, w2c_j1);
-  w2c_j0 = w2c_l8;
+  w2c_j0 = w2c_l7;
   w2c_i0 = (u32)(w2c_j0);
   w2c_j1 = 0ull;
   i64_store(&instance->w2c_memory, (u64)(w2c_i0) + 120, w2c_j1);
-  w2c_j0 = w2c_l8;
+  w2c_j0 = w2c_l7;
   w2c_i0 = (u32)(w2c_j0);
   w2c_j1 = 0ull;
   i64_store(&instance->w2c_memory, (u64)(w2c_i0) + 112, w2c_j1);
-  w2c_j0 = w2c_l8;
+  w2c_j0 = w2c_l7;
   w2c_i0 = (u32)(w2c_j0);
   w2c_j1 = 0ull;
   i64_store(&instance->w2c_memory, (u64)(w2c_i0) + 104, w2c_j1);
-  w2c_j0 = w2c_l8;
+  w2c_j0 = w2c_l7;
   w2c_i0 = (u32)(w2c_j0);
   w2c_j1 = 0ull;
   i64_store(&instance->w2c_memory, (u64)(w2c_i0) + 96, w2c_j1);
-  w2c_j0 = w2c_l8;
+  w2c_j0 = w2c_l7;
   w2c_i0 = (u32)(w2c_j0);
   w2c_j1 = 0ull;
   i64_store(&instance->w2c_memory, (u64)(w2c_i0) + 488, w2c_j1);
-  w2c_j0 = w2c_l8;
+  w2c_j0 = w2c_l7;
   w2c_i0 = (u32)(w2c_j0);
   w2c_j1 = 0ull;
   i64_store(&instance->w2c_memory, (u64)(w2c_i0) + 496, w2c_j1);
-  w2c_j0 = w2c_l8;
+  w2c_j0 = w2c_l7;
   w2c_i0 = (u32)(w2c_j0);
   w2c_j1 = 0ull;
   i64_store(&instance->w2c_memory, (u64)(w2c_i0) + 504, w2c_j1);
-  w2c_j0 = w2c_l8;
+  w2c_j0 = w2c_l7;
   w2c_j1 = 272ull;
   w2c_j0 += w2c_j1;
   w2c_i0 = (u32)(w2c_j0);
   w2c_i1 = 0u;
   w2c_i2 = 216u;
   memory_fill(&instance->w2c_memory, w2c_i0, w2c_i1, w2c_i2);
-  w2c_j0 = w2c_l8;
+  w2c_j0 = w2c_l7;
   w2c_i0 = (u32)(w2c_j0);
   w2c_j1 = 0ull;
   i64_store(&instance->w2c_memory, (u64)(w2c_i0) + 560, w2c_j1);
-  w2c_j0 = w2c_l8;
+  w2c_j0 = w2c_l7;
   w2c_i0 = (u32)(w2c_j0);
   w2c_j1 = 0ull;
   i64_store(&instance->w2c_memory, (u64)(w2c_i0) + 568, w2c_j1);
-  w2c_j0 = w2c_l8;
+  w2c_j0 = w2c_l7;
   w2c_i0 = (u32)(w2c_j0);
   w2c_j1 = 0ull;
   i64_store(&instance->w2c_memory, (u64)(w2c_i0) + 576, w2c_j1);
-  w2c_j0 = w2c_l8;
+  w2c_j0 = w2c_l7;
   w2c_i0 = (u32)(w2c_j0);
   w2c_j1 = 0ull;
   i64_store(&instance->w2c_memory, (u64)(w2c_i0) + 584, w2c_j1);
-  w2c_j0 = w2c_l8;
+  w2c_j0 = w2c_l7;
   w2c_i0 = (u32)(w2c_j0);
   w2c_j1 = 0ull;
   i64_store(&instance->w2c_memory, (u64)(w2c_i0) + 536, w2c_j1);
-  w2c_j0 = w2c_l8;
+  w2c_j0 = w2c_l7;
   w2c_i0 = (u32)(w2c_j0);
   w2c_j1 = 0ull;
   i64_store(&instance->w2c_memory, (u64)(w2c_i0) + 544, w2c_j1);
-  w2c_j0 = w2c_l8;
+  w2c_j0 = w2c_l7;
   w2c_i0 = (u32)(w2c_j0);
   w2c_j1 = 0ull;
   i64_store(&instance->w2c_memory, (u64)(w2c_i0) + 552, w2c_j1);
-  w2c_j0 = w2c_l8;
+  w2c_j0 = w2c_l7;
   w2c_i0 = (u32)(w2c_j0);
   w2c_j1 = 0ull;
   i64_store(&instance->w2c_memory, (u64)(w2c_i0) + 512, w2c_j1);
-  w2c_j0 = w2c_l8;
+  w2c_j0 = w2c_l7;
   w2c_i0 = (u32)(w2c_j0);
   w2c_j1 = 0ull;
   i64_store(&instance->w2c_memory, (u64)(w2c_i0) + 520, w2c_j1);
-  w2c_j0 = w2c_l8;
+  w2c_j0 = w2c_l7;
   w2c_i0 = (u32)(w2c_j0);
   w2c_j1 = 0ull;
   i64_store(&instance->w2c_memory, (u64)(w2c_i0) + 528, w2c_j1);
   w2c_j0 = w2c_l14;
   w2c_i0 = !(w2c_j0);
   if (w2c_i0) {goto w2c_B28;}
-  w2c_j0 = w2c_l10;
+  w2c_j0 = w2c_l9;
   w2c_j1 = w2c_l14;
   w2c_p2 = w2c_j1;
   w2c_j2 = 1ull;
   w2c_i1 = w2c_j1 == w2c_j2;
   if (w2c_i1) {goto w2c_B29;}
-  w2c_j0 = w2c_l10;
-  w2c_j1 = w2c_l10;
+  w2c_j0 = w2c_l9;
+  w2c_j1 = w2c_l9;
   w2c_i1 = (u32)(w2c_j1);
   w2c_i1 = i32_load8_u(&instance->w2c_memory, (u64)(w2c_i1));
   w2c_i2 = 239u;
   w2c_i1 = w2c_i1 != w2c_i2;
   if (w2c_i1) {goto w2c_B29;}
-  w2c_j0 = w2c_l10;
+  w2c_j0 = w2c_l9;
   w2c_j1 = w2c_l14;
   w2c_j2 = 3ull;
   w2c_i1 = w2c_j1 < w2c_j2;
   if (w2c_i1) {goto w2c_B29;}
-  w2c_j0 = w2c_l10;
-  w2c_j1 = w2c_l10;
+  w2c_j0 = w2c_l9;
+  w2c_j1 = w2c_l9;
   w2c_j2 = 1ull;
   w2c_j1 += w2c_j2;
   w2c_i1 = (u32)(w2c_j1);
@@ -2640,8 +2642,8 @@ static void w2c_f0(Z_dine_ffi_instance_t* instance, u64 w2c_p0, u64 w2c_p1, u64 
   w2c_i2 = 187u;
   w2c_i1 = w2c_i1 != w2c_i2;
   if (w2c_i1) {goto w2c_B29;}
-  w2c_j0 = w2c_l10;
-  w2c_j1 = w2c_l10;
+  w2c_j0 = w2c_l9;
+  w2c_j1 = w2c_l9;
   w2c_j2 = 2ull;
   w2c_j1 += w2c_j2;
   w2c_i1 = (u32)(w2c_j1);
@@ -2655,15 +2657,15 @@ static void w2c_f0(Z_dine_ffi_instance_t* instance, u64 w2c_p0, u64 w2c_p1, u64 
   w2c_p2 = w2c_j0;
   w2c_i0 = !(w2c_j0);
   if (w2c_i0) {goto w2c_B27;}
-  w2c_j0 = w2c_l10;
+  w2c_j0 = w2c_l9;
   w2c_j1 = 3ull;
   w2c_j0 += w2c_j1;
   w2c_B29:;
-  w2c_l15 = w2c_j0;
+  w2c_l13 = w2c_j0;
   w2c_L31: 
     w2c_i0 = w2c_l37;
     w2c_l38 = w2c_i0;
-    w2c_j0 = w2c_l15;
+    w2c_j0 = w2c_l13;
     w2c_j1 = w2c_l5;
     w2c_p1 = w2c_j1;
     w2c_j0 += w2c_j1;
@@ -2765,7 +2767,7 @@ static void w2c_f0(Z_dine_ffi_instance_t* instance, u64 w2c_p0, u64 w2c_p1, u64 
   w2c_j0 = 0ull;
   w2c_l3 = w2c_j0;
   w2c_j0 = 0ull;
-  w2c_l15 = w2c_j0;
+  w2c_l13 = w2c_j0;
   goto w2c_B27;
   w2c_B30:;
   w2c_j0 = w2c_p1;
@@ -2776,30 +2778,30 @@ static void w2c_f0(Z_dine_ffi_instance_t* instance, u64 w2c_p0, u64 w2c_p1, u64 
     w2c_l3 = w2c_j0;
     goto w2c_B28;
   }
-  w2c_j0 = w2c_l8;
+  w2c_j0 = w2c_l7;
   w2c_i0 = (u32)(w2c_j0);
   w2c_j1 = 0ull;
   i64_store(&instance->w2c_memory, (u64)(w2c_i0) + 608, w2c_j1);
-  w2c_j0 = w2c_l8;
+  w2c_j0 = w2c_l7;
   w2c_i0 = (u32)(w2c_j0);
   w2c_j1 = 0ull;
   i64_store(&instance->w2c_memory, (u64)(w2c_i0) + 600, w2c_j1);
-  w2c_j0 = w2c_l8;
+  w2c_j0 = w2c_l7;
   w2c_i0 = (u32)(w2c_j0);
   w2c_j1 = 0ull;
   i64_store(&instance->w2c_memory, (u64)(w2c_i0) + 592, w2c_j1);
-  w2c_j0 = w2c_l8;
+  w2c_j0 = w2c_l7;
   w2c_j1 = 856ull;
   w2c_j0 += w2c_j1;
-  w2c_l20 = w2c_j0;
-  w2c_j0 = w2c_l8;
+  w2c_l18 = w2c_j0;
+  w2c_j0 = w2c_l7;
   w2c_j1 = 920ull;
   w2c_j0 += w2c_j1;
-  w2c_l7 = w2c_j0;
-  w2c_j0 = w2c_l8;
+  w2c_l6 = w2c_j0;
+  w2c_j0 = w2c_l7;
   w2c_j1 = 790ull;
   w2c_j0 += w2c_j1;
-  w2c_l26 = w2c_j0;
+  w2c_l25 = w2c_j0;
   w2c_j0 = 0ull;
   w2c_p1 = w2c_j0;
   w2c_L40: 
@@ -2812,7 +2814,7 @@ static void w2c_f0(Z_dine_ffi_instance_t* instance, u64 w2c_p0, u64 w2c_p1, u64 
       w2c_i0 = 0u;
       w2c_l40 = w2c_i0;
       w2c_L43: 
-        w2c_j0 = w2c_l15;
+        w2c_j0 = w2c_l13;
         w2c_j1 = w2c_l5;
         w2c_l3 = w2c_j1;
         w2c_j0 += w2c_j1;
@@ -2920,53 +2922,53 @@ static void w2c_f0(Z_dine_ffi_instance_t* instance, u64 w2c_p0, u64 w2c_p1, u64 
         w2c_i0 = w2c_j0 != w2c_j1;
         if (w2c_i0) {goto w2c_L43;}
     }
-    w2c_j0 = w2c_l8;
+    w2c_j0 = w2c_l7;
     w2c_i0 = (u32)(w2c_j0);
-    w2c_j1 = w2c_l8;
+    w2c_j1 = w2c_l7;
     w2c_i1 = (u32)(w2c_j1);
     w2c_j1 = i64_load8_u(&instance->w2c_memory, (u64)(w2c_i1) + 592u);
     i64_store(&instance->w2c_memory, (u64)(w2c_i0) + 536, w2c_j1);
-    w2c_j0 = w2c_l8;
+    w2c_j0 = w2c_l7;
     w2c_i0 = (u32)(w2c_j0);
-    w2c_j1 = w2c_l8;
+    w2c_j1 = w2c_l7;
     w2c_i1 = (u32)(w2c_j1);
     w2c_j1 = i64_load(&instance->w2c_memory, (u64)(w2c_i1) + 600u);
     i64_store(&instance->w2c_memory, (u64)(w2c_i0) + 544, w2c_j1);
-    w2c_j0 = w2c_l8;
+    w2c_j0 = w2c_l7;
     w2c_i0 = (u32)(w2c_j0);
-    w2c_j1 = w2c_l8;
+    w2c_j1 = w2c_l7;
     w2c_i1 = (u32)(w2c_j1);
     w2c_j1 = i64_load(&instance->w2c_memory, (u64)(w2c_i1) + 608u);
     i64_store(&instance->w2c_memory, (u64)(w2c_i0) + 552, w2c_j1);
-    w2c_j0 = w2c_l8;
+    w2c_j0 = w2c_l7;
     w2c_j1 = 560ull;
     w2c_j0 += w2c_j1;
-    w2c_j1 = w2c_l8;
+    w2c_j1 = w2c_l7;
     w2c_j2 = 536ull;
     w2c_j1 += w2c_j2;
     w2c_f1(instance, w2c_j0, w2c_j1);
-    w2c_j0 = w2c_l8;
+    w2c_j0 = w2c_l7;
     w2c_i0 = (u32)(w2c_j0);
     w2c_i0 = i32_load8_u(&instance->w2c_memory, (u64)(w2c_i0) + 560u);
     w2c_i0 = !(w2c_i0);
     if (w2c_i0) {
-      w2c_j0 = w2c_l8;
+      w2c_j0 = w2c_l7;
       w2c_i0 = (u32)(w2c_j0);
       w2c_i0 = i32_load8_u(&instance->w2c_memory, (u64)(w2c_i0) + 568u);
       w2c_l42 = w2c_i0;
-      w2c_j0 = w2c_l8;
+      w2c_j0 = w2c_l7;
       w2c_i0 = (u32)(w2c_j0);
       w2c_j0 = i64_load(&instance->w2c_memory, (u64)(w2c_i0) + 576u);
       w2c_l3 = w2c_j0;
-      w2c_j0 = w2c_l8;
+      w2c_j0 = w2c_l7;
       w2c_i0 = (u32)(w2c_j0);
       w2c_j0 = i64_load(&instance->w2c_memory, (u64)(w2c_i0) + 584u);
-      w2c_l15 = w2c_j0;
+      w2c_l13 = w2c_j0;
       w2c_j0 = w2c_p1;
       w2c_i0 = !(w2c_j0);
       w2c_i0 = !(w2c_i0);
       if (w2c_i0) {
-        w2c_j0 = w2c_l7;
+        w2c_j0 = w2c_l6;
         w2c_l5 = w2c_j0;
         w2c_L52: 
           w2c_j0 = w2c_l5;
@@ -2994,10 +2996,10 @@ static void w2c_f0(Z_dine_ffi_instance_t* instance, u64 w2c_p0, u64 w2c_p1, u64 
           w2c_i0 = w2c_j0 != w2c_j1;
           if (w2c_i0) {goto w2c_L52;}
       }
-      w2c_j0 = w2c_l12;
+      w2c_j0 = w2c_l10;
       w2c_i0 = !(w2c_j0);
       if (w2c_i0) {goto w2c_B27;}
-      w2c_j0 = w2c_l7;
+      w2c_j0 = w2c_l6;
       w2c_leave(instance, w2c_j0);
       goto w2c_B27;
     }
@@ -3005,7 +3007,7 @@ static void w2c_f0(Z_dine_ffi_instance_t* instance, u64 w2c_p0, u64 w2c_p1, u64 
     w2c_i0 = !(w2c_j0);
     w2c_i0 = !(w2c_i0);
     if (w2c_i0) {
-      w2c_j0 = w2c_l7;
+      w2c_j0 = w2c_l6;
       w2c_l5 = w2c_j0;
       w2c_L55: 
         w2c_j0 = w2c_l5;
@@ -3037,11 +3039,11 @@ static void w2c_f0(Z_dine_ffi_instance_t* instance, u64 w2c_p0, u64 w2c_p1, u64 
     w2c_l5 = w2c_j0;
     w2c_i0 = 0u;
     w2c_l38 = w2c_i0;
-    w2c_j0 = w2c_l12;
+    w2c_j0 = w2c_l10;
     w2c_i0 = !(w2c_j0);
     w2c_i0 = !(w2c_i0);
     if (w2c_i0) {
-      w2c_j0 = w2c_l7;
+      w2c_j0 = w2c_l6;
       w2c_leave(instance, w2c_j0);
     }
     w2c_i0 = 0u;
@@ -3050,75 +3052,75 @@ static void w2c_f0(Z_dine_ffi_instance_t* instance, u64 w2c_p0, u64 w2c_p1, u64 
     w2c_l3 = w2c_j0;
     goto w2c_B37;
     w2c_B41:;
-    w2c_j0 = w2c_l8;
+    w2c_j0 = w2c_l7;
     w2c_i0 = (u32)(w2c_j0);
     w2c_j1 = 0ull;
     i64_store(&instance->w2c_memory, (u64)(w2c_i0) + 632, w2c_j1);
-    w2c_j0 = w2c_l8;
+    w2c_j0 = w2c_l7;
     w2c_i0 = (u32)(w2c_j0);
     w2c_j1 = 0ull;
     i64_store(&instance->w2c_memory, (u64)(w2c_i0) + 624, w2c_j1);
-    w2c_j0 = w2c_l8;
+    w2c_j0 = w2c_l7;
     w2c_i0 = (u32)(w2c_j0);
     w2c_j1 = 0ull;
     i64_store(&instance->w2c_memory, (u64)(w2c_i0) + 616, w2c_j1);
-    w2c_j0 = w2c_l8;
+    w2c_j0 = w2c_l7;
     w2c_j1 = 848ull;
     w2c_j0 += w2c_j1;
     w2c_i0 = (u32)(w2c_j0);
     w2c_i1 = 0u;
     w2c_i2 = 72u;
     memory_fill(&instance->w2c_memory, w2c_i0, w2c_i1, w2c_i2);
-    w2c_j0 = w2c_l8;
+    w2c_j0 = w2c_l7;
     w2c_j1 = 776ull;
     w2c_j0 += w2c_j1;
     w2c_i0 = (u32)(w2c_j0);
     w2c_i1 = 0u;
     w2c_i2 = 72u;
     memory_fill(&instance->w2c_memory, w2c_i0, w2c_i1, w2c_i2);
-    w2c_j0 = w2c_l8;
+    w2c_j0 = w2c_l7;
     w2c_j1 = 704ull;
     w2c_j0 += w2c_j1;
     w2c_i0 = (u32)(w2c_j0);
     w2c_i1 = 0u;
     w2c_i2 = 72u;
     memory_fill(&instance->w2c_memory, w2c_i0, w2c_i1, w2c_i2);
-    w2c_j0 = w2c_l8;
+    w2c_j0 = w2c_l7;
     w2c_i0 = (u32)(w2c_j0);
     w2c_j1 = 0ull;
     i64_store(&instance->w2c_memory, (u64)(w2c_i0) + 696, w2c_j1);
-    w2c_j0 = w2c_l8;
+    w2c_j0 = w2c_l7;
     w2c_i0 = (u32)(w2c_j0);
     w2c_j1 = 0ull;
     i64_store(&instance->w2c_memory, (u64)(w2c_i0) + 688, w2c_j1);
-    w2c_j0 = w2c_l8;
+    w2c_j0 = w2c_l7;
     w2c_i0 = (u32)(w2c_j0);
     w2c_j1 = 0ull;
     i64_store(&instance->w2c_memory, (u64)(w2c_i0) + 680, w2c_j1);
-    w2c_j0 = w2c_l8;
+    w2c_j0 = w2c_l7;
     w2c_i0 = (u32)(w2c_j0);
     w2c_j1 = 0ull;
     i64_store(&instance->w2c_memory, (u64)(w2c_i0) + 672, w2c_j1);
-    w2c_j0 = w2c_l8;
+    w2c_j0 = w2c_l7;
     w2c_i0 = (u32)(w2c_j0);
     w2c_j1 = 0ull;
     i64_store(&instance->w2c_memory, (u64)(w2c_i0) + 664, w2c_j1);
-    w2c_j0 = w2c_l8;
+    w2c_j0 = w2c_l7;
     w2c_i0 = (u32)(w2c_j0);
     w2c_j1 = 0ull;
     i64_store(&instance->w2c_memory, (u64)(w2c_i0) + 656, w2c_j1);
-    w2c_j0 = w2c_l8;
+    w2c_j0 = w2c_l7;
     w2c_i0 = (u32)(w2c_j0);
     w2c_j1 = 0ull;
     i64_store(&instance->w2c_memory, (u64)(w2c_i0) + 648, w2c_j1);
-    w2c_j0 = w2c_l8;
+    w2c_j0 = w2c_l7;
     w2c_i0 = (u32)(w2c_j0);
     w2c_j1 = 0ull;
     i64_store(&instance->w2c_memory, (u64)(w2c_i0) + 640, w2c_j1);
     w2c_j0 = w2c_p2;
     w2c_j1 = w2c_l3;
     w2c_j0 -= w2c_j1;
-    w2c_l25 = w2c_j0;
+    w2c_l4 = w2c_j0;
     w2c_j0 = w2c_l16;
     w2c_i0 = (u32)(w2c_j0);
     w2c_i0 = i32_load8_u(&instance->w2c_memory, (u64)(w2c_i0));
@@ -3140,33 +3142,33 @@ static void w2c_f0(Z_dine_ffi_instance_t* instance, u64 w2c_p0, u64 w2c_p1, u64 
       w2c_i1 = 91u;
       w2c_i0 = w2c_i0 != w2c_i1;
       if (w2c_i0) {goto w2c_B66;}
-      w2c_j0 = w2c_l8;
+      w2c_j0 = w2c_l7;
       w2c_j1 = 848ull;
       w2c_j0 += w2c_j1;
       w2c_j1 = w2c_l16;
       w2c_j2 = 2ull;
       w2c_j1 += w2c_j2;
-      w2c_j2 = w2c_l25;
+      w2c_j2 = w2c_l4;
       w2c_j3 = 2ull;
       w2c_j2 -= w2c_j3;
       w2c_f2(instance, w2c_j0, w2c_j1, w2c_j2);
-      w2c_j0 = w2c_l8;
+      w2c_j0 = w2c_l7;
       w2c_i0 = (u32)(w2c_j0);
       w2c_j0 = i64_load(&instance->w2c_memory, (u64)(w2c_i0) + 872u);
-      w2c_l6 = w2c_j0;
-      w2c_j0 = w2c_l8;
+      w2c_l8 = w2c_j0;
+      w2c_j0 = w2c_l7;
       w2c_i0 = (u32)(w2c_j0);
       w2c_j0 = i64_load(&instance->w2c_memory, (u64)(w2c_i0) + 864u);
       w2c_l5 = w2c_j0;
-      w2c_j0 = w2c_l8;
+      w2c_j0 = w2c_l7;
       w2c_i0 = (u32)(w2c_j0);
       w2c_j0 = i64_load8_u(&instance->w2c_memory, (u64)(w2c_i0) + 857u);
       w2c_p2 = w2c_j0;
-      w2c_j0 = w2c_l8;
+      w2c_j0 = w2c_l7;
       w2c_i0 = (u32)(w2c_j0);
       w2c_j0 = i64_load8_u(&instance->w2c_memory, (u64)(w2c_i0) + 856u);
       w2c_l3 = w2c_j0;
-      w2c_j0 = w2c_l8;
+      w2c_j0 = w2c_l7;
       w2c_i0 = (u32)(w2c_j0);
       w2c_i0 = i32_load8_u(&instance->w2c_memory, (u64)(w2c_i0) + 848u);
       if (w2c_i0) {goto w2c_B64;}
@@ -3175,40 +3177,40 @@ static void w2c_f0(Z_dine_ffi_instance_t* instance, u64 w2c_p0, u64 w2c_p1, u64 
       w2c_j0 <<= (w2c_j1 & 63);
       w2c_j1 = w2c_l3;
       w2c_j0 |= w2c_j1;
-      w2c_j1 = w2c_l8;
+      w2c_j1 = w2c_l7;
       w2c_j2 = 862ull;
       w2c_j1 += w2c_j2;
       w2c_i1 = (u32)(w2c_j1);
       w2c_j1 = i64_load16_u(&instance->w2c_memory, (u64)(w2c_i1));
       w2c_j2 = 48ull;
       w2c_j1 <<= (w2c_j2 & 63);
-      w2c_j2 = w2c_l8;
+      w2c_j2 = w2c_l7;
       w2c_i2 = (u32)(w2c_j2);
       w2c_j2 = i64_load32_u(&instance->w2c_memory, (u64)(w2c_i2) + 858u);
       w2c_j3 = 16ull;
       w2c_j2 <<= (w2c_j3 & 63);
       w2c_j1 |= w2c_j2;
       w2c_j0 |= w2c_j1;
-      w2c_l11 = w2c_j0;
-      w2c_j0 = w2c_l8;
+      w2c_l12 = w2c_j0;
+      w2c_j0 = w2c_l7;
       w2c_i0 = (u32)(w2c_j0);
       w2c_j0 = i64_load(&instance->w2c_memory, (u64)(w2c_i0) + 896u);
-      w2c_l21 = w2c_j0;
-      w2c_j0 = w2c_l8;
+      w2c_l23 = w2c_j0;
+      w2c_j0 = w2c_l7;
       w2c_i0 = (u32)(w2c_j0);
       w2c_j0 = i64_load(&instance->w2c_memory, (u64)(w2c_i0) + 880u);
-      w2c_l9 = w2c_j0;
-      w2c_j0 = w2c_l8;
+      w2c_l19 = w2c_j0;
+      w2c_j0 = w2c_l7;
       w2c_i0 = (u32)(w2c_j0);
       w2c_j0 = i64_load(&instance->w2c_memory, (u64)(w2c_i0) + 912u);
       w2c_l3 = w2c_j0;
       w2c_i0 = !(w2c_j0);
       w2c_i0 = !(w2c_i0);
       if (w2c_i0) {
-        w2c_j0 = w2c_l8;
+        w2c_j0 = w2c_l7;
         w2c_i0 = (u32)(w2c_j0);
         w2c_j0 = i64_load(&instance->w2c_memory, (u64)(w2c_i0) + 904u);
-        w2c_l15 = w2c_j0;
+        w2c_l13 = w2c_j0;
         w2c_i0 = (u32)(w2c_j0);
         w2c_i0 = i32_load8_u(&instance->w2c_memory, (u64)(w2c_i0));
         w2c_i1 = 93u;
@@ -3219,7 +3221,7 @@ static void w2c_f0(Z_dine_ffi_instance_t* instance, u64 w2c_p0, u64 w2c_p1, u64 
       w2c_i0 = !(w2c_j0);
       w2c_i0 = !(w2c_i0);
       if (w2c_i0) {
-        w2c_j0 = w2c_l11;
+        w2c_j0 = w2c_l12;
         w2c_p2 = w2c_j0;
         w2c_L70: 
           w2c_j0 = w2c_p2;
@@ -3247,49 +3249,49 @@ static void w2c_f0(Z_dine_ffi_instance_t* instance, u64 w2c_p0, u64 w2c_p1, u64 
           w2c_i0 = w2c_j0 != w2c_j1;
           if (w2c_i0) {goto w2c_L70;}
       }
-      w2c_j0 = w2c_l6;
+      w2c_j0 = w2c_l8;
       w2c_i0 = !(w2c_j0);
       w2c_i0 = !(w2c_i0);
       if (w2c_i0) {
-        w2c_j0 = w2c_l11;
+        w2c_j0 = w2c_l12;
         w2c_leave(instance, w2c_j0);
       }
       w2c_j0 = 1281ull;
       w2c_p2 = w2c_j0;
-      w2c_j0 = w2c_l21;
+      w2c_j0 = w2c_l23;
       w2c_i0 = !(w2c_j0);
       if (w2c_i0) {
         w2c_j0 = w2c_l3;
         w2c_l5 = w2c_j0;
         goto w2c_B60;
       }
-      w2c_j0 = w2c_l9;
+      w2c_j0 = w2c_l19;
       w2c_leave(instance, w2c_j0);
       w2c_j0 = w2c_l3;
       w2c_l5 = w2c_j0;
       goto w2c_B60;
       w2c_B67:;
-      w2c_j0 = w2c_l8;
+      w2c_j0 = w2c_l7;
       w2c_i0 = (u32)(w2c_j0);
       w2c_j0 = i64_load(&instance->w2c_memory, (u64)(w2c_i0) + 888u);
-      w2c_l17 = w2c_j0;
+      w2c_l11 = w2c_j0;
       w2c_j0 = w2c_l3;
       w2c_j1 = 1ull;
       w2c_j0 -= w2c_j1;
       w2c_p2 = w2c_j0;
-      w2c_j0 = w2c_l15;
+      w2c_j0 = w2c_l13;
       w2c_j1 = 1ull;
       w2c_j0 += w2c_j1;
-      w2c_l15 = w2c_j0;
+      w2c_l13 = w2c_j0;
       w2c_i0 = 0u;
       w2c_l38 = w2c_i0;
       w2c_j0 = 2ull;
-      w2c_l24 = w2c_j0;
+      w2c_l22 = w2c_j0;
       w2c_j0 = 0ull;
-      w2c_l19 = w2c_j0;
+      w2c_l21 = w2c_j0;
       goto w2c_B59;
       w2c_B66:;
-      w2c_j0 = w2c_l8;
+      w2c_j0 = w2c_l7;
       w2c_j1 = 776ull;
       w2c_j0 += w2c_j1;
       w2c_j1 = w2c_l16;
@@ -3301,23 +3303,23 @@ static void w2c_f0(Z_dine_ffi_instance_t* instance, u64 w2c_p0, u64 w2c_p1, u64 
       w2c_j3 = w2c_p2;
       w2c_j2 += w2c_j3;
       w2c_f2(instance, w2c_j0, w2c_j1, w2c_j2);
-      w2c_j0 = w2c_l8;
+      w2c_j0 = w2c_l7;
       w2c_i0 = (u32)(w2c_j0);
       w2c_j0 = i64_load(&instance->w2c_memory, (u64)(w2c_i0) + 800u);
-      w2c_l6 = w2c_j0;
-      w2c_j0 = w2c_l8;
+      w2c_l8 = w2c_j0;
+      w2c_j0 = w2c_l7;
       w2c_i0 = (u32)(w2c_j0);
       w2c_j0 = i64_load(&instance->w2c_memory, (u64)(w2c_i0) + 792u);
       w2c_l5 = w2c_j0;
-      w2c_j0 = w2c_l8;
+      w2c_j0 = w2c_l7;
       w2c_i0 = (u32)(w2c_j0);
       w2c_j0 = i64_load8_u(&instance->w2c_memory, (u64)(w2c_i0) + 785u);
       w2c_p2 = w2c_j0;
-      w2c_j0 = w2c_l8;
+      w2c_j0 = w2c_l7;
       w2c_i0 = (u32)(w2c_j0);
       w2c_j0 = i64_load8_u(&instance->w2c_memory, (u64)(w2c_i0) + 784u);
       w2c_l3 = w2c_j0;
-      w2c_j0 = w2c_l8;
+      w2c_j0 = w2c_l7;
       w2c_i0 = (u32)(w2c_j0);
       w2c_i0 = i32_load8_u(&instance->w2c_memory, (u64)(w2c_i0) + 776u);
       w2c_i0 = !(w2c_i0);
@@ -3327,45 +3329,45 @@ static void w2c_f0(Z_dine_ffi_instance_t* instance, u64 w2c_p0, u64 w2c_p1, u64 
         w2c_j0 <<= (w2c_j1 & 63);
         w2c_j1 = w2c_l3;
         w2c_j0 |= w2c_j1;
-        w2c_j1 = w2c_l26;
+        w2c_j1 = w2c_l25;
         w2c_i1 = (u32)(w2c_j1);
         w2c_j1 = i64_load16_u(&instance->w2c_memory, (u64)(w2c_i1));
         w2c_j2 = 48ull;
         w2c_j1 <<= (w2c_j2 & 63);
-        w2c_j2 = w2c_l8;
+        w2c_j2 = w2c_l7;
         w2c_i2 = (u32)(w2c_j2);
         w2c_j2 = i64_load32_u(&instance->w2c_memory, (u64)(w2c_i2) + 786u);
         w2c_j3 = 16ull;
         w2c_j2 <<= (w2c_j3 & 63);
         w2c_j1 |= w2c_j2;
         w2c_j0 |= w2c_j1;
-        w2c_l11 = w2c_j0;
+        w2c_l12 = w2c_j0;
         w2c_i0 = 0u;
         w2c_l38 = w2c_i0;
         w2c_j0 = 1ull;
-        w2c_l24 = w2c_j0;
+        w2c_l22 = w2c_j0;
         w2c_j0 = 0ull;
-        w2c_l19 = w2c_j0;
-        w2c_j0 = w2c_l8;
+        w2c_l21 = w2c_j0;
+        w2c_j0 = w2c_l7;
         w2c_i0 = (u32)(w2c_j0);
         w2c_j0 = i64_load(&instance->w2c_memory, (u64)(w2c_i0) + 840u);
         w2c_p2 = w2c_j0;
-        w2c_j0 = w2c_l8;
+        w2c_j0 = w2c_l7;
         w2c_i0 = (u32)(w2c_j0);
         w2c_j0 = i64_load(&instance->w2c_memory, (u64)(w2c_i0) + 832u);
-        w2c_l15 = w2c_j0;
-        w2c_j0 = w2c_l8;
+        w2c_l13 = w2c_j0;
+        w2c_j0 = w2c_l7;
         w2c_i0 = (u32)(w2c_j0);
         w2c_j0 = i64_load(&instance->w2c_memory, (u64)(w2c_i0) + 824u);
-        w2c_l21 = w2c_j0;
-        w2c_j0 = w2c_l8;
+        w2c_l23 = w2c_j0;
+        w2c_j0 = w2c_l7;
         w2c_i0 = (u32)(w2c_j0);
         w2c_j0 = i64_load(&instance->w2c_memory, (u64)(w2c_i0) + 816u);
-        w2c_l17 = w2c_j0;
-        w2c_j0 = w2c_l8;
+        w2c_l11 = w2c_j0;
+        w2c_j0 = w2c_l7;
         w2c_i0 = (u32)(w2c_j0);
         w2c_j0 = i64_load(&instance->w2c_memory, (u64)(w2c_i0) + 808u);
-        w2c_l9 = w2c_j0;
+        w2c_l19 = w2c_j0;
         goto w2c_B59;
       }
       w2c_j0 = w2c_p2;
@@ -3375,61 +3377,61 @@ static void w2c_f0(Z_dine_ffi_instance_t* instance, u64 w2c_p0, u64 w2c_p1, u64 
       w2c_j0 |= w2c_j1;
       goto w2c_B62;
     }
-    w2c_j0 = w2c_l8;
+    w2c_j0 = w2c_l7;
     w2c_j1 = 704ull;
     w2c_j0 += w2c_j1;
     w2c_j1 = w2c_l16;
-    w2c_j2 = w2c_l25;
+    w2c_j2 = w2c_l4;
     w2c_f3(instance, w2c_j0, w2c_j1, w2c_j2);
-    w2c_j0 = w2c_l8;
+    w2c_j0 = w2c_l7;
     w2c_i0 = (u32)(w2c_j0);
     w2c_j0 = i64_load(&instance->w2c_memory, (u64)(w2c_i0) + 728u);
-    w2c_l6 = w2c_j0;
-    w2c_j0 = w2c_l8;
+    w2c_l8 = w2c_j0;
+    w2c_j0 = w2c_l7;
     w2c_i0 = (u32)(w2c_j0);
     w2c_j0 = i64_load(&instance->w2c_memory, (u64)(w2c_i0) + 720u);
     w2c_l5 = w2c_j0;
-    w2c_j0 = w2c_l8;
+    w2c_j0 = w2c_l7;
     w2c_i0 = (u32)(w2c_j0);
     w2c_j0 = i64_load8_u(&instance->w2c_memory, (u64)(w2c_i0) + 713u);
     w2c_p2 = w2c_j0;
-    w2c_j0 = w2c_l8;
+    w2c_j0 = w2c_l7;
     w2c_i0 = (u32)(w2c_j0);
     w2c_j0 = i64_load8_u(&instance->w2c_memory, (u64)(w2c_i0) + 712u);
     w2c_l3 = w2c_j0;
-    w2c_j0 = w2c_l8;
+    w2c_j0 = w2c_l7;
     w2c_i0 = (u32)(w2c_j0);
     w2c_i0 = i32_load8_u(&instance->w2c_memory, (u64)(w2c_i0) + 704u);
     if (w2c_i0) {goto w2c_B63;}
-    w2c_j0 = w2c_l8;
+    w2c_j0 = w2c_l7;
     w2c_j1 = 718ull;
     w2c_j0 += w2c_j1;
     w2c_i0 = (u32)(w2c_j0);
     w2c_j0 = i64_load16_u(&instance->w2c_memory, (u64)(w2c_i0));
-    w2c_l15 = w2c_j0;
-    w2c_j0 = w2c_l8;
+    w2c_l13 = w2c_j0;
+    w2c_j0 = w2c_l7;
     w2c_i0 = (u32)(w2c_j0);
     w2c_j0 = i64_load(&instance->w2c_memory, (u64)(w2c_i0) + 752u);
-    w2c_l21 = w2c_j0;
-    w2c_j0 = w2c_l8;
+    w2c_l23 = w2c_j0;
+    w2c_j0 = w2c_l7;
     w2c_i0 = (u32)(w2c_j0);
     w2c_j0 = i64_load(&instance->w2c_memory, (u64)(w2c_i0) + 744u);
-    w2c_l17 = w2c_j0;
-    w2c_j0 = w2c_l8;
+    w2c_l11 = w2c_j0;
+    w2c_j0 = w2c_l7;
     w2c_i0 = (u32)(w2c_j0);
     w2c_j0 = i64_load(&instance->w2c_memory, (u64)(w2c_i0) + 736u);
-    w2c_l9 = w2c_j0;
-    w2c_j0 = w2c_l8;
+    w2c_l19 = w2c_j0;
+    w2c_j0 = w2c_l7;
     w2c_i0 = (u32)(w2c_j0);
     w2c_j0 = i64_load32_u(&instance->w2c_memory, (u64)(w2c_i0) + 714u);
     w2c_l16 = w2c_j0;
-    w2c_j0 = w2c_l8;
+    w2c_j0 = w2c_l7;
     w2c_j1 = 640ull;
     w2c_j0 += w2c_j1;
-    w2c_j1 = w2c_l8;
+    w2c_j1 = w2c_l7;
     w2c_i1 = (u32)(w2c_j1);
     w2c_j1 = i64_load(&instance->w2c_memory, (u64)(w2c_i1) + 760u);
-    w2c_j2 = w2c_l8;
+    w2c_j2 = w2c_l7;
     w2c_i2 = (u32)(w2c_j2);
     w2c_j2 = i64_load(&instance->w2c_memory, (u64)(w2c_i2) + 768u);
     w2c_j3 = 80ull;
@@ -3439,7 +3441,7 @@ static void w2c_f0(Z_dine_ffi_instance_t* instance, u64 w2c_p0, u64 w2c_p1, u64 
     w2c_j0 <<= (w2c_j1 & 63);
     w2c_j1 = w2c_l3;
     w2c_j0 |= w2c_j1;
-    w2c_j1 = w2c_l15;
+    w2c_j1 = w2c_l13;
     w2c_j2 = 48ull;
     w2c_j1 <<= (w2c_j2 & 63);
     w2c_j2 = w2c_l16;
@@ -3447,47 +3449,47 @@ static void w2c_f0(Z_dine_ffi_instance_t* instance, u64 w2c_p0, u64 w2c_p1, u64 
     w2c_j2 <<= (w2c_j3 & 63);
     w2c_j1 |= w2c_j2;
     w2c_j0 |= w2c_j1;
-    w2c_l11 = w2c_j0;
-    w2c_j0 = w2c_l8;
+    w2c_l12 = w2c_j0;
+    w2c_j0 = w2c_l7;
     w2c_i0 = (u32)(w2c_j0);
     w2c_i0 = i32_load8_u(&instance->w2c_memory, (u64)(w2c_i0) + 649u);
     w2c_l40 = w2c_i0;
-    w2c_j0 = w2c_l8;
+    w2c_j0 = w2c_l7;
     w2c_i0 = (u32)(w2c_j0);
     w2c_i0 = i32_load8_u(&instance->w2c_memory, (u64)(w2c_i0) + 648u);
     w2c_l37 = w2c_i0;
-    w2c_j0 = w2c_l8;
+    w2c_j0 = w2c_l7;
     w2c_i0 = (u32)(w2c_j0);
     w2c_j0 = i64_load(&instance->w2c_memory, (u64)(w2c_i0) + 664u);
-    w2c_l18 = w2c_j0;
-    w2c_j0 = w2c_l8;
+    w2c_l15 = w2c_j0;
+    w2c_j0 = w2c_l7;
     w2c_i0 = (u32)(w2c_j0);
     w2c_j0 = i64_load(&instance->w2c_memory, (u64)(w2c_i0) + 656u);
-    w2c_l13 = w2c_j0;
-    w2c_j0 = w2c_l8;
+    w2c_l17 = w2c_j0;
+    w2c_j0 = w2c_l7;
     w2c_i0 = (u32)(w2c_j0);
     w2c_i0 = i32_load8_u(&instance->w2c_memory, (u64)(w2c_i0) + 640u);
     w2c_i0 = !(w2c_i0);
     if (w2c_i0) {
       w2c_j0 = 0ull;
-      w2c_l24 = w2c_j0;
-      w2c_j0 = w2c_l8;
+      w2c_l22 = w2c_j0;
+      w2c_j0 = w2c_l7;
       w2c_i0 = (u32)(w2c_j0);
       w2c_i0 = i32_load(&instance->w2c_memory, (u64)(w2c_i0) + 680u);
       w2c_l38 = w2c_i0;
-      w2c_j0 = w2c_l8;
+      w2c_j0 = w2c_l7;
       w2c_i0 = (u32)(w2c_j0);
       w2c_j0 = i64_load(&instance->w2c_memory, (u64)(w2c_i0) + 672u);
-      w2c_l19 = w2c_j0;
-      w2c_j0 = w2c_l8;
+      w2c_l21 = w2c_j0;
+      w2c_j0 = w2c_l7;
       w2c_i0 = (u32)(w2c_j0);
       w2c_j0 = i64_load(&instance->w2c_memory, (u64)(w2c_i0) + 696u);
       w2c_p2 = w2c_j0;
-      w2c_j0 = w2c_l8;
+      w2c_j0 = w2c_l7;
       w2c_i0 = (u32)(w2c_j0);
       w2c_j0 = i64_load(&instance->w2c_memory, (u64)(w2c_i0) + 688u);
-      w2c_l15 = w2c_j0;
-      w2c_j0 = w2c_l8;
+      w2c_l13 = w2c_j0;
+      w2c_j0 = w2c_l7;
       w2c_i0 = (u32)(w2c_j0);
       w2c_i0 = i32_load(&instance->w2c_memory, (u64)(w2c_i0) + 652u);
       goto w2c_B58;
@@ -3499,12 +3501,12 @@ static void w2c_f0(Z_dine_ffi_instance_t* instance, u64 w2c_p0, u64 w2c_p1, u64 
     w2c_l3 = w2c_j0;
     w2c_i0 = w2c_l37;
     w2c_j0 = (u64)(w2c_i0);
-    w2c_l15 = w2c_j0;
+    w2c_l13 = w2c_j0;
     w2c_j0 = w2c_l5;
     w2c_i0 = !(w2c_j0);
     w2c_i0 = !(w2c_i0);
     if (w2c_i0) {
-      w2c_j0 = w2c_l11;
+      w2c_j0 = w2c_l12;
       w2c_p2 = w2c_j0;
       w2c_L77: 
         w2c_j0 = w2c_p2;
@@ -3532,7 +3534,7 @@ static void w2c_f0(Z_dine_ffi_instance_t* instance, u64 w2c_p0, u64 w2c_p1, u64 
         w2c_i0 = w2c_j0 != w2c_j1;
         if (w2c_i0) {goto w2c_L77;}
     }
-    w2c_j0 = w2c_l15;
+    w2c_j0 = w2c_l13;
     w2c_j1 = 255ull;
     w2c_j0 &= w2c_j1;
     w2c_l5 = w2c_j0;
@@ -3540,21 +3542,21 @@ static void w2c_f0(Z_dine_ffi_instance_t* instance, u64 w2c_p0, u64 w2c_p1, u64 
     w2c_j1 = 8ull;
     w2c_j0 <<= (w2c_j1 & 63);
     w2c_p2 = w2c_j0;
-    w2c_j0 = w2c_l6;
+    w2c_j0 = w2c_l8;
     w2c_i0 = !(w2c_j0);
     w2c_i0 = !(w2c_i0);
     if (w2c_i0) {
-      w2c_j0 = w2c_l11;
+      w2c_j0 = w2c_l12;
       w2c_leave(instance, w2c_j0);
     }
     w2c_j0 = w2c_p2;
     w2c_j1 = w2c_l5;
     w2c_j0 |= w2c_j1;
     w2c_p2 = w2c_j0;
-    w2c_j0 = w2c_l21;
+    w2c_j0 = w2c_l23;
     w2c_i0 = !(w2c_j0);
     if (w2c_i0) {goto w2c_B61;}
-    w2c_j0 = w2c_l9;
+    w2c_j0 = w2c_l19;
     w2c_leave(instance, w2c_j0);
     goto w2c_B61;
     w2c_B64:;
@@ -3572,13 +3574,13 @@ static void w2c_f0(Z_dine_ffi_instance_t* instance, u64 w2c_p0, u64 w2c_p1, u64 
     w2c_j0 |= w2c_j1;
     w2c_B62:;
     w2c_p2 = w2c_j0;
-    w2c_j0 = w2c_l6;
+    w2c_j0 = w2c_l8;
     w2c_l3 = w2c_j0;
     goto w2c_B60;
     w2c_B61:;
-    w2c_j0 = w2c_l13;
+    w2c_j0 = w2c_l17;
     w2c_l5 = w2c_j0;
-    w2c_j0 = w2c_l18;
+    w2c_j0 = w2c_l15;
     w2c_l3 = w2c_j0;
     w2c_B60:;
     w2c_j0 = w2c_p2;
@@ -3596,40 +3598,40 @@ static void w2c_f0(Z_dine_ffi_instance_t* instance, u64 w2c_p0, u64 w2c_p1, u64 
     w2c_i0 = 0u;
     w2c_l40 = w2c_i0;
     w2c_j0 = 0ull;
-    w2c_l13 = w2c_j0;
+    w2c_l17 = w2c_j0;
     w2c_j0 = 0ull;
-    w2c_l18 = w2c_j0;
+    w2c_l15 = w2c_j0;
     w2c_i0 = 0u;
     w2c_B58:;
     w2c_l42 = w2c_i0;
-    w2c_j0 = w2c_l8;
+    w2c_j0 = w2c_l7;
     w2c_i0 = (u32)(w2c_j0);
     w2c_i1 = 0u;
     i32_store8(&instance->w2c_memory, (u64)(w2c_i0) + 778, w2c_i1);
-    w2c_j0 = w2c_l8;
+    w2c_j0 = w2c_l7;
     w2c_i0 = (u32)(w2c_j0);
     w2c_i1 = 0u;
     i32_store16(&instance->w2c_memory, (u64)(w2c_i0) + 776, w2c_i1);
-    w2c_j0 = w2c_l8;
+    w2c_j0 = w2c_l7;
     w2c_i0 = (u32)(w2c_j0);
     w2c_j1 = 0ull;
     i64_store(&instance->w2c_memory, (u64)(w2c_i0) + 864, w2c_j1);
-    w2c_j0 = w2c_l8;
+    w2c_j0 = w2c_l7;
     w2c_i0 = (u32)(w2c_j0);
-    w2c_j1 = w2c_l15;
+    w2c_j1 = w2c_l13;
     i64_store(&instance->w2c_memory, (u64)(w2c_i0) + 848, w2c_j1);
-    w2c_j0 = w2c_l8;
+    w2c_j0 = w2c_l7;
     w2c_i0 = (u32)(w2c_j0);
-    w2c_j1 = w2c_l8;
+    w2c_j1 = w2c_l7;
     w2c_j2 = 776ull;
     w2c_j1 += w2c_j2;
     i64_store(&instance->w2c_memory, (u64)(w2c_i0) + 872, w2c_j1);
-    w2c_j0 = w2c_l8;
+    w2c_j0 = w2c_l7;
     w2c_i0 = (u32)(w2c_j0);
     w2c_j1 = w2c_p2;
     i64_store(&instance->w2c_memory, (u64)(w2c_i0) + 856, w2c_j1);
     w2c_j0 = w2c_p2;
-    w2c_j1 = w2c_l8;
+    w2c_j1 = w2c_l7;
     w2c_j2 = 848ull;
     w2c_j1 += w2c_j2;
     w2c_j1 = w2c_f5(instance, w2c_j1);
@@ -3638,7 +3640,7 @@ static void w2c_f0(Z_dine_ffi_instance_t* instance, u64 w2c_p0, u64 w2c_p1, u64 
     w2c_l3 = w2c_j0;
     w2c_i0 = !(w2c_j0);
     if (w2c_i0) {goto w2c_B80;}
-    w2c_j0 = w2c_l15;
+    w2c_j0 = w2c_l13;
     w2c_j1 = w2c_l16;
     w2c_j0 += w2c_j1;
     w2c_i0 = (u32)(w2c_j0);
@@ -3659,7 +3661,7 @@ static void w2c_f0(Z_dine_ffi_instance_t* instance, u64 w2c_p0, u64 w2c_p1, u64 
     w2c_i0 = !(w2c_j0);
     w2c_i0 = !(w2c_i0);
     if (w2c_i0) {
-      w2c_j0 = w2c_l11;
+      w2c_j0 = w2c_l12;
       w2c_p2 = w2c_j0;
       w2c_L82: 
         w2c_j0 = w2c_p2;
@@ -3687,18 +3689,18 @@ static void w2c_f0(Z_dine_ffi_instance_t* instance, u64 w2c_p0, u64 w2c_p1, u64 
         w2c_i0 = w2c_j0 != w2c_j1;
         if (w2c_i0) {goto w2c_L82;}
     }
-    w2c_j0 = w2c_l6;
+    w2c_j0 = w2c_l8;
     w2c_i0 = !(w2c_j0);
     w2c_i0 = !(w2c_i0);
     if (w2c_i0) {
-      w2c_j0 = w2c_l11;
+      w2c_j0 = w2c_l12;
       w2c_leave(instance, w2c_j0);
     }
-    w2c_j0 = w2c_l21;
+    w2c_j0 = w2c_l23;
     w2c_i0 = !(w2c_j0);
     w2c_i0 = !(w2c_i0);
     if (w2c_i0) {
-      w2c_j0 = w2c_l9;
+      w2c_j0 = w2c_l19;
       w2c_leave(instance, w2c_j0);
     }
     w2c_i0 = 1u;
@@ -3728,38 +3730,38 @@ static void w2c_f0(Z_dine_ffi_instance_t* instance, u64 w2c_p0, u64 w2c_p1, u64 
       default: goto w2c_B88;
     }
     w2c_B88:;
-    w2c_j0 = w2c_l19;
+    w2c_j0 = w2c_l21;
     w2c_i0 = !(w2c_j0);
     if (w2c_i0) {goto w2c_B39;}
-    w2c_j0 = w2c_l13;
+    w2c_j0 = w2c_l17;
     w2c_leave(instance, w2c_j0);
     goto w2c_B39;
     w2c_B87:;
-    w2c_j0 = w2c_l8;
+    w2c_j0 = w2c_l7;
     w2c_i0 = (u32)(w2c_j0);
-    w2c_j1 = w2c_l19;
+    w2c_j1 = w2c_l21;
     i64_store(&instance->w2c_memory, (u64)(w2c_i0) + 632, w2c_j1);
-    w2c_j0 = w2c_l8;
+    w2c_j0 = w2c_l7;
     w2c_i0 = (u32)(w2c_j0);
-    w2c_j1 = w2c_l18;
+    w2c_j1 = w2c_l15;
     i64_store(&instance->w2c_memory, (u64)(w2c_i0) + 624, w2c_j1);
-    w2c_j0 = w2c_l8;
+    w2c_j0 = w2c_l7;
     w2c_i0 = (u32)(w2c_j0);
-    w2c_j1 = w2c_l13;
+    w2c_j1 = w2c_l17;
     i64_store(&instance->w2c_memory, (u64)(w2c_i0) + 616, w2c_j1);
-    w2c_j0 = w2c_l8;
+    w2c_j0 = w2c_l7;
     w2c_j1 = 616ull;
     w2c_j0 += w2c_j1;
     w2c_f6(instance, w2c_j0);
     goto w2c_B38;
     w2c_B86:;
-    w2c_j0 = w2c_l13;
+    w2c_j0 = w2c_l17;
     w2c_j1 = 255ull;
     w2c_j0 &= w2c_j1;
     w2c_j1 = 1ull;
     w2c_i0 = w2c_j0 != w2c_j1;
     if (w2c_i0) {goto w2c_B39;}
-    w2c_j0 = w2c_l18;
+    w2c_j0 = w2c_l15;
     w2c_f7(instance, w2c_j0);
     goto w2c_B38;
     w2c_B80:;
@@ -3767,92 +3769,92 @@ static void w2c_f0(Z_dine_ffi_instance_t* instance, u64 w2c_p0, u64 w2c_p1, u64 
     w2c_i1 = 91u;
     w2c_i0 = w2c_i0 != w2c_i1;
     if (w2c_i0) {
-      w2c_j0 = w2c_l20;
+      w2c_j0 = w2c_l18;
       w2c_i0 = (u32)(w2c_j0);
       w2c_j1 = 0ull;
       i64_store(&instance->w2c_memory, (u64)(w2c_i0) + 32, w2c_j1);
-      w2c_j0 = w2c_l20;
+      w2c_j0 = w2c_l18;
       w2c_i0 = (u32)(w2c_j0);
       w2c_j1 = 0ull;
       i64_store(&instance->w2c_memory, (u64)(w2c_i0) + 24, w2c_j1);
-      w2c_j0 = w2c_l20;
+      w2c_j0 = w2c_l18;
       w2c_i0 = (u32)(w2c_j0);
       w2c_j1 = 0ull;
       i64_store(&instance->w2c_memory, (u64)(w2c_i0) + 16, w2c_j1);
-      w2c_j0 = w2c_l20;
+      w2c_j0 = w2c_l18;
       w2c_i0 = (u32)(w2c_j0);
       w2c_j1 = 0ull;
       i64_store(&instance->w2c_memory, (u64)(w2c_i0) + 8, w2c_j1);
-      w2c_j0 = w2c_l20;
+      w2c_j0 = w2c_l18;
       w2c_i0 = (u32)(w2c_j0);
       w2c_j1 = 0ull;
       i64_store(&instance->w2c_memory, (u64)(w2c_i0), w2c_j1);
-      w2c_j0 = w2c_l8;
+      w2c_j0 = w2c_l7;
       w2c_i0 = (u32)(w2c_j0);
-      w2c_j1 = w2c_l21;
+      w2c_j1 = w2c_l23;
       i64_store(&instance->w2c_memory, (u64)(w2c_i0) + 792, w2c_j1);
-      w2c_j0 = w2c_l8;
+      w2c_j0 = w2c_l7;
       w2c_i0 = (u32)(w2c_j0);
-      w2c_j1 = w2c_l17;
+      w2c_j1 = w2c_l11;
       i64_store(&instance->w2c_memory, (u64)(w2c_i0) + 784, w2c_j1);
-      w2c_j0 = w2c_l8;
+      w2c_j0 = w2c_l7;
       w2c_i0 = (u32)(w2c_j0);
-      w2c_j1 = w2c_l9;
+      w2c_j1 = w2c_l19;
       i64_store(&instance->w2c_memory, (u64)(w2c_i0) + 776, w2c_j1);
-      w2c_j0 = w2c_l8;
+      w2c_j0 = w2c_l7;
       w2c_i0 = (u32)(w2c_j0);
       w2c_j1 = 0ull;
       i64_store(&instance->w2c_memory, (u64)(w2c_i0) + 848, w2c_j1);
-      w2c_j0 = w2c_l8;
+      w2c_j0 = w2c_l7;
       w2c_i0 = (u32)(w2c_j0);
       w2c_i1 = w2c_l38;
       i32_store(&instance->w2c_memory, (u64)(w2c_i0) + 888, w2c_i1);
-      w2c_j0 = w2c_l8;
+      w2c_j0 = w2c_l7;
       w2c_i0 = (u32)(w2c_j0);
-      w2c_j1 = w2c_l19;
+      w2c_j1 = w2c_l21;
       i64_store(&instance->w2c_memory, (u64)(w2c_i0) + 880, w2c_j1);
-      w2c_j0 = w2c_l8;
+      w2c_j0 = w2c_l7;
       w2c_i0 = (u32)(w2c_j0);
-      w2c_j1 = w2c_l18;
+      w2c_j1 = w2c_l15;
       i64_store(&instance->w2c_memory, (u64)(w2c_i0) + 872, w2c_j1);
-      w2c_j0 = w2c_l8;
+      w2c_j0 = w2c_l7;
       w2c_i0 = (u32)(w2c_j0);
-      w2c_j1 = w2c_l13;
+      w2c_j1 = w2c_l17;
       i64_store(&instance->w2c_memory, (u64)(w2c_i0) + 864, w2c_j1);
-      w2c_j0 = w2c_l8;
+      w2c_j0 = w2c_l7;
       w2c_i0 = (u32)(w2c_j0);
       w2c_i1 = w2c_l42;
       i32_store(&instance->w2c_memory, (u64)(w2c_i0) + 860, w2c_i1);
-      w2c_j0 = w2c_l8;
+      w2c_j0 = w2c_l7;
       w2c_i0 = (u32)(w2c_j0);
       w2c_i1 = w2c_l40;
       i32_store8(&instance->w2c_memory, (u64)(w2c_i0) + 857, w2c_i1);
-      w2c_j0 = w2c_l8;
+      w2c_j0 = w2c_l7;
       w2c_i0 = (u32)(w2c_j0);
       w2c_i1 = w2c_l37;
       i32_store8(&instance->w2c_memory, (u64)(w2c_i0) + 856, w2c_i1);
-      w2c_j0 = w2c_l8;
+      w2c_j0 = w2c_l7;
       w2c_j1 = 40ull;
       w2c_j0 += w2c_j1;
-      w2c_j1 = w2c_l8;
+      w2c_j1 = w2c_l7;
       w2c_j2 = 592ull;
       w2c_j1 += w2c_j2;
-      w2c_j2 = w2c_l7;
+      w2c_j2 = w2c_l6;
       w2c_j3 = w2c_p1;
-      w2c_j4 = w2c_l11;
+      w2c_j4 = w2c_l12;
       w2c_j5 = w2c_l5;
-      w2c_j6 = w2c_l8;
+      w2c_j6 = w2c_l7;
       w2c_j7 = 776ull;
       w2c_j6 += w2c_j7;
-      w2c_j7 = w2c_l8;
+      w2c_j7 = w2c_l7;
       w2c_j8 = 848ull;
       w2c_j7 += w2c_j8;
       w2c_f8(instance, w2c_j0, w2c_j1, w2c_j2, w2c_j3, w2c_j4, w2c_j5, w2c_j6, w2c_j7);
-      w2c_j0 = w2c_l8;
+      w2c_j0 = w2c_l7;
       w2c_i0 = (u32)(w2c_j0);
       w2c_i0 = i32_load8_u(&instance->w2c_memory, (u64)(w2c_i0) + 41u);
       w2c_l40 = w2c_i0;
-      w2c_j0 = w2c_l8;
+      w2c_j0 = w2c_l7;
       w2c_i0 = (u32)(w2c_j0);
       w2c_i0 = i32_load8_u(&instance->w2c_memory, (u64)(w2c_i0) + 40u);
       w2c_l39 = w2c_i0;
@@ -3860,7 +3862,7 @@ static void w2c_f0(Z_dine_ffi_instance_t* instance, u64 w2c_p0, u64 w2c_p1, u64 
       w2c_i0 = !(w2c_j0);
       w2c_i0 = !(w2c_i0);
       if (w2c_i0) {
-        w2c_j0 = w2c_l11;
+        w2c_j0 = w2c_l12;
         w2c_l3 = w2c_j0;
         w2c_L92: 
           w2c_j0 = w2c_l3;
@@ -3888,72 +3890,72 @@ static void w2c_f0(Z_dine_ffi_instance_t* instance, u64 w2c_p0, u64 w2c_p1, u64 
           w2c_i0 = w2c_j0 != w2c_j1;
           if (w2c_i0) {goto w2c_L92;}
       }
-      w2c_j0 = w2c_l6;
+      w2c_j0 = w2c_l8;
       w2c_i0 = !(w2c_j0);
       w2c_i0 = !(w2c_i0);
       if (w2c_i0) {
-        w2c_j0 = w2c_l11;
+        w2c_j0 = w2c_l12;
         w2c_leave(instance, w2c_j0);
       }
-      w2c_j0 = w2c_l7;
-      w2c_l11 = w2c_j0;
+      w2c_j0 = w2c_l6;
+      w2c_l12 = w2c_j0;
       w2c_j0 = w2c_p1;
       w2c_l3 = w2c_j0;
-      w2c_j0 = w2c_l12;
-      w2c_l6 = w2c_j0;
+      w2c_j0 = w2c_l10;
+      w2c_l8 = w2c_j0;
       goto w2c_B89;
     }
-    w2c_j0 = w2c_l20;
+    w2c_j0 = w2c_l18;
     w2c_i0 = (u32)(w2c_j0);
     w2c_j1 = 0ull;
     i64_store(&instance->w2c_memory, (u64)(w2c_i0) + 32, w2c_j1);
-    w2c_j0 = w2c_l20;
+    w2c_j0 = w2c_l18;
     w2c_i0 = (u32)(w2c_j0);
     w2c_j1 = 0ull;
     i64_store(&instance->w2c_memory, (u64)(w2c_i0) + 24, w2c_j1);
-    w2c_j0 = w2c_l20;
+    w2c_j0 = w2c_l18;
     w2c_i0 = (u32)(w2c_j0);
     w2c_j1 = 0ull;
     i64_store(&instance->w2c_memory, (u64)(w2c_i0) + 16, w2c_j1);
-    w2c_j0 = w2c_l20;
+    w2c_j0 = w2c_l18;
     w2c_i0 = (u32)(w2c_j0);
     w2c_j1 = 0ull;
     i64_store(&instance->w2c_memory, (u64)(w2c_i0) + 8, w2c_j1);
-    w2c_j0 = w2c_l20;
+    w2c_j0 = w2c_l18;
     w2c_i0 = (u32)(w2c_j0);
     w2c_j1 = 0ull;
     i64_store(&instance->w2c_memory, (u64)(w2c_i0), w2c_j1);
-    w2c_j0 = w2c_l8;
+    w2c_j0 = w2c_l7;
     w2c_i0 = (u32)(w2c_j0);
-    w2c_j1 = w2c_l6;
+    w2c_j1 = w2c_l8;
     i64_store(&instance->w2c_memory, (u64)(w2c_i0) + 792, w2c_j1);
-    w2c_j0 = w2c_l8;
+    w2c_j0 = w2c_l7;
     w2c_i0 = (u32)(w2c_j0);
     w2c_j1 = w2c_l5;
     i64_store(&instance->w2c_memory, (u64)(w2c_i0) + 784, w2c_j1);
-    w2c_j0 = w2c_l8;
+    w2c_j0 = w2c_l7;
     w2c_i0 = (u32)(w2c_j0);
-    w2c_j1 = w2c_l11;
+    w2c_j1 = w2c_l12;
     i64_store(&instance->w2c_memory, (u64)(w2c_i0) + 776, w2c_j1);
-    w2c_j0 = w2c_l17;
-    w2c_j1 = w2c_l17;
+    w2c_j0 = w2c_l11;
+    w2c_j1 = w2c_l11;
     w2c_i1 = !(w2c_j1);
     w2c_l39 = w2c_i1;
     if (w2c_i1) {
-      w2c_j1 = w2c_l8;
+      w2c_j1 = w2c_l7;
       w2c_j2 = 920ull;
       w2c_j1 += w2c_j2;
     } else {
-      w2c_j1 = w2c_l17;
+      w2c_j1 = w2c_l11;
       w2c_j2 = 0ull;
       w2c_i1 = (u64)((s64)w2c_j1 < (s64)w2c_j2);
       if (w2c_i1) {goto w2c_B103;}
-      w2c_j1 = w2c_l8;
+      w2c_j1 = w2c_l7;
       w2c_j2 = 24ull;
       w2c_j1 += w2c_j2;
-      w2c_j2 = w2c_l17;
-      w2c_f113(instance, w2c_j1, w2c_j2);
-      w2c_j1 = w2c_l8;
+      w2c_j2 = w2c_l11;
+      w2c_f114(instance, w2c_j1, w2c_j2);
+      w2c_j1 = w2c_l7;
       w2c_i1 = (u32)(w2c_j1);
       w2c_j1 = i64_load(&instance->w2c_memory, (u64)(w2c_i1) + 24u);
       w2c_i1 = (u32)(w2c_j1);
@@ -3961,39 +3963,39 @@ static void w2c_f0(Z_dine_ffi_instance_t* instance, u64 w2c_p0, u64 w2c_p1, u64 
       w2c_i1 &= w2c_i2;
       w2c_i1 = !(w2c_i1);
       if (w2c_i1) {goto w2c_B103;}
-      w2c_j1 = w2c_l8;
+      w2c_j1 = w2c_l7;
       w2c_i1 = (u32)(w2c_j1);
       w2c_j1 = i64_load(&instance->w2c_memory, (u64)(w2c_i1) + 32u);
     }
-    w2c_l4 = w2c_j1;
-    w2c_j2 = w2c_l9;
+    w2c_l27 = w2c_j1;
+    w2c_j2 = w2c_l19;
     w2c_j1 -= w2c_j2;
     w2c_i0 = w2c_j0 > w2c_j1;
     if (w2c_i0) {
-      w2c_j0 = w2c_l17;
+      w2c_j0 = w2c_l11;
       w2c_j1 = 3ull;
       w2c_j0 &= w2c_j1;
-      w2c_l23 = w2c_j0;
+      w2c_l24 = w2c_j0;
       w2c_j0 = 0ull;
       w2c_l16 = w2c_j0;
-      w2c_j0 = w2c_l17;
+      w2c_j0 = w2c_l11;
       w2c_j1 = 4ull;
       w2c_i0 = w2c_j0 >= w2c_j1;
       if (w2c_i0) {
-        w2c_j0 = w2c_l17;
+        w2c_j0 = w2c_l11;
         w2c_j1 = 18446744073709551612ull;
         w2c_j0 &= w2c_j1;
-        w2c_l27 = w2c_j0;
+        w2c_l26 = w2c_j0;
         w2c_L108: 
-          w2c_j0 = w2c_l4;
-          w2c_j1 = w2c_l16;
+          w2c_j0 = w2c_l16;
+          w2c_j1 = w2c_l27;
           w2c_j0 += w2c_j1;
           w2c_l3 = w2c_j0;
           w2c_i0 = (u32)(w2c_j0);
-          w2c_j1 = w2c_l9;
-          w2c_j2 = w2c_l16;
+          w2c_j1 = w2c_l16;
+          w2c_j2 = w2c_l19;
           w2c_j1 += w2c_j2;
-          w2c_l22 = w2c_j1;
+          w2c_l20 = w2c_j1;
           w2c_i1 = (u32)(w2c_j1);
           w2c_i1 = i32_load8_u(&instance->w2c_memory, (u64)(w2c_i1));
           i32_store8(&instance->w2c_memory, (u64)(w2c_i0), w2c_i1);
@@ -4001,7 +4003,7 @@ static void w2c_f0(Z_dine_ffi_instance_t* instance, u64 w2c_p0, u64 w2c_p1, u64 
           w2c_j1 = 1ull;
           w2c_j0 += w2c_j1;
           w2c_i0 = (u32)(w2c_j0);
-          w2c_j1 = w2c_l22;
+          w2c_j1 = w2c_l20;
           w2c_j2 = 1ull;
           w2c_j1 += w2c_j2;
           w2c_i1 = (u32)(w2c_j1);
@@ -4011,7 +4013,7 @@ static void w2c_f0(Z_dine_ffi_instance_t* instance, u64 w2c_p0, u64 w2c_p1, u64 
           w2c_j1 = 2ull;
           w2c_j0 += w2c_j1;
           w2c_i0 = (u32)(w2c_j0);
-          w2c_j1 = w2c_l22;
+          w2c_j1 = w2c_l20;
           w2c_j2 = 2ull;
           w2c_j1 += w2c_j2;
           w2c_i1 = (u32)(w2c_j1);
@@ -4021,29 +4023,29 @@ static void w2c_f0(Z_dine_ffi_instance_t* instance, u64 w2c_p0, u64 w2c_p1, u64 
           w2c_j1 = 3ull;
           w2c_j0 += w2c_j1;
           w2c_i0 = (u32)(w2c_j0);
-          w2c_j1 = w2c_l22;
+          w2c_j1 = w2c_l20;
           w2c_j2 = 3ull;
           w2c_j1 += w2c_j2;
           w2c_i1 = (u32)(w2c_j1);
           w2c_i1 = i32_load8_u(&instance->w2c_memory, (u64)(w2c_i1));
           i32_store8(&instance->w2c_memory, (u64)(w2c_i0), w2c_i1);
-          w2c_j0 = w2c_l27;
+          w2c_j0 = w2c_l26;
           w2c_j1 = w2c_l16;
           w2c_j2 = 4ull;
           w2c_j1 += w2c_j2;
           w2c_l16 = w2c_j1;
           w2c_i0 = w2c_j0 != w2c_j1;
           if (w2c_i0) {goto w2c_L108;}
-        w2c_j0 = w2c_l23;
+        w2c_j0 = w2c_l24;
         w2c_i0 = !(w2c_j0);
         if (w2c_i0) {goto w2c_B104;}
       }
-      w2c_j0 = w2c_l4;
-      w2c_j1 = w2c_l16;
+      w2c_j0 = w2c_l16;
+      w2c_j1 = w2c_l27;
       w2c_j0 += w2c_j1;
       w2c_l3 = w2c_j0;
-      w2c_j0 = w2c_l9;
-      w2c_j1 = w2c_l16;
+      w2c_j0 = w2c_l16;
+      w2c_j1 = w2c_l19;
       w2c_j0 += w2c_j1;
       w2c_l16 = w2c_j0;
       w2c_L109: 
@@ -4061,10 +4063,10 @@ static void w2c_f0(Z_dine_ffi_instance_t* instance, u64 w2c_p0, u64 w2c_p1, u64 
         w2c_j1 = 1ull;
         w2c_j0 += w2c_j1;
         w2c_l16 = w2c_j0;
-        w2c_j0 = w2c_l23;
+        w2c_j0 = w2c_l24;
         w2c_j1 = 1ull;
         w2c_j0 -= w2c_j1;
-        w2c_l23 = w2c_j0;
+        w2c_l24 = w2c_j0;
         w2c_j1 = 0ull;
         w2c_i0 = w2c_j0 != w2c_j1;
         if (w2c_i0) {goto w2c_L109;}
@@ -4072,100 +4074,100 @@ static void w2c_f0(Z_dine_ffi_instance_t* instance, u64 w2c_p0, u64 w2c_p1, u64 
     }
     w2c_i0 = w2c_l39;
     if (w2c_i0) {goto w2c_B104;}
-    w2c_j0 = w2c_l4;
+    w2c_j0 = w2c_l27;
     w2c_i0 = (u32)(w2c_j0);
-    w2c_j1 = w2c_l9;
+    w2c_j1 = w2c_l19;
     w2c_i1 = (u32)(w2c_j1);
-    w2c_j2 = w2c_l17;
+    w2c_j2 = w2c_l11;
     w2c_i2 = (u32)(w2c_j2);
     memory_copy(&instance->w2c_memory, &instance->w2c_memory, w2c_i0, w2c_i1, w2c_i2);
     w2c_B104:;
-    w2c_j0 = w2c_l8;
+    w2c_j0 = w2c_l7;
     w2c_i0 = (u32)(w2c_j0);
-    w2c_j1 = w2c_l17;
+    w2c_j1 = w2c_l11;
     i64_store(&instance->w2c_memory, (u64)(w2c_i0) + 720, w2c_j1);
-    w2c_j0 = w2c_l8;
+    w2c_j0 = w2c_l7;
     w2c_i0 = (u32)(w2c_j0);
-    w2c_j1 = w2c_l17;
+    w2c_j1 = w2c_l11;
     i64_store(&instance->w2c_memory, (u64)(w2c_i0) + 712, w2c_j1);
-    w2c_j0 = w2c_l8;
+    w2c_j0 = w2c_l7;
     w2c_i0 = (u32)(w2c_j0);
-    w2c_j1 = w2c_l4;
+    w2c_j1 = w2c_l27;
     i64_store(&instance->w2c_memory, (u64)(w2c_i0) + 704, w2c_j1);
-    w2c_j0 = w2c_l8;
+    w2c_j0 = w2c_l7;
     w2c_i0 = (u32)(w2c_j0);
     w2c_i1 = w2c_l38;
     i32_store(&instance->w2c_memory, (u64)(w2c_i0) + 888, w2c_i1);
-    w2c_j0 = w2c_l8;
+    w2c_j0 = w2c_l7;
     w2c_i0 = (u32)(w2c_j0);
-    w2c_j1 = w2c_l19;
+    w2c_j1 = w2c_l21;
     i64_store(&instance->w2c_memory, (u64)(w2c_i0) + 880, w2c_j1);
-    w2c_j0 = w2c_l8;
+    w2c_j0 = w2c_l7;
     w2c_i0 = (u32)(w2c_j0);
-    w2c_j1 = w2c_l18;
+    w2c_j1 = w2c_l15;
     i64_store(&instance->w2c_memory, (u64)(w2c_i0) + 872, w2c_j1);
-    w2c_j0 = w2c_l8;
+    w2c_j0 = w2c_l7;
     w2c_i0 = (u32)(w2c_j0);
-    w2c_j1 = w2c_l13;
+    w2c_j1 = w2c_l17;
     i64_store(&instance->w2c_memory, (u64)(w2c_i0) + 864, w2c_j1);
-    w2c_j0 = w2c_l8;
+    w2c_j0 = w2c_l7;
     w2c_i0 = (u32)(w2c_j0);
     w2c_i1 = w2c_l42;
     i32_store(&instance->w2c_memory, (u64)(w2c_i0) + 860, w2c_i1);
-    w2c_j0 = w2c_l8;
+    w2c_j0 = w2c_l7;
     w2c_i0 = (u32)(w2c_j0);
     w2c_i1 = w2c_l40;
     i32_store8(&instance->w2c_memory, (u64)(w2c_i0) + 857, w2c_i1);
-    w2c_j0 = w2c_l8;
+    w2c_j0 = w2c_l7;
     w2c_i0 = (u32)(w2c_j0);
     w2c_i1 = w2c_l37;
     i32_store8(&instance->w2c_memory, (u64)(w2c_i0) + 856, w2c_i1);
-    w2c_j0 = w2c_l8;
+    w2c_j0 = w2c_l7;
     w2c_i0 = (u32)(w2c_j0);
-    w2c_j1 = w2c_l24;
+    w2c_j1 = w2c_l22;
     i64_store(&instance->w2c_memory, (u64)(w2c_i0) + 848, w2c_j1);
-    w2c_j0 = w2c_l8;
+    w2c_j0 = w2c_l7;
     w2c_j1 = 16ull;
     w2c_j0 += w2c_j1;
-    w2c_j1 = w2c_l8;
+    w2c_j1 = w2c_l7;
     w2c_j2 = 592ull;
     w2c_j1 += w2c_j2;
-    w2c_j2 = w2c_l11;
+    w2c_j2 = w2c_l12;
     w2c_j3 = w2c_l5;
-    w2c_j4 = w2c_l8;
+    w2c_j4 = w2c_l7;
     w2c_j5 = 920ull;
     w2c_j4 += w2c_j5;
     w2c_j5 = 0ull;
-    w2c_j6 = w2c_l8;
+    w2c_j6 = w2c_l7;
     w2c_j7 = 704ull;
     w2c_j6 += w2c_j7;
-    w2c_j7 = w2c_l8;
+    w2c_j7 = w2c_l7;
     w2c_j8 = 848ull;
     w2c_j7 += w2c_j8;
     w2c_f8(instance, w2c_j0, w2c_j1, w2c_j2, w2c_j3, w2c_j4, w2c_j5, w2c_j6, w2c_j7);
-    w2c_j0 = w2c_l8;
+    w2c_j0 = w2c_l7;
     w2c_i0 = (u32)(w2c_j0);
     w2c_i0 = i32_load8_u(&instance->w2c_memory, (u64)(w2c_i0) + 16u);
     w2c_l39 = w2c_i0;
     if (w2c_i0) {goto w2c_B101;}
     w2c_j0 = w2c_l5;
-    w2c_j1 = w2c_l6;
+    w2c_j1 = w2c_l8;
     w2c_i0 = w2c_j0 == w2c_j1;
     if (w2c_i0) {goto w2c_B102;}
     goto w2c_B97;
     w2c_B103:;
-    w2c_j0 = w2c_l21;
+    w2c_j0 = w2c_l23;
     w2c_i0 = !(w2c_j0);
     w2c_i0 = !(w2c_i0);
     if (w2c_i0) {
-      w2c_j0 = w2c_l9;
+      w2c_j0 = w2c_l19;
       w2c_leave(instance, w2c_j0);
     }
     w2c_j0 = w2c_l5;
     w2c_i0 = !(w2c_j0);
     w2c_i0 = !(w2c_i0);
     if (w2c_i0) {
-      w2c_j0 = w2c_l11;
+      w2c_j0 = w2c_l12;
       w2c_l3 = w2c_j0;
       w2c_L112: 
         w2c_j0 = w2c_l3;
@@ -4197,48 +4199,48 @@ static void w2c_f0(Z_dine_ffi_instance_t* instance, u64 w2c_p0, u64 w2c_p1, u64 
     w2c_l39 = w2c_i0;
     w2c_i0 = 0u;
     w2c_l40 = w2c_i0;
-    w2c_j0 = w2c_l6;
+    w2c_j0 = w2c_l8;
     w2c_i0 = !(w2c_j0);
     w2c_i0 = !(w2c_i0);
     if (w2c_i0) {goto w2c_B100;}
     goto w2c_B98;
     w2c_B102:;
-    w2c_j0 = w2c_l8;
+    w2c_j0 = w2c_l7;
     w2c_j1 = 776ull;
     w2c_j0 += w2c_j1;
     w2c_i0 = w2c_f9(instance, w2c_j0);
     w2c_i0 = !(w2c_i0);
     if (w2c_i0) {goto w2c_B99;}
-    w2c_j0 = w2c_l8;
+    w2c_j0 = w2c_l7;
     w2c_i0 = (u32)(w2c_j0);
     w2c_j0 = i64_load(&instance->w2c_memory, (u64)(w2c_i0) + 792u);
-    w2c_l6 = w2c_j0;
-    w2c_j0 = w2c_l8;
+    w2c_l8 = w2c_j0;
+    w2c_j0 = w2c_l7;
     w2c_i0 = (u32)(w2c_j0);
     w2c_j0 = i64_load(&instance->w2c_memory, (u64)(w2c_i0) + 776u);
-    w2c_l11 = w2c_j0;
-    w2c_j0 = w2c_l8;
+    w2c_l12 = w2c_j0;
+    w2c_j0 = w2c_l7;
     w2c_i0 = (u32)(w2c_j0);
     w2c_j0 = i64_load(&instance->w2c_memory, (u64)(w2c_i0) + 784u);
     w2c_l5 = w2c_j0;
     goto w2c_B97;
     w2c_B101:;
-    w2c_j0 = w2c_l8;
+    w2c_j0 = w2c_l7;
     w2c_i0 = (u32)(w2c_j0);
     w2c_i0 = i32_load8_u(&instance->w2c_memory, (u64)(w2c_i0) + 17u);
     w2c_l37 = w2c_i0;
-    w2c_j0 = w2c_l21;
+    w2c_j0 = w2c_l23;
     w2c_i0 = !(w2c_j0);
     w2c_i0 = !(w2c_i0);
     if (w2c_i0) {
-      w2c_j0 = w2c_l9;
+      w2c_j0 = w2c_l19;
       w2c_leave(instance, w2c_j0);
     }
     w2c_j0 = w2c_l5;
     w2c_i0 = !(w2c_j0);
     w2c_i0 = !(w2c_i0);
     if (w2c_i0) {
-      w2c_j0 = w2c_l11;
+      w2c_j0 = w2c_l12;
       w2c_l3 = w2c_j0;
       w2c_L116: 
         w2c_j0 = w2c_l3;
@@ -4273,36 +4275,36 @@ static void w2c_f0(Z_dine_ffi_instance_t* instance, u64 w2c_p0, u64 w2c_p1, u64 
     w2c_l40 = w2c_i0;
     w2c_i0 = 1u;
     w2c_l39 = w2c_i0;
-    w2c_j0 = w2c_l6;
+    w2c_j0 = w2c_l8;
     w2c_i0 = !(w2c_j0);
     if (w2c_i0) {goto w2c_B98;}
     w2c_B100:;
-    w2c_j0 = w2c_l11;
+    w2c_j0 = w2c_l12;
     w2c_l5 = w2c_j0;
-    w2c_j0 = w2c_l7;
-    w2c_l11 = w2c_j0;
+    w2c_j0 = w2c_l6;
+    w2c_l12 = w2c_j0;
     w2c_j0 = w2c_p1;
     w2c_l3 = w2c_j0;
-    w2c_j0 = w2c_l12;
-    w2c_l6 = w2c_j0;
+    w2c_j0 = w2c_l10;
+    w2c_l8 = w2c_j0;
     goto w2c_B96;
     w2c_B99:;
-    w2c_j0 = w2c_l21;
+    w2c_j0 = w2c_l23;
     w2c_i0 = !(w2c_j0);
     w2c_i0 = !(w2c_i0);
     if (w2c_i0) {
-      w2c_j0 = w2c_l9;
+      w2c_j0 = w2c_l19;
       w2c_leave(instance, w2c_j0);
     }
-    w2c_j0 = w2c_l8;
+    w2c_j0 = w2c_l7;
     w2c_i0 = (u32)(w2c_j0);
     w2c_j0 = i64_load(&instance->w2c_memory, (u64)(w2c_i0) + 792u);
-    w2c_l22 = w2c_j0;
-    w2c_j0 = w2c_l8;
+    w2c_l20 = w2c_j0;
+    w2c_j0 = w2c_l7;
     w2c_i0 = (u32)(w2c_j0);
     w2c_j0 = i64_load(&instance->w2c_memory, (u64)(w2c_i0) + 776u);
     w2c_l5 = w2c_j0;
-    w2c_j0 = w2c_l8;
+    w2c_j0 = w2c_l7;
     w2c_i0 = (u32)(w2c_j0);
     w2c_j0 = i64_load(&instance->w2c_memory, (u64)(w2c_i0) + 784u);
     w2c_l16 = w2c_j0;
@@ -4341,43 +4343,43 @@ static void w2c_f0(Z_dine_ffi_instance_t* instance, u64 w2c_p0, u64 w2c_p1, u64 
     w2c_l39 = w2c_i0;
     w2c_i0 = 0u;
     w2c_l40 = w2c_i0;
-    w2c_j0 = w2c_l7;
-    w2c_l11 = w2c_j0;
+    w2c_j0 = w2c_l6;
+    w2c_l12 = w2c_j0;
     w2c_j0 = w2c_p1;
     w2c_l3 = w2c_j0;
-    w2c_j0 = w2c_l12;
-    w2c_l6 = w2c_j0;
-    w2c_j0 = w2c_l22;
+    w2c_j0 = w2c_l10;
+    w2c_l8 = w2c_j0;
+    w2c_j0 = w2c_l20;
     w2c_i0 = !(w2c_j0);
     if (w2c_i0) {goto w2c_B95;}
     goto w2c_B96;
     w2c_B98:;
-    w2c_j0 = w2c_l7;
-    w2c_l11 = w2c_j0;
+    w2c_j0 = w2c_l6;
+    w2c_l12 = w2c_j0;
     w2c_j0 = w2c_p1;
     w2c_l3 = w2c_j0;
-    w2c_j0 = w2c_l12;
-    w2c_l6 = w2c_j0;
+    w2c_j0 = w2c_l10;
+    w2c_l8 = w2c_j0;
     goto w2c_B95;
     w2c_B97:;
-    w2c_j0 = w2c_l11;
+    w2c_j0 = w2c_l12;
     w2c_j1 = w2c_l5;
     w2c_j2 = 24ull;
     w2c_j1 *= w2c_j2;
     w2c_j0 += w2c_j1;
     w2c_l3 = w2c_j0;
     w2c_i0 = (u32)(w2c_j0);
-    w2c_j1 = w2c_l21;
+    w2c_j1 = w2c_l23;
     i64_store(&instance->w2c_memory, (u64)(w2c_i0) + 16, w2c_j1);
     w2c_j0 = w2c_l3;
     w2c_i0 = (u32)(w2c_j0);
-    w2c_j1 = w2c_l17;
+    w2c_j1 = w2c_l11;
     i64_store(&instance->w2c_memory, (u64)(w2c_i0) + 8, w2c_j1);
     w2c_j0 = w2c_l3;
     w2c_i0 = (u32)(w2c_j0);
-    w2c_j1 = w2c_l9;
+    w2c_j1 = w2c_l19;
     i64_store(&instance->w2c_memory, (u64)(w2c_i0), w2c_j1);
-    w2c_j0 = w2c_l8;
+    w2c_j0 = w2c_l7;
     w2c_i0 = (u32)(w2c_j0);
     w2c_j1 = w2c_l5;
     w2c_j2 = 1ull;
@@ -4388,7 +4390,7 @@ static void w2c_f0(Z_dine_ffi_instance_t* instance, u64 w2c_p0, u64 w2c_p1, u64 
     w2c_i0 = !(w2c_j0);
     w2c_i0 = !(w2c_i0);
     if (w2c_i0) {
-      w2c_j0 = w2c_l7;
+      w2c_j0 = w2c_l6;
       w2c_l5 = w2c_j0;
       w2c_L123: 
         w2c_j0 = w2c_l5;
@@ -4418,42 +4420,42 @@ static void w2c_f0(Z_dine_ffi_instance_t* instance, u64 w2c_p0, u64 w2c_p1, u64 
     }
     w2c_i0 = 0u;
     w2c_l40 = w2c_i0;
-    w2c_j0 = w2c_l7;
+    w2c_j0 = w2c_l6;
     w2c_l5 = w2c_j0;
     w2c_i0 = 0u;
     w2c_l39 = w2c_i0;
-    w2c_j0 = w2c_l12;
+    w2c_j0 = w2c_l10;
     w2c_i0 = !(w2c_j0);
     if (w2c_i0) {goto w2c_B95;}
     w2c_B96:;
     w2c_j0 = w2c_l5;
     w2c_leave(instance, w2c_j0);
     w2c_B95:;
-    w2c_j0 = w2c_l11;
-    w2c_l7 = w2c_j0;
+    w2c_j0 = w2c_l12;
+    w2c_l6 = w2c_j0;
     w2c_j0 = w2c_l3;
     w2c_p1 = w2c_j0;
-    w2c_j0 = w2c_l6;
-    w2c_l12 = w2c_j0;
+    w2c_j0 = w2c_l8;
+    w2c_l10 = w2c_j0;
     w2c_B89:;
     w2c_i0 = w2c_l39;
     w2c_i1 = 255u;
     w2c_i0 &= w2c_i1;
     w2c_i0 = !(w2c_i0);
     if (w2c_i0) {goto w2c_L40;}
-  w2c_j0 = w2c_l8;
+  w2c_j0 = w2c_l7;
   w2c_i0 = (u32)(w2c_j0);
-  w2c_j1 = w2c_l6;
+  w2c_j1 = w2c_l8;
   i64_store(&instance->w2c_memory, (u64)(w2c_i0) + 528, w2c_j1);
-  w2c_j0 = w2c_l8;
+  w2c_j0 = w2c_l7;
   w2c_i0 = (u32)(w2c_j0);
   w2c_j1 = w2c_l3;
   i64_store(&instance->w2c_memory, (u64)(w2c_i0) + 520, w2c_j1);
-  w2c_j0 = w2c_l8;
+  w2c_j0 = w2c_l7;
   w2c_i0 = (u32)(w2c_j0);
-  w2c_j1 = w2c_l11;
+  w2c_j1 = w2c_l12;
   i64_store(&instance->w2c_memory, (u64)(w2c_i0) + 512, w2c_j1);
-  w2c_j0 = w2c_l25;
+  w2c_j0 = w2c_l4;
   w2c_j1 = 0ull;
   w2c_i2 = w2c_l40;
   w2c_i3 = 255u;
@@ -4470,13 +4472,13 @@ static void w2c_f0(Z_dine_ffi_instance_t* instance, u64 w2c_p0, u64 w2c_p1, u64 
   w2c_i1 = 0u;
   w2c_i0 = w2c_i0 != w2c_i1;
   w2c_l38 = w2c_i0;
-  w2c_j0 = w2c_l8;
+  w2c_j0 = w2c_l7;
   w2c_j1 = 512ull;
   w2c_j0 += w2c_j1;
   w2c_p1 = w2c_j0;
   w2c_i0 = (u32)(w2c_j0);
   w2c_j0 = i64_load(&instance->w2c_memory, (u64)(w2c_i0) + 16u);
-  w2c_l7 = w2c_j0;
+  w2c_l6 = w2c_j0;
   w2c_j0 = w2c_p1;
   w2c_i0 = (u32)(w2c_j0);
   w2c_j0 = i64_load(&instance->w2c_memory, (u64)(w2c_i0));
@@ -4484,7 +4486,7 @@ static void w2c_f0(Z_dine_ffi_instance_t* instance, u64 w2c_p0, u64 w2c_p1, u64 
   w2c_j0 = w2c_p1;
   w2c_i0 = (u32)(w2c_j0);
   w2c_j0 = i64_load(&instance->w2c_memory, (u64)(w2c_i0) + 8u);
-  w2c_l11 = w2c_j0;
+  w2c_l12 = w2c_j0;
   w2c_i0 = !(w2c_j0);
   w2c_i0 = !(w2c_i0);
   if (w2c_i0) {
@@ -4508,28 +4510,28 @@ static void w2c_f0(Z_dine_ffi_instance_t* instance, u64 w2c_p0, u64 w2c_p1, u64 
       w2c_j1 = 24ull;
       w2c_j0 += w2c_j1;
       w2c_p1 = w2c_j0;
-      w2c_j0 = w2c_l11;
+      w2c_j0 = w2c_l12;
       w2c_j1 = 1ull;
       w2c_j0 -= w2c_j1;
-      w2c_l11 = w2c_j0;
+      w2c_l12 = w2c_j0;
       w2c_j1 = 0ull;
       w2c_i0 = w2c_j0 != w2c_j1;
       if (w2c_i0) {goto w2c_L126;}
   }
-  w2c_j0 = w2c_l7;
+  w2c_j0 = w2c_l6;
   w2c_i0 = !(w2c_j0);
   w2c_i0 = !(w2c_i0);
   if (w2c_i0) {
     w2c_j0 = w2c_p2;
     w2c_leave(instance, w2c_j0);
   }
-  w2c_j0 = w2c_l8;
+  w2c_j0 = w2c_l7;
   w2c_i0 = (u32)(w2c_j0);
   w2c_i0 = i32_load8_u(&instance->w2c_memory, (u64)(w2c_i0) + 592u);
   w2c_i1 = 1u;
   w2c_i0 = w2c_i0 != w2c_i1;
   if (w2c_i0) {goto w2c_B37;}
-  w2c_j0 = w2c_l8;
+  w2c_j0 = w2c_l7;
   w2c_i0 = (u32)(w2c_j0);
   w2c_j0 = i64_load(&instance->w2c_memory, (u64)(w2c_i0) + 600u);
   w2c_f10(instance, w2c_j0);
@@ -4542,7 +4544,7 @@ static void w2c_f0(Z_dine_ffi_instance_t* instance, u64 w2c_p0, u64 w2c_p1, u64 
   w2c_i0 = !(w2c_j0);
   w2c_i0 = !(w2c_i0);
   if (w2c_i0) {
-    w2c_j0 = w2c_l7;
+    w2c_j0 = w2c_l6;
     w2c_p2 = w2c_j0;
     w2c_L130: 
       w2c_j0 = w2c_p2;
@@ -4570,45 +4572,45 @@ static void w2c_f0(Z_dine_ffi_instance_t* instance, u64 w2c_p0, u64 w2c_p1, u64 
       w2c_i0 = w2c_j0 != w2c_j1;
       if (w2c_i0) {goto w2c_L130;}
   }
-  w2c_j0 = w2c_l12;
+  w2c_j0 = w2c_l10;
   w2c_i0 = !(w2c_j0);
   w2c_i0 = !(w2c_i0);
   if (w2c_i0) {
-    w2c_j0 = w2c_l7;
+    w2c_j0 = w2c_l6;
     w2c_leave(instance, w2c_j0);
   }
-  w2c_j0 = w2c_l8;
+  w2c_j0 = w2c_l7;
   w2c_i0 = (u32)(w2c_j0);
   w2c_i0 = i32_load8_u(&instance->w2c_memory, (u64)(w2c_i0) + 592u);
   w2c_i1 = 1u;
   w2c_i0 = w2c_i0 != w2c_i1;
   if (w2c_i0) {goto w2c_B37;}
-  w2c_j0 = w2c_l8;
+  w2c_j0 = w2c_l7;
   w2c_i0 = (u32)(w2c_j0);
   w2c_j0 = i64_load(&instance->w2c_memory, (u64)(w2c_i0) + 600u);
   w2c_f10(instance, w2c_j0);
   w2c_B37:;
-  w2c_j0 = w2c_l8;
+  w2c_j0 = w2c_l7;
   w2c_i0 = (u32)(w2c_j0);
   w2c_j1 = w2c_l3;
   i64_store(&instance->w2c_memory, (u64)(w2c_i0) + 504, w2c_j1);
-  w2c_j0 = w2c_l8;
+  w2c_j0 = w2c_l7;
   w2c_i0 = (u32)(w2c_j0);
   w2c_j1 = w2c_l5;
   i64_store(&instance->w2c_memory, (u64)(w2c_i0) + 496, w2c_j1);
-  w2c_j0 = w2c_l8;
+  w2c_j0 = w2c_l7;
   w2c_i0 = (u32)(w2c_j0);
   w2c_i1 = w2c_l40;
   i32_store8(&instance->w2c_memory, (u64)(w2c_i0) + 489, w2c_i1);
-  w2c_j0 = w2c_l8;
+  w2c_j0 = w2c_l7;
   w2c_i0 = (u32)(w2c_j0);
   w2c_i1 = w2c_l38;
   i32_store8(&instance->w2c_memory, (u64)(w2c_i0) + 488, w2c_i1);
-  w2c_j0 = w2c_l8;
+  w2c_j0 = w2c_l7;
   w2c_j1 = 272ull;
   w2c_j0 += w2c_j1;
   w2c_p2 = w2c_j0;
-  w2c_j0 = w2c_l8;
+  w2c_j0 = w2c_l7;
   w2c_j1 = 488ull;
   w2c_j0 += w2c_j1;
   w2c_p1 = w2c_j0;
@@ -4641,12 +4643,12 @@ static void w2c_f0(Z_dine_ffi_instance_t* instance, u64 w2c_p0, u64 w2c_p1, u64 
   w2c_i2 = (u32)(w2c_j2);
   w2c_j2 = i64_load(&instance->w2c_memory, (u64)(w2c_i2));
   w2c_j1 -= w2c_j2;
-  w2c_l11 = w2c_j1;
-  w2c_j2 = w2c_l11;
+  w2c_l12 = w2c_j1;
+  w2c_j2 = w2c_l12;
   w2c_j3 = w2c_l14;
   w2c_i2 = w2c_j2 > w2c_j3;
   w2c_j0 = w2c_i2 ? w2c_j0 : w2c_j1;
-  w2c_l11 = w2c_j0;
+  w2c_l12 = w2c_j0;
   w2c_j1 = 0ull;
   w2c_j2 = w2c_l14;
   w2c_j3 = w2c_p1;
@@ -4662,7 +4664,7 @@ static void w2c_f0(Z_dine_ffi_instance_t* instance, u64 w2c_p0, u64 w2c_p1, u64 
   w2c_j1 = w2c_i3 ? w2c_j1 : w2c_j2;
   w2c_p1 = w2c_j1;
   w2c_j2 = w2c_p1;
-  w2c_j3 = w2c_l11;
+  w2c_j3 = w2c_l12;
   w2c_i2 = w2c_j2 > w2c_j3;
   w2c_j0 = w2c_i2 ? w2c_j0 : w2c_j1;
   w2c_l14 = w2c_j0;
@@ -4672,7 +4674,7 @@ static void w2c_f0(Z_dine_ffi_instance_t* instance, u64 w2c_p0, u64 w2c_p1, u64 
     w2c_j0 = w2c_l14;
     w2c_p1 = w2c_j0;
     w2c_L136: 
-      w2c_j0 = w2c_l10;
+      w2c_j0 = w2c_l9;
       w2c_i0 = (u32)(w2c_j0);
       w2c_i0 = i32_load8_s(&instance->w2c_memory, (u64)(w2c_i0));
       w2c_l38 = w2c_i0;
@@ -4706,10 +4708,10 @@ static void w2c_f0(Z_dine_ffi_instance_t* instance, u64 w2c_p0, u64 w2c_p1, u64 
       w2c_j0 = w2c_i2 ? w2c_j0 : w2c_j1;
       w2c_l3 = w2c_j0;
       w2c_B137:;
-      w2c_j0 = w2c_l10;
+      w2c_j0 = w2c_l9;
       w2c_j1 = 1ull;
       w2c_j0 += w2c_j1;
-      w2c_l10 = w2c_j0;
+      w2c_l9 = w2c_j0;
       w2c_j0 = w2c_p1;
       w2c_j1 = 1ull;
       w2c_j0 -= w2c_j1;
@@ -4740,7 +4742,7 @@ static void w2c_f0(Z_dine_ffi_instance_t* instance, u64 w2c_p0, u64 w2c_p1, u64 
   i64_store(&instance->w2c_memory, (u64)(w2c_i0) + 24, w2c_j1);
   w2c_j0 = w2c_p2;
   w2c_i0 = (u32)(w2c_j0);
-  w2c_j1 = w2c_l11;
+  w2c_j1 = w2c_l12;
   i64_store(&instance->w2c_memory, (u64)(w2c_i0) + 16, w2c_j1);
   w2c_j0 = w2c_p2;
   w2c_i0 = (u32)(w2c_j0);
@@ -4758,7 +4760,7 @@ static void w2c_f0(Z_dine_ffi_instance_t* instance, u64 w2c_p0, u64 w2c_p1, u64 
   w2c_p1 = w2c_j0;
   w2c_i0 = 19u;
   w2c_i1 = 0u;
-  w2c_j2 = w2c_l8;
+  w2c_j2 = w2c_l7;
   w2c_i2 = (u32)(w2c_j2);
   w2c_j2 = i64_load8_u(&instance->w2c_memory, (u64)(w2c_i2) + 272u);
   w2c_i2 = !(w2c_j2);
@@ -4766,58 +4768,56 @@ static void w2c_f0(Z_dine_ffi_instance_t* instance, u64 w2c_p0, u64 w2c_p1, u64 
   goto w2c_B26;
   w2c_B28:;
   w2c_j0 = 0ull;
-  w2c_l15 = w2c_j0;
+  w2c_l13 = w2c_j0;
   w2c_B27:;
-  w2c_j0 = w2c_l8;
+  w2c_j0 = w2c_l7;
   w2c_i0 = (u32)(w2c_j0);
   w2c_i1 = 0u;
   i32_store(&instance->w2c_memory, (u64)(w2c_i0) + 128, w2c_i1);
-  w2c_j0 = w2c_l8;
+  w2c_j0 = w2c_l7;
   w2c_i0 = (u32)(w2c_j0);
-  w2c_j1 = w2c_l15;
+  w2c_j1 = w2c_l13;
   i64_store(&instance->w2c_memory, (u64)(w2c_i0) + 120, w2c_j1);
-  w2c_j0 = w2c_l8;
+  w2c_j0 = w2c_l7;
   w2c_i0 = (u32)(w2c_j0);
   w2c_j1 = w2c_l3;
   i64_store(&instance->w2c_memory, (u64)(w2c_i0) + 112, w2c_j1);
-  w2c_j0 = w2c_l8;
+  w2c_j0 = w2c_l7;
   w2c_i0 = (u32)(w2c_j0);
   w2c_i1 = 0u;
   i32_store(&instance->w2c_memory, (u64)(w2c_i0) + 100, w2c_i1);
-  w2c_j0 = w2c_l8;
+  w2c_j0 = w2c_l7;
   w2c_i0 = (u32)(w2c_j0);
   w2c_i1 = 6u;
   i32_store16(&instance->w2c_memory, (u64)(w2c_i0) + 96, w2c_i1);
-  w2c_j0 = w2c_l8;
+  w2c_j0 = w2c_l7;
   w2c_i0 = (u32)(w2c_j0);
   w2c_i1 = w2c_l42;
   w2c_j1 = (u64)(w2c_i1);
   w2c_j2 = 255ull;
   w2c_j1 &= w2c_j2;
   i64_store(&instance->w2c_memory, (u64)(w2c_i0) + 104, w2c_j1);
-  w2c_j0 = w2c_l8;
+  w2c_j0 = w2c_l7;
   w2c_j1 = 136ull;
   w2c_j0 += w2c_j1;
-  w2c_l25 = w2c_j0;
+  w2c_l26 = w2c_j0;
   w2c_j0 = 0ull;
-  w2c_l10 = w2c_j0;
-  w2c_j0 = 0ull;
-  w2c_l15 = w2c_j0;
+  w2c_l9 = w2c_j0;
   w2c_j0 = 0ull;
   w2c_l14 = w2c_j0;
+  w2c_i0 = 0u;
+  w2c_l40 = w2c_i0;
   w2c_j0 = 0ull;
-  w2c_l16 = w2c_j0;
+  w2c_l21 = w2c_j0;
   w2c_j0 = 0ull;
-  w2c_l20 = w2c_j0;
-  w2c_j0 = 0ull;
-  w2c_l27 = w2c_j0;
+  w2c_l18 = w2c_j0;
   w2c_j0 = instance->w2c_g0;
-  w2c_j1 = 928ull;
+  w2c_j1 = 1008ull;
   w2c_j0 -= w2c_j1;
   w2c_l4 = w2c_j0;
   instance->w2c_g0 = w2c_j0;
   w2c_j0 = w2c_l4;
-  w2c_j1 = 244ull;
+  w2c_j1 = 324ull;
   w2c_j0 += w2c_j1;
   w2c_i0 = (u32)(w2c_j0);
   w2c_i1 = 0u;
@@ -4826,27 +4826,27 @@ static void w2c_f0(Z_dine_ffi_instance_t* instance, u64 w2c_p0, u64 w2c_p1, u64 
   w2c_j0 = w2c_l4;
   w2c_i0 = (u32)(w2c_j0);
   w2c_j1 = 0ull;
-  i64_store(&instance->w2c_memory, (u64)(w2c_i0) + 232, w2c_j1);
+  i64_store(&instance->w2c_memory, (u64)(w2c_i0) + 312, w2c_j1);
   w2c_j0 = w2c_l4;
   w2c_i0 = (u32)(w2c_j0);
   w2c_j1 = 0ull;
-  i64_store(&instance->w2c_memory, (u64)(w2c_i0) + 224, w2c_j1);
+  i64_store(&instance->w2c_memory, (u64)(w2c_i0) + 304, w2c_j1);
   w2c_j0 = w2c_l4;
   w2c_i0 = (u32)(w2c_j0);
   w2c_j1 = 0ull;
-  i64_store(&instance->w2c_memory, (u64)(w2c_i0) + 216, w2c_j1);
+  i64_store(&instance->w2c_memory, (u64)(w2c_i0) + 296, w2c_j1);
   w2c_i0 = 1u;
   w2c_l38 = w2c_i0;
-  w2c_j0 = w2c_l8;
+  w2c_j0 = w2c_l7;
   w2c_j1 = 96ull;
   w2c_j0 += w2c_j1;
-  w2c_l13 = w2c_j0;
+  w2c_l10 = w2c_j0;
   w2c_i0 = (u32)(w2c_j0);
   w2c_i0 = i32_load8_u(&instance->w2c_memory, (u64)(w2c_i0));
   w2c_i1 = 6u;
   w2c_i0 = w2c_i0 != w2c_i1;
   if (w2c_i0) {goto w2c_B140;}
-  w2c_j0 = w2c_l13;
+  w2c_j0 = w2c_l10;
   w2c_j1 = 8ull;
   w2c_j0 += w2c_j1;
   w2c_i0 = (u32)(w2c_j0);
@@ -4854,16 +4854,16 @@ static void w2c_f0(Z_dine_ffi_instance_t* instance, u64 w2c_p0, u64 w2c_p1, u64 
   w2c_i1 = 1u;
   w2c_i0 = w2c_i0 != w2c_i1;
   if (w2c_i0) {goto w2c_B140;}
-  w2c_j0 = w2c_l13;
+  w2c_j0 = w2c_l10;
   w2c_j1 = 16ull;
   w2c_j0 += w2c_j1;
-  w2c_l11 = w2c_j0;
+  w2c_l12 = w2c_j0;
   w2c_l3 = w2c_j0;
   w2c_L141: 
     w2c_j0 = w2c_l3;
     w2c_i0 = (u32)(w2c_j0);
     w2c_j0 = i64_load(&instance->w2c_memory, (u64)(w2c_i0));
-    w2c_l9 = w2c_j0;
+    w2c_l11 = w2c_j0;
     w2c_i0 = (u32)(w2c_j0);
     w2c_j0 = i64_load16_u(&instance->w2c_memory, (u64)(w2c_i0));
     w2c_p2 = w2c_j0;
@@ -4871,11 +4871,11 @@ static void w2c_f0(Z_dine_ffi_instance_t* instance, u64 w2c_p0, u64 w2c_p1, u64 
     if (w2c_i0) {
       w2c_j0 = 0ull;
     } else {
-      w2c_j0 = w2c_l9;
+      w2c_j0 = w2c_l11;
       w2c_j1 = 16ull;
       w2c_j0 += w2c_j1;
       w2c_l3 = w2c_j0;
-      w2c_j0 = w2c_l9;
+      w2c_j0 = w2c_l11;
       w2c_j1 = 376ull;
       w2c_j0 += w2c_j1;
       w2c_l5 = w2c_j0;
@@ -4887,32 +4887,32 @@ static void w2c_f0(Z_dine_ffi_instance_t* instance, u64 w2c_p0, u64 w2c_p1, u64 
         w2c_j0 -= w2c_j1;
         w2c_i0 = (u32)(w2c_j0);
         w2c_j0 = i64_load(&instance->w2c_memory, (u64)(w2c_i0));
-        w2c_l7 = w2c_j0;
+        w2c_l6 = w2c_j0;
         w2c_j0 = w2c_l3;
         w2c_i0 = (u32)(w2c_j0);
         w2c_j0 = i64_load(&instance->w2c_memory, (u64)(w2c_i0));
-        w2c_l6 = w2c_j0;
+        w2c_l8 = w2c_j0;
         w2c_j0 = w2c_l4;
         w2c_i0 = (u32)(w2c_j0);
         w2c_j1 = 7ull;
-        i64_store(&instance->w2c_memory, (u64)(w2c_i0) + 424, w2c_j1);
+        i64_store(&instance->w2c_memory, (u64)(w2c_i0) + 504, w2c_j1);
         w2c_j0 = w2c_l4;
         w2c_i0 = (u32)(w2c_j0);
         w2c_j1 = 1059632ull;
-        i64_store(&instance->w2c_memory, (u64)(w2c_i0) + 416, w2c_j1);
+        i64_store(&instance->w2c_memory, (u64)(w2c_i0) + 496, w2c_j1);
+        w2c_j0 = w2c_l4;
+        w2c_i0 = (u32)(w2c_j0);
+        w2c_j1 = w2c_l8;
+        i64_store(&instance->w2c_memory, (u64)(w2c_i0) + 744, w2c_j1);
         w2c_j0 = w2c_l4;
         w2c_i0 = (u32)(w2c_j0);
         w2c_j1 = w2c_l6;
-        i64_store(&instance->w2c_memory, (u64)(w2c_i0) + 664, w2c_j1);
+        i64_store(&instance->w2c_memory, (u64)(w2c_i0) + 736, w2c_j1);
         w2c_j0 = w2c_l4;
-        w2c_i0 = (u32)(w2c_j0);
-        w2c_j1 = w2c_l7;
-        i64_store(&instance->w2c_memory, (u64)(w2c_i0) + 656, w2c_j1);
-        w2c_j0 = w2c_l4;
-        w2c_j1 = 416ull;
+        w2c_j1 = 496ull;
         w2c_j0 += w2c_j1;
         w2c_j1 = w2c_l4;
-        w2c_j2 = 656ull;
+        w2c_j2 = 736ull;
         w2c_j1 += w2c_j2;
         w2c_i0 = w2c_f15(instance, w2c_j0, w2c_j1);
         w2c_i1 = 255u;
@@ -4950,7 +4950,7 @@ static void w2c_f0(Z_dine_ffi_instance_t* instance, u64 w2c_p0, u64 w2c_p1, u64 
       w2c_j0 <<= (w2c_j1 & 63);
     }
     w2c_l3 = w2c_j0;
-    w2c_j0 = w2c_l9;
+    w2c_j0 = w2c_l11;
     w2c_j1 = 2ull;
     w2c_j0 += w2c_j1;
     w2c_i0 = (u32)(w2c_j0);
@@ -4958,7 +4958,7 @@ static void w2c_f0(Z_dine_ffi_instance_t* instance, u64 w2c_p0, u64 w2c_p1, u64 
     w2c_i0 = !(w2c_i0);
     if (w2c_i0) {goto w2c_B140;}
     w2c_j0 = w2c_l3;
-    w2c_j1 = w2c_l9;
+    w2c_j1 = w2c_l11;
     w2c_j0 += w2c_j1;
     w2c_j1 = 968ull;
     w2c_j0 += w2c_j1;
@@ -4981,13 +4981,13 @@ static void w2c_f0(Z_dine_ffi_instance_t* instance, u64 w2c_p0, u64 w2c_p1, u64 
   w2c_j1 = 18446744073709551614ull;
   w2c_i0 = w2c_j0 < w2c_j1;
   if (w2c_i0) {goto w2c_B140;}
-  w2c_j0 = w2c_l11;
+  w2c_j0 = w2c_l12;
   w2c_l3 = w2c_j0;
   w2c_L148: 
     w2c_j0 = w2c_l3;
     w2c_i0 = (u32)(w2c_j0);
     w2c_j0 = i64_load(&instance->w2c_memory, (u64)(w2c_i0));
-    w2c_l9 = w2c_j0;
+    w2c_l11 = w2c_j0;
     w2c_i0 = (u32)(w2c_j0);
     w2c_j0 = i64_load16_u(&instance->w2c_memory, (u64)(w2c_i0));
     w2c_p2 = w2c_j0;
@@ -4995,11 +4995,11 @@ static void w2c_f0(Z_dine_ffi_instance_t* instance, u64 w2c_p0, u64 w2c_p1, u64 
     if (w2c_i0) {
       w2c_j0 = 0ull;
     } else {
-      w2c_j0 = w2c_l9;
+      w2c_j0 = w2c_l11;
       w2c_j1 = 16ull;
       w2c_j0 += w2c_j1;
       w2c_l3 = w2c_j0;
-      w2c_j0 = w2c_l9;
+      w2c_j0 = w2c_l11;
       w2c_j1 = 376ull;
       w2c_j0 += w2c_j1;
       w2c_l5 = w2c_j0;
@@ -5011,32 +5011,32 @@ static void w2c_f0(Z_dine_ffi_instance_t* instance, u64 w2c_p0, u64 w2c_p1, u64 
         w2c_j0 -= w2c_j1;
         w2c_i0 = (u32)(w2c_j0);
         w2c_j0 = i64_load(&instance->w2c_memory, (u64)(w2c_i0));
-        w2c_l7 = w2c_j0;
+        w2c_l6 = w2c_j0;
         w2c_j0 = w2c_l3;
         w2c_i0 = (u32)(w2c_j0);
         w2c_j0 = i64_load(&instance->w2c_memory, (u64)(w2c_i0));
-        w2c_l6 = w2c_j0;
+        w2c_l8 = w2c_j0;
         w2c_j0 = w2c_l4;
         w2c_i0 = (u32)(w2c_j0);
         w2c_j1 = 7ull;
-        i64_store(&instance->w2c_memory, (u64)(w2c_i0) + 424, w2c_j1);
+        i64_store(&instance->w2c_memory, (u64)(w2c_i0) + 504, w2c_j1);
         w2c_j0 = w2c_l4;
         w2c_i0 = (u32)(w2c_j0);
         w2c_j1 = 1059632ull;
-        i64_store(&instance->w2c_memory, (u64)(w2c_i0) + 416, w2c_j1);
+        i64_store(&instance->w2c_memory, (u64)(w2c_i0) + 496, w2c_j1);
+        w2c_j0 = w2c_l4;
+        w2c_i0 = (u32)(w2c_j0);
+        w2c_j1 = w2c_l8;
+        i64_store(&instance->w2c_memory, (u64)(w2c_i0) + 744, w2c_j1);
         w2c_j0 = w2c_l4;
         w2c_i0 = (u32)(w2c_j0);
         w2c_j1 = w2c_l6;
-        i64_store(&instance->w2c_memory, (u64)(w2c_i0) + 664, w2c_j1);
+        i64_store(&instance->w2c_memory, (u64)(w2c_i0) + 736, w2c_j1);
         w2c_j0 = w2c_l4;
-        w2c_i0 = (u32)(w2c_j0);
-        w2c_j1 = w2c_l7;
-        i64_store(&instance->w2c_memory, (u64)(w2c_i0) + 656, w2c_j1);
-        w2c_j0 = w2c_l4;
-        w2c_j1 = 416ull;
+        w2c_j1 = 496ull;
         w2c_j0 += w2c_j1;
         w2c_j1 = w2c_l4;
-        w2c_j2 = 656ull;
+        w2c_j2 = 736ull;
         w2c_j1 += w2c_j2;
         w2c_i0 = w2c_f15(instance, w2c_j0, w2c_j1);
         w2c_i1 = 255u;
@@ -5075,7 +5075,7 @@ static void w2c_f0(Z_dine_ffi_instance_t* instance, u64 w2c_p0, u64 w2c_p1, u64 
     }
     w2c_l3 = w2c_j0;
     w2c_i0 = 0u;
-    w2c_j1 = w2c_l9;
+    w2c_j1 = w2c_l11;
     w2c_j2 = 2ull;
     w2c_j1 += w2c_j2;
     w2c_i1 = (u32)(w2c_j1);
@@ -5083,7 +5083,7 @@ static void w2c_f0(Z_dine_ffi_instance_t* instance, u64 w2c_p0, u64 w2c_p1, u64 
     w2c_i1 = !(w2c_i1);
     if (w2c_i1) {goto w2c_B147;}
     w2c_j0 = w2c_l3;
-    w2c_j1 = w2c_l9;
+    w2c_j1 = w2c_l11;
     w2c_j0 += w2c_j1;
     w2c_j1 = 968ull;
     w2c_j0 += w2c_j1;
@@ -5113,7 +5113,7 @@ static void w2c_f0(Z_dine_ffi_instance_t* instance, u64 w2c_p0, u64 w2c_p1, u64 
   w2c_i0 &= w2c_i1;
   w2c_B147:;
   w2c_l39 = w2c_i0;
-  w2c_j0 = w2c_l11;
+  w2c_j0 = w2c_l12;
   w2c_p1 = w2c_j0;
   w2c_L156: 
     w2c_j0 = 0ull;
@@ -5121,18 +5121,18 @@ static void w2c_f0(Z_dine_ffi_instance_t* instance, u64 w2c_p0, u64 w2c_p1, u64 
     w2c_j0 = w2c_p1;
     w2c_i0 = (u32)(w2c_j0);
     w2c_j0 = i64_load(&instance->w2c_memory, (u64)(w2c_i0));
-    w2c_l9 = w2c_j0;
+    w2c_l11 = w2c_j0;
     w2c_i0 = (u32)(w2c_j0);
     w2c_j0 = i64_load16_u(&instance->w2c_memory, (u64)(w2c_i0));
     w2c_p2 = w2c_j0;
     w2c_i0 = !(w2c_j0);
     w2c_i0 = !(w2c_i0);
     if (w2c_i0) {
-      w2c_j0 = w2c_l9;
+      w2c_j0 = w2c_l11;
       w2c_j1 = 16ull;
       w2c_j0 += w2c_j1;
       w2c_l3 = w2c_j0;
-      w2c_j0 = w2c_l9;
+      w2c_j0 = w2c_l11;
       w2c_j1 = 384ull;
       w2c_j0 += w2c_j1;
       w2c_l5 = w2c_j0;
@@ -5144,32 +5144,32 @@ static void w2c_f0(Z_dine_ffi_instance_t* instance, u64 w2c_p0, u64 w2c_p1, u64 
         w2c_j0 -= w2c_j1;
         w2c_i0 = (u32)(w2c_j0);
         w2c_j0 = i64_load(&instance->w2c_memory, (u64)(w2c_i0));
-        w2c_l7 = w2c_j0;
+        w2c_l6 = w2c_j0;
         w2c_j0 = w2c_l3;
         w2c_i0 = (u32)(w2c_j0);
         w2c_j0 = i64_load(&instance->w2c_memory, (u64)(w2c_i0));
-        w2c_l6 = w2c_j0;
+        w2c_l8 = w2c_j0;
         w2c_j0 = w2c_l4;
         w2c_i0 = (u32)(w2c_j0);
         w2c_j1 = 4ull;
-        i64_store(&instance->w2c_memory, (u64)(w2c_i0) + 424, w2c_j1);
+        i64_store(&instance->w2c_memory, (u64)(w2c_i0) + 504, w2c_j1);
         w2c_j0 = w2c_l4;
         w2c_i0 = (u32)(w2c_j0);
         w2c_j1 = 1059624ull;
-        i64_store(&instance->w2c_memory, (u64)(w2c_i0) + 416, w2c_j1);
+        i64_store(&instance->w2c_memory, (u64)(w2c_i0) + 496, w2c_j1);
+        w2c_j0 = w2c_l4;
+        w2c_i0 = (u32)(w2c_j0);
+        w2c_j1 = w2c_l8;
+        i64_store(&instance->w2c_memory, (u64)(w2c_i0) + 744, w2c_j1);
         w2c_j0 = w2c_l4;
         w2c_i0 = (u32)(w2c_j0);
         w2c_j1 = w2c_l6;
-        i64_store(&instance->w2c_memory, (u64)(w2c_i0) + 664, w2c_j1);
+        i64_store(&instance->w2c_memory, (u64)(w2c_i0) + 736, w2c_j1);
         w2c_j0 = w2c_l4;
-        w2c_i0 = (u32)(w2c_j0);
-        w2c_j1 = w2c_l7;
-        i64_store(&instance->w2c_memory, (u64)(w2c_i0) + 656, w2c_j1);
-        w2c_j0 = w2c_l4;
-        w2c_j1 = 416ull;
+        w2c_j1 = 496ull;
         w2c_j0 += w2c_j1;
         w2c_j1 = w2c_l4;
-        w2c_j2 = 656ull;
+        w2c_j2 = 736ull;
         w2c_j1 += w2c_j2;
         w2c_i0 = w2c_f15(instance, w2c_j0, w2c_j1);
         w2c_i1 = 255u;
@@ -5208,9 +5208,9 @@ static void w2c_f0(Z_dine_ffi_instance_t* instance, u64 w2c_p0, u64 w2c_p1, u64 
       w2c_l3 = w2c_j0;
     }
     w2c_j0 = w2c_l4;
-    w2c_j1 = 920ull;
+    w2c_j1 = 1000ull;
     w2c_j0 += w2c_j1;
-    w2c_j1 = w2c_l9;
+    w2c_j1 = w2c_l11;
     w2c_j2 = 2ull;
     w2c_j1 += w2c_j2;
     w2c_i1 = (u32)(w2c_j1);
@@ -5218,7 +5218,7 @@ static void w2c_f0(Z_dine_ffi_instance_t* instance, u64 w2c_p0, u64 w2c_p1, u64 
     w2c_i1 = !(w2c_i1);
     if (w2c_i1) {goto w2c_B155;}
     w2c_j0 = w2c_l3;
-    w2c_j1 = w2c_l9;
+    w2c_j1 = w2c_l11;
     w2c_j0 += w2c_j1;
     w2c_j1 = 968ull;
     w2c_j0 += w2c_j1;
@@ -5226,7 +5226,7 @@ static void w2c_f0(Z_dine_ffi_instance_t* instance, u64 w2c_p0, u64 w2c_p1, u64 
     goto w2c_L156;
     w2c_B157:;
   w2c_j0 = w2c_l4;
-  w2c_j1 = 920ull;
+  w2c_j1 = 1000ull;
   w2c_j0 += w2c_j1;
   w2c_j1 = w2c_l5;
   w2c_j2 = 16ull;
@@ -5239,15 +5239,15 @@ static void w2c_f0(Z_dine_ffi_instance_t* instance, u64 w2c_p0, u64 w2c_p1, u64 
   w2c_j0 = w2c_l5;
   w2c_i0 = (u32)(w2c_j0);
   w2c_j0 = i64_load(&instance->w2c_memory, (u64)(w2c_i0));
-  w2c_l15 = w2c_j0;
+  w2c_l21 = w2c_j0;
   w2c_j0 = w2c_l5;
   w2c_j1 = 8ull;
   w2c_j0 -= w2c_j1;
   w2c_i0 = (u32)(w2c_j0);
   w2c_j0 = i64_load(&instance->w2c_memory, (u64)(w2c_i0));
   w2c_B155:;
-  w2c_l18 = w2c_j0;
-  w2c_j0 = w2c_l11;
+  w2c_l20 = w2c_j0;
+  w2c_j0 = w2c_l12;
   w2c_p1 = w2c_j0;
   w2c_L163: 
     w2c_j0 = 0ull;
@@ -5255,18 +5255,18 @@ static void w2c_f0(Z_dine_ffi_instance_t* instance, u64 w2c_p0, u64 w2c_p1, u64 
     w2c_j0 = w2c_p1;
     w2c_i0 = (u32)(w2c_j0);
     w2c_j0 = i64_load(&instance->w2c_memory, (u64)(w2c_i0));
-    w2c_l9 = w2c_j0;
+    w2c_l11 = w2c_j0;
     w2c_i0 = (u32)(w2c_j0);
     w2c_j0 = i64_load16_u(&instance->w2c_memory, (u64)(w2c_i0));
     w2c_p2 = w2c_j0;
     w2c_i0 = !(w2c_j0);
     w2c_i0 = !(w2c_i0);
     if (w2c_i0) {
-      w2c_j0 = w2c_l9;
+      w2c_j0 = w2c_l11;
       w2c_j1 = 16ull;
       w2c_j0 += w2c_j1;
       w2c_l3 = w2c_j0;
-      w2c_j0 = w2c_l9;
+      w2c_j0 = w2c_l11;
       w2c_j1 = 384ull;
       w2c_j0 += w2c_j1;
       w2c_l5 = w2c_j0;
@@ -5278,32 +5278,32 @@ static void w2c_f0(Z_dine_ffi_instance_t* instance, u64 w2c_p0, u64 w2c_p1, u64 
         w2c_j0 -= w2c_j1;
         w2c_i0 = (u32)(w2c_j0);
         w2c_j0 = i64_load(&instance->w2c_memory, (u64)(w2c_i0));
-        w2c_l7 = w2c_j0;
+        w2c_l6 = w2c_j0;
         w2c_j0 = w2c_l3;
         w2c_i0 = (u32)(w2c_j0);
         w2c_j0 = i64_load(&instance->w2c_memory, (u64)(w2c_i0));
-        w2c_l6 = w2c_j0;
+        w2c_l8 = w2c_j0;
         w2c_j0 = w2c_l4;
         w2c_i0 = (u32)(w2c_j0);
         w2c_j1 = 4ull;
-        i64_store(&instance->w2c_memory, (u64)(w2c_i0) + 424, w2c_j1);
+        i64_store(&instance->w2c_memory, (u64)(w2c_i0) + 504, w2c_j1);
         w2c_j0 = w2c_l4;
         w2c_i0 = (u32)(w2c_j0);
         w2c_j1 = 1059628ull;
-        i64_store(&instance->w2c_memory, (u64)(w2c_i0) + 416, w2c_j1);
+        i64_store(&instance->w2c_memory, (u64)(w2c_i0) + 496, w2c_j1);
+        w2c_j0 = w2c_l4;
+        w2c_i0 = (u32)(w2c_j0);
+        w2c_j1 = w2c_l8;
+        i64_store(&instance->w2c_memory, (u64)(w2c_i0) + 744, w2c_j1);
         w2c_j0 = w2c_l4;
         w2c_i0 = (u32)(w2c_j0);
         w2c_j1 = w2c_l6;
-        i64_store(&instance->w2c_memory, (u64)(w2c_i0) + 664, w2c_j1);
+        i64_store(&instance->w2c_memory, (u64)(w2c_i0) + 736, w2c_j1);
         w2c_j0 = w2c_l4;
-        w2c_i0 = (u32)(w2c_j0);
-        w2c_j1 = w2c_l7;
-        i64_store(&instance->w2c_memory, (u64)(w2c_i0) + 656, w2c_j1);
-        w2c_j0 = w2c_l4;
-        w2c_j1 = 416ull;
+        w2c_j1 = 496ull;
         w2c_j0 += w2c_j1;
         w2c_j1 = w2c_l4;
-        w2c_j2 = 656ull;
+        w2c_j2 = 736ull;
         w2c_j1 += w2c_j2;
         w2c_i0 = w2c_f15(instance, w2c_j0, w2c_j1);
         w2c_i1 = 255u;
@@ -5342,9 +5342,9 @@ static void w2c_f0(Z_dine_ffi_instance_t* instance, u64 w2c_p0, u64 w2c_p1, u64 
       w2c_l3 = w2c_j0;
     }
     w2c_j0 = w2c_l4;
-    w2c_j1 = 920ull;
+    w2c_j1 = 1000ull;
     w2c_j0 += w2c_j1;
-    w2c_j1 = w2c_l9;
+    w2c_j1 = w2c_l11;
     w2c_j2 = 2ull;
     w2c_j1 += w2c_j2;
     w2c_i1 = (u32)(w2c_j1);
@@ -5352,7 +5352,7 @@ static void w2c_f0(Z_dine_ffi_instance_t* instance, u64 w2c_p0, u64 w2c_p1, u64 
     w2c_i1 = !(w2c_i1);
     if (w2c_i1) {goto w2c_B162;}
     w2c_j0 = w2c_l3;
-    w2c_j1 = w2c_l9;
+    w2c_j1 = w2c_l11;
     w2c_j0 += w2c_j1;
     w2c_j1 = 968ull;
     w2c_j0 += w2c_j1;
@@ -5360,7 +5360,7 @@ static void w2c_f0(Z_dine_ffi_instance_t* instance, u64 w2c_p0, u64 w2c_p1, u64 
     goto w2c_L163;
     w2c_B164:;
   w2c_j0 = w2c_l4;
-  w2c_j1 = 920ull;
+  w2c_j1 = 1000ull;
   w2c_j0 += w2c_j1;
   w2c_j1 = w2c_l5;
   w2c_j2 = 16ull;
@@ -5373,31 +5373,31 @@ static void w2c_f0(Z_dine_ffi_instance_t* instance, u64 w2c_p0, u64 w2c_p1, u64 
   w2c_j0 = w2c_l5;
   w2c_i0 = (u32)(w2c_j0);
   w2c_j0 = i64_load(&instance->w2c_memory, (u64)(w2c_i0));
-  w2c_l10 = w2c_j0;
+  w2c_l9 = w2c_j0;
   w2c_j0 = w2c_l5;
   w2c_j1 = 8ull;
   w2c_j0 -= w2c_j1;
   w2c_i0 = (u32)(w2c_j0);
   w2c_j0 = i64_load(&instance->w2c_memory, (u64)(w2c_i0));
   w2c_B162:;
-  w2c_l19 = w2c_j0;
+  w2c_l15 = w2c_j0;
   w2c_i0 = 2u;
   w2c_l38 = w2c_i0;
-  w2c_j0 = w2c_l13;
+  w2c_j0 = w2c_l10;
   w2c_j1 = 1059640ull;
   w2c_j2 = 3ull;
   w2c_i0 = w2c_f44(instance, w2c_j0, w2c_j1, w2c_j2);
   if (w2c_i0) {goto w2c_B140;}
-  w2c_j0 = w2c_l15;
+  w2c_j0 = w2c_l21;
   w2c_i0 = !(w2c_j0);
   w2c_i0 = !(w2c_i0);
   if (w2c_i0) {
     w2c_L171: 
       w2c_j0 = w2c_l4;
-      w2c_j1 = 920ull;
+      w2c_j1 = 1000ull;
       w2c_j0 += w2c_j1;
       w2c_l3 = w2c_j0;
-      w2c_j0 = w2c_l18;
+      w2c_j0 = w2c_l20;
       w2c_i0 = (u32)(w2c_j0);
       w2c_i0 = i32_load8_u(&instance->w2c_memory, (u64)(w2c_i0));
       w2c_i1 = 6u;
@@ -5407,7 +5407,7 @@ static void w2c_f0(Z_dine_ffi_instance_t* instance, u64 w2c_p0, u64 w2c_p1, u64 
         w2c_l5 = w2c_j0;
         goto w2c_B172;
       }
-      w2c_j0 = w2c_l18;
+      w2c_j0 = w2c_l20;
       w2c_j1 = 8ull;
       w2c_j0 += w2c_j1;
       w2c_i0 = (u32)(w2c_j0);
@@ -5419,35 +5419,35 @@ static void w2c_f0(Z_dine_ffi_instance_t* instance, u64 w2c_p0, u64 w2c_p1, u64 
         w2c_l5 = w2c_j0;
         goto w2c_B172;
       }
-      w2c_j0 = w2c_l18;
+      w2c_j0 = w2c_l20;
       w2c_j1 = 16ull;
       w2c_j0 += w2c_j1;
-      w2c_l7 = w2c_j0;
+      w2c_l6 = w2c_j0;
       w2c_L175: 
         w2c_j0 = 0ull;
         w2c_l5 = w2c_j0;
         w2c_j0 = 0ull;
         w2c_p1 = w2c_j0;
-        w2c_j0 = w2c_l7;
+        w2c_j0 = w2c_l6;
         w2c_i0 = (u32)(w2c_j0);
         w2c_j0 = i64_load(&instance->w2c_memory, (u64)(w2c_i0));
-        w2c_l17 = w2c_j0;
+        w2c_l22 = w2c_j0;
         w2c_i0 = (u32)(w2c_j0);
         w2c_j0 = i64_load16_u(&instance->w2c_memory, (u64)(w2c_i0));
-        w2c_l12 = w2c_j0;
+        w2c_l13 = w2c_j0;
         w2c_i0 = !(w2c_j0);
         w2c_i0 = !(w2c_i0);
         if (w2c_i0) {
-          w2c_j0 = w2c_l17;
+          w2c_j0 = w2c_l22;
           w2c_j1 = 16ull;
           w2c_j0 += w2c_j1;
           w2c_p1 = w2c_j0;
-          w2c_j0 = w2c_l17;
+          w2c_j0 = w2c_l22;
           w2c_j1 = 384ull;
           w2c_j0 += w2c_j1;
-          w2c_l6 = w2c_j0;
+          w2c_l8 = w2c_j0;
           w2c_j0 = 0ull;
-          w2c_l7 = w2c_j0;
+          w2c_l6 = w2c_j0;
           w2c_L179: 
             w2c_j0 = w2c_p1;
             w2c_j1 = 8ull;
@@ -5458,28 +5458,28 @@ static void w2c_f0(Z_dine_ffi_instance_t* instance, u64 w2c_p0, u64 w2c_p1, u64 
             w2c_j0 = w2c_p1;
             w2c_i0 = (u32)(w2c_j0);
             w2c_j0 = i64_load(&instance->w2c_memory, (u64)(w2c_i0));
-            w2c_l9 = w2c_j0;
+            w2c_l11 = w2c_j0;
             w2c_j0 = w2c_l4;
             w2c_i0 = (u32)(w2c_j0);
             w2c_j1 = 4ull;
-            i64_store(&instance->w2c_memory, (u64)(w2c_i0) + 424, w2c_j1);
+            i64_store(&instance->w2c_memory, (u64)(w2c_i0) + 504, w2c_j1);
             w2c_j0 = w2c_l4;
             w2c_i0 = (u32)(w2c_j0);
             w2c_j1 = 1059704ull;
-            i64_store(&instance->w2c_memory, (u64)(w2c_i0) + 416, w2c_j1);
+            i64_store(&instance->w2c_memory, (u64)(w2c_i0) + 496, w2c_j1);
             w2c_j0 = w2c_l4;
             w2c_i0 = (u32)(w2c_j0);
-            w2c_j1 = w2c_l9;
-            i64_store(&instance->w2c_memory, (u64)(w2c_i0) + 664, w2c_j1);
+            w2c_j1 = w2c_l11;
+            i64_store(&instance->w2c_memory, (u64)(w2c_i0) + 744, w2c_j1);
             w2c_j0 = w2c_l4;
             w2c_i0 = (u32)(w2c_j0);
             w2c_j1 = w2c_p2;
-            i64_store(&instance->w2c_memory, (u64)(w2c_i0) + 656, w2c_j1);
+            i64_store(&instance->w2c_memory, (u64)(w2c_i0) + 736, w2c_j1);
             w2c_j0 = w2c_l4;
-            w2c_j1 = 416ull;
+            w2c_j1 = 496ull;
             w2c_j0 += w2c_j1;
             w2c_j1 = w2c_l4;
-            w2c_j2 = 656ull;
+            w2c_j2 = 736ull;
             w2c_j1 += w2c_j2;
             w2c_i0 = w2c_f15(instance, w2c_j0, w2c_j1);
             w2c_i1 = 255u;
@@ -5498,26 +5498,26 @@ static void w2c_f0(Z_dine_ffi_instance_t* instance, u64 w2c_p0, u64 w2c_p1, u64 
             w2c_j1 = 24ull;
             w2c_j0 += w2c_j1;
             w2c_p1 = w2c_j0;
-            w2c_j0 = w2c_l6;
+            w2c_j0 = w2c_l8;
             w2c_j1 = 40ull;
             w2c_j0 += w2c_j1;
-            w2c_l6 = w2c_j0;
-            w2c_j0 = w2c_l12;
-            w2c_j1 = w2c_l7;
+            w2c_l8 = w2c_j0;
+            w2c_j0 = w2c_l13;
+            w2c_j1 = w2c_l6;
             w2c_j2 = 1ull;
             w2c_j1 += w2c_j2;
-            w2c_l7 = w2c_j1;
+            w2c_l6 = w2c_j1;
             w2c_i0 = w2c_j0 != w2c_j1;
             if (w2c_i0) {goto w2c_L179;}
-          w2c_j0 = w2c_l12;
-          w2c_l7 = w2c_j0;
+          w2c_j0 = w2c_l13;
+          w2c_l6 = w2c_j0;
           w2c_B178:;
-          w2c_j0 = w2c_l7;
+          w2c_j0 = w2c_l6;
           w2c_j1 = 3ull;
           w2c_j0 <<= (w2c_j1 & 63);
           w2c_p1 = w2c_j0;
         }
-        w2c_j0 = w2c_l17;
+        w2c_j0 = w2c_l22;
         w2c_j1 = 2ull;
         w2c_j0 += w2c_j1;
         w2c_i0 = (u32)(w2c_j0);
@@ -5525,14 +5525,14 @@ static void w2c_f0(Z_dine_ffi_instance_t* instance, u64 w2c_p0, u64 w2c_p1, u64 
         w2c_i0 = !(w2c_i0);
         if (w2c_i0) {goto w2c_B172;}
         w2c_j0 = w2c_p1;
-        w2c_j1 = w2c_l17;
+        w2c_j1 = w2c_l22;
         w2c_j0 += w2c_j1;
         w2c_j1 = 968ull;
         w2c_j0 += w2c_j1;
-        w2c_l7 = w2c_j0;
+        w2c_l6 = w2c_j0;
         goto w2c_L175;
         w2c_B176:;
-      w2c_j0 = w2c_l6;
+      w2c_j0 = w2c_l8;
       w2c_j1 = 16ull;
       w2c_j0 -= w2c_j1;
       w2c_i0 = (u32)(w2c_j0);
@@ -5540,20 +5540,20 @@ static void w2c_f0(Z_dine_ffi_instance_t* instance, u64 w2c_p0, u64 w2c_p1, u64 
       w2c_i1 = 5u;
       w2c_i0 = w2c_i0 != w2c_i1;
       if (w2c_i0) {goto w2c_B172;}
-      w2c_j0 = w2c_l6;
+      w2c_j0 = w2c_l8;
       w2c_j1 = 8ull;
       w2c_j0 -= w2c_j1;
       w2c_i0 = (u32)(w2c_j0);
       w2c_j0 = i64_load(&instance->w2c_memory, (u64)(w2c_i0));
       w2c_l3 = w2c_j0;
-      w2c_j0 = w2c_l6;
+      w2c_j0 = w2c_l8;
       w2c_i0 = (u32)(w2c_j0);
       w2c_j0 = i64_load(&instance->w2c_memory, (u64)(w2c_i0));
       w2c_l5 = w2c_j0;
       w2c_B172:;
       w2c_i0 = w2c_l39;
       if (w2c_i0) {
-        w2c_j0 = w2c_l18;
+        w2c_j0 = w2c_l20;
         w2c_j1 = 1059712ull;
         w2c_j2 = 3ull;
         w2c_i0 = w2c_f44(instance, w2c_j0, w2c_j1, w2c_j2);
@@ -5561,7 +5561,7 @@ static void w2c_f0(Z_dine_ffi_instance_t* instance, u64 w2c_p0, u64 w2c_p1, u64 
         if (w2c_i0) {goto w2c_B181;}
         goto w2c_B169;
       }
-      w2c_j0 = w2c_l18;
+      w2c_j0 = w2c_l20;
       w2c_j1 = 1059776ull;
       w2c_j2 = 2ull;
       w2c_i0 = w2c_f44(instance, w2c_j0, w2c_j1, w2c_j2);
@@ -5599,84 +5599,76 @@ static void w2c_f0(Z_dine_ffi_instance_t* instance, u64 w2c_p0, u64 w2c_p1, u64 
           w2c_i0 = w2c_j0 != w2c_j1;
           if (w2c_i0) {goto w2c_L184;}
       }
-      w2c_j0 = w2c_l18;
+      w2c_j0 = w2c_l20;
       w2c_j1 = 40ull;
       w2c_j0 += w2c_j1;
-      w2c_l18 = w2c_j0;
-      w2c_j0 = w2c_l15;
+      w2c_l20 = w2c_j0;
+      w2c_j0 = w2c_l21;
       w2c_j1 = 1ull;
       w2c_j0 -= w2c_j1;
-      w2c_l15 = w2c_j0;
+      w2c_l21 = w2c_j0;
       w2c_j1 = 0ull;
       w2c_i0 = w2c_j0 != w2c_j1;
       if (w2c_i0) {goto w2c_L171;}
   }
-  w2c_j0 = w2c_l10;
+  w2c_j0 = w2c_l9;
   w2c_i0 = !(w2c_j0);
   w2c_i0 = !(w2c_i0);
   if (w2c_i0) {
     w2c_L188: 
       w2c_i0 = w2c_l39;
       if (w2c_i0) {
-        w2c_j0 = w2c_l19;
+        w2c_j0 = w2c_l15;
         w2c_j1 = 1059984ull;
         w2c_j2 = 2ull;
         w2c_i0 = w2c_f44(instance, w2c_j0, w2c_j1, w2c_j2);
         if (w2c_i0) {goto w2c_B140;}
         goto w2c_B189;
       }
-      w2c_j0 = w2c_l19;
+      w2c_j0 = w2c_l15;
       w2c_j1 = 1060032ull;
       w2c_j2 = 1ull;
       w2c_i0 = w2c_f44(instance, w2c_j0, w2c_j1, w2c_j2);
       if (w2c_i0) {goto w2c_B140;}
       w2c_B189:;
-      w2c_j0 = w2c_l19;
+      w2c_j0 = w2c_l15;
       w2c_j1 = 40ull;
       w2c_j0 += w2c_j1;
-      w2c_l19 = w2c_j0;
-      w2c_j0 = w2c_l10;
+      w2c_l15 = w2c_j0;
+      w2c_j0 = w2c_l9;
       w2c_j1 = 1ull;
       w2c_j0 -= w2c_j1;
-      w2c_l10 = w2c_j0;
+      w2c_l9 = w2c_j0;
       w2c_j1 = 0ull;
       w2c_i0 = w2c_j0 != w2c_j1;
       if (w2c_i0) {goto w2c_L188;}
   }
+  w2c_j0 = 0ull;
+  w2c_l13 = w2c_j0;
   w2c_j0 = w2c_l4;
-  w2c_j1 = 920ull;
+  w2c_j1 = 1000ull;
   w2c_j0 += w2c_j1;
-  w2c_l10 = w2c_j0;
-  w2c_j0 = w2c_l13;
+  w2c_l11 = w2c_j0;
+  w2c_j0 = w2c_l10;
   w2c_i0 = (u32)(w2c_j0);
   w2c_i0 = i32_load8_u(&instance->w2c_memory, (u64)(w2c_i0));
+  w2c_l39 = w2c_i0;
   w2c_i1 = 6u;
   w2c_i0 = w2c_i0 != w2c_i1;
-  if (w2c_i0) {
-    w2c_j0 = 0ull;
-    w2c_l17 = w2c_j0;
-    w2c_j0 = w2c_l10;
-    goto w2c_B191;
-  }
-  w2c_j0 = 0ull;
-  w2c_l17 = w2c_j0;
-  w2c_j0 = w2c_l4;
-  w2c_j1 = 920ull;
+  if (w2c_i0) {goto w2c_B191;}
+  w2c_j0 = w2c_l10;
+  w2c_j1 = 8ull;
   w2c_j0 += w2c_j1;
-  w2c_l10 = w2c_j0;
-  w2c_j1 = w2c_l13;
-  w2c_j2 = 8ull;
-  w2c_j1 += w2c_j2;
-  w2c_i1 = (u32)(w2c_j1);
-  w2c_i1 = i32_load8_u(&instance->w2c_memory, (u64)(w2c_i1));
-  w2c_i2 = 1u;
-  w2c_i1 = w2c_i1 != w2c_i2;
-  if (w2c_i1) {goto w2c_B191;}
-  w2c_j0 = w2c_l11;
+  w2c_i0 = (u32)(w2c_j0);
+  w2c_i0 = i32_load8_u(&instance->w2c_memory, (u64)(w2c_i0));
+  w2c_i1 = 1u;
+  w2c_i0 = w2c_i0 != w2c_i1;
+  if (w2c_i0) {goto w2c_B191;}
+  w2c_j0 = w2c_l12;
   w2c_p1 = w2c_j0;
-  w2c_L194: 
+  w2c_L193: 
     w2c_j0 = 0ull;
-    w2c_l15 = w2c_j0;
+    w2c_l20 = w2c_j0;
     w2c_j0 = 0ull;
     w2c_l3 = w2c_j0;
     w2c_j0 = w2c_p1;
@@ -5699,38 +5691,38 @@ static void w2c_f0(Z_dine_ffi_instance_t* instance, u64 w2c_p0, u64 w2c_p1, u64 
       w2c_l5 = w2c_j0;
       w2c_j0 = 0ull;
       w2c_p1 = w2c_j0;
-      w2c_L198: 
+      w2c_L197: 
         w2c_j0 = w2c_l3;
         w2c_j1 = 8ull;
         w2c_j0 -= w2c_j1;
         w2c_i0 = (u32)(w2c_j0);
         w2c_j0 = i64_load(&instance->w2c_memory, (u64)(w2c_i0));
-        w2c_l7 = w2c_j0;
+        w2c_l6 = w2c_j0;
         w2c_j0 = w2c_l3;
         w2c_i0 = (u32)(w2c_j0);
         w2c_j0 = i64_load(&instance->w2c_memory, (u64)(w2c_i0));
-        w2c_l6 = w2c_j0;
+        w2c_l8 = w2c_j0;
         w2c_j0 = w2c_l4;
         w2c_i0 = (u32)(w2c_j0);
         w2c_j1 = 4ull;
-        i64_store(&instance->w2c_memory, (u64)(w2c_i0) + 424, w2c_j1);
+        i64_store(&instance->w2c_memory, (u64)(w2c_i0) + 504, w2c_j1);
         w2c_j0 = w2c_l4;
         w2c_i0 = (u32)(w2c_j0);
         w2c_j1 = 1059624ull;
-        i64_store(&instance->w2c_memory, (u64)(w2c_i0) + 416, w2c_j1);
+        i64_store(&instance->w2c_memory, (u64)(w2c_i0) + 496, w2c_j1);
+        w2c_j0 = w2c_l4;
+        w2c_i0 = (u32)(w2c_j0);
+        w2c_j1 = w2c_l8;
+        i64_store(&instance->w2c_memory, (u64)(w2c_i0) + 744, w2c_j1);
         w2c_j0 = w2c_l4;
         w2c_i0 = (u32)(w2c_j0);
         w2c_j1 = w2c_l6;
-        i64_store(&instance->w2c_memory, (u64)(w2c_i0) + 664, w2c_j1);
+        i64_store(&instance->w2c_memory, (u64)(w2c_i0) + 736, w2c_j1);
         w2c_j0 = w2c_l4;
-        w2c_i0 = (u32)(w2c_j0);
-        w2c_j1 = w2c_l7;
-        i64_store(&instance->w2c_memory, (u64)(w2c_i0) + 656, w2c_j1);
-        w2c_j0 = w2c_l4;
-        w2c_j1 = 416ull;
+        w2c_j1 = 496ull;
         w2c_j0 += w2c_j1;
         w2c_j1 = w2c_l4;
-        w2c_j2 = 656ull;
+        w2c_j2 = 736ull;
         w2c_j1 += w2c_j2;
         w2c_i0 = w2c_f15(instance, w2c_j0, w2c_j1);
         w2c_i1 = 255u;
@@ -5742,8 +5734,8 @@ static void w2c_f0(Z_dine_ffi_instance_t* instance, u64 w2c_p0, u64 w2c_p1, u64 
           w2c_i0 = w2c_l37;
           w2c_i1 = 1u;
           w2c_i0 -= w2c_i1;
-          if (w2c_i0) {goto w2c_B197;}
-          goto w2c_B195;
+          if (w2c_i0) {goto w2c_B196;}
+          goto w2c_B194;
         }
         w2c_j0 = w2c_l3;
         w2c_j1 = 24ull;
@@ -5759,17 +5751,17 @@ static void w2c_f0(Z_dine_ffi_instance_t* instance, u64 w2c_p0, u64 w2c_p1, u64 
         w2c_j1 += w2c_j2;
         w2c_p1 = w2c_j1;
         w2c_i0 = w2c_j0 != w2c_j1;
-        if (w2c_i0) {goto w2c_L198;}
+        if (w2c_i0) {goto w2c_L197;}
       w2c_j0 = w2c_p2;
       w2c_p1 = w2c_j0;
-      w2c_B197:;
+      w2c_B196:;
       w2c_j0 = w2c_p1;
       w2c_j1 = 3ull;
       w2c_j0 <<= (w2c_j1 & 63);
       w2c_l3 = w2c_j0;
     }
     w2c_j0 = w2c_l4;
-    w2c_j1 = 920ull;
+    w2c_j1 = 1000ull;
     w2c_j0 += w2c_j1;
     w2c_j1 = w2c_l9;
     w2c_j2 = 2ull;
@@ -5777,17 +5769,17 @@ static void w2c_f0(Z_dine_ffi_instance_t* instance, u64 w2c_p0, u64 w2c_p1, u64 
     w2c_i1 = (u32)(w2c_j1);
     w2c_i1 = i32_load16_u(&instance->w2c_memory, (u64)(w2c_i1));
     w2c_i1 = !(w2c_i1);
-    if (w2c_i1) {goto w2c_B193;}
+    if (w2c_i1) {goto w2c_B192;}
     w2c_j0 = w2c_l3;
     w2c_j1 = w2c_l9;
     w2c_j0 += w2c_j1;
     w2c_j1 = 968ull;
     w2c_j0 += w2c_j1;
     w2c_p1 = w2c_j0;
-    goto w2c_L194;
-    w2c_B195:;
+    goto w2c_L193;
+    w2c_B194:;
   w2c_j0 = w2c_l4;
-  w2c_j1 = 920ull;
+  w2c_j1 = 1000ull;
   w2c_j0 += w2c_j1;
   w2c_j1 = w2c_l5;
   w2c_j2 = 16ull;
@@ -5796,23 +5788,23 @@ static void w2c_f0(Z_dine_ffi_instance_t* instance, u64 w2c_p0, u64 w2c_p1, u64 
   w2c_i1 = i32_load8_u(&instance->w2c_memory, (u64)(w2c_i1));
   w2c_i2 = 5u;
   w2c_i1 = w2c_i1 != w2c_i2;
-  if (w2c_i1) {goto w2c_B193;}
+  if (w2c_i1) {goto w2c_B192;}
   w2c_j0 = w2c_l5;
   w2c_i0 = (u32)(w2c_j0);
   w2c_j0 = i64_load(&instance->w2c_memory, (u64)(w2c_i0));
-  w2c_l15 = w2c_j0;
+  w2c_l20 = w2c_j0;
   w2c_j0 = w2c_l5;
   w2c_j1 = 8ull;
   w2c_j0 -= w2c_j1;
   w2c_i0 = (u32)(w2c_j0);
   w2c_j0 = i64_load(&instance->w2c_memory, (u64)(w2c_i0));
-  w2c_B193:;
+  w2c_B192:;
   w2c_l17 = w2c_j0;
-  w2c_j0 = w2c_l11;
+  w2c_j0 = w2c_l12;
   w2c_p1 = w2c_j0;
-  w2c_L201: 
+  w2c_L200: 
     w2c_j0 = 0ull;
-    w2c_l19 = w2c_j0;
+    w2c_l21 = w2c_j0;
     w2c_j0 = 0ull;
     w2c_l3 = w2c_j0;
     w2c_j0 = w2c_p1;
@@ -5835,38 +5827,38 @@ static void w2c_f0(Z_dine_ffi_instance_t* instance, u64 w2c_p0, u64 w2c_p1, u64 
       w2c_l5 = w2c_j0;
       w2c_j0 = 0ull;
       w2c_p1 = w2c_j0;
-      w2c_L205: 
+      w2c_L204: 
         w2c_j0 = w2c_l3;
         w2c_j1 = 8ull;
         w2c_j0 -= w2c_j1;
         w2c_i0 = (u32)(w2c_j0);
         w2c_j0 = i64_load(&instance->w2c_memory, (u64)(w2c_i0));
-        w2c_l7 = w2c_j0;
+        w2c_l6 = w2c_j0;
         w2c_j0 = w2c_l3;
         w2c_i0 = (u32)(w2c_j0);
         w2c_j0 = i64_load(&instance->w2c_memory, (u64)(w2c_i0));
-        w2c_l6 = w2c_j0;
+        w2c_l8 = w2c_j0;
         w2c_j0 = w2c_l4;
         w2c_i0 = (u32)(w2c_j0);
         w2c_j1 = 4ull;
-        i64_store(&instance->w2c_memory, (u64)(w2c_i0) + 424, w2c_j1);
+        i64_store(&instance->w2c_memory, (u64)(w2c_i0) + 504, w2c_j1);
         w2c_j0 = w2c_l4;
         w2c_i0 = (u32)(w2c_j0);
         w2c_j1 = 1059628ull;
-        i64_store(&instance->w2c_memory, (u64)(w2c_i0) + 416, w2c_j1);
+        i64_store(&instance->w2c_memory, (u64)(w2c_i0) + 496, w2c_j1);
+        w2c_j0 = w2c_l4;
+        w2c_i0 = (u32)(w2c_j0);
+        w2c_j1 = w2c_l8;
+        i64_store(&instance->w2c_memory, (u64)(w2c_i0) + 744, w2c_j1);
         w2c_j0 = w2c_l4;
         w2c_i0 = (u32)(w2c_j0);
         w2c_j1 = w2c_l6;
-        i64_store(&instance->w2c_memory, (u64)(w2c_i0) + 664, w2c_j1);
+        i64_store(&instance->w2c_memory, (u64)(w2c_i0) + 736, w2c_j1);
         w2c_j0 = w2c_l4;
-        w2c_i0 = (u32)(w2c_j0);
-        w2c_j1 = w2c_l7;
-        i64_store(&instance->w2c_memory, (u64)(w2c_i0) + 656, w2c_j1);
-        w2c_j0 = w2c_l4;
-        w2c_j1 = 416ull;
+        w2c_j1 = 496ull;
         w2c_j0 += w2c_j1;
         w2c_j1 = w2c_l4;
-        w2c_j2 = 656ull;
+        w2c_j2 = 736ull;
         w2c_j1 += w2c_j2;
         w2c_i0 = w2c_f15(instance, w2c_j0, w2c_j1);
         w2c_i1 = 255u;
@@ -5878,8 +5870,8 @@ static void w2c_f0(Z_dine_ffi_instance_t* instance, u64 w2c_p0, u64 w2c_p1, u64 
           w2c_i0 = w2c_l37;
           w2c_i1 = 1u;
           w2c_i0 -= w2c_i1;
-          if (w2c_i0) {goto w2c_B204;}
-          goto w2c_B202;
+          if (w2c_i0) {goto w2c_B203;}
+          goto w2c_B201;
         }
         w2c_j0 = w2c_l3;
         w2c_j1 = 24ull;
@@ -5895,17 +5887,17 @@ static void w2c_f0(Z_dine_ffi_instance_t* instance, u64 w2c_p0, u64 w2c_p1, u64 
         w2c_j1 += w2c_j2;
         w2c_p1 = w2c_j1;
         w2c_i0 = w2c_j0 != w2c_j1;
-        if (w2c_i0) {goto w2c_L205;}
+        if (w2c_i0) {goto w2c_L204;}
       w2c_j0 = w2c_p2;
       w2c_p1 = w2c_j0;
-      w2c_B204:;
+      w2c_B203:;
       w2c_j0 = w2c_p1;
       w2c_j1 = 3ull;
       w2c_j0 <<= (w2c_j1 & 63);
       w2c_l3 = w2c_j0;
     }
     w2c_j0 = w2c_l4;
-    w2c_j1 = 920ull;
+    w2c_j1 = 1000ull;
     w2c_j0 += w2c_j1;
     w2c_j1 = w2c_l9;
     w2c_j2 = 2ull;
@@ -5913,17 +5905,17 @@ static void w2c_f0(Z_dine_ffi_instance_t* instance, u64 w2c_p0, u64 w2c_p1, u64 
     w2c_i1 = (u32)(w2c_j1);
     w2c_i1 = i32_load16_u(&instance->w2c_memory, (u64)(w2c_i1));
     w2c_i1 = !(w2c_i1);
-    if (w2c_i1) {goto w2c_B200;}
+    if (w2c_i1) {goto w2c_B199;}
     w2c_j0 = w2c_l3;
     w2c_j1 = w2c_l9;
     w2c_j0 += w2c_j1;
     w2c_j1 = 968ull;
     w2c_j0 += w2c_j1;
     w2c_p1 = w2c_j0;
-    goto w2c_L201;
-    w2c_B202:;
+    goto w2c_L200;
+    w2c_B201:;
   w2c_j0 = w2c_l4;
-  w2c_j1 = 920ull;
+  w2c_j1 = 1000ull;
   w2c_j0 += w2c_j1;
   w2c_j1 = w2c_l5;
   w2c_j2 = 16ull;
@@ -5932,29 +5924,29 @@ static void w2c_f0(Z_dine_ffi_instance_t* instance, u64 w2c_p0, u64 w2c_p1, u64 
   w2c_i1 = i32_load8_u(&instance->w2c_memory, (u64)(w2c_i1));
   w2c_i2 = 5u;
   w2c_i1 = w2c_i1 != w2c_i2;
-  if (w2c_i1) {goto w2c_B200;}
+  if (w2c_i1) {goto w2c_B199;}
   w2c_j0 = w2c_l5;
   w2c_i0 = (u32)(w2c_j0);
   w2c_j0 = i64_load(&instance->w2c_memory, (u64)(w2c_i0));
-  w2c_l19 = w2c_j0;
+  w2c_l21 = w2c_j0;
   w2c_j0 = w2c_l5;
   w2c_j1 = 8ull;
   w2c_j0 -= w2c_j1;
   w2c_i0 = (u32)(w2c_j0);
   w2c_j0 = i64_load(&instance->w2c_memory, (u64)(w2c_i0));
-  w2c_B200:;
-  w2c_l12 = w2c_j0;
-  w2c_j0 = w2c_l15;
+  w2c_B199:;
+  w2c_l15 = w2c_j0;
+  w2c_j0 = w2c_l20;
   w2c_i0 = !(w2c_j0);
   w2c_i0 = !(w2c_i0);
   if (w2c_i0) {
-    w2c_L208: 
+    w2c_L207: 
       w2c_j0 = w2c_l17;
       w2c_i0 = (u32)(w2c_j0);
       w2c_i0 = i32_load8_u(&instance->w2c_memory, (u64)(w2c_i0));
       w2c_i1 = 6u;
       w2c_i0 = w2c_i0 != w2c_i1;
-      if (w2c_i0) {goto w2c_B209;}
+      if (w2c_i0) {goto w2c_B208;}
       w2c_i0 = 3u;
       w2c_l38 = w2c_i0;
       w2c_j0 = w2c_l17;
@@ -5968,11 +5960,11 @@ static void w2c_f0(Z_dine_ffi_instance_t* instance, u64 w2c_p0, u64 w2c_p1, u64 
       w2c_j0 = w2c_l17;
       w2c_j1 = 16ull;
       w2c_j0 += w2c_j1;
-      w2c_l18 = w2c_j0;
+      w2c_l22 = w2c_j0;
       w2c_p1 = w2c_j0;
-      w2c_L211: 
+      w2c_L210: 
         w2c_j0 = 0ull;
-        w2c_l10 = w2c_j0;
+        w2c_l13 = w2c_j0;
         w2c_j0 = 0ull;
         w2c_l3 = w2c_j0;
         w2c_j0 = w2c_p1;
@@ -5995,38 +5987,38 @@ static void w2c_f0(Z_dine_ffi_instance_t* instance, u64 w2c_p0, u64 w2c_p1, u64 
           w2c_l5 = w2c_j0;
           w2c_j0 = 0ull;
           w2c_p1 = w2c_j0;
-          w2c_L215: 
+          w2c_L214: 
             w2c_j0 = w2c_l3;
             w2c_j1 = 8ull;
             w2c_j0 -= w2c_j1;
             w2c_i0 = (u32)(w2c_j0);
             w2c_j0 = i64_load(&instance->w2c_memory, (u64)(w2c_i0));
-            w2c_l7 = w2c_j0;
+            w2c_l6 = w2c_j0;
             w2c_j0 = w2c_l3;
             w2c_i0 = (u32)(w2c_j0);
             w2c_j0 = i64_load(&instance->w2c_memory, (u64)(w2c_i0));
-            w2c_l6 = w2c_j0;
+            w2c_l8 = w2c_j0;
             w2c_j0 = w2c_l4;
             w2c_i0 = (u32)(w2c_j0);
             w2c_j1 = 4ull;
-            i64_store(&instance->w2c_memory, (u64)(w2c_i0) + 424, w2c_j1);
+            i64_store(&instance->w2c_memory, (u64)(w2c_i0) + 504, w2c_j1);
             w2c_j0 = w2c_l4;
             w2c_i0 = (u32)(w2c_j0);
             w2c_j1 = 1059704ull;
-            i64_store(&instance->w2c_memory, (u64)(w2c_i0) + 416, w2c_j1);
+            i64_store(&instance->w2c_memory, (u64)(w2c_i0) + 496, w2c_j1);
+            w2c_j0 = w2c_l4;
+            w2c_i0 = (u32)(w2c_j0);
+            w2c_j1 = w2c_l8;
+            i64_store(&instance->w2c_memory, (u64)(w2c_i0) + 744, w2c_j1);
             w2c_j0 = w2c_l4;
             w2c_i0 = (u32)(w2c_j0);
             w2c_j1 = w2c_l6;
-            i64_store(&instance->w2c_memory, (u64)(w2c_i0) + 664, w2c_j1);
+            i64_store(&instance->w2c_memory, (u64)(w2c_i0) + 736, w2c_j1);
             w2c_j0 = w2c_l4;
-            w2c_i0 = (u32)(w2c_j0);
-            w2c_j1 = w2c_l7;
-            i64_store(&instance->w2c_memory, (u64)(w2c_i0) + 656, w2c_j1);
-            w2c_j0 = w2c_l4;
-            w2c_j1 = 416ull;
+            w2c_j1 = 496ull;
             w2c_j0 += w2c_j1;
             w2c_j1 = w2c_l4;
-            w2c_j2 = 656ull;
+            w2c_j2 = 736ull;
             w2c_j1 += w2c_j2;
             w2c_i0 = w2c_f15(instance, w2c_j0, w2c_j1);
             w2c_i1 = 255u;
@@ -6038,8 +6030,8 @@ static void w2c_f0(Z_dine_ffi_instance_t* instance, u64 w2c_p0, u64 w2c_p1, u64 
               w2c_i0 = w2c_l37;
               w2c_i1 = 1u;
               w2c_i0 -= w2c_i1;
-              if (w2c_i0) {goto w2c_B214;}
-              goto w2c_B212;
+              if (w2c_i0) {goto w2c_B213;}
+              goto w2c_B211;
             }
             w2c_j0 = w2c_l3;
             w2c_j1 = 24ull;
@@ -6055,17 +6047,17 @@ static void w2c_f0(Z_dine_ffi_instance_t* instance, u64 w2c_p0, u64 w2c_p1, u64 
             w2c_j1 += w2c_j2;
             w2c_p1 = w2c_j1;
             w2c_i0 = w2c_j0 != w2c_j1;
-            if (w2c_i0) {goto w2c_L215;}
+            if (w2c_i0) {goto w2c_L214;}
           w2c_j0 = w2c_p2;
           w2c_p1 = w2c_j0;
-          w2c_B214:;
+          w2c_B213:;
           w2c_j0 = w2c_p1;
           w2c_j1 = 3ull;
           w2c_j0 <<= (w2c_j1 & 63);
           w2c_l3 = w2c_j0;
         }
         w2c_j0 = w2c_l4;
-        w2c_j1 = 920ull;
+        w2c_j1 = 1000ull;
         w2c_j0 += w2c_j1;
         w2c_j1 = w2c_l9;
         w2c_j2 = 2ull;
@@ -6073,17 +6065,17 @@ static void w2c_f0(Z_dine_ffi_instance_t* instance, u64 w2c_p0, u64 w2c_p1, u64 
         w2c_i1 = (u32)(w2c_j1);
         w2c_i1 = i32_load16_u(&instance->w2c_memory, (u64)(w2c_i1));
         w2c_i1 = !(w2c_i1);
-        if (w2c_i1) {goto w2c_B210;}
+        if (w2c_i1) {goto w2c_B209;}
         w2c_j0 = w2c_l3;
         w2c_j1 = w2c_l9;
         w2c_j0 += w2c_j1;
         w2c_j1 = 968ull;
         w2c_j0 += w2c_j1;
         w2c_p1 = w2c_j0;
-        goto w2c_L211;
-        w2c_B212:;
+        goto w2c_L210;
+        w2c_B211:;
       w2c_j0 = w2c_l4;
-      w2c_j1 = 920ull;
+      w2c_j1 = 1000ull;
       w2c_j0 += w2c_j1;
       w2c_j1 = w2c_l5;
       w2c_j2 = 16ull;
@@ -6092,26 +6084,26 @@ static void w2c_f0(Z_dine_ffi_instance_t* instance, u64 w2c_p0, u64 w2c_p1, u64 
       w2c_i1 = i32_load8_u(&instance->w2c_memory, (u64)(w2c_i1));
       w2c_i2 = 5u;
       w2c_i1 = w2c_i1 != w2c_i2;
-      if (w2c_i1) {goto w2c_B210;}
+      if (w2c_i1) {goto w2c_B209;}
       w2c_j0 = w2c_l5;
       w2c_i0 = (u32)(w2c_j0);
       w2c_j0 = i64_load(&instance->w2c_memory, (u64)(w2c_i0));
-      w2c_l10 = w2c_j0;
+      w2c_l13 = w2c_j0;
       w2c_j0 = w2c_l5;
       w2c_j1 = 8ull;
       w2c_j0 -= w2c_j1;
       w2c_i0 = (u32)(w2c_j0);
       w2c_j0 = i64_load(&instance->w2c_memory, (u64)(w2c_i0));
-      w2c_B210:;
+      w2c_B209:;
       w2c_l9 = w2c_j0;
-      w2c_L217: 
-        w2c_j0 = w2c_l18;
+      w2c_L216: 
+        w2c_j0 = w2c_l22;
         w2c_i0 = (u32)(w2c_j0);
         w2c_j0 = i64_load(&instance->w2c_memory, (u64)(w2c_i0));
         w2c_p2 = w2c_j0;
         w2c_i0 = (u32)(w2c_j0);
         w2c_j0 = i64_load16_u(&instance->w2c_memory, (u64)(w2c_i0));
-        w2c_l6 = w2c_j0;
+        w2c_l8 = w2c_j0;
         w2c_i0 = !(w2c_j0);
         if (w2c_i0) {
           w2c_j0 = 0ull;
@@ -6122,7 +6114,7 @@ static void w2c_f0(Z_dine_ffi_instance_t* instance, u64 w2c_p0, u64 w2c_p1, u64 
           w2c_l3 = w2c_j0;
           w2c_j0 = 0ull;
           w2c_p1 = w2c_j0;
-          w2c_L221: 
+          w2c_L220: 
             w2c_j0 = w2c_l3;
             w2c_j1 = 8ull;
             w2c_j0 -= w2c_j1;
@@ -6132,28 +6124,28 @@ static void w2c_f0(Z_dine_ffi_instance_t* instance, u64 w2c_p0, u64 w2c_p1, u64 
             w2c_j0 = w2c_l3;
             w2c_i0 = (u32)(w2c_j0);
             w2c_j0 = i64_load(&instance->w2c_memory, (u64)(w2c_i0));
-            w2c_l7 = w2c_j0;
+            w2c_l6 = w2c_j0;
             w2c_j0 = w2c_l4;
             w2c_i0 = (u32)(w2c_j0);
             w2c_j1 = 4ull;
-            i64_store(&instance->w2c_memory, (u64)(w2c_i0) + 424, w2c_j1);
+            i64_store(&instance->w2c_memory, (u64)(w2c_i0) + 504, w2c_j1);
             w2c_j0 = w2c_l4;
             w2c_i0 = (u32)(w2c_j0);
             w2c_j1 = 1060056ull;
-            i64_store(&instance->w2c_memory, (u64)(w2c_i0) + 416, w2c_j1);
+            i64_store(&instance->w2c_memory, (u64)(w2c_i0) + 496, w2c_j1);
             w2c_j0 = w2c_l4;
             w2c_i0 = (u32)(w2c_j0);
-            w2c_j1 = w2c_l7;
-            i64_store(&instance->w2c_memory, (u64)(w2c_i0) + 664, w2c_j1);
+            w2c_j1 = w2c_l6;
+            i64_store(&instance->w2c_memory, (u64)(w2c_i0) + 744, w2c_j1);
             w2c_j0 = w2c_l4;
             w2c_i0 = (u32)(w2c_j0);
             w2c_j1 = w2c_l5;
-            i64_store(&instance->w2c_memory, (u64)(w2c_i0) + 656, w2c_j1);
+            i64_store(&instance->w2c_memory, (u64)(w2c_i0) + 736, w2c_j1);
             w2c_j0 = w2c_l4;
-            w2c_j1 = 416ull;
+            w2c_j1 = 496ull;
             w2c_j0 += w2c_j1;
             w2c_j1 = w2c_l4;
-            w2c_j2 = 656ull;
+            w2c_j2 = 736ull;
             w2c_j1 += w2c_j2;
             w2c_i0 = w2c_f15(instance, w2c_j0, w2c_j1);
             w2c_i1 = 255u;
@@ -6165,23 +6157,23 @@ static void w2c_f0(Z_dine_ffi_instance_t* instance, u64 w2c_p0, u64 w2c_p1, u64 
               w2c_i0 = w2c_l37;
               w2c_i1 = 1u;
               w2c_i0 -= w2c_i1;
-              if (w2c_i0) {goto w2c_B220;}
-              goto w2c_B218;
+              if (w2c_i0) {goto w2c_B219;}
+              goto w2c_B217;
             }
             w2c_j0 = w2c_l3;
             w2c_j1 = 24ull;
             w2c_j0 += w2c_j1;
             w2c_l3 = w2c_j0;
-            w2c_j0 = w2c_l6;
+            w2c_j0 = w2c_l8;
             w2c_j1 = w2c_p1;
             w2c_j2 = 1ull;
             w2c_j1 += w2c_j2;
             w2c_p1 = w2c_j1;
             w2c_i0 = w2c_j0 != w2c_j1;
-            if (w2c_i0) {goto w2c_L221;}
-          w2c_j0 = w2c_l6;
+            if (w2c_i0) {goto w2c_L220;}
+          w2c_j0 = w2c_l8;
           w2c_p1 = w2c_j0;
-          w2c_B220:;
+          w2c_B219:;
           w2c_j0 = w2c_p1;
           w2c_j1 = 3ull;
           w2c_j0 <<= (w2c_j1 & 63);
@@ -6199,19 +6191,19 @@ static void w2c_f0(Z_dine_ffi_instance_t* instance, u64 w2c_p0, u64 w2c_p1, u64 
         w2c_j0 += w2c_j1;
         w2c_j1 = 968ull;
         w2c_j0 += w2c_j1;
-        w2c_l18 = w2c_j0;
-        goto w2c_L217;
-        w2c_B218:;
-      w2c_j0 = w2c_l10;
+        w2c_l22 = w2c_j0;
+        goto w2c_L216;
+        w2c_B217:;
+      w2c_j0 = w2c_l13;
       w2c_i0 = !(w2c_j0);
-      if (w2c_i0) {goto w2c_B209;}
-      w2c_L223: 
+      if (w2c_i0) {goto w2c_B208;}
+      w2c_L222: 
         w2c_j0 = w2c_l9;
         w2c_i0 = (u32)(w2c_j0);
         w2c_i0 = i32_load8_u(&instance->w2c_memory, (u64)(w2c_i0));
         w2c_i1 = 6u;
         w2c_i0 = w2c_i0 != w2c_i1;
-        if (w2c_i0) {goto w2c_B224;}
+        if (w2c_i0) {goto w2c_B223;}
         w2c_j0 = w2c_l9;
         w2c_j1 = 8ull;
         w2c_j0 += w2c_j1;
@@ -6224,14 +6216,14 @@ static void w2c_f0(Z_dine_ffi_instance_t* instance, u64 w2c_p0, u64 w2c_p1, u64 
         w2c_j1 = 16ull;
         w2c_j0 += w2c_j1;
         w2c_l3 = w2c_j0;
-        w2c_L225: 
+        w2c_L224: 
           w2c_j0 = w2c_l3;
           w2c_i0 = (u32)(w2c_j0);
           w2c_j0 = i64_load(&instance->w2c_memory, (u64)(w2c_i0));
           w2c_p2 = w2c_j0;
           w2c_i0 = (u32)(w2c_j0);
           w2c_j0 = i64_load16_u(&instance->w2c_memory, (u64)(w2c_i0));
-          w2c_l6 = w2c_j0;
+          w2c_l8 = w2c_j0;
           w2c_i0 = !(w2c_j0);
           if (w2c_i0) {
             w2c_j0 = 0ull;
@@ -6242,7 +6234,7 @@ static void w2c_f0(Z_dine_ffi_instance_t* instance, u64 w2c_p0, u64 w2c_p1, u64 
             w2c_l3 = w2c_j0;
             w2c_j0 = 0ull;
             w2c_p1 = w2c_j0;
-            w2c_L228: 
+            w2c_L227: 
               w2c_j0 = w2c_l3;
               w2c_j1 = 8ull;
               w2c_j0 -= w2c_j1;
@@ -6252,28 +6244,28 @@ static void w2c_f0(Z_dine_ffi_instance_t* instance, u64 w2c_p0, u64 w2c_p1, u64 
               w2c_j0 = w2c_l3;
               w2c_i0 = (u32)(w2c_j0);
               w2c_j0 = i64_load(&instance->w2c_memory, (u64)(w2c_i0));
-              w2c_l7 = w2c_j0;
+              w2c_l6 = w2c_j0;
               w2c_j0 = w2c_l4;
               w2c_i0 = (u32)(w2c_j0);
               w2c_j1 = 4ull;
-              i64_store(&instance->w2c_memory, (u64)(w2c_i0) + 424, w2c_j1);
+              i64_store(&instance->w2c_memory, (u64)(w2c_i0) + 504, w2c_j1);
               w2c_j0 = w2c_l4;
               w2c_i0 = (u32)(w2c_j0);
               w2c_j1 = 1060056ull;
-              i64_store(&instance->w2c_memory, (u64)(w2c_i0) + 416, w2c_j1);
+              i64_store(&instance->w2c_memory, (u64)(w2c_i0) + 496, w2c_j1);
               w2c_j0 = w2c_l4;
               w2c_i0 = (u32)(w2c_j0);
-              w2c_j1 = w2c_l7;
-              i64_store(&instance->w2c_memory, (u64)(w2c_i0) + 664, w2c_j1);
+              w2c_j1 = w2c_l6;
+              i64_store(&instance->w2c_memory, (u64)(w2c_i0) + 744, w2c_j1);
               w2c_j0 = w2c_l4;
               w2c_i0 = (u32)(w2c_j0);
               w2c_j1 = w2c_l5;
-              i64_store(&instance->w2c_memory, (u64)(w2c_i0) + 656, w2c_j1);
+              i64_store(&instance->w2c_memory, (u64)(w2c_i0) + 736, w2c_j1);
               w2c_j0 = w2c_l4;
-              w2c_j1 = 416ull;
+              w2c_j1 = 496ull;
               w2c_j0 += w2c_j1;
               w2c_j1 = w2c_l4;
-              w2c_j2 = 656ull;
+              w2c_j2 = 736ull;
               w2c_j1 += w2c_j2;
               w2c_i0 = w2c_f15(instance, w2c_j0, w2c_j1);
               w2c_i1 = 255u;
@@ -6285,23 +6277,23 @@ static void w2c_f0(Z_dine_ffi_instance_t* instance, u64 w2c_p0, u64 w2c_p1, u64 
                 w2c_i0 = w2c_l37;
                 w2c_i1 = 1u;
                 w2c_i0 -= w2c_i1;
-                if (w2c_i0) {goto w2c_B227;}
-                goto w2c_B224;
+                if (w2c_i0) {goto w2c_B226;}
+                goto w2c_B223;
               }
               w2c_j0 = w2c_l3;
               w2c_j1 = 24ull;
               w2c_j0 += w2c_j1;
               w2c_l3 = w2c_j0;
-              w2c_j0 = w2c_l6;
+              w2c_j0 = w2c_l8;
               w2c_j1 = w2c_p1;
               w2c_j2 = 1ull;
               w2c_j1 += w2c_j2;
               w2c_p1 = w2c_j1;
               w2c_i0 = w2c_j0 != w2c_j1;
-              if (w2c_i0) {goto w2c_L228;}
-            w2c_j0 = w2c_l6;
+              if (w2c_i0) {goto w2c_L227;}
+            w2c_j0 = w2c_l8;
             w2c_p1 = w2c_j0;
-            w2c_B227:;
+            w2c_B226:;
             w2c_j0 = w2c_p1;
             w2c_j1 = 3ull;
             w2c_j0 <<= (w2c_j1 & 63);
@@ -6320,47 +6312,47 @@ static void w2c_f0(Z_dine_ffi_instance_t* instance, u64 w2c_p0, u64 w2c_p1, u64 
           w2c_j1 = 968ull;
           w2c_j0 += w2c_j1;
           w2c_l3 = w2c_j0;
-          goto w2c_L225;
+          goto w2c_L224;
         UNREACHABLE;
-        w2c_B224:;
+        w2c_B223:;
         w2c_j0 = w2c_l9;
         w2c_j1 = 40ull;
         w2c_j0 += w2c_j1;
         w2c_l9 = w2c_j0;
-        w2c_j0 = w2c_l10;
+        w2c_j0 = w2c_l13;
         w2c_j1 = 1ull;
         w2c_j0 -= w2c_j1;
-        w2c_l10 = w2c_j0;
+        w2c_l13 = w2c_j0;
         w2c_j1 = 0ull;
         w2c_i0 = w2c_j0 != w2c_j1;
-        if (w2c_i0) {goto w2c_L223;}
-      w2c_B209:;
+        if (w2c_i0) {goto w2c_L222;}
+      w2c_B208:;
       w2c_j0 = w2c_l17;
       w2c_j1 = 40ull;
       w2c_j0 += w2c_j1;
       w2c_l17 = w2c_j0;
-      w2c_j0 = w2c_l15;
+      w2c_j0 = w2c_l20;
       w2c_j1 = 1ull;
       w2c_j0 -= w2c_j1;
-      w2c_l15 = w2c_j0;
+      w2c_l20 = w2c_j0;
       w2c_j1 = 0ull;
       w2c_i0 = w2c_j0 != w2c_j1;
-      if (w2c_i0) {goto w2c_L208;}
+      if (w2c_i0) {goto w2c_L207;}
   }
-  w2c_j0 = w2c_l19;
+  w2c_j0 = w2c_l21;
   w2c_i0 = !(w2c_j0);
   w2c_i0 = !(w2c_i0);
   if (w2c_i0) {
-    w2c_L231: 
-      w2c_j0 = w2c_l12;
+    w2c_L230: 
+      w2c_j0 = w2c_l15;
       w2c_i0 = (u32)(w2c_j0);
       w2c_i0 = i32_load8_u(&instance->w2c_memory, (u64)(w2c_i0));
       w2c_i1 = 6u;
       w2c_i0 = w2c_i0 != w2c_i1;
-      if (w2c_i0) {goto w2c_B232;}
+      if (w2c_i0) {goto w2c_B231;}
       w2c_i0 = 3u;
       w2c_l38 = w2c_i0;
-      w2c_j0 = w2c_l12;
+      w2c_j0 = w2c_l15;
       w2c_j1 = 8ull;
       w2c_j0 += w2c_j1;
       w2c_i0 = (u32)(w2c_j0);
@@ -6368,18 +6360,18 @@ static void w2c_f0(Z_dine_ffi_instance_t* instance, u64 w2c_p0, u64 w2c_p1, u64 
       w2c_i1 = 1u;
       w2c_i0 = w2c_i0 != w2c_i1;
       if (w2c_i0) {goto w2c_B140;}
-      w2c_j0 = w2c_l12;
+      w2c_j0 = w2c_l15;
       w2c_j1 = 16ull;
       w2c_j0 += w2c_j1;
       w2c_l3 = w2c_j0;
-      w2c_L233: 
+      w2c_L232: 
         w2c_j0 = w2c_l3;
         w2c_i0 = (u32)(w2c_j0);
         w2c_j0 = i64_load(&instance->w2c_memory, (u64)(w2c_i0));
         w2c_p2 = w2c_j0;
         w2c_i0 = (u32)(w2c_j0);
         w2c_j0 = i64_load16_u(&instance->w2c_memory, (u64)(w2c_i0));
-        w2c_l6 = w2c_j0;
+        w2c_l8 = w2c_j0;
         w2c_i0 = !(w2c_j0);
         if (w2c_i0) {
           w2c_j0 = 0ull;
@@ -6390,7 +6382,7 @@ static void w2c_f0(Z_dine_ffi_instance_t* instance, u64 w2c_p0, u64 w2c_p1, u64 
           w2c_l3 = w2c_j0;
           w2c_j0 = 0ull;
           w2c_p1 = w2c_j0;
-          w2c_L236: 
+          w2c_L235: 
             w2c_j0 = w2c_l3;
             w2c_j1 = 8ull;
             w2c_j0 -= w2c_j1;
@@ -6400,28 +6392,28 @@ static void w2c_f0(Z_dine_ffi_instance_t* instance, u64 w2c_p0, u64 w2c_p1, u64 
             w2c_j0 = w2c_l3;
             w2c_i0 = (u32)(w2c_j0);
             w2c_j0 = i64_load(&instance->w2c_memory, (u64)(w2c_i0));
-            w2c_l7 = w2c_j0;
+            w2c_l6 = w2c_j0;
             w2c_j0 = w2c_l4;
             w2c_i0 = (u32)(w2c_j0);
             w2c_j1 = 4ull;
-            i64_store(&instance->w2c_memory, (u64)(w2c_i0) + 424, w2c_j1);
+            i64_store(&instance->w2c_memory, (u64)(w2c_i0) + 504, w2c_j1);
             w2c_j0 = w2c_l4;
             w2c_i0 = (u32)(w2c_j0);
             w2c_j1 = 1060060ull;
-            i64_store(&instance->w2c_memory, (u64)(w2c_i0) + 416, w2c_j1);
+            i64_store(&instance->w2c_memory, (u64)(w2c_i0) + 496, w2c_j1);
             w2c_j0 = w2c_l4;
             w2c_i0 = (u32)(w2c_j0);
-            w2c_j1 = w2c_l7;
-            i64_store(&instance->w2c_memory, (u64)(w2c_i0) + 664, w2c_j1);
+            w2c_j1 = w2c_l6;
+            i64_store(&instance->w2c_memory, (u64)(w2c_i0) + 744, w2c_j1);
             w2c_j0 = w2c_l4;
             w2c_i0 = (u32)(w2c_j0);
             w2c_j1 = w2c_l5;
-            i64_store(&instance->w2c_memory, (u64)(w2c_i0) + 656, w2c_j1);
+            i64_store(&instance->w2c_memory, (u64)(w2c_i0) + 736, w2c_j1);
             w2c_j0 = w2c_l4;
-            w2c_j1 = 416ull;
+            w2c_j1 = 496ull;
             w2c_j0 += w2c_j1;
             w2c_j1 = w2c_l4;
-            w2c_j2 = 656ull;
+            w2c_j2 = 736ull;
             w2c_j1 += w2c_j2;
             w2c_i0 = w2c_f15(instance, w2c_j0, w2c_j1);
             w2c_i1 = 255u;
@@ -6433,23 +6425,23 @@ static void w2c_f0(Z_dine_ffi_instance_t* instance, u64 w2c_p0, u64 w2c_p1, u64 
               w2c_i0 = w2c_l37;
               w2c_i1 = 1u;
               w2c_i0 -= w2c_i1;
-              if (w2c_i0) {goto w2c_B235;}
-              goto w2c_B232;
+              if (w2c_i0) {goto w2c_B234;}
+              goto w2c_B231;
             }
             w2c_j0 = w2c_l3;
             w2c_j1 = 24ull;
             w2c_j0 += w2c_j1;
             w2c_l3 = w2c_j0;
-            w2c_j0 = w2c_l6;
+            w2c_j0 = w2c_l8;
             w2c_j1 = w2c_p1;
             w2c_j2 = 1ull;
             w2c_j1 += w2c_j2;
             w2c_p1 = w2c_j1;
             w2c_i0 = w2c_j0 != w2c_j1;
-            if (w2c_i0) {goto w2c_L236;}
-          w2c_j0 = w2c_l6;
+            if (w2c_i0) {goto w2c_L235;}
+          w2c_j0 = w2c_l8;
           w2c_p1 = w2c_j0;
-          w2c_B235:;
+          w2c_B234:;
           w2c_j0 = w2c_p1;
           w2c_j1 = 3ull;
           w2c_j0 <<= (w2c_j1 & 63);
@@ -6468,24 +6460,26 @@ static void w2c_f0(Z_dine_ffi_instance_t* instance, u64 w2c_p0, u64 w2c_p1, u64 
         w2c_j1 = 968ull;
         w2c_j0 += w2c_j1;
         w2c_l3 = w2c_j0;
-        goto w2c_L233;
+        goto w2c_L232;
       UNREACHABLE;
-      w2c_B232:;
-      w2c_j0 = w2c_l12;
+      w2c_B231:;
+      w2c_j0 = w2c_l15;
       w2c_j1 = 40ull;
       w2c_j0 += w2c_j1;
-      w2c_l12 = w2c_j0;
-      w2c_j0 = w2c_l19;
+      w2c_l15 = w2c_j0;
+      w2c_j0 = w2c_l21;
       w2c_j1 = 1ull;
       w2c_j0 -= w2c_j1;
-      w2c_l19 = w2c_j0;
+      w2c_l21 = w2c_j0;
       w2c_j1 = 0ull;
       w2c_i0 = w2c_j0 != w2c_j1;
-      if (w2c_i0) {goto w2c_L231;}
+      if (w2c_i0) {goto w2c_L230;}
   }
-  w2c_j0 = w2c_l11;
+  w2c_j0 = w2c_l12;
   w2c_p1 = w2c_j0;
-  w2c_L239: 
+  w2c_L237: 
+    w2c_j0 = 0ull;
+    w2c_l13 = w2c_j0;
     w2c_j0 = 0ull;
     w2c_l3 = w2c_j0;
     w2c_j0 = w2c_p1;
@@ -6508,174 +6502,38 @@ static void w2c_f0(Z_dine_ffi_instance_t* instance, u64 w2c_p0, u64 w2c_p1, u64 
       w2c_l5 = w2c_j0;
       w2c_j0 = 0ull;
       w2c_p1 = w2c_j0;
-      w2c_L243: 
+      w2c_L241: 
         w2c_j0 = w2c_l3;
         w2c_j1 = 8ull;
         w2c_j0 -= w2c_j1;
         w2c_i0 = (u32)(w2c_j0);
         w2c_j0 = i64_load(&instance->w2c_memory, (u64)(w2c_i0));
-        w2c_l7 = w2c_j0;
+        w2c_l6 = w2c_j0;
         w2c_j0 = w2c_l3;
         w2c_i0 = (u32)(w2c_j0);
         w2c_j0 = i64_load(&instance->w2c_memory, (u64)(w2c_i0));
-        w2c_l6 = w2c_j0;
+        w2c_l8 = w2c_j0;
         w2c_j0 = w2c_l4;
         w2c_i0 = (u32)(w2c_j0);
         w2c_j1 = 4ull;
-        i64_store(&instance->w2c_memory, (u64)(w2c_i0) + 424, w2c_j1);
-        w2c_j0 = w2c_l4;
-        w2c_i0 = (u32)(w2c_j0);
-        w2c_j1 = 1059624ull;
-        i64_store(&instance->w2c_memory, (u64)(w2c_i0) + 416, w2c_j1);
-        w2c_j0 = w2c_l4;
-        w2c_i0 = (u32)(w2c_j0);
-        w2c_j1 = w2c_l6;
-        i64_store(&instance->w2c_memory, (u64)(w2c_i0) + 664, w2c_j1);
-        w2c_j0 = w2c_l4;
-        w2c_i0 = (u32)(w2c_j0);
-        w2c_j1 = w2c_l7;
-        i64_store(&instance->w2c_memory, (u64)(w2c_i0) + 656, w2c_j1);
-        w2c_j0 = w2c_l4;
-        w2c_j1 = 416ull;
-        w2c_j0 += w2c_j1;
-        w2c_j1 = w2c_l4;
-        w2c_j2 = 656ull;
-        w2c_j1 += w2c_j2;
-        w2c_i0 = w2c_f15(instance, w2c_j0, w2c_j1);
-        w2c_i1 = 255u;
-        w2c_i0 &= w2c_i1;
-        w2c_l37 = w2c_i0;
-        w2c_i1 = 2u;
-        w2c_i0 = w2c_i0 != w2c_i1;
-        if (w2c_i0) {
-          w2c_i0 = w2c_l37;
-          w2c_i1 = 1u;
-          w2c_i0 -= w2c_i1;
-          if (w2c_i0) {goto w2c_B242;}
-          goto w2c_B240;
-        }
-        w2c_j0 = w2c_l3;
-        w2c_j1 = 24ull;
-        w2c_j0 += w2c_j1;
-        w2c_l3 = w2c_j0;
-        w2c_j0 = w2c_l5;
-        w2c_j1 = 40ull;
-        w2c_j0 += w2c_j1;
-        w2c_l5 = w2c_j0;
-        w2c_j0 = w2c_p2;
-        w2c_j1 = w2c_p1;
-        w2c_j2 = 1ull;
-        w2c_j1 += w2c_j2;
-        w2c_p1 = w2c_j1;
-        w2c_i0 = w2c_j0 != w2c_j1;
-        if (w2c_i0) {goto w2c_L243;}
-      w2c_j0 = w2c_p2;
-      w2c_p1 = w2c_j0;
-      w2c_B242:;
-      w2c_j0 = w2c_p1;
-      w2c_j1 = 3ull;
-      w2c_j0 <<= (w2c_j1 & 63);
-      w2c_l3 = w2c_j0;
-    }
-    w2c_j0 = w2c_l4;
-    w2c_j1 = 920ull;
-    w2c_j0 += w2c_j1;
-    w2c_j1 = w2c_l9;
-    w2c_j2 = 2ull;
-    w2c_j1 += w2c_j2;
-    w2c_i1 = (u32)(w2c_j1);
-    w2c_i1 = i32_load16_u(&instance->w2c_memory, (u64)(w2c_i1));
-    w2c_i1 = !(w2c_i1);
-    if (w2c_i1) {goto w2c_B238;}
-    w2c_j0 = w2c_l3;
-    w2c_j1 = w2c_l9;
-    w2c_j0 += w2c_j1;
-    w2c_j1 = 968ull;
-    w2c_j0 += w2c_j1;
-    w2c_p1 = w2c_j0;
-    goto w2c_L239;
-    w2c_B240:;
-  w2c_j0 = w2c_l4;
-  w2c_j1 = 920ull;
-  w2c_j0 += w2c_j1;
-  w2c_j1 = w2c_l5;
-  w2c_j2 = 16ull;
-  w2c_j1 -= w2c_j2;
-  w2c_i1 = (u32)(w2c_j1);
-  w2c_i1 = i32_load8_u(&instance->w2c_memory, (u64)(w2c_i1));
-  w2c_i2 = 5u;
-  w2c_i1 = w2c_i1 != w2c_i2;
-  if (w2c_i1) {goto w2c_B238;}
-  w2c_j0 = w2c_l5;
-  w2c_i0 = (u32)(w2c_j0);
-  w2c_j0 = i64_load(&instance->w2c_memory, (u64)(w2c_i0));
-  w2c_l20 = w2c_j0;
-  w2c_j0 = w2c_l5;
-  w2c_j1 = 8ull;
-  w2c_j0 -= w2c_j1;
-  w2c_i0 = (u32)(w2c_j0);
-  w2c_j0 = i64_load(&instance->w2c_memory, (u64)(w2c_i0));
-  w2c_B238:;
-  w2c_l10 = w2c_j0;
-  w2c_j0 = w2c_l11;
-  w2c_p1 = w2c_j0;
-  w2c_L245: 
-    w2c_j0 = 0ull;
-    w2c_l17 = w2c_j0;
-    w2c_j0 = 0ull;
-    w2c_l3 = w2c_j0;
-    w2c_j0 = w2c_p1;
-    w2c_i0 = (u32)(w2c_j0);
-    w2c_j0 = i64_load(&instance->w2c_memory, (u64)(w2c_i0));
-    w2c_l9 = w2c_j0;
-    w2c_i0 = (u32)(w2c_j0);
-    w2c_j0 = i64_load16_u(&instance->w2c_memory, (u64)(w2c_i0));
-    w2c_p2 = w2c_j0;
-    w2c_i0 = !(w2c_j0);
-    w2c_i0 = !(w2c_i0);
-    if (w2c_i0) {
-      w2c_j0 = w2c_l9;
-      w2c_j1 = 16ull;
-      w2c_j0 += w2c_j1;
-      w2c_l3 = w2c_j0;
-      w2c_j0 = w2c_l9;
-      w2c_j1 = 384ull;
-      w2c_j0 += w2c_j1;
-      w2c_l5 = w2c_j0;
-      w2c_j0 = 0ull;
-      w2c_p1 = w2c_j0;
-      w2c_L249: 
-        w2c_j0 = w2c_l3;
-        w2c_j1 = 8ull;
-        w2c_j0 -= w2c_j1;
-        w2c_i0 = (u32)(w2c_j0);
-        w2c_j0 = i64_load(&instance->w2c_memory, (u64)(w2c_i0));
-        w2c_l7 = w2c_j0;
-        w2c_j0 = w2c_l3;
-        w2c_i0 = (u32)(w2c_j0);
-        w2c_j0 = i64_load(&instance->w2c_memory, (u64)(w2c_i0));
-        w2c_l6 = w2c_j0;
-        w2c_j0 = w2c_l4;
-        w2c_i0 = (u32)(w2c_j0);
-        w2c_j1 = 4ull;
-        i64_store(&instance->w2c_memory, (u64)(w2c_i0) + 424, w2c_j1);
+        i64_store(&instance->w2c_memory, (u64)(w2c_i0) + 504, w2c_j1);
         w2c_j0 = w2c_l4;
         w2c_i0 = (u32)(w2c_j0);
         w2c_j1 = 1059628ull;
-        i64_store(&instance->w2c_memory, (u64)(w2c_i0) + 416, w2c_j1);
+        i64_store(&instance->w2c_memory, (u64)(w2c_i0) + 496, w2c_j1);
+        w2c_j0 = w2c_l4;
+        w2c_i0 = (u32)(w2c_j0);
+        w2c_j1 = w2c_l8;
+        i64_store(&instance->w2c_memory, (u64)(w2c_i0) + 744, w2c_j1);
         w2c_j0 = w2c_l4;
         w2c_i0 = (u32)(w2c_j0);
         w2c_j1 = w2c_l6;
-        i64_store(&instance->w2c_memory, (u64)(w2c_i0) + 664, w2c_j1);
+        i64_store(&instance->w2c_memory, (u64)(w2c_i0) + 736, w2c_j1);
         w2c_j0 = w2c_l4;
-        w2c_i0 = (u32)(w2c_j0);
-        w2c_j1 = w2c_l7;
-        i64_store(&instance->w2c_memory, (u64)(w2c_i0) + 656, w2c_j1);
-        w2c_j0 = w2c_l4;
-        w2c_j1 = 416ull;
+        w2c_j1 = 496ull;
         w2c_j0 += w2c_j1;
         w2c_j1 = w2c_l4;
-        w2c_j2 = 656ull;
+        w2c_j2 = 736ull;
         w2c_j1 += w2c_j2;
         w2c_i0 = w2c_f15(instance, w2c_j0, w2c_j1);
         w2c_i1 = 255u;
@@ -6687,8 +6545,8 @@ static void w2c_f0(Z_dine_ffi_instance_t* instance, u64 w2c_p0, u64 w2c_p1, u64 
           w2c_i0 = w2c_l37;
           w2c_i1 = 1u;
           w2c_i0 -= w2c_i1;
-          if (w2c_i0) {goto w2c_B248;}
-          goto w2c_B246;
+          if (w2c_i0) {goto w2c_B240;}
+          goto w2c_B238;
         }
         w2c_j0 = w2c_l3;
         w2c_j1 = 24ull;
@@ -6704,1122 +6562,84 @@ static void w2c_f0(Z_dine_ffi_instance_t* instance, u64 w2c_p0, u64 w2c_p1, u64 
         w2c_j1 += w2c_j2;
         w2c_p1 = w2c_j1;
         w2c_i0 = w2c_j0 != w2c_j1;
-        if (w2c_i0) {goto w2c_L249;}
+        if (w2c_i0) {goto w2c_L241;}
       w2c_j0 = w2c_p2;
       w2c_p1 = w2c_j0;
-      w2c_B248:;
+      w2c_B240:;
       w2c_j0 = w2c_p1;
       w2c_j1 = 3ull;
       w2c_j0 <<= (w2c_j1 & 63);
       w2c_l3 = w2c_j0;
     }
-    w2c_j0 = w2c_l4;
-    w2c_j1 = 920ull;
+    w2c_j0 = w2c_l9;
+    w2c_j1 = 2ull;
     w2c_j0 += w2c_j1;
-    w2c_j1 = w2c_l9;
-    w2c_j2 = 2ull;
-    w2c_j1 += w2c_j2;
-    w2c_i1 = (u32)(w2c_j1);
-    w2c_i1 = i32_load16_u(&instance->w2c_memory, (u64)(w2c_i1));
-    w2c_i1 = !(w2c_i1);
-    if (w2c_i1) {goto w2c_B191;}
+    w2c_i0 = (u32)(w2c_j0);
+    w2c_i0 = i32_load16_u(&instance->w2c_memory, (u64)(w2c_i0));
+    w2c_i0 = !(w2c_i0);
+    if (w2c_i0) {goto w2c_B191;}
     w2c_j0 = w2c_l3;
     w2c_j1 = w2c_l9;
     w2c_j0 += w2c_j1;
     w2c_j1 = 968ull;
     w2c_j0 += w2c_j1;
     w2c_p1 = w2c_j0;
-    goto w2c_L245;
-    w2c_B246:;
-  w2c_j0 = w2c_l4;
-  w2c_j1 = 920ull;
-  w2c_j0 += w2c_j1;
-  w2c_j1 = w2c_l5;
-  w2c_j2 = 16ull;
-  w2c_j1 -= w2c_j2;
-  w2c_i1 = (u32)(w2c_j1);
-  w2c_i1 = i32_load8_u(&instance->w2c_memory, (u64)(w2c_i1));
-  w2c_i2 = 5u;
-  w2c_i1 = w2c_i1 != w2c_i2;
-  if (w2c_i1) {goto w2c_B191;}
+    goto w2c_L237;
+    w2c_B238:;
   w2c_j0 = w2c_l5;
+  w2c_j1 = 16ull;
+  w2c_j0 -= w2c_j1;
   w2c_i0 = (u32)(w2c_j0);
-  w2c_j0 = i64_load(&instance->w2c_memory, (u64)(w2c_i0));
-  w2c_l17 = w2c_j0;
+  w2c_i0 = i32_load8_u(&instance->w2c_memory, (u64)(w2c_i0));
+  w2c_i1 = 5u;
+  w2c_i0 = w2c_i0 != w2c_i1;
+  if (w2c_i0) {goto w2c_B191;}
   w2c_j0 = w2c_l5;
   w2c_j1 = 8ull;
   w2c_j0 -= w2c_j1;
   w2c_i0 = (u32)(w2c_j0);
   w2c_j0 = i64_load(&instance->w2c_memory, (u64)(w2c_i0));
+  w2c_l11 = w2c_j0;
+  w2c_j0 = w2c_l5;
+  w2c_i0 = (u32)(w2c_j0);
+  w2c_j0 = i64_load(&instance->w2c_memory, (u64)(w2c_i0));
+  w2c_l13 = w2c_j0;
   w2c_B191:;
-  w2c_l19 = w2c_j0;
   w2c_i0 = 4u;
   w2c_l38 = w2c_i0;
-  w2c_j0 = w2c_l13;
+  w2c_j0 = w2c_l10;
   w2c_j1 = 1059624ull;
   w2c_i0 = w2c_f45(instance, w2c_j0, w2c_j1);
   if (w2c_i0) {goto w2c_B140;}
-  w2c_j0 = w2c_l13;
+  w2c_j0 = w2c_l10;
   w2c_j1 = 1059628ull;
   w2c_i0 = w2c_f45(instance, w2c_j0, w2c_j1);
   if (w2c_i0) {goto w2c_B140;}
-  w2c_j0 = w2c_l20;
+  w2c_j0 = w2c_l13;
   w2c_i0 = !(w2c_j0);
   w2c_i0 = !(w2c_i0);
   if (w2c_i0) {
-    w2c_L252: 
-      w2c_j0 = w2c_l10;
+    w2c_L244: 
+      w2c_j0 = w2c_l11;
       w2c_i0 = (u32)(w2c_j0);
       w2c_i0 = i32_load8_u(&instance->w2c_memory, (u64)(w2c_i0));
       w2c_i1 = 6u;
       w2c_i0 = w2c_i0 != w2c_i1;
-      if (w2c_i0) {goto w2c_B254;}
-      w2c_j0 = w2c_l10;
+      if (w2c_i0) {goto w2c_B245;}
+      w2c_j0 = w2c_l11;
       w2c_j1 = 8ull;
       w2c_j0 += w2c_j1;
       w2c_i0 = (u32)(w2c_j0);
       w2c_i0 = i32_load8_u(&instance->w2c_memory, (u64)(w2c_i0));
       w2c_i1 = 1u;
       w2c_i0 = w2c_i0 != w2c_i1;
-      if (w2c_i0) {goto w2c_B254;}
-      w2c_j0 = w2c_l10;
+      if (w2c_i0) {goto w2c_B245;}
+      w2c_j0 = w2c_l11;
       w2c_j1 = 16ull;
       w2c_j0 += w2c_j1;
-      w2c_l18 = w2c_j0;
-      w2c_p1 = w2c_j0;
-      w2c_L256: 
-        w2c_j0 = 0ull;
-        w2c_l15 = w2c_j0;
-        w2c_j0 = 0ull;
-        w2c_l3 = w2c_j0;
-        w2c_j0 = w2c_p1;
-        w2c_i0 = (u32)(w2c_j0);
-        w2c_j0 = i64_load(&instance->w2c_memory, (u64)(w2c_i0));
-        w2c_l9 = w2c_j0;
-        w2c_i0 = (u32)(w2c_j0);
-        w2c_j0 = i64_load16_u(&instance->w2c_memory, (u64)(w2c_i0));
-        w2c_p2 = w2c_j0;
-        w2c_i0 = !(w2c_j0);
-        w2c_i0 = !(w2c_i0);
-        if (w2c_i0) {
-          w2c_j0 = w2c_l9;
-          w2c_j1 = 16ull;
-          w2c_j0 += w2c_j1;
-          w2c_l3 = w2c_j0;
-          w2c_j0 = w2c_l9;
-          w2c_j1 = 384ull;
-          w2c_j0 += w2c_j1;
-          w2c_l5 = w2c_j0;
-          w2c_j0 = 0ull;
-          w2c_p1 = w2c_j0;
-          w2c_L260: 
-            w2c_j0 = w2c_l3;
-            w2c_j1 = 8ull;
-            w2c_j0 -= w2c_j1;
-            w2c_i0 = (u32)(w2c_j0);
-            w2c_j0 = i64_load(&instance->w2c_memory, (u64)(w2c_i0));
-            w2c_l7 = w2c_j0;
-            w2c_j0 = w2c_l3;
-            w2c_i0 = (u32)(w2c_j0);
-            w2c_j0 = i64_load(&instance->w2c_memory, (u64)(w2c_i0));
-            w2c_l6 = w2c_j0;
-            w2c_j0 = w2c_l4;
-            w2c_i0 = (u32)(w2c_j0);
-            w2c_j1 = 4ull;
-            i64_store(&instance->w2c_memory, (u64)(w2c_i0) + 424, w2c_j1);
-            w2c_j0 = w2c_l4;
-            w2c_i0 = (u32)(w2c_j0);
-            w2c_j1 = 1059704ull;
-            i64_store(&instance->w2c_memory, (u64)(w2c_i0) + 416, w2c_j1);
-            w2c_j0 = w2c_l4;
-            w2c_i0 = (u32)(w2c_j0);
-            w2c_j1 = w2c_l6;
-            i64_store(&instance->w2c_memory, (u64)(w2c_i0) + 664, w2c_j1);
-            w2c_j0 = w2c_l4;
-            w2c_i0 = (u32)(w2c_j0);
-            w2c_j1 = w2c_l7;
-            i64_store(&instance->w2c_memory, (u64)(w2c_i0) + 656, w2c_j1);
-            w2c_j0 = w2c_l4;
-            w2c_j1 = 416ull;
-            w2c_j0 += w2c_j1;
-            w2c_j1 = w2c_l4;
-            w2c_j2 = 656ull;
-            w2c_j1 += w2c_j2;
-            w2c_i0 = w2c_f15(instance, w2c_j0, w2c_j1);
-            w2c_i1 = 255u;
-            w2c_i0 &= w2c_i1;
-            w2c_l37 = w2c_i0;
-            w2c_i1 = 2u;
-            w2c_i0 = w2c_i0 != w2c_i1;
-            if (w2c_i0) {
-              w2c_i0 = w2c_l37;
-              w2c_i1 = 1u;
-              w2c_i0 -= w2c_i1;
-              if (w2c_i0) {goto w2c_B259;}
-              goto w2c_B257;
-            }
-            w2c_j0 = w2c_l3;
-            w2c_j1 = 24ull;
-            w2c_j0 += w2c_j1;
-            w2c_l3 = w2c_j0;
-            w2c_j0 = w2c_l5;
-            w2c_j1 = 40ull;
-            w2c_j0 += w2c_j1;
-            w2c_l5 = w2c_j0;
-            w2c_j0 = w2c_p2;
-            w2c_j1 = w2c_p1;
-            w2c_j2 = 1ull;
-            w2c_j1 += w2c_j2;
-            w2c_p1 = w2c_j1;
-            w2c_i0 = w2c_j0 != w2c_j1;
-            if (w2c_i0) {goto w2c_L260;}
-          w2c_j0 = w2c_p2;
-          w2c_p1 = w2c_j0;
-          w2c_B259:;
-          w2c_j0 = w2c_p1;
-          w2c_j1 = 3ull;
-          w2c_j0 <<= (w2c_j1 & 63);
-          w2c_l3 = w2c_j0;
-        }
-        w2c_j0 = w2c_l4;
-        w2c_j1 = 920ull;
-        w2c_j0 += w2c_j1;
-        w2c_j1 = w2c_l9;
-        w2c_j2 = 2ull;
-        w2c_j1 += w2c_j2;
-        w2c_i1 = (u32)(w2c_j1);
-        w2c_i1 = i32_load16_u(&instance->w2c_memory, (u64)(w2c_i1));
-        w2c_i1 = !(w2c_i1);
-        if (w2c_i1) {goto w2c_B255;}
-        w2c_j0 = w2c_l3;
-        w2c_j1 = w2c_l9;
-        w2c_j0 += w2c_j1;
-        w2c_j1 = 968ull;
-        w2c_j0 += w2c_j1;
-        w2c_p1 = w2c_j0;
-        goto w2c_L256;
-        w2c_B257:;
-      w2c_j0 = w2c_l4;
-      w2c_j1 = 920ull;
-      w2c_j0 += w2c_j1;
-      w2c_j1 = w2c_l5;
-      w2c_j2 = 16ull;
-      w2c_j1 -= w2c_j2;
-      w2c_i1 = (u32)(w2c_j1);
-      w2c_i1 = i32_load8_u(&instance->w2c_memory, (u64)(w2c_i1));
-      w2c_i2 = 5u;
-      w2c_i1 = w2c_i1 != w2c_i2;
-      if (w2c_i1) {goto w2c_B255;}
-      w2c_j0 = w2c_l5;
-      w2c_i0 = (u32)(w2c_j0);
-      w2c_j0 = i64_load(&instance->w2c_memory, (u64)(w2c_i0));
       w2c_l15 = w2c_j0;
-      w2c_j0 = w2c_l5;
-      w2c_j1 = 8ull;
-      w2c_j0 -= w2c_j1;
-      w2c_i0 = (u32)(w2c_j0);
-      w2c_j0 = i64_load(&instance->w2c_memory, (u64)(w2c_i0));
-      w2c_B255:;
-      w2c_l12 = w2c_j0;
-      w2c_j0 = w2c_l18;
       w2c_l3 = w2c_j0;
-      w2c_L263: 
-        w2c_j0 = w2c_l3;
-        w2c_i0 = (u32)(w2c_j0);
-        w2c_j0 = i64_load(&instance->w2c_memory, (u64)(w2c_i0));
-        w2c_l9 = w2c_j0;
-        w2c_i0 = (u32)(w2c_j0);
-        w2c_j0 = i64_load16_u(&instance->w2c_memory, (u64)(w2c_i0));
-        w2c_p2 = w2c_j0;
-        w2c_i0 = !(w2c_j0);
-        if (w2c_i0) {
-          w2c_j0 = 0ull;
-        } else {
-          w2c_j0 = w2c_l9;
-          w2c_j1 = 16ull;
-          w2c_j0 += w2c_j1;
-          w2c_l3 = w2c_j0;
-          w2c_j0 = w2c_l9;
-          w2c_j1 = 368ull;
-          w2c_j0 += w2c_j1;
-          w2c_l6 = w2c_j0;
-          w2c_j0 = 0ull;
-          w2c_p1 = w2c_j0;
-          w2c_L267: 
-            w2c_j0 = w2c_l3;
-            w2c_j1 = 8ull;
-            w2c_j0 -= w2c_j1;
-            w2c_i0 = (u32)(w2c_j0);
-            w2c_j0 = i64_load(&instance->w2c_memory, (u64)(w2c_i0));
-            w2c_l5 = w2c_j0;
-            w2c_j0 = w2c_l3;
-            w2c_i0 = (u32)(w2c_j0);
-            w2c_j0 = i64_load(&instance->w2c_memory, (u64)(w2c_i0));
-            w2c_l7 = w2c_j0;
-            w2c_j0 = w2c_l4;
-            w2c_i0 = (u32)(w2c_j0);
-            w2c_j1 = 4ull;
-            i64_store(&instance->w2c_memory, (u64)(w2c_i0) + 424, w2c_j1);
-            w2c_j0 = w2c_l4;
-            w2c_i0 = (u32)(w2c_j0);
-            w2c_j1 = 1060056ull;
-            i64_store(&instance->w2c_memory, (u64)(w2c_i0) + 416, w2c_j1);
-            w2c_j0 = w2c_l4;
-            w2c_i0 = (u32)(w2c_j0);
-            w2c_j1 = w2c_l7;
-            i64_store(&instance->w2c_memory, (u64)(w2c_i0) + 664, w2c_j1);
-            w2c_j0 = w2c_l4;
-            w2c_i0 = (u32)(w2c_j0);
-            w2c_j1 = w2c_l5;
-            i64_store(&instance->w2c_memory, (u64)(w2c_i0) + 656, w2c_j1);
-            w2c_j0 = w2c_l4;
-            w2c_j1 = 416ull;
-            w2c_j0 += w2c_j1;
-            w2c_j1 = w2c_l4;
-            w2c_j2 = 656ull;
-            w2c_j1 += w2c_j2;
-            w2c_i0 = w2c_f15(instance, w2c_j0, w2c_j1);
-            w2c_i1 = 255u;
-            w2c_i0 &= w2c_i1;
-            w2c_l37 = w2c_i0;
-            w2c_i1 = 2u;
-            w2c_i0 = w2c_i0 != w2c_i1;
-            if (w2c_i0) {
-              w2c_i0 = w2c_l37;
-              w2c_i1 = 1u;
-              w2c_i0 -= w2c_i1;
-              if (w2c_i0) {goto w2c_B266;}
-              goto w2c_B264;
-            }
-            w2c_j0 = w2c_l3;
-            w2c_j1 = 24ull;
-            w2c_j0 += w2c_j1;
-            w2c_l3 = w2c_j0;
-            w2c_j0 = w2c_l6;
-            w2c_j1 = 40ull;
-            w2c_j0 += w2c_j1;
-            w2c_l6 = w2c_j0;
-            w2c_j0 = w2c_p2;
-            w2c_j1 = w2c_p1;
-            w2c_j2 = 1ull;
-            w2c_j1 += w2c_j2;
-            w2c_p1 = w2c_j1;
-            w2c_i0 = w2c_j0 != w2c_j1;
-            if (w2c_i0) {goto w2c_L267;}
-          w2c_j0 = w2c_p2;
-          w2c_p1 = w2c_j0;
-          w2c_B266:;
-          w2c_j0 = w2c_p1;
-          w2c_j1 = 3ull;
-          w2c_j0 <<= (w2c_j1 & 63);
-        }
-        w2c_l3 = w2c_j0;
-        w2c_j0 = w2c_l9;
-        w2c_j1 = 2ull;
-        w2c_j0 += w2c_j1;
-        w2c_i0 = (u32)(w2c_j0);
-        w2c_i0 = i32_load16_u(&instance->w2c_memory, (u64)(w2c_i0));
-        w2c_i0 = !(w2c_i0);
-        if (w2c_i0) {goto w2c_B262;}
-        w2c_j0 = w2c_l3;
-        w2c_j1 = w2c_l9;
-        w2c_j0 += w2c_j1;
-        w2c_j1 = 968ull;
-        w2c_j0 += w2c_j1;
-        w2c_l3 = w2c_j0;
-        goto w2c_L263;
-        w2c_B264:;
-      w2c_j0 = w2c_l6;
-      w2c_i0 = (u32)(w2c_j0);
-      w2c_i0 = i32_load8_u(&instance->w2c_memory, (u64)(w2c_i0));
-      if (w2c_i0) {goto w2c_B140;}
-      w2c_B262:;
-      w2c_L270: 
-        w2c_j0 = w2c_l18;
-        w2c_i0 = (u32)(w2c_j0);
-        w2c_j0 = i64_load(&instance->w2c_memory, (u64)(w2c_i0));
-        w2c_l9 = w2c_j0;
-        w2c_i0 = (u32)(w2c_j0);
-        w2c_j0 = i64_load16_u(&instance->w2c_memory, (u64)(w2c_i0));
-        w2c_p2 = w2c_j0;
-        w2c_i0 = !(w2c_j0);
-        if (w2c_i0) {
-          w2c_j0 = 0ull;
-        } else {
-          w2c_j0 = w2c_l9;
-          w2c_j1 = 16ull;
-          w2c_j0 += w2c_j1;
-          w2c_l3 = w2c_j0;
-          w2c_j0 = w2c_l9;
-          w2c_j1 = 368ull;
-          w2c_j0 += w2c_j1;
-          w2c_l6 = w2c_j0;
-          w2c_j0 = 0ull;
-          w2c_p1 = w2c_j0;
-          w2c_L274: 
-            w2c_j0 = w2c_l3;
-            w2c_j1 = 8ull;
-            w2c_j0 -= w2c_j1;
-            w2c_i0 = (u32)(w2c_j0);
-            w2c_j0 = i64_load(&instance->w2c_memory, (u64)(w2c_i0));
-            w2c_l5 = w2c_j0;
-            w2c_j0 = w2c_l3;
-            w2c_i0 = (u32)(w2c_j0);
-            w2c_j0 = i64_load(&instance->w2c_memory, (u64)(w2c_i0));
-            w2c_l7 = w2c_j0;
-            w2c_j0 = w2c_l4;
-            w2c_i0 = (u32)(w2c_j0);
-            w2c_j1 = 8ull;
-            i64_store(&instance->w2c_memory, (u64)(w2c_i0) + 424, w2c_j1);
-            w2c_j0 = w2c_l4;
-            w2c_i0 = (u32)(w2c_j0);
-            w2c_j1 = 1060064ull;
-            i64_store(&instance->w2c_memory, (u64)(w2c_i0) + 416, w2c_j1);
-            w2c_j0 = w2c_l4;
-            w2c_i0 = (u32)(w2c_j0);
-            w2c_j1 = w2c_l7;
-            i64_store(&instance->w2c_memory, (u64)(w2c_i0) + 664, w2c_j1);
-            w2c_j0 = w2c_l4;
-            w2c_i0 = (u32)(w2c_j0);
-            w2c_j1 = w2c_l5;
-            i64_store(&instance->w2c_memory, (u64)(w2c_i0) + 656, w2c_j1);
-            w2c_j0 = w2c_l4;
-            w2c_j1 = 416ull;
-            w2c_j0 += w2c_j1;
-            w2c_j1 = w2c_l4;
-            w2c_j2 = 656ull;
-            w2c_j1 += w2c_j2;
-            w2c_i0 = w2c_f15(instance, w2c_j0, w2c_j1);
-            w2c_i1 = 255u;
-            w2c_i0 &= w2c_i1;
-            w2c_l37 = w2c_i0;
-            w2c_i1 = 2u;
-            w2c_i0 = w2c_i0 != w2c_i1;
-            if (w2c_i0) {
-              w2c_i0 = w2c_l37;
-              w2c_i1 = 1u;
-              w2c_i0 -= w2c_i1;
-              if (w2c_i0) {goto w2c_B273;}
-              goto w2c_B271;
-            }
-            w2c_j0 = w2c_l3;
-            w2c_j1 = 24ull;
-            w2c_j0 += w2c_j1;
-            w2c_l3 = w2c_j0;
-            w2c_j0 = w2c_l6;
-            w2c_j1 = 40ull;
-            w2c_j0 += w2c_j1;
-            w2c_l6 = w2c_j0;
-            w2c_j0 = w2c_p2;
-            w2c_j1 = w2c_p1;
-            w2c_j2 = 1ull;
-            w2c_j1 += w2c_j2;
-            w2c_p1 = w2c_j1;
-            w2c_i0 = w2c_j0 != w2c_j1;
-            if (w2c_i0) {goto w2c_L274;}
-          w2c_j0 = w2c_p2;
-          w2c_p1 = w2c_j0;
-          w2c_B273:;
-          w2c_j0 = w2c_p1;
-          w2c_j1 = 3ull;
-          w2c_j0 <<= (w2c_j1 & 63);
-        }
-        w2c_l3 = w2c_j0;
-        w2c_j0 = w2c_l9;
-        w2c_j1 = 2ull;
-        w2c_j0 += w2c_j1;
-        w2c_i0 = (u32)(w2c_j0);
-        w2c_i0 = i32_load16_u(&instance->w2c_memory, (u64)(w2c_i0));
-        w2c_i0 = !(w2c_i0);
-        if (w2c_i0) {goto w2c_B269;}
-        w2c_j0 = w2c_l3;
-        w2c_j1 = w2c_l9;
-        w2c_j0 += w2c_j1;
-        w2c_j1 = 968ull;
-        w2c_j0 += w2c_j1;
-        w2c_l18 = w2c_j0;
-        goto w2c_L270;
-        w2c_B271:;
-      w2c_j0 = w2c_l6;
-      w2c_i0 = (u32)(w2c_j0);
-      w2c_i0 = i32_load8_u(&instance->w2c_memory, (u64)(w2c_i0));
-      if (w2c_i0) {goto w2c_B140;}
-      w2c_B269:;
-      w2c_j0 = w2c_l10;
-      w2c_j1 = 1059704ull;
-      w2c_i0 = w2c_f45(instance, w2c_j0, w2c_j1);
-      if (w2c_i0) {goto w2c_B140;}
-      w2c_j0 = w2c_l15;
-      w2c_i0 = !(w2c_j0);
-      if (w2c_i0) {goto w2c_B253;}
-      w2c_L276: 
-        w2c_j0 = w2c_l12;
-        w2c_i0 = (u32)(w2c_j0);
-        w2c_i0 = i32_load8_u(&instance->w2c_memory, (u64)(w2c_i0));
-        w2c_i1 = 6u;
-        w2c_i0 = w2c_i0 != w2c_i1;
-        if (w2c_i0) {goto w2c_B277;}
-        w2c_j0 = w2c_l12;
-        w2c_j1 = 8ull;
-        w2c_j0 += w2c_j1;
-        w2c_i0 = (u32)(w2c_j0);
-        w2c_i0 = i32_load8_u(&instance->w2c_memory, (u64)(w2c_i0));
-        w2c_i1 = 1u;
-        w2c_i0 = w2c_i0 != w2c_i1;
-        if (w2c_i0) {goto w2c_B277;}
-        w2c_j0 = w2c_l12;
-        w2c_j1 = 16ull;
-        w2c_j0 += w2c_j1;
-        w2c_l18 = w2c_j0;
-        w2c_l3 = w2c_j0;
-        w2c_L279: 
-          w2c_j0 = w2c_l3;
-          w2c_i0 = (u32)(w2c_j0);
-          w2c_j0 = i64_load(&instance->w2c_memory, (u64)(w2c_i0));
-          w2c_l9 = w2c_j0;
-          w2c_i0 = (u32)(w2c_j0);
-          w2c_j0 = i64_load16_u(&instance->w2c_memory, (u64)(w2c_i0));
-          w2c_p2 = w2c_j0;
-          w2c_i0 = !(w2c_j0);
-          if (w2c_i0) {
-            w2c_j0 = 0ull;
-          } else {
-            w2c_j0 = w2c_l9;
-            w2c_j1 = 16ull;
-            w2c_j0 += w2c_j1;
-            w2c_l3 = w2c_j0;
-            w2c_j0 = w2c_l9;
-            w2c_j1 = 368ull;
-            w2c_j0 += w2c_j1;
-            w2c_l6 = w2c_j0;
-            w2c_j0 = 0ull;
-            w2c_p1 = w2c_j0;
-            w2c_L283: 
-              w2c_j0 = w2c_l3;
-              w2c_j1 = 8ull;
-              w2c_j0 -= w2c_j1;
-              w2c_i0 = (u32)(w2c_j0);
-              w2c_j0 = i64_load(&instance->w2c_memory, (u64)(w2c_i0));
-              w2c_l5 = w2c_j0;
-              w2c_j0 = w2c_l3;
-              w2c_i0 = (u32)(w2c_j0);
-              w2c_j0 = i64_load(&instance->w2c_memory, (u64)(w2c_i0));
-              w2c_l7 = w2c_j0;
-              w2c_j0 = w2c_l4;
-              w2c_i0 = (u32)(w2c_j0);
-              w2c_j1 = 4ull;
-              i64_store(&instance->w2c_memory, (u64)(w2c_i0) + 424, w2c_j1);
-              w2c_j0 = w2c_l4;
-              w2c_i0 = (u32)(w2c_j0);
-              w2c_j1 = 1060056ull;
-              i64_store(&instance->w2c_memory, (u64)(w2c_i0) + 416, w2c_j1);
-              w2c_j0 = w2c_l4;
-              w2c_i0 = (u32)(w2c_j0);
-              w2c_j1 = w2c_l7;
-              i64_store(&instance->w2c_memory, (u64)(w2c_i0) + 664, w2c_j1);
-              w2c_j0 = w2c_l4;
-              w2c_i0 = (u32)(w2c_j0);
-              w2c_j1 = w2c_l5;
-              i64_store(&instance->w2c_memory, (u64)(w2c_i0) + 656, w2c_j1);
-              w2c_j0 = w2c_l4;
-              w2c_j1 = 416ull;
-              w2c_j0 += w2c_j1;
-              w2c_j1 = w2c_l4;
-              w2c_j2 = 656ull;
-              w2c_j1 += w2c_j2;
-              w2c_i0 = w2c_f15(instance, w2c_j0, w2c_j1);
-              w2c_i1 = 255u;
-              w2c_i0 &= w2c_i1;
-              w2c_l37 = w2c_i0;
-              w2c_i1 = 2u;
-              w2c_i0 = w2c_i0 != w2c_i1;
-              if (w2c_i0) {
-                w2c_i0 = w2c_l37;
-                w2c_i1 = 1u;
-                w2c_i0 -= w2c_i1;
-                if (w2c_i0) {goto w2c_B282;}
-                goto w2c_B280;
-              }
-              w2c_j0 = w2c_l3;
-              w2c_j1 = 24ull;
-              w2c_j0 += w2c_j1;
-              w2c_l3 = w2c_j0;
-              w2c_j0 = w2c_l6;
-              w2c_j1 = 40ull;
-              w2c_j0 += w2c_j1;
-              w2c_l6 = w2c_j0;
-              w2c_j0 = w2c_p2;
-              w2c_j1 = w2c_p1;
-              w2c_j2 = 1ull;
-              w2c_j1 += w2c_j2;
-              w2c_p1 = w2c_j1;
-              w2c_i0 = w2c_j0 != w2c_j1;
-              if (w2c_i0) {goto w2c_L283;}
-            w2c_j0 = w2c_p2;
-            w2c_p1 = w2c_j0;
-            w2c_B282:;
-            w2c_j0 = w2c_p1;
-            w2c_j1 = 3ull;
-            w2c_j0 <<= (w2c_j1 & 63);
-          }
-          w2c_l3 = w2c_j0;
-          w2c_j0 = w2c_l9;
-          w2c_j1 = 2ull;
-          w2c_j0 += w2c_j1;
-          w2c_i0 = (u32)(w2c_j0);
-          w2c_i0 = i32_load16_u(&instance->w2c_memory, (u64)(w2c_i0));
-          w2c_i0 = !(w2c_i0);
-          if (w2c_i0) {goto w2c_B278;}
-          w2c_j0 = w2c_l3;
-          w2c_j1 = w2c_l9;
-          w2c_j0 += w2c_j1;
-          w2c_j1 = 968ull;
-          w2c_j0 += w2c_j1;
-          w2c_l3 = w2c_j0;
-          goto w2c_L279;
-          w2c_B280:;
-        w2c_j0 = w2c_l6;
-        w2c_i0 = (u32)(w2c_j0);
-        w2c_i0 = i32_load8_u(&instance->w2c_memory, (u64)(w2c_i0));
-        if (w2c_i0) {goto w2c_B140;}
-        w2c_B278:;
-        w2c_j0 = w2c_l18;
-        w2c_l3 = w2c_j0;
-        w2c_L286: 
-          w2c_j0 = w2c_l3;
-          w2c_i0 = (u32)(w2c_j0);
-          w2c_j0 = i64_load(&instance->w2c_memory, (u64)(w2c_i0));
-          w2c_l9 = w2c_j0;
-          w2c_i0 = (u32)(w2c_j0);
-          w2c_j0 = i64_load16_u(&instance->w2c_memory, (u64)(w2c_i0));
-          w2c_p2 = w2c_j0;
-          w2c_i0 = !(w2c_j0);
-          if (w2c_i0) {
-            w2c_j0 = 0ull;
-          } else {
-            w2c_j0 = w2c_l9;
-            w2c_j1 = 16ull;
-            w2c_j0 += w2c_j1;
-            w2c_l3 = w2c_j0;
-            w2c_j0 = w2c_l9;
-            w2c_j1 = 376ull;
-            w2c_j0 += w2c_j1;
-            w2c_l5 = w2c_j0;
-            w2c_j0 = 0ull;
-            w2c_p1 = w2c_j0;
-            w2c_L290: 
-              w2c_j0 = w2c_l3;
-              w2c_j1 = 8ull;
-              w2c_j0 -= w2c_j1;
-              w2c_i0 = (u32)(w2c_j0);
-              w2c_j0 = i64_load(&instance->w2c_memory, (u64)(w2c_i0));
-              w2c_l7 = w2c_j0;
-              w2c_j0 = w2c_l3;
-              w2c_i0 = (u32)(w2c_j0);
-              w2c_j0 = i64_load(&instance->w2c_memory, (u64)(w2c_i0));
-              w2c_l6 = w2c_j0;
-              w2c_j0 = w2c_l4;
-              w2c_i0 = (u32)(w2c_j0);
-              w2c_j1 = 5ull;
-              i64_store(&instance->w2c_memory, (u64)(w2c_i0) + 424, w2c_j1);
-              w2c_j0 = w2c_l4;
-              w2c_i0 = (u32)(w2c_j0);
-              w2c_j1 = 1060072ull;
-              i64_store(&instance->w2c_memory, (u64)(w2c_i0) + 416, w2c_j1);
-              w2c_j0 = w2c_l4;
-              w2c_i0 = (u32)(w2c_j0);
-              w2c_j1 = w2c_l6;
-              i64_store(&instance->w2c_memory, (u64)(w2c_i0) + 664, w2c_j1);
-              w2c_j0 = w2c_l4;
-              w2c_i0 = (u32)(w2c_j0);
-              w2c_j1 = w2c_l7;
-              i64_store(&instance->w2c_memory, (u64)(w2c_i0) + 656, w2c_j1);
-              w2c_j0 = w2c_l4;
-              w2c_j1 = 416ull;
-              w2c_j0 += w2c_j1;
-              w2c_j1 = w2c_l4;
-              w2c_j2 = 656ull;
-              w2c_j1 += w2c_j2;
-              w2c_i0 = w2c_f15(instance, w2c_j0, w2c_j1);
-              w2c_i1 = 255u;
-              w2c_i0 &= w2c_i1;
-              w2c_l37 = w2c_i0;
-              w2c_i1 = 2u;
-              w2c_i0 = w2c_i0 != w2c_i1;
-              if (w2c_i0) {
-                w2c_i0 = w2c_l37;
-                w2c_i1 = 1u;
-                w2c_i0 -= w2c_i1;
-                if (w2c_i0) {goto w2c_B289;}
-                goto w2c_B287;
-              }
-              w2c_j0 = w2c_l3;
-              w2c_j1 = 24ull;
-              w2c_j0 += w2c_j1;
-              w2c_l3 = w2c_j0;
-              w2c_j0 = w2c_l5;
-              w2c_j1 = 40ull;
-              w2c_j0 += w2c_j1;
-              w2c_l5 = w2c_j0;
-              w2c_j0 = w2c_p2;
-              w2c_j1 = w2c_p1;
-              w2c_j2 = 1ull;
-              w2c_j1 += w2c_j2;
-              w2c_p1 = w2c_j1;
-              w2c_i0 = w2c_j0 != w2c_j1;
-              if (w2c_i0) {goto w2c_L290;}
-            w2c_j0 = w2c_p2;
-            w2c_p1 = w2c_j0;
-            w2c_B289:;
-            w2c_j0 = w2c_p1;
-            w2c_j1 = 3ull;
-            w2c_j0 <<= (w2c_j1 & 63);
-          }
-          w2c_l3 = w2c_j0;
-          w2c_j0 = w2c_l9;
-          w2c_j1 = 2ull;
-          w2c_j0 += w2c_j1;
-          w2c_i0 = (u32)(w2c_j0);
-          w2c_i0 = i32_load16_u(&instance->w2c_memory, (u64)(w2c_i0));
-          w2c_i0 = !(w2c_i0);
-          if (w2c_i0) {goto w2c_B285;}
-          w2c_j0 = w2c_l3;
-          w2c_j1 = w2c_l9;
-          w2c_j0 += w2c_j1;
-          w2c_j1 = 968ull;
-          w2c_j0 += w2c_j1;
-          w2c_l3 = w2c_j0;
-          goto w2c_L286;
-          w2c_B287:;
-        w2c_j0 = w2c_l5;
-        w2c_j1 = 8ull;
-        w2c_j0 -= w2c_j1;
-        w2c_i0 = (u32)(w2c_j0);
-        w2c_i0 = i32_load8_u(&instance->w2c_memory, (u64)(w2c_i0));
-        w2c_i1 = 1u;
-        w2c_i0 = w2c_i0 != w2c_i1;
-        if (w2c_i0) {goto w2c_B140;}
-        w2c_j0 = w2c_l5;
-        w2c_i0 = (u32)(w2c_j0);
-        w2c_j0 = i64_load(&instance->w2c_memory, (u64)(w2c_i0));
-        w2c_j1 = 0ull;
-        w2c_i0 = (u64)((s64)w2c_j0 < (s64)w2c_j1);
-        if (w2c_i0) {goto w2c_B140;}
-        w2c_B285:;
-        w2c_j0 = w2c_l18;
-        w2c_l3 = w2c_j0;
-        w2c_L293: 
-          w2c_j0 = w2c_l3;
-          w2c_i0 = (u32)(w2c_j0);
-          w2c_j0 = i64_load(&instance->w2c_memory, (u64)(w2c_i0));
-          w2c_l9 = w2c_j0;
-          w2c_i0 = (u32)(w2c_j0);
-          w2c_j0 = i64_load16_u(&instance->w2c_memory, (u64)(w2c_i0));
-          w2c_p2 = w2c_j0;
-          w2c_i0 = !(w2c_j0);
-          if (w2c_i0) {
-            w2c_j0 = 0ull;
-          } else {
-            w2c_j0 = w2c_l9;
-            w2c_j1 = 16ull;
-            w2c_j0 += w2c_j1;
-            w2c_l3 = w2c_j0;
-            w2c_j0 = w2c_l9;
-            w2c_j1 = 368ull;
-            w2c_j0 += w2c_j1;
-            w2c_l6 = w2c_j0;
-            w2c_j0 = 0ull;
-            w2c_p1 = w2c_j0;
-            w2c_L297: 
-              w2c_j0 = w2c_l3;
-              w2c_j1 = 8ull;
-              w2c_j0 -= w2c_j1;
-              w2c_i0 = (u32)(w2c_j0);
-              w2c_j0 = i64_load(&instance->w2c_memory, (u64)(w2c_i0));
-              w2c_l5 = w2c_j0;
-              w2c_j0 = w2c_l3;
-              w2c_i0 = (u32)(w2c_j0);
-              w2c_j0 = i64_load(&instance->w2c_memory, (u64)(w2c_i0));
-              w2c_l7 = w2c_j0;
-              w2c_j0 = w2c_l4;
-              w2c_i0 = (u32)(w2c_j0);
-              w2c_j1 = 5ull;
-              i64_store(&instance->w2c_memory, (u64)(w2c_i0) + 424, w2c_j1);
-              w2c_j0 = w2c_l4;
-              w2c_i0 = (u32)(w2c_j0);
-              w2c_j1 = 1060083ull;
-              i64_store(&instance->w2c_memory, (u64)(w2c_i0) + 416, w2c_j1);
-              w2c_j0 = w2c_l4;
-              w2c_i0 = (u32)(w2c_j0);
-              w2c_j1 = w2c_l7;
-              i64_store(&instance->w2c_memory, (u64)(w2c_i0) + 664, w2c_j1);
-              w2c_j0 = w2c_l4;
-              w2c_i0 = (u32)(w2c_j0);
-              w2c_j1 = w2c_l5;
-              i64_store(&instance->w2c_memory, (u64)(w2c_i0) + 656, w2c_j1);
-              w2c_j0 = w2c_l4;
-              w2c_j1 = 416ull;
-              w2c_j0 += w2c_j1;
-              w2c_j1 = w2c_l4;
-              w2c_j2 = 656ull;
-              w2c_j1 += w2c_j2;
-              w2c_i0 = w2c_f15(instance, w2c_j0, w2c_j1);
-              w2c_i1 = 255u;
-              w2c_i0 &= w2c_i1;
-              w2c_l37 = w2c_i0;
-              w2c_i1 = 2u;
-              w2c_i0 = w2c_i0 != w2c_i1;
-              if (w2c_i0) {
-                w2c_i0 = w2c_l37;
-                w2c_i1 = 1u;
-                w2c_i0 -= w2c_i1;
-                if (w2c_i0) {goto w2c_B296;}
-                goto w2c_B294;
-              }
-              w2c_j0 = w2c_l3;
-              w2c_j1 = 24ull;
-              w2c_j0 += w2c_j1;
-              w2c_l3 = w2c_j0;
-              w2c_j0 = w2c_l6;
-              w2c_j1 = 40ull;
-              w2c_j0 += w2c_j1;
-              w2c_l6 = w2c_j0;
-              w2c_j0 = w2c_p2;
-              w2c_j1 = w2c_p1;
-              w2c_j2 = 1ull;
-              w2c_j1 += w2c_j2;
-              w2c_p1 = w2c_j1;
-              w2c_i0 = w2c_j0 != w2c_j1;
-              if (w2c_i0) {goto w2c_L297;}
-            w2c_j0 = w2c_p2;
-            w2c_p1 = w2c_j0;
-            w2c_B296:;
-            w2c_j0 = w2c_p1;
-            w2c_j1 = 3ull;
-            w2c_j0 <<= (w2c_j1 & 63);
-          }
-          w2c_l3 = w2c_j0;
-          w2c_j0 = w2c_l9;
-          w2c_j1 = 2ull;
-          w2c_j0 += w2c_j1;
-          w2c_i0 = (u32)(w2c_j0);
-          w2c_i0 = i32_load16_u(&instance->w2c_memory, (u64)(w2c_i0));
-          w2c_i0 = !(w2c_i0);
-          if (w2c_i0) {goto w2c_B292;}
-          w2c_j0 = w2c_l3;
-          w2c_j1 = w2c_l9;
-          w2c_j0 += w2c_j1;
-          w2c_j1 = 968ull;
-          w2c_j0 += w2c_j1;
-          w2c_l3 = w2c_j0;
-          goto w2c_L293;
-          w2c_B294:;
-        w2c_j0 = w2c_l6;
-        w2c_i0 = (u32)(w2c_j0);
-        w2c_i0 = i32_load8_u(&instance->w2c_memory, (u64)(w2c_i0));
-        w2c_i1 = 3u;
-        w2c_i0 = w2c_i0 != w2c_i1;
-        if (w2c_i0) {goto w2c_B140;}
-        w2c_B292:;
-        w2c_j0 = w2c_l18;
-        w2c_l3 = w2c_j0;
-        w2c_L300: 
-          w2c_j0 = w2c_l3;
-          w2c_i0 = (u32)(w2c_j0);
-          w2c_j0 = i64_load(&instance->w2c_memory, (u64)(w2c_i0));
-          w2c_l9 = w2c_j0;
-          w2c_i0 = (u32)(w2c_j0);
-          w2c_j0 = i64_load16_u(&instance->w2c_memory, (u64)(w2c_i0));
-          w2c_p2 = w2c_j0;
-          w2c_i0 = !(w2c_j0);
-          if (w2c_i0) {
-            w2c_j0 = 0ull;
-          } else {
-            w2c_j0 = w2c_l9;
-            w2c_j1 = 16ull;
-            w2c_j0 += w2c_j1;
-            w2c_l3 = w2c_j0;
-            w2c_j0 = w2c_l9;
-            w2c_j1 = 376ull;
-            w2c_j0 += w2c_j1;
-            w2c_l5 = w2c_j0;
-            w2c_j0 = 0ull;
-            w2c_p1 = w2c_j0;
-            w2c_L304: 
-              w2c_j0 = w2c_l3;
-              w2c_j1 = 8ull;
-              w2c_j0 -= w2c_j1;
-              w2c_i0 = (u32)(w2c_j0);
-              w2c_j0 = i64_load(&instance->w2c_memory, (u64)(w2c_i0));
-              w2c_l7 = w2c_j0;
-              w2c_j0 = w2c_l3;
-              w2c_i0 = (u32)(w2c_j0);
-              w2c_j0 = i64_load(&instance->w2c_memory, (u64)(w2c_i0));
-              w2c_l6 = w2c_j0;
-              w2c_j0 = w2c_l4;
-              w2c_i0 = (u32)(w2c_j0);
-              w2c_j1 = 3ull;
-              i64_store(&instance->w2c_memory, (u64)(w2c_i0) + 424, w2c_j1);
-              w2c_j0 = w2c_l4;
-              w2c_i0 = (u32)(w2c_j0);
-              w2c_j1 = 1060077ull;
-              i64_store(&instance->w2c_memory, (u64)(w2c_i0) + 416, w2c_j1);
-              w2c_j0 = w2c_l4;
-              w2c_i0 = (u32)(w2c_j0);
-              w2c_j1 = w2c_l6;
-              i64_store(&instance->w2c_memory, (u64)(w2c_i0) + 664, w2c_j1);
-              w2c_j0 = w2c_l4;
-              w2c_i0 = (u32)(w2c_j0);
-              w2c_j1 = w2c_l7;
-              i64_store(&instance->w2c_memory, (u64)(w2c_i0) + 656, w2c_j1);
-              w2c_j0 = w2c_l4;
-              w2c_j1 = 416ull;
-              w2c_j0 += w2c_j1;
-              w2c_j1 = w2c_l4;
-              w2c_j2 = 656ull;
-              w2c_j1 += w2c_j2;
-              w2c_i0 = w2c_f15(instance, w2c_j0, w2c_j1);
-              w2c_i1 = 255u;
-              w2c_i0 &= w2c_i1;
-              w2c_l37 = w2c_i0;
-              w2c_i1 = 2u;
-              w2c_i0 = w2c_i0 != w2c_i1;
-              if (w2c_i0) {
-                w2c_i0 = w2c_l37;
-                w2c_i1 = 1u;
-                w2c_i0 -= w2c_i1;
-                if (w2c_i0) {goto w2c_B303;}
-                goto w2c_B301;
-              }
-              w2c_j0 = w2c_l3;
-              w2c_j1 = 24ull;
-              w2c_j0 += w2c_j1;
-              w2c_l3 = w2c_j0;
-              w2c_j0 = w2c_l5;
-              w2c_j1 = 40ull;
-              w2c_j0 += w2c_j1;
-              w2c_l5 = w2c_j0;
-              w2c_j0 = w2c_p2;
-              w2c_j1 = w2c_p1;
-              w2c_j2 = 1ull;
-              w2c_j1 += w2c_j2;
-              w2c_p1 = w2c_j1;
-              w2c_i0 = w2c_j0 != w2c_j1;
-              if (w2c_i0) {goto w2c_L304;}
-            w2c_j0 = w2c_p2;
-            w2c_p1 = w2c_j0;
-            w2c_B303:;
-            w2c_j0 = w2c_p1;
-            w2c_j1 = 3ull;
-            w2c_j0 <<= (w2c_j1 & 63);
-          }
-          w2c_l3 = w2c_j0;
-          w2c_j0 = w2c_l9;
-          w2c_j1 = 2ull;
-          w2c_j0 += w2c_j1;
-          w2c_i0 = (u32)(w2c_j0);
-          w2c_i0 = i32_load16_u(&instance->w2c_memory, (u64)(w2c_i0));
-          w2c_i0 = !(w2c_i0);
-          if (w2c_i0) {goto w2c_B299;}
-          w2c_j0 = w2c_l3;
-          w2c_j1 = w2c_l9;
-          w2c_j0 += w2c_j1;
-          w2c_j1 = 968ull;
-          w2c_j0 += w2c_j1;
-          w2c_l3 = w2c_j0;
-          goto w2c_L300;
-          w2c_B301:;
-        w2c_j0 = w2c_l5;
-        w2c_j1 = 8ull;
-        w2c_j0 -= w2c_j1;
-        w2c_i0 = (u32)(w2c_j0);
-        w2c_i0 = i32_load8_u(&instance->w2c_memory, (u64)(w2c_i0));
-        w2c_i1 = 1u;
-        w2c_i0 = w2c_i0 != w2c_i1;
-        if (w2c_i0) {goto w2c_B140;}
-        w2c_j0 = w2c_l5;
-        w2c_i0 = (u32)(w2c_j0);
-        w2c_j0 = i64_load(&instance->w2c_memory, (u64)(w2c_i0));
-        w2c_j1 = 0ull;
-        w2c_i0 = (u64)((s64)w2c_j0 < (s64)w2c_j1);
-        if (w2c_i0) {goto w2c_B140;}
-        w2c_B299:;
-        w2c_L306: 
-          w2c_j0 = w2c_l18;
-          w2c_i0 = (u32)(w2c_j0);
-          w2c_j0 = i64_load(&instance->w2c_memory, (u64)(w2c_i0));
-          w2c_l9 = w2c_j0;
-          w2c_i0 = (u32)(w2c_j0);
-          w2c_j0 = i64_load16_u(&instance->w2c_memory, (u64)(w2c_i0));
-          w2c_p2 = w2c_j0;
-          w2c_i0 = !(w2c_j0);
-          if (w2c_i0) {
-            w2c_j0 = 0ull;
-          } else {
-            w2c_j0 = w2c_l9;
-            w2c_j1 = 16ull;
-            w2c_j0 += w2c_j1;
-            w2c_l3 = w2c_j0;
-            w2c_j0 = w2c_l9;
-            w2c_j1 = 376ull;
-            w2c_j0 += w2c_j1;
-            w2c_l5 = w2c_j0;
-            w2c_j0 = 0ull;
-            w2c_p1 = w2c_j0;
-            w2c_L310: 
-              w2c_j0 = w2c_l3;
-              w2c_j1 = 8ull;
-              w2c_j0 -= w2c_j1;
-              w2c_i0 = (u32)(w2c_j0);
-              w2c_j0 = i64_load(&instance->w2c_memory, (u64)(w2c_i0));
-              w2c_l7 = w2c_j0;
-              w2c_j0 = w2c_l3;
-              w2c_i0 = (u32)(w2c_j0);
-              w2c_j0 = i64_load(&instance->w2c_memory, (u64)(w2c_i0));
-              w2c_l6 = w2c_j0;
-              w2c_j0 = w2c_l4;
-              w2c_i0 = (u32)(w2c_j0);
-              w2c_j1 = 3ull;
-              i64_store(&instance->w2c_memory, (u64)(w2c_i0) + 424, w2c_j1);
-              w2c_j0 = w2c_l4;
-              w2c_i0 = (u32)(w2c_j0);
-              w2c_j1 = 1060080ull;
-              i64_store(&instance->w2c_memory, (u64)(w2c_i0) + 416, w2c_j1);
-              w2c_j0 = w2c_l4;
-              w2c_i0 = (u32)(w2c_j0);
-              w2c_j1 = w2c_l6;
-              i64_store(&instance->w2c_memory, (u64)(w2c_i0) + 664, w2c_j1);
-              w2c_j0 = w2c_l4;
-              w2c_i0 = (u32)(w2c_j0);
-              w2c_j1 = w2c_l7;
-              i64_store(&instance->w2c_memory, (u64)(w2c_i0) + 656, w2c_j1);
-              w2c_j0 = w2c_l4;
-              w2c_j1 = 416ull;
-              w2c_j0 += w2c_j1;
-              w2c_j1 = w2c_l4;
-              w2c_j2 = 656ull;
-              w2c_j1 += w2c_j2;
-              w2c_i0 = w2c_f15(instance, w2c_j0, w2c_j1);
-              w2c_i1 = 255u;
-              w2c_i0 &= w2c_i1;
-              w2c_l37 = w2c_i0;
-              w2c_i1 = 2u;
-              w2c_i0 = w2c_i0 != w2c_i1;
-              if (w2c_i0) {
-                w2c_i0 = w2c_l37;
-                w2c_i1 = 1u;
-                w2c_i0 -= w2c_i1;
-                if (w2c_i0) {goto w2c_B309;}
-                goto w2c_B307;
-              }
-              w2c_j0 = w2c_l3;
-              w2c_j1 = 24ull;
-              w2c_j0 += w2c_j1;
-              w2c_l3 = w2c_j0;
-              w2c_j0 = w2c_l5;
-              w2c_j1 = 40ull;
-              w2c_j0 += w2c_j1;
-              w2c_l5 = w2c_j0;
-              w2c_j0 = w2c_p2;
-              w2c_j1 = w2c_p1;
-              w2c_j2 = 1ull;
-              w2c_j1 += w2c_j2;
-              w2c_p1 = w2c_j1;
-              w2c_i0 = w2c_j0 != w2c_j1;
-              if (w2c_i0) {goto w2c_L310;}
-            w2c_j0 = w2c_p2;
-            w2c_p1 = w2c_j0;
-            w2c_B309:;
-            w2c_j0 = w2c_p1;
-            w2c_j1 = 3ull;
-            w2c_j0 <<= (w2c_j1 & 63);
-          }
-          w2c_l3 = w2c_j0;
-          w2c_j0 = w2c_l9;
-          w2c_j1 = 2ull;
-          w2c_j0 += w2c_j1;
-          w2c_i0 = (u32)(w2c_j0);
-          w2c_i0 = i32_load16_u(&instance->w2c_memory, (u64)(w2c_i0));
-          w2c_i0 = !(w2c_i0);
-          if (w2c_i0) {goto w2c_B277;}
-          w2c_j0 = w2c_l3;
-          w2c_j1 = w2c_l9;
-          w2c_j0 += w2c_j1;
-          w2c_j1 = 968ull;
-          w2c_j0 += w2c_j1;
-          w2c_l18 = w2c_j0;
-          goto w2c_L306;
-          w2c_B307:;
-        w2c_j0 = w2c_l5;
-        w2c_j1 = 8ull;
-        w2c_j0 -= w2c_j1;
-        w2c_i0 = (u32)(w2c_j0);
-        w2c_i0 = i32_load8_u(&instance->w2c_memory, (u64)(w2c_i0));
-        w2c_i1 = 1u;
-        w2c_i0 = w2c_i0 != w2c_i1;
-        if (w2c_i0) {goto w2c_B140;}
-        w2c_j0 = w2c_l5;
-        w2c_i0 = (u32)(w2c_j0);
-        w2c_j0 = i64_load(&instance->w2c_memory, (u64)(w2c_i0));
-        w2c_j1 = 0ull;
-        w2c_i0 = (u64)((s64)w2c_j0 < (s64)w2c_j1);
-        if (w2c_i0) {goto w2c_B140;}
-        w2c_B277:;
-        w2c_j0 = w2c_l12;
-        w2c_j1 = 40ull;
-        w2c_j0 += w2c_j1;
-        w2c_l12 = w2c_j0;
-        w2c_j0 = w2c_l15;
-        w2c_j1 = 1ull;
-        w2c_j0 -= w2c_j1;
-        w2c_l15 = w2c_j0;
-        w2c_i0 = !(w2c_j0);
-        w2c_i0 = !(w2c_i0);
-        if (w2c_i0) {goto w2c_L276;}
-      goto w2c_B253;
-      w2c_B254:;
-      w2c_j0 = w2c_l10;
-      w2c_j1 = 1059704ull;
-      w2c_i0 = w2c_f45(instance, w2c_j0, w2c_j1);
-      if (w2c_i0) {goto w2c_B140;}
-      w2c_B253:;
-      w2c_j0 = w2c_l10;
-      w2c_j1 = 40ull;
-      w2c_j0 += w2c_j1;
-      w2c_l10 = w2c_j0;
-      w2c_j0 = w2c_l20;
-      w2c_j1 = 1ull;
-      w2c_j0 -= w2c_j1;
-      w2c_l20 = w2c_j0;
-      w2c_j1 = 0ull;
-      w2c_i0 = w2c_j0 != w2c_j1;
-      if (w2c_i0) {goto w2c_L252;}
-  }
-  w2c_j0 = w2c_l17;
-  w2c_i0 = !(w2c_j0);
-  w2c_i0 = !(w2c_i0);
-  if (w2c_i0) {
-    w2c_L313: 
-      w2c_j0 = w2c_l19;
-      w2c_i0 = (u32)(w2c_j0);
-      w2c_i0 = i32_load8_u(&instance->w2c_memory, (u64)(w2c_i0));
-      w2c_i1 = 6u;
-      w2c_i0 = w2c_i0 != w2c_i1;
-      if (w2c_i0) {goto w2c_B314;}
-      w2c_j0 = w2c_l19;
-      w2c_j1 = 8ull;
-      w2c_j0 += w2c_j1;
-      w2c_i0 = (u32)(w2c_j0);
-      w2c_i0 = i32_load8_u(&instance->w2c_memory, (u64)(w2c_i0));
-      w2c_i1 = 1u;
-      w2c_i0 = w2c_i0 != w2c_i1;
-      if (w2c_i0) {goto w2c_B314;}
-      w2c_j0 = w2c_l19;
-      w2c_j1 = 16ull;
-      w2c_j0 += w2c_j1;
-      w2c_l10 = w2c_j0;
-      w2c_l3 = w2c_j0;
-      w2c_L316: 
+      w2c_L247: 
         w2c_j0 = w2c_l3;
         w2c_i0 = (u32)(w2c_j0);
         w2c_j0 = i64_load(&instance->w2c_memory, (u64)(w2c_i0));
@@ -7841,38 +6661,38 @@ static void w2c_f0(Z_dine_ffi_instance_t* instance, u64 w2c_p0, u64 w2c_p1, u64 
           w2c_l5 = w2c_j0;
           w2c_j0 = 0ull;
           w2c_p1 = w2c_j0;
-          w2c_L320: 
+          w2c_L251: 
             w2c_j0 = w2c_l3;
             w2c_j1 = 8ull;
             w2c_j0 -= w2c_j1;
             w2c_i0 = (u32)(w2c_j0);
             w2c_j0 = i64_load(&instance->w2c_memory, (u64)(w2c_i0));
-            w2c_l7 = w2c_j0;
+            w2c_l6 = w2c_j0;
             w2c_j0 = w2c_l3;
             w2c_i0 = (u32)(w2c_j0);
             w2c_j0 = i64_load(&instance->w2c_memory, (u64)(w2c_i0));
-            w2c_l6 = w2c_j0;
+            w2c_l8 = w2c_j0;
             w2c_j0 = w2c_l4;
             w2c_i0 = (u32)(w2c_j0);
             w2c_j1 = 4ull;
-            i64_store(&instance->w2c_memory, (u64)(w2c_i0) + 424, w2c_j1);
+            i64_store(&instance->w2c_memory, (u64)(w2c_i0) + 504, w2c_j1);
             w2c_j0 = w2c_l4;
             w2c_i0 = (u32)(w2c_j0);
             w2c_j1 = 1060060ull;
-            i64_store(&instance->w2c_memory, (u64)(w2c_i0) + 416, w2c_j1);
+            i64_store(&instance->w2c_memory, (u64)(w2c_i0) + 496, w2c_j1);
+            w2c_j0 = w2c_l4;
+            w2c_i0 = (u32)(w2c_j0);
+            w2c_j1 = w2c_l8;
+            i64_store(&instance->w2c_memory, (u64)(w2c_i0) + 744, w2c_j1);
             w2c_j0 = w2c_l4;
             w2c_i0 = (u32)(w2c_j0);
             w2c_j1 = w2c_l6;
-            i64_store(&instance->w2c_memory, (u64)(w2c_i0) + 664, w2c_j1);
+            i64_store(&instance->w2c_memory, (u64)(w2c_i0) + 736, w2c_j1);
             w2c_j0 = w2c_l4;
-            w2c_i0 = (u32)(w2c_j0);
-            w2c_j1 = w2c_l7;
-            i64_store(&instance->w2c_memory, (u64)(w2c_i0) + 656, w2c_j1);
-            w2c_j0 = w2c_l4;
-            w2c_j1 = 416ull;
+            w2c_j1 = 496ull;
             w2c_j0 += w2c_j1;
             w2c_j1 = w2c_l4;
-            w2c_j2 = 656ull;
+            w2c_j2 = 736ull;
             w2c_j1 += w2c_j2;
             w2c_i0 = w2c_f15(instance, w2c_j0, w2c_j1);
             w2c_i1 = 255u;
@@ -7884,8 +6704,8 @@ static void w2c_f0(Z_dine_ffi_instance_t* instance, u64 w2c_p0, u64 w2c_p1, u64 
               w2c_i0 = w2c_l37;
               w2c_i1 = 1u;
               w2c_i0 -= w2c_i1;
-              if (w2c_i0) {goto w2c_B319;}
-              goto w2c_B317;
+              if (w2c_i0) {goto w2c_B250;}
+              goto w2c_B248;
             }
             w2c_j0 = w2c_l3;
             w2c_j1 = 24ull;
@@ -7901,10 +6721,10 @@ static void w2c_f0(Z_dine_ffi_instance_t* instance, u64 w2c_p0, u64 w2c_p1, u64 
             w2c_j1 += w2c_j2;
             w2c_p1 = w2c_j1;
             w2c_i0 = w2c_j0 != w2c_j1;
-            if (w2c_i0) {goto w2c_L320;}
+            if (w2c_i0) {goto w2c_L251;}
           w2c_j0 = w2c_p2;
           w2c_p1 = w2c_j0;
-          w2c_B319:;
+          w2c_B250:;
           w2c_j0 = w2c_p1;
           w2c_j1 = 3ull;
           w2c_j0 <<= (w2c_j1 & 63);
@@ -7916,15 +6736,15 @@ static void w2c_f0(Z_dine_ffi_instance_t* instance, u64 w2c_p0, u64 w2c_p1, u64 
         w2c_i0 = (u32)(w2c_j0);
         w2c_i0 = i32_load16_u(&instance->w2c_memory, (u64)(w2c_i0));
         w2c_i0 = !(w2c_i0);
-        if (w2c_i0) {goto w2c_B315;}
+        if (w2c_i0) {goto w2c_B246;}
         w2c_j0 = w2c_l3;
         w2c_j1 = w2c_l9;
         w2c_j0 += w2c_j1;
         w2c_j1 = 968ull;
         w2c_j0 += w2c_j1;
         w2c_l3 = w2c_j0;
-        goto w2c_L316;
-        w2c_B317:;
+        goto w2c_L247;
+        w2c_B248:;
       w2c_j0 = w2c_l5;
       w2c_i0 = (u32)(w2c_j0);
       w2c_i0 = i32_load8_u(&instance->w2c_memory, (u64)(w2c_i0));
@@ -7954,9 +6774,9 @@ static void w2c_f0(Z_dine_ffi_instance_t* instance, u64 w2c_p0, u64 w2c_p1, u64 
       w2c_i0 = (u32)(w2c_j0);
       w2c_i0 = i32_load8_u(&instance->w2c_memory, (u64)(w2c_i0));
       if (w2c_i0) {goto w2c_B140;}
-      w2c_B315:;
-      w2c_L322: 
-        w2c_j0 = w2c_l10;
+      w2c_B246:;
+      w2c_L253: 
+        w2c_j0 = w2c_l15;
         w2c_i0 = (u32)(w2c_j0);
         w2c_j0 = i64_load(&instance->w2c_memory, (u64)(w2c_i0));
         w2c_l9 = w2c_j0;
@@ -7977,38 +6797,892 @@ static void w2c_f0(Z_dine_ffi_instance_t* instance, u64 w2c_p0, u64 w2c_p1, u64 
           w2c_l5 = w2c_j0;
           w2c_j0 = 0ull;
           w2c_p1 = w2c_j0;
+          w2c_L257: 
+            w2c_j0 = w2c_l3;
+            w2c_j1 = 8ull;
+            w2c_j0 -= w2c_j1;
+            w2c_i0 = (u32)(w2c_j0);
+            w2c_j0 = i64_load(&instance->w2c_memory, (u64)(w2c_i0));
+            w2c_l6 = w2c_j0;
+            w2c_j0 = w2c_l3;
+            w2c_i0 = (u32)(w2c_j0);
+            w2c_j0 = i64_load(&instance->w2c_memory, (u64)(w2c_i0));
+            w2c_l8 = w2c_j0;
+            w2c_j0 = w2c_l4;
+            w2c_i0 = (u32)(w2c_j0);
+            w2c_j1 = 5ull;
+            i64_store(&instance->w2c_memory, (u64)(w2c_i0) + 504, w2c_j1);
+            w2c_j0 = w2c_l4;
+            w2c_i0 = (u32)(w2c_j0);
+            w2c_j1 = 1060064ull;
+            i64_store(&instance->w2c_memory, (u64)(w2c_i0) + 496, w2c_j1);
+            w2c_j0 = w2c_l4;
+            w2c_i0 = (u32)(w2c_j0);
+            w2c_j1 = w2c_l8;
+            i64_store(&instance->w2c_memory, (u64)(w2c_i0) + 744, w2c_j1);
+            w2c_j0 = w2c_l4;
+            w2c_i0 = (u32)(w2c_j0);
+            w2c_j1 = w2c_l6;
+            i64_store(&instance->w2c_memory, (u64)(w2c_i0) + 736, w2c_j1);
+            w2c_j0 = w2c_l4;
+            w2c_j1 = 496ull;
+            w2c_j0 += w2c_j1;
+            w2c_j1 = w2c_l4;
+            w2c_j2 = 736ull;
+            w2c_j1 += w2c_j2;
+            w2c_i0 = w2c_f15(instance, w2c_j0, w2c_j1);
+            w2c_i1 = 255u;
+            w2c_i0 &= w2c_i1;
+            w2c_l37 = w2c_i0;
+            w2c_i1 = 2u;
+            w2c_i0 = w2c_i0 != w2c_i1;
+            if (w2c_i0) {
+              w2c_i0 = w2c_l37;
+              w2c_i1 = 1u;
+              w2c_i0 -= w2c_i1;
+              if (w2c_i0) {goto w2c_B256;}
+              goto w2c_B254;
+            }
+            w2c_j0 = w2c_l3;
+            w2c_j1 = 24ull;
+            w2c_j0 += w2c_j1;
+            w2c_l3 = w2c_j0;
+            w2c_j0 = w2c_l5;
+            w2c_j1 = 40ull;
+            w2c_j0 += w2c_j1;
+            w2c_l5 = w2c_j0;
+            w2c_j0 = w2c_p2;
+            w2c_j1 = w2c_p1;
+            w2c_j2 = 1ull;
+            w2c_j1 += w2c_j2;
+            w2c_p1 = w2c_j1;
+            w2c_i0 = w2c_j0 != w2c_j1;
+            if (w2c_i0) {goto w2c_L257;}
+          w2c_j0 = w2c_p2;
+          w2c_p1 = w2c_j0;
+          w2c_B256:;
+          w2c_j0 = w2c_p1;
+          w2c_j1 = 3ull;
+          w2c_j0 <<= (w2c_j1 & 63);
+        }
+        w2c_l3 = w2c_j0;
+        w2c_j0 = w2c_l9;
+        w2c_j1 = 2ull;
+        w2c_j0 += w2c_j1;
+        w2c_i0 = (u32)(w2c_j0);
+        w2c_i0 = i32_load16_u(&instance->w2c_memory, (u64)(w2c_i0));
+        w2c_i0 = !(w2c_i0);
+        if (w2c_i0) {goto w2c_B245;}
+        w2c_j0 = w2c_l3;
+        w2c_j1 = w2c_l9;
+        w2c_j0 += w2c_j1;
+        w2c_j1 = 968ull;
+        w2c_j0 += w2c_j1;
+        w2c_l15 = w2c_j0;
+        goto w2c_L253;
+        w2c_B254:;
+      w2c_j0 = w2c_l5;
+      w2c_j1 = 8ull;
+      w2c_j0 -= w2c_j1;
+      w2c_i0 = (u32)(w2c_j0);
+      w2c_i0 = i32_load8_u(&instance->w2c_memory, (u64)(w2c_i0));
+      w2c_i1 = 1u;
+      w2c_i0 = w2c_i0 != w2c_i1;
+      if (w2c_i0) {goto w2c_B140;}
+      w2c_j0 = w2c_l5;
+      w2c_i0 = (u32)(w2c_j0);
+      w2c_j0 = i64_load(&instance->w2c_memory, (u64)(w2c_i0));
+      w2c_j1 = 0ull;
+      w2c_i0 = (u64)((s64)w2c_j0 < (s64)w2c_j1);
+      if (w2c_i0) {goto w2c_B140;}
+      w2c_B245:;
+      w2c_j0 = w2c_l11;
+      w2c_j1 = 40ull;
+      w2c_j0 += w2c_j1;
+      w2c_l11 = w2c_j0;
+      w2c_j0 = w2c_l13;
+      w2c_j1 = 1ull;
+      w2c_j0 -= w2c_j1;
+      w2c_l13 = w2c_j0;
+      w2c_i0 = !(w2c_j0);
+      w2c_i0 = !(w2c_i0);
+      if (w2c_i0) {goto w2c_L244;}
+  }
+  w2c_i0 = w2c_l39;
+  w2c_i1 = 6u;
+  w2c_i0 = w2c_i0 != w2c_i1;
+  if (w2c_i0) {goto w2c_B274;}
+  w2c_j0 = w2c_l10;
+  w2c_j1 = 8ull;
+  w2c_j0 += w2c_j1;
+  w2c_i0 = (u32)(w2c_j0);
+  w2c_i0 = i32_load8_u(&instance->w2c_memory, (u64)(w2c_i0));
+  w2c_i1 = 1u;
+  w2c_i0 = w2c_i0 != w2c_i1;
+  if (w2c_i0) {goto w2c_B274;}
+  w2c_j0 = w2c_l12;
+  w2c_p1 = w2c_j0;
+  w2c_L276: 
+    w2c_j0 = 0ull;
+    w2c_l20 = w2c_j0;
+    w2c_j0 = 0ull;
+    w2c_l3 = w2c_j0;
+    w2c_j0 = w2c_p1;
+    w2c_i0 = (u32)(w2c_j0);
+    w2c_j0 = i64_load(&instance->w2c_memory, (u64)(w2c_i0));
+    w2c_l11 = w2c_j0;
+    w2c_i0 = (u32)(w2c_j0);
+    w2c_j0 = i64_load16_u(&instance->w2c_memory, (u64)(w2c_i0));
+    w2c_p2 = w2c_j0;
+    w2c_i0 = !(w2c_j0);
+    w2c_i0 = !(w2c_i0);
+    if (w2c_i0) {
+      w2c_j0 = w2c_l11;
+      w2c_j1 = 16ull;
+      w2c_j0 += w2c_j1;
+      w2c_l3 = w2c_j0;
+      w2c_j0 = w2c_l11;
+      w2c_j1 = 384ull;
+      w2c_j0 += w2c_j1;
+      w2c_l5 = w2c_j0;
+      w2c_j0 = 0ull;
+      w2c_p1 = w2c_j0;
+      w2c_L280: 
+        w2c_j0 = w2c_l3;
+        w2c_j1 = 8ull;
+        w2c_j0 -= w2c_j1;
+        w2c_i0 = (u32)(w2c_j0);
+        w2c_j0 = i64_load(&instance->w2c_memory, (u64)(w2c_i0));
+        w2c_l6 = w2c_j0;
+        w2c_j0 = w2c_l3;
+        w2c_i0 = (u32)(w2c_j0);
+        w2c_j0 = i64_load(&instance->w2c_memory, (u64)(w2c_i0));
+        w2c_l8 = w2c_j0;
+        w2c_j0 = w2c_l4;
+        w2c_i0 = (u32)(w2c_j0);
+        w2c_j1 = 4ull;
+        i64_store(&instance->w2c_memory, (u64)(w2c_i0) + 504, w2c_j1);
+        w2c_j0 = w2c_l4;
+        w2c_i0 = (u32)(w2c_j0);
+        w2c_j1 = 1059624ull;
+        i64_store(&instance->w2c_memory, (u64)(w2c_i0) + 496, w2c_j1);
+        w2c_j0 = w2c_l4;
+        w2c_i0 = (u32)(w2c_j0);
+        w2c_j1 = w2c_l8;
+        i64_store(&instance->w2c_memory, (u64)(w2c_i0) + 744, w2c_j1);
+        w2c_j0 = w2c_l4;
+        w2c_i0 = (u32)(w2c_j0);
+        w2c_j1 = w2c_l6;
+        i64_store(&instance->w2c_memory, (u64)(w2c_i0) + 736, w2c_j1);
+        w2c_j0 = w2c_l4;
+        w2c_j1 = 496ull;
+        w2c_j0 += w2c_j1;
+        w2c_j1 = w2c_l4;
+        w2c_j2 = 736ull;
+        w2c_j1 += w2c_j2;
+        w2c_i0 = w2c_f15(instance, w2c_j0, w2c_j1);
+        w2c_i1 = 255u;
+        w2c_i0 &= w2c_i1;
+        w2c_l37 = w2c_i0;
+        w2c_i1 = 2u;
+        w2c_i0 = w2c_i0 != w2c_i1;
+        if (w2c_i0) {
+          w2c_i0 = w2c_l37;
+          w2c_i1 = 1u;
+          w2c_i0 -= w2c_i1;
+          if (w2c_i0) {goto w2c_B279;}
+          goto w2c_B277;
+        }
+        w2c_j0 = w2c_l3;
+        w2c_j1 = 24ull;
+        w2c_j0 += w2c_j1;
+        w2c_l3 = w2c_j0;
+        w2c_j0 = w2c_l5;
+        w2c_j1 = 40ull;
+        w2c_j0 += w2c_j1;
+        w2c_l5 = w2c_j0;
+        w2c_j0 = w2c_p2;
+        w2c_j1 = w2c_p1;
+        w2c_j2 = 1ull;
+        w2c_j1 += w2c_j2;
+        w2c_p1 = w2c_j1;
+        w2c_i0 = w2c_j0 != w2c_j1;
+        if (w2c_i0) {goto w2c_L280;}
+      w2c_j0 = w2c_p2;
+      w2c_p1 = w2c_j0;
+      w2c_B279:;
+      w2c_j0 = w2c_p1;
+      w2c_j1 = 3ull;
+      w2c_j0 <<= (w2c_j1 & 63);
+      w2c_l3 = w2c_j0;
+    }
+    w2c_j0 = w2c_l4;
+    w2c_j1 = 1000ull;
+    w2c_j0 += w2c_j1;
+    w2c_j1 = w2c_l11;
+    w2c_j2 = 2ull;
+    w2c_j1 += w2c_j2;
+    w2c_i1 = (u32)(w2c_j1);
+    w2c_i1 = i32_load16_u(&instance->w2c_memory, (u64)(w2c_i1));
+    w2c_i1 = !(w2c_i1);
+    if (w2c_i1) {goto w2c_B275;}
+    w2c_j0 = w2c_l3;
+    w2c_j1 = w2c_l11;
+    w2c_j0 += w2c_j1;
+    w2c_j1 = 968ull;
+    w2c_j0 += w2c_j1;
+    w2c_p1 = w2c_j0;
+    goto w2c_L276;
+    w2c_B277:;
+  w2c_j0 = w2c_l4;
+  w2c_j1 = 1000ull;
+  w2c_j0 += w2c_j1;
+  w2c_j1 = w2c_l5;
+  w2c_j2 = 16ull;
+  w2c_j1 -= w2c_j2;
+  w2c_i1 = (u32)(w2c_j1);
+  w2c_i1 = i32_load8_u(&instance->w2c_memory, (u64)(w2c_i1));
+  w2c_i2 = 5u;
+  w2c_i1 = w2c_i1 != w2c_i2;
+  if (w2c_i1) {goto w2c_B275;}
+  w2c_j0 = w2c_l5;
+  w2c_i0 = (u32)(w2c_j0);
+  w2c_j0 = i64_load(&instance->w2c_memory, (u64)(w2c_i0));
+  w2c_l20 = w2c_j0;
+  w2c_j0 = w2c_l5;
+  w2c_j1 = 8ull;
+  w2c_j0 -= w2c_j1;
+  w2c_i0 = (u32)(w2c_j0);
+  w2c_j0 = i64_load(&instance->w2c_memory, (u64)(w2c_i0));
+  w2c_B275:;
+  w2c_l21 = w2c_j0;
+  w2c_j0 = w2c_l12;
+  w2c_p1 = w2c_j0;
+  w2c_L283: 
+    w2c_j0 = 0ull;
+    w2c_l22 = w2c_j0;
+    w2c_j0 = 0ull;
+    w2c_l3 = w2c_j0;
+    w2c_j0 = w2c_p1;
+    w2c_i0 = (u32)(w2c_j0);
+    w2c_j0 = i64_load(&instance->w2c_memory, (u64)(w2c_i0));
+    w2c_l11 = w2c_j0;
+    w2c_i0 = (u32)(w2c_j0);
+    w2c_j0 = i64_load16_u(&instance->w2c_memory, (u64)(w2c_i0));
+    w2c_p2 = w2c_j0;
+    w2c_i0 = !(w2c_j0);
+    w2c_i0 = !(w2c_i0);
+    if (w2c_i0) {
+      w2c_j0 = w2c_l11;
+      w2c_j1 = 16ull;
+      w2c_j0 += w2c_j1;
+      w2c_l3 = w2c_j0;
+      w2c_j0 = w2c_l11;
+      w2c_j1 = 384ull;
+      w2c_j0 += w2c_j1;
+      w2c_l5 = w2c_j0;
+      w2c_j0 = 0ull;
+      w2c_p1 = w2c_j0;
+      w2c_L287: 
+        w2c_j0 = w2c_l3;
+        w2c_j1 = 8ull;
+        w2c_j0 -= w2c_j1;
+        w2c_i0 = (u32)(w2c_j0);
+        w2c_j0 = i64_load(&instance->w2c_memory, (u64)(w2c_i0));
+        w2c_l6 = w2c_j0;
+        w2c_j0 = w2c_l3;
+        w2c_i0 = (u32)(w2c_j0);
+        w2c_j0 = i64_load(&instance->w2c_memory, (u64)(w2c_i0));
+        w2c_l8 = w2c_j0;
+        w2c_j0 = w2c_l4;
+        w2c_i0 = (u32)(w2c_j0);
+        w2c_j1 = 4ull;
+        i64_store(&instance->w2c_memory, (u64)(w2c_i0) + 504, w2c_j1);
+        w2c_j0 = w2c_l4;
+        w2c_i0 = (u32)(w2c_j0);
+        w2c_j1 = 1059628ull;
+        i64_store(&instance->w2c_memory, (u64)(w2c_i0) + 496, w2c_j1);
+        w2c_j0 = w2c_l4;
+        w2c_i0 = (u32)(w2c_j0);
+        w2c_j1 = w2c_l8;
+        i64_store(&instance->w2c_memory, (u64)(w2c_i0) + 744, w2c_j1);
+        w2c_j0 = w2c_l4;
+        w2c_i0 = (u32)(w2c_j0);
+        w2c_j1 = w2c_l6;
+        i64_store(&instance->w2c_memory, (u64)(w2c_i0) + 736, w2c_j1);
+        w2c_j0 = w2c_l4;
+        w2c_j1 = 496ull;
+        w2c_j0 += w2c_j1;
+        w2c_j1 = w2c_l4;
+        w2c_j2 = 736ull;
+        w2c_j1 += w2c_j2;
+        w2c_i0 = w2c_f15(instance, w2c_j0, w2c_j1);
+        w2c_i1 = 255u;
+        w2c_i0 &= w2c_i1;
+        w2c_l37 = w2c_i0;
+        w2c_i1 = 2u;
+        w2c_i0 = w2c_i0 != w2c_i1;
+        if (w2c_i0) {
+          w2c_i0 = w2c_l37;
+          w2c_i1 = 1u;
+          w2c_i0 -= w2c_i1;
+          if (w2c_i0) {goto w2c_B286;}
+          goto w2c_B284;
+        }
+        w2c_j0 = w2c_l3;
+        w2c_j1 = 24ull;
+        w2c_j0 += w2c_j1;
+        w2c_l3 = w2c_j0;
+        w2c_j0 = w2c_l5;
+        w2c_j1 = 40ull;
+        w2c_j0 += w2c_j1;
+        w2c_l5 = w2c_j0;
+        w2c_j0 = w2c_p2;
+        w2c_j1 = w2c_p1;
+        w2c_j2 = 1ull;
+        w2c_j1 += w2c_j2;
+        w2c_p1 = w2c_j1;
+        w2c_i0 = w2c_j0 != w2c_j1;
+        if (w2c_i0) {goto w2c_L287;}
+      w2c_j0 = w2c_p2;
+      w2c_p1 = w2c_j0;
+      w2c_B286:;
+      w2c_j0 = w2c_p1;
+      w2c_j1 = 3ull;
+      w2c_j0 <<= (w2c_j1 & 63);
+      w2c_l3 = w2c_j0;
+    }
+    w2c_j0 = w2c_l4;
+    w2c_j1 = 1000ull;
+    w2c_j0 += w2c_j1;
+    w2c_j1 = w2c_l11;
+    w2c_j2 = 2ull;
+    w2c_j1 += w2c_j2;
+    w2c_i1 = (u32)(w2c_j1);
+    w2c_i1 = i32_load16_u(&instance->w2c_memory, (u64)(w2c_i1));
+    w2c_i1 = !(w2c_i1);
+    if (w2c_i1) {goto w2c_B282;}
+    w2c_j0 = w2c_l3;
+    w2c_j1 = w2c_l11;
+    w2c_j0 += w2c_j1;
+    w2c_j1 = 968ull;
+    w2c_j0 += w2c_j1;
+    w2c_p1 = w2c_j0;
+    goto w2c_L283;
+    w2c_B284:;
+  w2c_j0 = w2c_l4;
+  w2c_j1 = 1000ull;
+  w2c_j0 += w2c_j1;
+  w2c_j1 = w2c_l5;
+  w2c_j2 = 16ull;
+  w2c_j1 -= w2c_j2;
+  w2c_i1 = (u32)(w2c_j1);
+  w2c_i1 = i32_load8_u(&instance->w2c_memory, (u64)(w2c_i1));
+  w2c_i2 = 5u;
+  w2c_i1 = w2c_i1 != w2c_i2;
+  if (w2c_i1) {goto w2c_B282;}
+  w2c_j0 = w2c_l5;
+  w2c_i0 = (u32)(w2c_j0);
+  w2c_j0 = i64_load(&instance->w2c_memory, (u64)(w2c_i0));
+  w2c_l22 = w2c_j0;
+  w2c_j0 = w2c_l5;
+  w2c_j1 = 8ull;
+  w2c_j0 -= w2c_j1;
+  w2c_i0 = (u32)(w2c_j0);
+  w2c_j0 = i64_load(&instance->w2c_memory, (u64)(w2c_i0));
+  w2c_B282:;
+  w2c_l24 = w2c_j0;
+  w2c_j0 = w2c_l20;
+  w2c_j1 = w2c_l22;
+  w2c_j0 |= w2c_j1;
+  w2c_j1 = 4294967296ull;
+  w2c_i0 = w2c_j0 >= w2c_j1;
+  if (w2c_i0) {
+    w2c_j0 = w2c_l26;
+    w2c_i0 = (u32)(w2c_j0);
+    w2c_j1 = 81604378625ull;
+    i64_store(&instance->w2c_memory, (u64)(w2c_i0), w2c_j1);
+    w2c_j0 = w2c_l26;
+    w2c_j1 = 8ull;
+    w2c_j0 += w2c_j1;
+    w2c_i0 = (u32)(w2c_j0);
+    w2c_i1 = 0u;
+    i32_store(&instance->w2c_memory, (u64)(w2c_i0), w2c_i1);
+    w2c_j0 = w2c_l26;
+    w2c_j1 = 12ull;
+    w2c_j0 += w2c_j1;
+    w2c_i0 = (u32)(w2c_j0);
+    w2c_j1 = w2c_l4;
+    w2c_j2 = 324ull;
+    w2c_j1 += w2c_j2;
+    w2c_i1 = (u32)(w2c_j1);
+    w2c_i2 = 124u;
+    memory_copy(&instance->w2c_memory, &instance->w2c_memory, w2c_i0, w2c_i1, w2c_i2);
+    goto w2c_B139;
+  }
+  w2c_i0 = 1u;
+  w2c_l44 = w2c_i0;
+  w2c_j0 = w2c_l10;
+  w2c_j1 = 8ull;
+  w2c_j0 += w2c_j1;
+  w2c_i0 = (u32)(w2c_j0);
+  w2c_i0 = i32_load8_u(&instance->w2c_memory, (u64)(w2c_i0));
+  w2c_i1 = 1u;
+  w2c_i0 = w2c_i0 != w2c_i1;
+  if (w2c_i0) {goto w2c_B290;}
+  w2c_L291: 
+    w2c_j0 = w2c_l12;
+    w2c_i0 = (u32)(w2c_j0);
+    w2c_j0 = i64_load(&instance->w2c_memory, (u64)(w2c_i0));
+    w2c_l11 = w2c_j0;
+    w2c_i0 = (u32)(w2c_j0);
+    w2c_j0 = i64_load16_u(&instance->w2c_memory, (u64)(w2c_i0));
+    w2c_p2 = w2c_j0;
+    w2c_i0 = !(w2c_j0);
+    if (w2c_i0) {
+      w2c_j0 = 0ull;
+    } else {
+      w2c_j0 = w2c_l11;
+      w2c_j1 = 16ull;
+      w2c_j0 += w2c_j1;
+      w2c_l3 = w2c_j0;
+      w2c_j0 = w2c_l11;
+      w2c_j1 = 376ull;
+      w2c_j0 += w2c_j1;
+      w2c_l5 = w2c_j0;
+      w2c_j0 = 0ull;
+      w2c_p1 = w2c_j0;
+      w2c_L295: 
+        w2c_j0 = w2c_l3;
+        w2c_j1 = 8ull;
+        w2c_j0 -= w2c_j1;
+        w2c_i0 = (u32)(w2c_j0);
+        w2c_j0 = i64_load(&instance->w2c_memory, (u64)(w2c_i0));
+        w2c_l6 = w2c_j0;
+        w2c_j0 = w2c_l3;
+        w2c_i0 = (u32)(w2c_j0);
+        w2c_j0 = i64_load(&instance->w2c_memory, (u64)(w2c_i0));
+        w2c_l8 = w2c_j0;
+        w2c_j0 = w2c_l4;
+        w2c_i0 = (u32)(w2c_j0);
+        w2c_j1 = 7ull;
+        i64_store(&instance->w2c_memory, (u64)(w2c_i0) + 504, w2c_j1);
+        w2c_j0 = w2c_l4;
+        w2c_i0 = (u32)(w2c_j0);
+        w2c_j1 = 1059632ull;
+        i64_store(&instance->w2c_memory, (u64)(w2c_i0) + 496, w2c_j1);
+        w2c_j0 = w2c_l4;
+        w2c_i0 = (u32)(w2c_j0);
+        w2c_j1 = w2c_l8;
+        i64_store(&instance->w2c_memory, (u64)(w2c_i0) + 744, w2c_j1);
+        w2c_j0 = w2c_l4;
+        w2c_i0 = (u32)(w2c_j0);
+        w2c_j1 = w2c_l6;
+        i64_store(&instance->w2c_memory, (u64)(w2c_i0) + 736, w2c_j1);
+        w2c_j0 = w2c_l4;
+        w2c_j1 = 496ull;
+        w2c_j0 += w2c_j1;
+        w2c_j1 = w2c_l4;
+        w2c_j2 = 736ull;
+        w2c_j1 += w2c_j2;
+        w2c_i0 = w2c_f15(instance, w2c_j0, w2c_j1);
+        w2c_i1 = 255u;
+        w2c_i0 &= w2c_i1;
+        w2c_l37 = w2c_i0;
+        w2c_i1 = 2u;
+        w2c_i0 = w2c_i0 != w2c_i1;
+        if (w2c_i0) {
+          w2c_i0 = w2c_l37;
+          w2c_i1 = 1u;
+          w2c_i0 -= w2c_i1;
+          if (w2c_i0) {goto w2c_B294;}
+          goto w2c_B292;
+        }
+        w2c_j0 = w2c_l3;
+        w2c_j1 = 24ull;
+        w2c_j0 += w2c_j1;
+        w2c_l3 = w2c_j0;
+        w2c_j0 = w2c_l5;
+        w2c_j1 = 40ull;
+        w2c_j0 += w2c_j1;
+        w2c_l5 = w2c_j0;
+        w2c_j0 = w2c_p2;
+        w2c_j1 = w2c_p1;
+        w2c_j2 = 1ull;
+        w2c_j1 += w2c_j2;
+        w2c_p1 = w2c_j1;
+        w2c_i0 = w2c_j0 != w2c_j1;
+        if (w2c_i0) {goto w2c_L295;}
+      w2c_j0 = w2c_p2;
+      w2c_p1 = w2c_j0;
+      w2c_B294:;
+      w2c_j0 = w2c_p1;
+      w2c_j1 = 3ull;
+      w2c_j0 <<= (w2c_j1 & 63);
+    }
+    w2c_l3 = w2c_j0;
+    w2c_j0 = w2c_l11;
+    w2c_j1 = 2ull;
+    w2c_j0 += w2c_j1;
+    w2c_i0 = (u32)(w2c_j0);
+    w2c_i0 = i32_load16_u(&instance->w2c_memory, (u64)(w2c_i0));
+    w2c_i0 = !(w2c_i0);
+    if (w2c_i0) {goto w2c_B290;}
+    w2c_j0 = w2c_l3;
+    w2c_j1 = w2c_l11;
+    w2c_j0 += w2c_j1;
+    w2c_j1 = 968ull;
+    w2c_j0 += w2c_j1;
+    w2c_l12 = w2c_j0;
+    goto w2c_L291;
+    w2c_B292:;
+  w2c_j0 = w2c_l5;
+  w2c_j1 = 8ull;
+  w2c_j0 -= w2c_j1;
+  w2c_i0 = (u32)(w2c_j0);
+  w2c_i0 = i32_load8_u(&instance->w2c_memory, (u64)(w2c_i0));
+  w2c_i1 = 1u;
+  w2c_i0 = w2c_i0 != w2c_i1;
+  if (w2c_i0) {goto w2c_B290;}
+  w2c_i0 = 2u;
+  w2c_i1 = 1u;
+  w2c_j2 = w2c_l5;
+  w2c_i2 = (u32)(w2c_j2);
+  w2c_j2 = i64_load(&instance->w2c_memory, (u64)(w2c_i2));
+  w2c_j3 = 2ull;
+  w2c_i2 = w2c_j2 == w2c_j3;
+  w2c_i0 = w2c_i2 ? w2c_i0 : w2c_i1;
+  w2c_l44 = w2c_i0;
+  w2c_B290:;
+  w2c_j0 = w2c_l4;
+  w2c_i0 = (u32)(w2c_j0);
+  w2c_j1 = 0ull;
+  i64_store(&instance->w2c_memory, (u64)(w2c_i0) + 936, w2c_j1);
+  w2c_j0 = w2c_l4;
+  w2c_i0 = (u32)(w2c_j0);
+  w2c_j1 = 0ull;
+  i64_store(&instance->w2c_memory, (u64)(w2c_i0) + 928, w2c_j1);
+  w2c_j0 = w2c_l4;
+  w2c_i0 = (u32)(w2c_j0);
+  w2c_j1 = 0ull;
+  i64_store(&instance->w2c_memory, (u64)(w2c_i0) + 920, w2c_j1);
+  w2c_j0 = w2c_l4;
+  w2c_i0 = (u32)(w2c_j0);
+  w2c_j1 = 0ull;
+  i64_store(&instance->w2c_memory, (u64)(w2c_i0) + 744, w2c_j1);
+  w2c_j0 = w2c_l4;
+  w2c_i0 = (u32)(w2c_j0);
+  w2c_j1 = 0ull;
+  i64_store(&instance->w2c_memory, (u64)(w2c_i0) + 752, w2c_j1);
+  w2c_j0 = w2c_l4;
+  w2c_i0 = (u32)(w2c_j0);
+  w2c_j1 = w2c_l4;
+  w2c_j2 = 1000ull;
+  w2c_j1 += w2c_j2;
+  i64_store(&instance->w2c_memory, (u64)(w2c_i0) + 736, w2c_j1);
+  w2c_j0 = w2c_l20;
+  w2c_i0 = !(w2c_j0);
+  if (w2c_i0) {goto w2c_B269;}
+  w2c_j0 = 0ull;
+  w2c_l17 = w2c_j0;
+  w2c_L299: 
+    w2c_j0 = w2c_l21;
+    w2c_j1 = w2c_l17;
+    w2c_j2 = 40ull;
+    w2c_j1 *= w2c_j2;
+    w2c_j0 += w2c_j1;
+    w2c_l12 = w2c_j0;
+    w2c_i0 = (u32)(w2c_j0);
+    w2c_i0 = i32_load8_u(&instance->w2c_memory, (u64)(w2c_i0));
+    w2c_l39 = w2c_i0;
+    w2c_i1 = 6u;
+    w2c_i0 = w2c_i0 != w2c_i1;
+    if (w2c_i0) {goto w2c_B308;}
+    w2c_j0 = w2c_l12;
+    w2c_j1 = 8ull;
+    w2c_j0 += w2c_j1;
+    w2c_i0 = (u32)(w2c_j0);
+    w2c_i0 = i32_load8_u(&instance->w2c_memory, (u64)(w2c_i0));
+    w2c_i1 = 1u;
+    w2c_i0 = w2c_i0 != w2c_i1;
+    if (w2c_i0) {goto w2c_B308;}
+    w2c_j0 = w2c_l12;
+    w2c_j1 = 16ull;
+    w2c_j0 += w2c_j1;
+    w2c_l3 = w2c_j0;
+    w2c_L309: 
+      w2c_j0 = w2c_l3;
+      w2c_i0 = (u32)(w2c_j0);
+      w2c_j0 = i64_load(&instance->w2c_memory, (u64)(w2c_i0));
+      w2c_l11 = w2c_j0;
+      w2c_i0 = (u32)(w2c_j0);
+      w2c_j0 = i64_load16_u(&instance->w2c_memory, (u64)(w2c_i0));
+      w2c_p2 = w2c_j0;
+      w2c_i0 = !(w2c_j0);
+      if (w2c_i0) {
+        w2c_j0 = 0ull;
+      } else {
+        w2c_j0 = w2c_l11;
+        w2c_j1 = 16ull;
+        w2c_j0 += w2c_j1;
+        w2c_l3 = w2c_j0;
+        w2c_j0 = w2c_l11;
+        w2c_j1 = 384ull;
+        w2c_j0 += w2c_j1;
+        w2c_l5 = w2c_j0;
+        w2c_j0 = 0ull;
+        w2c_p1 = w2c_j0;
+        w2c_L313: 
+          w2c_j0 = w2c_l3;
+          w2c_j1 = 8ull;
+          w2c_j0 -= w2c_j1;
+          w2c_i0 = (u32)(w2c_j0);
+          w2c_j0 = i64_load(&instance->w2c_memory, (u64)(w2c_i0));
+          w2c_l6 = w2c_j0;
+          w2c_j0 = w2c_l3;
+          w2c_i0 = (u32)(w2c_j0);
+          w2c_j0 = i64_load(&instance->w2c_memory, (u64)(w2c_i0));
+          w2c_l8 = w2c_j0;
+          w2c_j0 = w2c_l4;
+          w2c_i0 = (u32)(w2c_j0);
+          w2c_j1 = 4ull;
+          i64_store(&instance->w2c_memory, (u64)(w2c_i0) + 504, w2c_j1);
+          w2c_j0 = w2c_l4;
+          w2c_i0 = (u32)(w2c_j0);
+          w2c_j1 = 1059704ull;
+          i64_store(&instance->w2c_memory, (u64)(w2c_i0) + 496, w2c_j1);
+          w2c_j0 = w2c_l4;
+          w2c_i0 = (u32)(w2c_j0);
+          w2c_j1 = w2c_l8;
+          i64_store(&instance->w2c_memory, (u64)(w2c_i0) + 672, w2c_j1);
+          w2c_j0 = w2c_l4;
+          w2c_i0 = (u32)(w2c_j0);
+          w2c_j1 = w2c_l6;
+          i64_store(&instance->w2c_memory, (u64)(w2c_i0) + 664, w2c_j1);
+          w2c_j0 = w2c_l4;
+          w2c_j1 = 496ull;
+          w2c_j0 += w2c_j1;
+          w2c_j1 = w2c_l4;
+          w2c_j2 = 664ull;
+          w2c_j1 += w2c_j2;
+          w2c_i0 = w2c_f15(instance, w2c_j0, w2c_j1);
+          w2c_i1 = 255u;
+          w2c_i0 &= w2c_i1;
+          w2c_l37 = w2c_i0;
+          w2c_i1 = 2u;
+          w2c_i0 = w2c_i0 != w2c_i1;
+          if (w2c_i0) {
+            w2c_i0 = w2c_l37;
+            w2c_i1 = 1u;
+            w2c_i0 -= w2c_i1;
+            if (w2c_i0) {goto w2c_B312;}
+            goto w2c_B310;
+          }
+          w2c_j0 = w2c_l3;
+          w2c_j1 = 24ull;
+          w2c_j0 += w2c_j1;
+          w2c_l3 = w2c_j0;
+          w2c_j0 = w2c_l5;
+          w2c_j1 = 40ull;
+          w2c_j0 += w2c_j1;
+          w2c_l5 = w2c_j0;
+          w2c_j0 = w2c_p2;
+          w2c_j1 = w2c_p1;
+          w2c_j2 = 1ull;
+          w2c_j1 += w2c_j2;
+          w2c_p1 = w2c_j1;
+          w2c_i0 = w2c_j0 != w2c_j1;
+          if (w2c_i0) {goto w2c_L313;}
+        w2c_j0 = w2c_p2;
+        w2c_p1 = w2c_j0;
+        w2c_B312:;
+        w2c_j0 = w2c_p1;
+        w2c_j1 = 3ull;
+        w2c_j0 <<= (w2c_j1 & 63);
+      }
+      w2c_l3 = w2c_j0;
+      w2c_j0 = w2c_l11;
+      w2c_j1 = 2ull;
+      w2c_j0 += w2c_j1;
+      w2c_i0 = (u32)(w2c_j0);
+      w2c_i0 = i32_load16_u(&instance->w2c_memory, (u64)(w2c_i0));
+      w2c_i0 = !(w2c_i0);
+      if (w2c_i0) {goto w2c_B308;}
+      w2c_j0 = w2c_l3;
+      w2c_j1 = w2c_l11;
+      w2c_j0 += w2c_j1;
+      w2c_j1 = 968ull;
+      w2c_j0 += w2c_j1;
+      w2c_l3 = w2c_j0;
+      goto w2c_L309;
+      w2c_B310:;
+    w2c_j0 = w2c_l5;
+    w2c_j1 = 16ull;
+    w2c_j0 -= w2c_j1;
+    w2c_i0 = (u32)(w2c_j0);
+    w2c_i0 = i32_load8_u(&instance->w2c_memory, (u64)(w2c_i0));
+    w2c_i1 = 5u;
+    w2c_i0 = w2c_i0 == w2c_i1;
+    if (w2c_i0) {goto w2c_B307;}
+    w2c_B308:;
+    w2c_i0 = 0u;
+    w2c_l38 = w2c_i0;
+    w2c_j0 = 0ull;
+    w2c_l18 = w2c_j0;
+    w2c_j0 = 0ull;
+    w2c_l9 = w2c_j0;
+    w2c_j0 = w2c_l4;
+    w2c_j1 = 1000ull;
+    w2c_j0 += w2c_j1;
+    goto w2c_B306;
+    w2c_B307:;
+    w2c_j0 = w2c_l5;
+    w2c_i0 = (u32)(w2c_j0);
+    w2c_j0 = i64_load(&instance->w2c_memory, (u64)(w2c_i0));
+    w2c_l14 = w2c_j0;
+    w2c_i0 = !(w2c_j0);
+    if (w2c_i0) {
+      w2c_i0 = 0u;
+      w2c_l38 = w2c_i0;
+      w2c_j0 = w2c_l4;
+      w2c_j1 = 1000ull;
+      w2c_j0 += w2c_j1;
+      w2c_l14 = w2c_j0;
+      w2c_j0 = 0ull;
+      w2c_l18 = w2c_j0;
+      w2c_j0 = 0ull;
+      w2c_l9 = w2c_j0;
+      goto w2c_B302;
+    }
+    w2c_j0 = w2c_l14;
+    w2c_j1 = 164703072086692425ull;
+    w2c_i0 = w2c_j0 > w2c_j1;
+    if (w2c_i0) {goto w2c_B270;}
+    w2c_j0 = w2c_l5;
+    w2c_j1 = 8ull;
+    w2c_j0 -= w2c_j1;
+    w2c_i0 = (u32)(w2c_j0);
+    w2c_j0 = i64_load(&instance->w2c_memory, (u64)(w2c_i0));
+    w2c_l23 = w2c_j0;
+    w2c_j0 = w2c_l4;
+    w2c_j1 = 280ull;
+    w2c_j0 += w2c_j1;
+    w2c_j1 = w2c_l14;
+    w2c_j2 = 56ull;
+    w2c_j1 *= w2c_j2;
+    w2c_f114(instance, w2c_j0, w2c_j1);
+    w2c_j0 = w2c_l4;
+    w2c_i0 = (u32)(w2c_j0);
+    w2c_j0 = i64_load(&instance->w2c_memory, (u64)(w2c_i0) + 280u);
+    w2c_i0 = (u32)(w2c_j0);
+    w2c_i1 = 1u;
+    w2c_i0 &= w2c_i1;
+    w2c_i0 = !(w2c_i0);
+    if (w2c_i0) {goto w2c_B270;}
+    w2c_j0 = w2c_l4;
+    w2c_i0 = (u32)(w2c_j0);
+    w2c_j0 = i64_load(&instance->w2c_memory, (u64)(w2c_i0) + 288u);
+    w2c_l18 = w2c_j0;
+    w2c_j0 = w2c_l4;
+    w2c_i0 = (u32)(w2c_j0);
+    w2c_j1 = w2c_l14;
+    i64_store(&instance->w2c_memory, (u64)(w2c_i0) + 512, w2c_j1);
+    w2c_j0 = 0ull;
+    w2c_l9 = w2c_j0;
+    w2c_j0 = w2c_l4;
+    w2c_i0 = (u32)(w2c_j0);
+    w2c_j1 = 0ull;
+    i64_store(&instance->w2c_memory, (u64)(w2c_i0) + 504, w2c_j1);
+    w2c_j0 = w2c_l4;
+    w2c_i0 = (u32)(w2c_j0);
+    w2c_j1 = w2c_l18;
+    i64_store(&instance->w2c_memory, (u64)(w2c_i0) + 496, w2c_j1);
+    w2c_i0 = 0u;
+    w2c_l38 = w2c_i0;
+    w2c_j0 = 0ull;
+    w2c_l16 = w2c_j0;
+    w2c_L316: 
+      w2c_j0 = w2c_l23;
+      w2c_j1 = w2c_l16;
+      w2c_j2 = 40ull;
+      w2c_j1 *= w2c_j2;
+      w2c_j0 += w2c_j1;
+      w2c_l15 = w2c_j0;
+      w2c_i0 = (u32)(w2c_j0);
+      w2c_i0 = i32_load8_u(&instance->w2c_memory, (u64)(w2c_i0));
+      w2c_i1 = 6u;
+      w2c_i0 = w2c_i0 != w2c_i1;
+      if (w2c_i0) {goto w2c_B320;}
+      w2c_j0 = w2c_l15;
+      w2c_j1 = 8ull;
+      w2c_j0 += w2c_j1;
+      w2c_i0 = (u32)(w2c_j0);
+      w2c_i0 = i32_load8_u(&instance->w2c_memory, (u64)(w2c_i0));
+      w2c_i1 = 1u;
+      w2c_i0 = w2c_i0 != w2c_i1;
+      if (w2c_i0) {goto w2c_B320;}
+      w2c_j0 = w2c_l15;
+      w2c_j1 = 16ull;
+      w2c_j0 += w2c_j1;
+      w2c_l19 = w2c_j0;
+      w2c_p1 = w2c_j0;
+      w2c_L322: 
+        w2c_j0 = 0ull;
+        w2c_l11 = w2c_j0;
+        w2c_j0 = 0ull;
+        w2c_l3 = w2c_j0;
+        w2c_j0 = w2c_p1;
+        w2c_i0 = (u32)(w2c_j0);
+        w2c_j0 = i64_load(&instance->w2c_memory, (u64)(w2c_i0));
+        w2c_l10 = w2c_j0;
+        w2c_i0 = (u32)(w2c_j0);
+        w2c_j0 = i64_load16_u(&instance->w2c_memory, (u64)(w2c_i0));
+        w2c_p2 = w2c_j0;
+        w2c_i0 = !(w2c_j0);
+        w2c_i0 = !(w2c_i0);
+        if (w2c_i0) {
+          w2c_j0 = w2c_l10;
+          w2c_j1 = 16ull;
+          w2c_j0 += w2c_j1;
+          w2c_l3 = w2c_j0;
+          w2c_j0 = w2c_l10;
+          w2c_j1 = 384ull;
+          w2c_j0 += w2c_j1;
+          w2c_l5 = w2c_j0;
+          w2c_j0 = 0ull;
+          w2c_p1 = w2c_j0;
           w2c_L326: 
             w2c_j0 = w2c_l3;
             w2c_j1 = 8ull;
             w2c_j0 -= w2c_j1;
             w2c_i0 = (u32)(w2c_j0);
             w2c_j0 = i64_load(&instance->w2c_memory, (u64)(w2c_i0));
-            w2c_l7 = w2c_j0;
+            w2c_l6 = w2c_j0;
             w2c_j0 = w2c_l3;
             w2c_i0 = (u32)(w2c_j0);
             w2c_j0 = i64_load(&instance->w2c_memory, (u64)(w2c_i0));
-            w2c_l6 = w2c_j0;
+            w2c_l8 = w2c_j0;
             w2c_j0 = w2c_l4;
             w2c_i0 = (u32)(w2c_j0);
-            w2c_j1 = 5ull;
-            i64_store(&instance->w2c_memory, (u64)(w2c_i0) + 424, w2c_j1);
+            w2c_j1 = 4ull;
+            i64_store(&instance->w2c_memory, (u64)(w2c_i0) + 672, w2c_j1);
             w2c_j0 = w2c_l4;
             w2c_i0 = (u32)(w2c_j0);
-            w2c_j1 = 1060088ull;
-            i64_store(&instance->w2c_memory, (u64)(w2c_i0) + 416, w2c_j1);
-            w2c_j0 = w2c_l4;
-            w2c_i0 = (u32)(w2c_j0);
-            w2c_j1 = w2c_l6;
+            w2c_j1 = 1060056ull;
             i64_store(&instance->w2c_memory, (u64)(w2c_i0) + 664, w2c_j1);
             w2c_j0 = w2c_l4;
             w2c_i0 = (u32)(w2c_j0);
-            w2c_j1 = w2c_l7;
-            i64_store(&instance->w2c_memory, (u64)(w2c_i0) + 656, w2c_j1);
+            w2c_j1 = w2c_l8;
+            i64_store(&instance->w2c_memory, (u64)(w2c_i0) + 640, w2c_j1);
             w2c_j0 = w2c_l4;
-            w2c_j1 = 416ull;
+            w2c_i0 = (u32)(w2c_j0);
+            w2c_j1 = w2c_l6;
+            i64_store(&instance->w2c_memory, (u64)(w2c_i0) + 632, w2c_j1);
+            w2c_j0 = w2c_l4;
+            w2c_j1 = 664ull;
             w2c_j0 += w2c_j1;
             w2c_j1 = w2c_l4;
-            w2c_j2 = 656ull;
+            w2c_j2 = 632ull;
             w2c_j1 += w2c_j2;
             w2c_i0 = w2c_f15(instance, w2c_j0, w2c_j1);
             w2c_i1 = 255u;
@@ -8044,873 +7718,6 @@ static void w2c_f0(Z_dine_ffi_instance_t* instance, u64 w2c_p0, u64 w2c_p1, u64 
           w2c_j0 = w2c_p1;
           w2c_j1 = 3ull;
           w2c_j0 <<= (w2c_j1 & 63);
-        }
-        w2c_l3 = w2c_j0;
-        w2c_j0 = w2c_l9;
-        w2c_j1 = 2ull;
-        w2c_j0 += w2c_j1;
-        w2c_i0 = (u32)(w2c_j0);
-        w2c_i0 = i32_load16_u(&instance->w2c_memory, (u64)(w2c_i0));
-        w2c_i0 = !(w2c_i0);
-        if (w2c_i0) {goto w2c_B314;}
-        w2c_j0 = w2c_l3;
-        w2c_j1 = w2c_l9;
-        w2c_j0 += w2c_j1;
-        w2c_j1 = 968ull;
-        w2c_j0 += w2c_j1;
-        w2c_l10 = w2c_j0;
-        goto w2c_L322;
-        w2c_B323:;
-      w2c_j0 = w2c_l5;
-      w2c_j1 = 8ull;
-      w2c_j0 -= w2c_j1;
-      w2c_i0 = (u32)(w2c_j0);
-      w2c_i0 = i32_load8_u(&instance->w2c_memory, (u64)(w2c_i0));
-      w2c_i1 = 1u;
-      w2c_i0 = w2c_i0 != w2c_i1;
-      if (w2c_i0) {goto w2c_B140;}
-      w2c_j0 = w2c_l5;
-      w2c_i0 = (u32)(w2c_j0);
-      w2c_j0 = i64_load(&instance->w2c_memory, (u64)(w2c_i0));
-      w2c_j1 = 0ull;
-      w2c_i0 = (u64)((s64)w2c_j0 < (s64)w2c_j1);
-      if (w2c_i0) {goto w2c_B140;}
-      w2c_B314:;
-      w2c_j0 = w2c_l19;
-      w2c_j1 = 40ull;
-      w2c_j0 += w2c_j1;
-      w2c_l19 = w2c_j0;
-      w2c_j0 = w2c_l17;
-      w2c_j1 = 1ull;
-      w2c_j0 -= w2c_j1;
-      w2c_l17 = w2c_j0;
-      w2c_i0 = !(w2c_j0);
-      w2c_i0 = !(w2c_i0);
-      if (w2c_i0) {goto w2c_L313;}
-  }
-  w2c_j0 = w2c_l13;
-  w2c_i0 = (u32)(w2c_j0);
-  w2c_i0 = i32_load8_u(&instance->w2c_memory, (u64)(w2c_i0));
-  w2c_i1 = 6u;
-  w2c_i0 = w2c_i0 != w2c_i1;
-  if (w2c_i0) {
-    w2c_i0 = 1u;
-    w2c_l41 = w2c_i0;
-    w2c_j0 = 0ull;
-    w2c_l20 = w2c_j0;
-    w2c_j0 = w2c_l4;
-    w2c_j1 = 920ull;
-    w2c_j0 += w2c_j1;
-    w2c_l18 = w2c_j0;
-    w2c_l24 = w2c_j0;
-    goto w2c_B328;
-  }
-  w2c_i0 = 1u;
-  w2c_l41 = w2c_i0;
-  w2c_j0 = 0ull;
-  w2c_l20 = w2c_j0;
-  w2c_j0 = w2c_l4;
-  w2c_j1 = 920ull;
-  w2c_j0 += w2c_j1;
-  w2c_l18 = w2c_j0;
-  w2c_l24 = w2c_j0;
-  w2c_j0 = w2c_l13;
-  w2c_j1 = 8ull;
-  w2c_j0 += w2c_j1;
-  w2c_i0 = (u32)(w2c_j0);
-  w2c_i0 = i32_load8_u(&instance->w2c_memory, (u64)(w2c_i0));
-  w2c_i1 = 1u;
-  w2c_i0 = w2c_i0 != w2c_i1;
-  if (w2c_i0) {goto w2c_B328;}
-  w2c_j0 = w2c_l11;
-  w2c_p1 = w2c_j0;
-  w2c_L331: 
-    w2c_j0 = 0ull;
-    w2c_l3 = w2c_j0;
-    w2c_j0 = w2c_p1;
-    w2c_i0 = (u32)(w2c_j0);
-    w2c_j0 = i64_load(&instance->w2c_memory, (u64)(w2c_i0));
-    w2c_l9 = w2c_j0;
-    w2c_i0 = (u32)(w2c_j0);
-    w2c_j0 = i64_load16_u(&instance->w2c_memory, (u64)(w2c_i0));
-    w2c_p2 = w2c_j0;
-    w2c_i0 = !(w2c_j0);
-    w2c_i0 = !(w2c_i0);
-    if (w2c_i0) {
-      w2c_j0 = w2c_l9;
-      w2c_j1 = 16ull;
-      w2c_j0 += w2c_j1;
-      w2c_l3 = w2c_j0;
-      w2c_j0 = w2c_l9;
-      w2c_j1 = 384ull;
-      w2c_j0 += w2c_j1;
-      w2c_l5 = w2c_j0;
-      w2c_j0 = 0ull;
-      w2c_p1 = w2c_j0;
-      w2c_L335: 
-        w2c_j0 = w2c_l3;
-        w2c_j1 = 8ull;
-        w2c_j0 -= w2c_j1;
-        w2c_i0 = (u32)(w2c_j0);
-        w2c_j0 = i64_load(&instance->w2c_memory, (u64)(w2c_i0));
-        w2c_l7 = w2c_j0;
-        w2c_j0 = w2c_l3;
-        w2c_i0 = (u32)(w2c_j0);
-        w2c_j0 = i64_load(&instance->w2c_memory, (u64)(w2c_i0));
-        w2c_l6 = w2c_j0;
-        w2c_j0 = w2c_l4;
-        w2c_i0 = (u32)(w2c_j0);
-        w2c_j1 = 4ull;
-        i64_store(&instance->w2c_memory, (u64)(w2c_i0) + 424, w2c_j1);
-        w2c_j0 = w2c_l4;
-        w2c_i0 = (u32)(w2c_j0);
-        w2c_j1 = 1059624ull;
-        i64_store(&instance->w2c_memory, (u64)(w2c_i0) + 416, w2c_j1);
-        w2c_j0 = w2c_l4;
-        w2c_i0 = (u32)(w2c_j0);
-        w2c_j1 = w2c_l6;
-        i64_store(&instance->w2c_memory, (u64)(w2c_i0) + 664, w2c_j1);
-        w2c_j0 = w2c_l4;
-        w2c_i0 = (u32)(w2c_j0);
-        w2c_j1 = w2c_l7;
-        i64_store(&instance->w2c_memory, (u64)(w2c_i0) + 656, w2c_j1);
-        w2c_j0 = w2c_l4;
-        w2c_j1 = 416ull;
-        w2c_j0 += w2c_j1;
-        w2c_j1 = w2c_l4;
-        w2c_j2 = 656ull;
-        w2c_j1 += w2c_j2;
-        w2c_i0 = w2c_f15(instance, w2c_j0, w2c_j1);
-        w2c_i1 = 255u;
-        w2c_i0 &= w2c_i1;
-        w2c_l37 = w2c_i0;
-        w2c_i1 = 2u;
-        w2c_i0 = w2c_i0 != w2c_i1;
-        if (w2c_i0) {
-          w2c_i0 = w2c_l37;
-          w2c_i1 = 1u;
-          w2c_i0 -= w2c_i1;
-          if (w2c_i0) {goto w2c_B334;}
-          goto w2c_B332;
-        }
-        w2c_j0 = w2c_l3;
-        w2c_j1 = 24ull;
-        w2c_j0 += w2c_j1;
-        w2c_l3 = w2c_j0;
-        w2c_j0 = w2c_l5;
-        w2c_j1 = 40ull;
-        w2c_j0 += w2c_j1;
-        w2c_l5 = w2c_j0;
-        w2c_j0 = w2c_p2;
-        w2c_j1 = w2c_p1;
-        w2c_j2 = 1ull;
-        w2c_j1 += w2c_j2;
-        w2c_p1 = w2c_j1;
-        w2c_i0 = w2c_j0 != w2c_j1;
-        if (w2c_i0) {goto w2c_L335;}
-      w2c_j0 = w2c_p2;
-      w2c_p1 = w2c_j0;
-      w2c_B334:;
-      w2c_j0 = w2c_p1;
-      w2c_j1 = 3ull;
-      w2c_j0 <<= (w2c_j1 & 63);
-      w2c_l3 = w2c_j0;
-    }
-    w2c_j0 = w2c_l4;
-    w2c_j1 = 920ull;
-    w2c_j0 += w2c_j1;
-    w2c_j1 = w2c_l9;
-    w2c_j2 = 2ull;
-    w2c_j1 += w2c_j2;
-    w2c_i1 = (u32)(w2c_j1);
-    w2c_i1 = i32_load16_u(&instance->w2c_memory, (u64)(w2c_i1));
-    w2c_i1 = !(w2c_i1);
-    if (w2c_i1) {goto w2c_B330;}
-    w2c_j0 = w2c_l3;
-    w2c_j1 = w2c_l9;
-    w2c_j0 += w2c_j1;
-    w2c_j1 = 968ull;
-    w2c_j0 += w2c_j1;
-    w2c_p1 = w2c_j0;
-    goto w2c_L331;
-    w2c_B332:;
-  w2c_j0 = w2c_l4;
-  w2c_j1 = 920ull;
-  w2c_j0 += w2c_j1;
-  w2c_j1 = w2c_l5;
-  w2c_j2 = 16ull;
-  w2c_j1 -= w2c_j2;
-  w2c_i1 = (u32)(w2c_j1);
-  w2c_i1 = i32_load8_u(&instance->w2c_memory, (u64)(w2c_i1));
-  w2c_i2 = 5u;
-  w2c_i1 = w2c_i1 != w2c_i2;
-  if (w2c_i1) {goto w2c_B330;}
-  w2c_j0 = w2c_l5;
-  w2c_i0 = (u32)(w2c_j0);
-  w2c_j0 = i64_load(&instance->w2c_memory, (u64)(w2c_i0));
-  w2c_l20 = w2c_j0;
-  w2c_j0 = w2c_l5;
-  w2c_j1 = 8ull;
-  w2c_j0 -= w2c_j1;
-  w2c_i0 = (u32)(w2c_j0);
-  w2c_j0 = i64_load(&instance->w2c_memory, (u64)(w2c_i0));
-  w2c_B330:;
-  w2c_l18 = w2c_j0;
-  w2c_j0 = w2c_l11;
-  w2c_p1 = w2c_j0;
-  w2c_L338: 
-    w2c_j0 = 0ull;
-    w2c_l3 = w2c_j0;
-    w2c_j0 = w2c_p1;
-    w2c_i0 = (u32)(w2c_j0);
-    w2c_j0 = i64_load(&instance->w2c_memory, (u64)(w2c_i0));
-    w2c_l9 = w2c_j0;
-    w2c_i0 = (u32)(w2c_j0);
-    w2c_j0 = i64_load16_u(&instance->w2c_memory, (u64)(w2c_i0));
-    w2c_p2 = w2c_j0;
-    w2c_i0 = !(w2c_j0);
-    w2c_i0 = !(w2c_i0);
-    if (w2c_i0) {
-      w2c_j0 = w2c_l9;
-      w2c_j1 = 16ull;
-      w2c_j0 += w2c_j1;
-      w2c_l3 = w2c_j0;
-      w2c_j0 = w2c_l9;
-      w2c_j1 = 384ull;
-      w2c_j0 += w2c_j1;
-      w2c_l5 = w2c_j0;
-      w2c_j0 = 0ull;
-      w2c_p1 = w2c_j0;
-      w2c_L342: 
-        w2c_j0 = w2c_l3;
-        w2c_j1 = 8ull;
-        w2c_j0 -= w2c_j1;
-        w2c_i0 = (u32)(w2c_j0);
-        w2c_j0 = i64_load(&instance->w2c_memory, (u64)(w2c_i0));
-        w2c_l7 = w2c_j0;
-        w2c_j0 = w2c_l3;
-        w2c_i0 = (u32)(w2c_j0);
-        w2c_j0 = i64_load(&instance->w2c_memory, (u64)(w2c_i0));
-        w2c_l6 = w2c_j0;
-        w2c_j0 = w2c_l4;
-        w2c_i0 = (u32)(w2c_j0);
-        w2c_j1 = 4ull;
-        i64_store(&instance->w2c_memory, (u64)(w2c_i0) + 424, w2c_j1);
-        w2c_j0 = w2c_l4;
-        w2c_i0 = (u32)(w2c_j0);
-        w2c_j1 = 1059628ull;
-        i64_store(&instance->w2c_memory, (u64)(w2c_i0) + 416, w2c_j1);
-        w2c_j0 = w2c_l4;
-        w2c_i0 = (u32)(w2c_j0);
-        w2c_j1 = w2c_l6;
-        i64_store(&instance->w2c_memory, (u64)(w2c_i0) + 664, w2c_j1);
-        w2c_j0 = w2c_l4;
-        w2c_i0 = (u32)(w2c_j0);
-        w2c_j1 = w2c_l7;
-        i64_store(&instance->w2c_memory, (u64)(w2c_i0) + 656, w2c_j1);
-        w2c_j0 = w2c_l4;
-        w2c_j1 = 416ull;
-        w2c_j0 += w2c_j1;
-        w2c_j1 = w2c_l4;
-        w2c_j2 = 656ull;
-        w2c_j1 += w2c_j2;
-        w2c_i0 = w2c_f15(instance, w2c_j0, w2c_j1);
-        w2c_i1 = 255u;
-        w2c_i0 &= w2c_i1;
-        w2c_l37 = w2c_i0;
-        w2c_i1 = 2u;
-        w2c_i0 = w2c_i0 != w2c_i1;
-        if (w2c_i0) {
-          w2c_i0 = w2c_l37;
-          w2c_i1 = 1u;
-          w2c_i0 -= w2c_i1;
-          if (w2c_i0) {goto w2c_B341;}
-          goto w2c_B339;
-        }
-        w2c_j0 = w2c_l3;
-        w2c_j1 = 24ull;
-        w2c_j0 += w2c_j1;
-        w2c_l3 = w2c_j0;
-        w2c_j0 = w2c_l5;
-        w2c_j1 = 40ull;
-        w2c_j0 += w2c_j1;
-        w2c_l5 = w2c_j0;
-        w2c_j0 = w2c_p2;
-        w2c_j1 = w2c_p1;
-        w2c_j2 = 1ull;
-        w2c_j1 += w2c_j2;
-        w2c_p1 = w2c_j1;
-        w2c_i0 = w2c_j0 != w2c_j1;
-        if (w2c_i0) {goto w2c_L342;}
-      w2c_j0 = w2c_p2;
-      w2c_p1 = w2c_j0;
-      w2c_B341:;
-      w2c_j0 = w2c_p1;
-      w2c_j1 = 3ull;
-      w2c_j0 <<= (w2c_j1 & 63);
-      w2c_l3 = w2c_j0;
-    }
-    w2c_j0 = w2c_l4;
-    w2c_j1 = 920ull;
-    w2c_j0 += w2c_j1;
-    w2c_j1 = w2c_l9;
-    w2c_j2 = 2ull;
-    w2c_j1 += w2c_j2;
-    w2c_i1 = (u32)(w2c_j1);
-    w2c_i1 = i32_load16_u(&instance->w2c_memory, (u64)(w2c_i1));
-    w2c_i1 = !(w2c_i1);
-    if (w2c_i1) {goto w2c_B337;}
-    w2c_j0 = w2c_l3;
-    w2c_j1 = w2c_l9;
-    w2c_j0 += w2c_j1;
-    w2c_j1 = 968ull;
-    w2c_j0 += w2c_j1;
-    w2c_p1 = w2c_j0;
-    goto w2c_L338;
-    w2c_B339:;
-  w2c_j0 = w2c_l4;
-  w2c_j1 = 920ull;
-  w2c_j0 += w2c_j1;
-  w2c_j1 = w2c_l5;
-  w2c_j2 = 16ull;
-  w2c_j1 -= w2c_j2;
-  w2c_i1 = (u32)(w2c_j1);
-  w2c_i1 = i32_load8_u(&instance->w2c_memory, (u64)(w2c_i1));
-  w2c_i2 = 5u;
-  w2c_i1 = w2c_i1 != w2c_i2;
-  if (w2c_i1) {goto w2c_B337;}
-  w2c_j0 = w2c_l5;
-  w2c_i0 = (u32)(w2c_j0);
-  w2c_j0 = i64_load(&instance->w2c_memory, (u64)(w2c_i0));
-  w2c_l27 = w2c_j0;
-  w2c_j0 = w2c_l5;
-  w2c_j1 = 8ull;
-  w2c_j0 -= w2c_j1;
-  w2c_i0 = (u32)(w2c_j0);
-  w2c_j0 = i64_load(&instance->w2c_memory, (u64)(w2c_i0));
-  w2c_B337:;
-  w2c_l24 = w2c_j0;
-  w2c_j0 = w2c_l20;
-  w2c_j1 = w2c_l27;
-  w2c_j0 |= w2c_j1;
-  w2c_j1 = 4294967296ull;
-  w2c_i0 = w2c_j0 >= w2c_j1;
-  if (w2c_i0) {
-    w2c_j0 = w2c_l25;
-    w2c_i0 = (u32)(w2c_j0);
-    w2c_j1 = 81604378625ull;
-    i64_store(&instance->w2c_memory, (u64)(w2c_i0), w2c_j1);
-    w2c_j0 = w2c_l25;
-    w2c_j1 = 8ull;
-    w2c_j0 += w2c_j1;
-    w2c_i0 = (u32)(w2c_j0);
-    w2c_i1 = 0u;
-    i32_store(&instance->w2c_memory, (u64)(w2c_i0), w2c_i1);
-    w2c_j0 = w2c_l25;
-    w2c_j1 = 12ull;
-    w2c_j0 += w2c_j1;
-    w2c_i0 = (u32)(w2c_j0);
-    w2c_j1 = w2c_l4;
-    w2c_j2 = 244ull;
-    w2c_j1 += w2c_j2;
-    w2c_i1 = (u32)(w2c_j1);
-    w2c_i2 = 124u;
-    memory_copy(&instance->w2c_memory, &instance->w2c_memory, w2c_i0, w2c_i1, w2c_i2);
-    goto w2c_B139;
-  }
-  w2c_j0 = w2c_l13;
-  w2c_j1 = 8ull;
-  w2c_j0 += w2c_j1;
-  w2c_i0 = (u32)(w2c_j0);
-  w2c_i0 = i32_load8_u(&instance->w2c_memory, (u64)(w2c_i0));
-  w2c_i1 = 1u;
-  w2c_i0 = w2c_i0 != w2c_i1;
-  if (w2c_i0) {goto w2c_B328;}
-  w2c_L345: 
-    w2c_j0 = w2c_l11;
-    w2c_i0 = (u32)(w2c_j0);
-    w2c_j0 = i64_load(&instance->w2c_memory, (u64)(w2c_i0));
-    w2c_l9 = w2c_j0;
-    w2c_i0 = (u32)(w2c_j0);
-    w2c_j0 = i64_load16_u(&instance->w2c_memory, (u64)(w2c_i0));
-    w2c_p2 = w2c_j0;
-    w2c_i0 = !(w2c_j0);
-    if (w2c_i0) {
-      w2c_j0 = 0ull;
-    } else {
-      w2c_j0 = w2c_l9;
-      w2c_j1 = 16ull;
-      w2c_j0 += w2c_j1;
-      w2c_l3 = w2c_j0;
-      w2c_j0 = w2c_l9;
-      w2c_j1 = 376ull;
-      w2c_j0 += w2c_j1;
-      w2c_l5 = w2c_j0;
-      w2c_j0 = 0ull;
-      w2c_p1 = w2c_j0;
-      w2c_L349: 
-        w2c_j0 = w2c_l3;
-        w2c_j1 = 8ull;
-        w2c_j0 -= w2c_j1;
-        w2c_i0 = (u32)(w2c_j0);
-        w2c_j0 = i64_load(&instance->w2c_memory, (u64)(w2c_i0));
-        w2c_l7 = w2c_j0;
-        w2c_j0 = w2c_l3;
-        w2c_i0 = (u32)(w2c_j0);
-        w2c_j0 = i64_load(&instance->w2c_memory, (u64)(w2c_i0));
-        w2c_l6 = w2c_j0;
-        w2c_j0 = w2c_l4;
-        w2c_i0 = (u32)(w2c_j0);
-        w2c_j1 = 7ull;
-        i64_store(&instance->w2c_memory, (u64)(w2c_i0) + 424, w2c_j1);
-        w2c_j0 = w2c_l4;
-        w2c_i0 = (u32)(w2c_j0);
-        w2c_j1 = 1059632ull;
-        i64_store(&instance->w2c_memory, (u64)(w2c_i0) + 416, w2c_j1);
-        w2c_j0 = w2c_l4;
-        w2c_i0 = (u32)(w2c_j0);
-        w2c_j1 = w2c_l6;
-        i64_store(&instance->w2c_memory, (u64)(w2c_i0) + 664, w2c_j1);
-        w2c_j0 = w2c_l4;
-        w2c_i0 = (u32)(w2c_j0);
-        w2c_j1 = w2c_l7;
-        i64_store(&instance->w2c_memory, (u64)(w2c_i0) + 656, w2c_j1);
-        w2c_j0 = w2c_l4;
-        w2c_j1 = 416ull;
-        w2c_j0 += w2c_j1;
-        w2c_j1 = w2c_l4;
-        w2c_j2 = 656ull;
-        w2c_j1 += w2c_j2;
-        w2c_i0 = w2c_f15(instance, w2c_j0, w2c_j1);
-        w2c_i1 = 255u;
-        w2c_i0 &= w2c_i1;
-        w2c_l37 = w2c_i0;
-        w2c_i1 = 2u;
-        w2c_i0 = w2c_i0 != w2c_i1;
-        if (w2c_i0) {
-          w2c_i0 = w2c_l37;
-          w2c_i1 = 1u;
-          w2c_i0 -= w2c_i1;
-          if (w2c_i0) {goto w2c_B348;}
-          goto w2c_B346;
-        }
-        w2c_j0 = w2c_l3;
-        w2c_j1 = 24ull;
-        w2c_j0 += w2c_j1;
-        w2c_l3 = w2c_j0;
-        w2c_j0 = w2c_l5;
-        w2c_j1 = 40ull;
-        w2c_j0 += w2c_j1;
-        w2c_l5 = w2c_j0;
-        w2c_j0 = w2c_p2;
-        w2c_j1 = w2c_p1;
-        w2c_j2 = 1ull;
-        w2c_j1 += w2c_j2;
-        w2c_p1 = w2c_j1;
-        w2c_i0 = w2c_j0 != w2c_j1;
-        if (w2c_i0) {goto w2c_L349;}
-      w2c_j0 = w2c_p2;
-      w2c_p1 = w2c_j0;
-      w2c_B348:;
-      w2c_j0 = w2c_p1;
-      w2c_j1 = 3ull;
-      w2c_j0 <<= (w2c_j1 & 63);
-    }
-    w2c_l3 = w2c_j0;
-    w2c_j0 = w2c_l9;
-    w2c_j1 = 2ull;
-    w2c_j0 += w2c_j1;
-    w2c_i0 = (u32)(w2c_j0);
-    w2c_i0 = i32_load16_u(&instance->w2c_memory, (u64)(w2c_i0));
-    w2c_i0 = !(w2c_i0);
-    if (w2c_i0) {goto w2c_B328;}
-    w2c_j0 = w2c_l3;
-    w2c_j1 = w2c_l9;
-    w2c_j0 += w2c_j1;
-    w2c_j1 = 968ull;
-    w2c_j0 += w2c_j1;
-    w2c_l11 = w2c_j0;
-    goto w2c_L345;
-    w2c_B346:;
-  w2c_j0 = w2c_l5;
-  w2c_j1 = 8ull;
-  w2c_j0 -= w2c_j1;
-  w2c_i0 = (u32)(w2c_j0);
-  w2c_i0 = i32_load8_u(&instance->w2c_memory, (u64)(w2c_i0));
-  w2c_i1 = 1u;
-  w2c_i0 = w2c_i0 != w2c_i1;
-  if (w2c_i0) {goto w2c_B328;}
-  w2c_i0 = 2u;
-  w2c_i1 = 1u;
-  w2c_j2 = w2c_l5;
-  w2c_i2 = (u32)(w2c_j2);
-  w2c_j2 = i64_load(&instance->w2c_memory, (u64)(w2c_i2));
-  w2c_j3 = 2ull;
-  w2c_i2 = w2c_j2 == w2c_j3;
-  w2c_i0 = w2c_i2 ? w2c_i0 : w2c_i1;
-  w2c_l41 = w2c_i0;
-  w2c_B328:;
-  w2c_j0 = w2c_l4;
-  w2c_i0 = (u32)(w2c_j0);
-  w2c_j1 = 0ull;
-  i64_store(&instance->w2c_memory, (u64)(w2c_i0) + 656, w2c_j1);
-  w2c_j0 = w2c_l4;
-  w2c_i0 = (u32)(w2c_j0);
-  w2c_j1 = 0ull;
-  i64_store(&instance->w2c_memory, (u64)(w2c_i0) + 664, w2c_j1);
-  w2c_j0 = w2c_l4;
-  w2c_i0 = (u32)(w2c_j0);
-  w2c_j1 = 0ull;
-  i64_store(&instance->w2c_memory, (u64)(w2c_i0) + 672, w2c_j1);
-  w2c_j0 = w2c_l4;
-  w2c_i0 = (u32)(w2c_j0);
-  w2c_j1 = 0ull;
-  i64_store(&instance->w2c_memory, (u64)(w2c_i0) + 679, w2c_j1);
-  w2c_j0 = w2c_l4;
-  w2c_i0 = (u32)(w2c_j0);
-  w2c_j1 = 0ull;
-  i64_store(&instance->w2c_memory, (u64)(w2c_i0) + 584, w2c_j1);
-  w2c_j0 = w2c_l4;
-  w2c_i0 = (u32)(w2c_j0);
-  w2c_j1 = 0ull;
-  i64_store(&instance->w2c_memory, (u64)(w2c_i0) + 592, w2c_j1);
-  w2c_j0 = w2c_l4;
-  w2c_i0 = (u32)(w2c_j0);
-  w2c_j1 = 0ull;
-  i64_store(&instance->w2c_memory, (u64)(w2c_i0) + 600, w2c_j1);
-  w2c_j0 = w2c_l4;
-  w2c_i0 = (u32)(w2c_j0);
-  w2c_j1 = 0ull;
-  i64_store(&instance->w2c_memory, (u64)(w2c_i0) + 848, w2c_j1);
-  w2c_j0 = w2c_l4;
-  w2c_i0 = (u32)(w2c_j0);
-  w2c_j1 = 0ull;
-  i64_store(&instance->w2c_memory, (u64)(w2c_i0) + 856, w2c_j1);
-  w2c_j0 = w2c_l4;
-  w2c_i0 = (u32)(w2c_j0);
-  w2c_j1 = w2c_l4;
-  w2c_j2 = 920ull;
-  w2c_j1 += w2c_j2;
-  i64_store(&instance->w2c_memory, (u64)(w2c_i0) + 840, w2c_j1);
-  w2c_j0 = w2c_l20;
-  w2c_i0 = !(w2c_j0);
-  if (w2c_i0) {
-    w2c_j0 = w2c_l4;
-    w2c_j1 = 920ull;
-    w2c_j0 += w2c_j1;
-    w2c_l17 = w2c_j0;
-    w2c_i0 = 1u;
-    w2c_l40 = w2c_i0;
-    w2c_j0 = 0ull;
-    goto w2c_B365;
-  }
-  w2c_j0 = w2c_l4;
-  w2c_j1 = 424ull;
-  w2c_j0 += w2c_j1;
-  w2c_l28 = w2c_j0;
-  w2c_L369: 
-    w2c_j0 = w2c_l18;
-    w2c_j1 = w2c_l16;
-    w2c_j2 = 40ull;
-    w2c_j1 *= w2c_j2;
-    w2c_j0 += w2c_j1;
-    w2c_l17 = w2c_j0;
-    w2c_i0 = (u32)(w2c_j0);
-    w2c_i0 = i32_load8_u(&instance->w2c_memory, (u64)(w2c_i0));
-    w2c_l38 = w2c_i0;
-    w2c_i1 = 6u;
-    w2c_i0 = w2c_i0 != w2c_i1;
-    if (w2c_i0) {goto w2c_B378;}
-    w2c_j0 = w2c_l17;
-    w2c_j1 = 8ull;
-    w2c_j0 += w2c_j1;
-    w2c_i0 = (u32)(w2c_j0);
-    w2c_i0 = i32_load8_u(&instance->w2c_memory, (u64)(w2c_i0));
-    w2c_i1 = 1u;
-    w2c_i0 = w2c_i0 != w2c_i1;
-    if (w2c_i0) {goto w2c_B378;}
-    w2c_j0 = w2c_l17;
-    w2c_j1 = 16ull;
-    w2c_j0 += w2c_j1;
-    w2c_l3 = w2c_j0;
-    w2c_L379: 
-      w2c_j0 = w2c_l3;
-      w2c_i0 = (u32)(w2c_j0);
-      w2c_j0 = i64_load(&instance->w2c_memory, (u64)(w2c_i0));
-      w2c_l9 = w2c_j0;
-      w2c_i0 = (u32)(w2c_j0);
-      w2c_j0 = i64_load16_u(&instance->w2c_memory, (u64)(w2c_i0));
-      w2c_p2 = w2c_j0;
-      w2c_i0 = !(w2c_j0);
-      if (w2c_i0) {
-        w2c_j0 = 0ull;
-      } else {
-        w2c_j0 = w2c_l9;
-        w2c_j1 = 16ull;
-        w2c_j0 += w2c_j1;
-        w2c_l3 = w2c_j0;
-        w2c_j0 = w2c_l9;
-        w2c_j1 = 384ull;
-        w2c_j0 += w2c_j1;
-        w2c_l5 = w2c_j0;
-        w2c_j0 = 0ull;
-        w2c_p1 = w2c_j0;
-        w2c_L383: 
-          w2c_j0 = w2c_l3;
-          w2c_j1 = 8ull;
-          w2c_j0 -= w2c_j1;
-          w2c_i0 = (u32)(w2c_j0);
-          w2c_j0 = i64_load(&instance->w2c_memory, (u64)(w2c_i0));
-          w2c_l7 = w2c_j0;
-          w2c_j0 = w2c_l3;
-          w2c_i0 = (u32)(w2c_j0);
-          w2c_j0 = i64_load(&instance->w2c_memory, (u64)(w2c_i0));
-          w2c_l6 = w2c_j0;
-          w2c_j0 = w2c_l4;
-          w2c_i0 = (u32)(w2c_j0);
-          w2c_j1 = 4ull;
-          i64_store(&instance->w2c_memory, (u64)(w2c_i0) + 424, w2c_j1);
-          w2c_j0 = w2c_l4;
-          w2c_i0 = (u32)(w2c_j0);
-          w2c_j1 = 1059704ull;
-          i64_store(&instance->w2c_memory, (u64)(w2c_i0) + 416, w2c_j1);
-          w2c_j0 = w2c_l4;
-          w2c_i0 = (u32)(w2c_j0);
-          w2c_j1 = w2c_l6;
-          i64_store(&instance->w2c_memory, (u64)(w2c_i0) + 560, w2c_j1);
-          w2c_j0 = w2c_l4;
-          w2c_i0 = (u32)(w2c_j0);
-          w2c_j1 = w2c_l7;
-          i64_store(&instance->w2c_memory, (u64)(w2c_i0) + 552, w2c_j1);
-          w2c_j0 = w2c_l4;
-          w2c_j1 = 416ull;
-          w2c_j0 += w2c_j1;
-          w2c_j1 = w2c_l4;
-          w2c_j2 = 552ull;
-          w2c_j1 += w2c_j2;
-          w2c_i0 = w2c_f15(instance, w2c_j0, w2c_j1);
-          w2c_i1 = 255u;
-          w2c_i0 &= w2c_i1;
-          w2c_l37 = w2c_i0;
-          w2c_i1 = 2u;
-          w2c_i0 = w2c_i0 != w2c_i1;
-          if (w2c_i0) {
-            w2c_i0 = w2c_l37;
-            w2c_i1 = 1u;
-            w2c_i0 -= w2c_i1;
-            if (w2c_i0) {goto w2c_B382;}
-            goto w2c_B380;
-          }
-          w2c_j0 = w2c_l3;
-          w2c_j1 = 24ull;
-          w2c_j0 += w2c_j1;
-          w2c_l3 = w2c_j0;
-          w2c_j0 = w2c_l5;
-          w2c_j1 = 40ull;
-          w2c_j0 += w2c_j1;
-          w2c_l5 = w2c_j0;
-          w2c_j0 = w2c_p2;
-          w2c_j1 = w2c_p1;
-          w2c_j2 = 1ull;
-          w2c_j1 += w2c_j2;
-          w2c_p1 = w2c_j1;
-          w2c_i0 = w2c_j0 != w2c_j1;
-          if (w2c_i0) {goto w2c_L383;}
-        w2c_j0 = w2c_p2;
-        w2c_p1 = w2c_j0;
-        w2c_B382:;
-        w2c_j0 = w2c_p1;
-        w2c_j1 = 3ull;
-        w2c_j0 <<= (w2c_j1 & 63);
-      }
-      w2c_l3 = w2c_j0;
-      w2c_j0 = w2c_l9;
-      w2c_j1 = 2ull;
-      w2c_j0 += w2c_j1;
-      w2c_i0 = (u32)(w2c_j0);
-      w2c_i0 = i32_load16_u(&instance->w2c_memory, (u64)(w2c_i0));
-      w2c_i0 = !(w2c_i0);
-      if (w2c_i0) {goto w2c_B378;}
-      w2c_j0 = w2c_l3;
-      w2c_j1 = w2c_l9;
-      w2c_j0 += w2c_j1;
-      w2c_j1 = 968ull;
-      w2c_j0 += w2c_j1;
-      w2c_l3 = w2c_j0;
-      goto w2c_L379;
-      w2c_B380:;
-    w2c_j0 = w2c_l5;
-    w2c_j1 = 16ull;
-    w2c_j0 -= w2c_j1;
-    w2c_i0 = (u32)(w2c_j0);
-    w2c_i0 = i32_load8_u(&instance->w2c_memory, (u64)(w2c_i0));
-    w2c_i1 = 5u;
-    w2c_i0 = w2c_i0 == w2c_i1;
-    if (w2c_i0) {goto w2c_B377;}
-    w2c_B378:;
-    w2c_j0 = 0ull;
-    w2c_l21 = w2c_j0;
-    w2c_j0 = 0ull;
-    w2c_l13 = w2c_j0;
-    w2c_j0 = w2c_l4;
-    w2c_j1 = 920ull;
-    w2c_j0 += w2c_j1;
-    goto w2c_B376;
-    w2c_B377:;
-    w2c_j0 = w2c_l5;
-    w2c_j1 = 8ull;
-    w2c_j0 -= w2c_j1;
-    w2c_i0 = (u32)(w2c_j0);
-    w2c_j0 = i64_load(&instance->w2c_memory, (u64)(w2c_i0));
-    w2c_l23 = w2c_j0;
-    w2c_j0 = w2c_l5;
-    w2c_i0 = (u32)(w2c_j0);
-    w2c_j0 = i64_load(&instance->w2c_memory, (u64)(w2c_i0));
-    w2c_l21 = w2c_j0;
-    w2c_j0 = w2c_l28;
-    w2c_i0 = (u32)(w2c_j0);
-    w2c_j1 = 0ull;
-    i64_store(&instance->w2c_memory, (u64)(w2c_i0), w2c_j1);
-    w2c_j0 = w2c_l28;
-    w2c_i0 = (u32)(w2c_j0);
-    w2c_j1 = 0ull;
-    i64_store(&instance->w2c_memory, (u64)(w2c_i0) + 8, w2c_j1);
-    w2c_j0 = w2c_l4;
-    w2c_i0 = (u32)(w2c_j0);
-    w2c_j1 = w2c_l4;
-    w2c_j2 = 920ull;
-    w2c_j1 += w2c_j2;
-    i64_store(&instance->w2c_memory, (u64)(w2c_i0) + 416, w2c_j1);
-    w2c_j0 = w2c_l21;
-    w2c_i0 = !(w2c_j0);
-    if (w2c_i0) {goto w2c_B374;}
-    w2c_j0 = 0ull;
-    w2c_l13 = w2c_j0;
-    w2c_j0 = w2c_l4;
-    w2c_j1 = 920ull;
-    w2c_j0 += w2c_j1;
-    w2c_l22 = w2c_j0;
-    w2c_l14 = w2c_j0;
-    w2c_j0 = 0ull;
-    w2c_l15 = w2c_j0;
-    w2c_L385: 
-      w2c_j0 = 1048585ull;
-      w2c_l19 = w2c_j0;
-      w2c_j0 = w2c_l23;
-      w2c_j1 = w2c_l15;
-      w2c_j2 = 40ull;
-      w2c_j1 *= w2c_j2;
-      w2c_j0 += w2c_j1;
-      w2c_l12 = w2c_j0;
-      w2c_i0 = (u32)(w2c_j0);
-      w2c_i0 = i32_load8_u(&instance->w2c_memory, (u64)(w2c_i0));
-      w2c_i1 = 6u;
-      w2c_i0 = w2c_i0 != w2c_i1;
-      if (w2c_i0) {goto w2c_B388;}
-      w2c_j0 = w2c_l12;
-      w2c_j1 = 8ull;
-      w2c_j0 += w2c_j1;
-      w2c_i0 = (u32)(w2c_j0);
-      w2c_i0 = i32_load8_u(&instance->w2c_memory, (u64)(w2c_i0));
-      w2c_i1 = 1u;
-      w2c_i0 = w2c_i0 != w2c_i1;
-      if (w2c_i0) {goto w2c_B388;}
-      w2c_j0 = w2c_l12;
-      w2c_j1 = 16ull;
-      w2c_j0 += w2c_j1;
-      w2c_p1 = w2c_j0;
-      w2c_L390: 
-        w2c_j0 = 0ull;
-        w2c_l9 = w2c_j0;
-        w2c_j0 = 0ull;
-        w2c_l3 = w2c_j0;
-        w2c_j0 = w2c_p1;
-        w2c_i0 = (u32)(w2c_j0);
-        w2c_j0 = i64_load(&instance->w2c_memory, (u64)(w2c_i0));
-        w2c_l10 = w2c_j0;
-        w2c_i0 = (u32)(w2c_j0);
-        w2c_j0 = i64_load16_u(&instance->w2c_memory, (u64)(w2c_i0));
-        w2c_p2 = w2c_j0;
-        w2c_i0 = !(w2c_j0);
-        w2c_i0 = !(w2c_i0);
-        if (w2c_i0) {
-          w2c_j0 = w2c_l10;
-          w2c_j1 = 16ull;
-          w2c_j0 += w2c_j1;
-          w2c_l3 = w2c_j0;
-          w2c_j0 = w2c_l10;
-          w2c_j1 = 384ull;
-          w2c_j0 += w2c_j1;
-          w2c_l5 = w2c_j0;
-          w2c_j0 = 0ull;
-          w2c_p1 = w2c_j0;
-          w2c_L394: 
-            w2c_j0 = w2c_l3;
-            w2c_j1 = 8ull;
-            w2c_j0 -= w2c_j1;
-            w2c_i0 = (u32)(w2c_j0);
-            w2c_j0 = i64_load(&instance->w2c_memory, (u64)(w2c_i0));
-            w2c_l7 = w2c_j0;
-            w2c_j0 = w2c_l3;
-            w2c_i0 = (u32)(w2c_j0);
-            w2c_j0 = i64_load(&instance->w2c_memory, (u64)(w2c_i0));
-            w2c_l6 = w2c_j0;
-            w2c_j0 = w2c_l4;
-            w2c_i0 = (u32)(w2c_j0);
-            w2c_j1 = 4ull;
-            i64_store(&instance->w2c_memory, (u64)(w2c_i0) + 560, w2c_j1);
-            w2c_j0 = w2c_l4;
-            w2c_i0 = (u32)(w2c_j0);
-            w2c_j1 = 1060056ull;
-            i64_store(&instance->w2c_memory, (u64)(w2c_i0) + 552, w2c_j1);
-            w2c_j0 = w2c_l4;
-            w2c_i0 = (u32)(w2c_j0);
-            w2c_j1 = w2c_l6;
-            i64_store(&instance->w2c_memory, (u64)(w2c_i0) + 400, w2c_j1);
-            w2c_j0 = w2c_l4;
-            w2c_i0 = (u32)(w2c_j0);
-            w2c_j1 = w2c_l7;
-            i64_store(&instance->w2c_memory, (u64)(w2c_i0) + 392, w2c_j1);
-            w2c_j0 = w2c_l4;
-            w2c_j1 = 552ull;
-            w2c_j0 += w2c_j1;
-            w2c_j1 = w2c_l4;
-            w2c_j2 = 392ull;
-            w2c_j1 += w2c_j2;
-            w2c_i0 = w2c_f15(instance, w2c_j0, w2c_j1);
-            w2c_i1 = 255u;
-            w2c_i0 &= w2c_i1;
-            w2c_l37 = w2c_i0;
-            w2c_i1 = 2u;
-            w2c_i0 = w2c_i0 != w2c_i1;
-            if (w2c_i0) {
-              w2c_i0 = w2c_l37;
-              w2c_i1 = 1u;
-              w2c_i0 -= w2c_i1;
-              if (w2c_i0) {goto w2c_B393;}
-              goto w2c_B391;
-            }
-            w2c_j0 = w2c_l3;
-            w2c_j1 = 24ull;
-            w2c_j0 += w2c_j1;
-            w2c_l3 = w2c_j0;
-            w2c_j0 = w2c_l5;
-            w2c_j1 = 40ull;
-            w2c_j0 += w2c_j1;
-            w2c_l5 = w2c_j0;
-            w2c_j0 = w2c_p2;
-            w2c_j1 = w2c_p1;
-            w2c_j2 = 1ull;
-            w2c_j1 += w2c_j2;
-            w2c_p1 = w2c_j1;
-            w2c_i0 = w2c_j0 != w2c_j1;
-            if (w2c_i0) {goto w2c_L394;}
-          w2c_j0 = w2c_p2;
-          w2c_p1 = w2c_j0;
-          w2c_B393:;
-          w2c_j0 = w2c_p1;
-          w2c_j1 = 3ull;
-          w2c_j0 <<= (w2c_j1 & 63);
           w2c_l3 = w2c_j0;
         }
         w2c_j0 = w2c_l10;
@@ -8918,449 +7725,124 @@ static void w2c_f0(Z_dine_ffi_instance_t* instance, u64 w2c_p0, u64 w2c_p1, u64 
         w2c_j0 += w2c_j1;
         w2c_i0 = (u32)(w2c_j0);
         w2c_i0 = i32_load16_u(&instance->w2c_memory, (u64)(w2c_i0));
-        w2c_i0 = !(w2c_i0);
-        if (w2c_i0) {goto w2c_B389;}
-        w2c_j0 = w2c_l3;
-        w2c_j1 = w2c_l10;
-        w2c_j0 += w2c_j1;
-        w2c_j1 = 968ull;
-        w2c_j0 += w2c_j1;
-        w2c_p1 = w2c_j0;
-        goto w2c_L390;
-        w2c_B391:;
-      w2c_j0 = w2c_l5;
-      w2c_j1 = 16ull;
-      w2c_j0 -= w2c_j1;
-      w2c_i0 = (u32)(w2c_j0);
-      w2c_i0 = i32_load8_u(&instance->w2c_memory, (u64)(w2c_i0));
-      if (w2c_i0) {goto w2c_B389;}
-      w2c_j0 = w2c_l5;
-      w2c_j1 = 8ull;
-      w2c_j0 -= w2c_j1;
-      w2c_i0 = (u32)(w2c_j0);
-      w2c_j0 = i64_load(&instance->w2c_memory, (u64)(w2c_i0));
-      w2c_l19 = w2c_j0;
-      w2c_j0 = w2c_l5;
-      w2c_i0 = (u32)(w2c_j0);
-      w2c_j0 = i64_load(&instance->w2c_memory, (u64)(w2c_i0));
-      w2c_l9 = w2c_j0;
-      w2c_i0 = !(w2c_j0);
-      if (w2c_i0) {goto w2c_B388;}
-      w2c_j0 = w2c_l9;
-      w2c_j1 = 0ull;
-      w2c_i0 = (u64)((s64)w2c_j0 < (s64)w2c_j1);
-      if (w2c_i0) {goto w2c_B396;}
-      w2c_j0 = w2c_l4;
-      w2c_j1 = 200ull;
-      w2c_j0 += w2c_j1;
-      w2c_j1 = w2c_l9;
-      w2c_f113(instance, w2c_j0, w2c_j1);
-      w2c_j0 = w2c_l4;
-      w2c_i0 = (u32)(w2c_j0);
-      w2c_j0 = i64_load(&instance->w2c_memory, (u64)(w2c_i0) + 200u);
-      w2c_i0 = (u32)(w2c_j0);
-      w2c_i1 = 1u;
-      w2c_i0 &= w2c_i1;
-      w2c_i0 = !(w2c_i0);
-      if (w2c_i0) {goto w2c_B396;}
-      w2c_j0 = w2c_l4;
-      w2c_i0 = (u32)(w2c_j0);
-      w2c_j0 = i64_load(&instance->w2c_memory, (u64)(w2c_i0) + 208u);
-      w2c_l11 = w2c_j0;
-      w2c_j1 = w2c_l19;
-      w2c_j0 -= w2c_j1;
-      w2c_j1 = w2c_l9;
-      w2c_i0 = w2c_j0 >= w2c_j1;
-      if (w2c_i0) {goto w2c_B387;}
-      w2c_j0 = w2c_l9;
-      w2c_j1 = 3ull;
-      w2c_j0 &= w2c_j1;
-      w2c_l7 = w2c_j0;
-      w2c_j0 = 0ull;
-      w2c_l3 = w2c_j0;
-      w2c_j0 = w2c_l9;
-      w2c_j1 = 4ull;
-      w2c_i0 = w2c_j0 >= w2c_j1;
-      if (w2c_i0) {
-        w2c_j0 = w2c_l9;
-        w2c_j1 = 9223372036854775804ull;
-        w2c_j0 &= w2c_j1;
-        w2c_l6 = w2c_j0;
-        w2c_L398: 
-          w2c_j0 = w2c_l3;
-          w2c_j1 = w2c_l11;
-          w2c_j0 += w2c_j1;
-          w2c_p1 = w2c_j0;
-          w2c_i0 = (u32)(w2c_j0);
-          w2c_j1 = w2c_l3;
-          w2c_j2 = w2c_l19;
-          w2c_j1 += w2c_j2;
-          w2c_l5 = w2c_j1;
-          w2c_i1 = (u32)(w2c_j1);
-          w2c_i1 = i32_load8_u(&instance->w2c_memory, (u64)(w2c_i1));
-          i32_store8(&instance->w2c_memory, (u64)(w2c_i0), w2c_i1);
-          w2c_j0 = w2c_p1;
-          w2c_j1 = 1ull;
-          w2c_j0 += w2c_j1;
-          w2c_i0 = (u32)(w2c_j0);
-          w2c_j1 = w2c_l5;
-          w2c_j2 = 1ull;
-          w2c_j1 += w2c_j2;
-          w2c_i1 = (u32)(w2c_j1);
-          w2c_i1 = i32_load8_u(&instance->w2c_memory, (u64)(w2c_i1));
-          i32_store8(&instance->w2c_memory, (u64)(w2c_i0), w2c_i1);
-          w2c_j0 = w2c_p1;
-          w2c_j1 = 2ull;
-          w2c_j0 += w2c_j1;
-          w2c_i0 = (u32)(w2c_j0);
-          w2c_j1 = w2c_l5;
-          w2c_j2 = 2ull;
-          w2c_j1 += w2c_j2;
-          w2c_i1 = (u32)(w2c_j1);
-          w2c_i1 = i32_load8_u(&instance->w2c_memory, (u64)(w2c_i1));
-          i32_store8(&instance->w2c_memory, (u64)(w2c_i0), w2c_i1);
-          w2c_j0 = w2c_p1;
-          w2c_j1 = 3ull;
-          w2c_j0 += w2c_j1;
-          w2c_i0 = (u32)(w2c_j0);
-          w2c_j1 = w2c_l5;
-          w2c_j2 = 3ull;
-          w2c_j1 += w2c_j2;
-          w2c_i1 = (u32)(w2c_j1);
-          w2c_i1 = i32_load8_u(&instance->w2c_memory, (u64)(w2c_i1));
-          i32_store8(&instance->w2c_memory, (u64)(w2c_i0), w2c_i1);
-          w2c_j0 = w2c_l6;
-          w2c_j1 = w2c_l3;
-          w2c_j2 = 4ull;
-          w2c_j1 += w2c_j2;
-          w2c_l3 = w2c_j1;
-          w2c_i0 = w2c_j0 != w2c_j1;
-          if (w2c_i0) {goto w2c_L398;}
-        w2c_j0 = w2c_l7;
-        w2c_i0 = !(w2c_j0);
-        if (w2c_i0) {goto w2c_B386;}
-      }
-      w2c_L399: 
-        w2c_j0 = w2c_l3;
-        w2c_j1 = w2c_l11;
-        w2c_j0 += w2c_j1;
-        w2c_i0 = (u32)(w2c_j0);
-        w2c_j1 = w2c_l3;
-        w2c_j2 = w2c_l19;
-        w2c_j1 += w2c_j2;
-        w2c_i1 = (u32)(w2c_j1);
-        w2c_i1 = i32_load8_u(&instance->w2c_memory, (u64)(w2c_i1));
-        i32_store8(&instance->w2c_memory, (u64)(w2c_i0), w2c_i1);
-        w2c_j0 = w2c_l3;
-        w2c_j1 = 1ull;
-        w2c_j0 += w2c_j1;
-        w2c_l3 = w2c_j0;
-        w2c_j0 = w2c_l7;
-        w2c_j1 = 1ull;
-        w2c_j0 -= w2c_j1;
-        w2c_l7 = w2c_j0;
-        w2c_j1 = 0ull;
-        w2c_i0 = w2c_j0 != w2c_j1;
-        if (w2c_i0) {goto w2c_L399;}
-      goto w2c_B386;
-      w2c_B396:;
-      w2c_j0 = w2c_l4;
-      w2c_i0 = (u32)(w2c_j0);
-      w2c_j0 = i64_load(&instance->w2c_memory, (u64)(w2c_i0) + 432u);
-      w2c_p1 = w2c_j0;
-      w2c_j0 = w2c_l13;
-      w2c_i0 = !(w2c_j0);
-      w2c_i0 = !(w2c_i0);
-      if (w2c_i0) {
-        w2c_j0 = w2c_l14;
-        w2c_l3 = w2c_j0;
-        w2c_L401: 
-          w2c_j0 = w2c_l3;
-          w2c_i0 = (u32)(w2c_j0);
-          w2c_i0 = i32_load8_u(&instance->w2c_memory, (u64)(w2c_i0));
-          if (w2c_i0) {goto w2c_B402;}
-          w2c_j0 = w2c_l3;
-          w2c_j1 = 24ull;
-          w2c_j0 += w2c_j1;
-          w2c_i0 = (u32)(w2c_j0);
-          w2c_j0 = i64_load(&instance->w2c_memory, (u64)(w2c_i0));
-          w2c_i0 = !(w2c_j0);
-          if (w2c_i0) {goto w2c_B402;}
-          w2c_j0 = w2c_l3;
-          w2c_j1 = 8ull;
-          w2c_j0 += w2c_j1;
-          w2c_i0 = (u32)(w2c_j0);
-          w2c_j0 = i64_load(&instance->w2c_memory, (u64)(w2c_i0));
-          w2c_leave(instance, w2c_j0);
-          w2c_B402:;
-          w2c_j0 = w2c_l3;
-          w2c_j1 = 56ull;
-          w2c_j0 += w2c_j1;
-          w2c_l3 = w2c_j0;
-          w2c_j0 = w2c_l13;
-          w2c_j1 = 1ull;
-          w2c_j0 -= w2c_j1;
-          w2c_l13 = w2c_j0;
-          w2c_j1 = 0ull;
-          w2c_i0 = w2c_j0 != w2c_j1;
-          if (w2c_i0) {goto w2c_L401;}
-      }
-      w2c_j0 = w2c_p1;
-      w2c_i0 = !(w2c_j0);
-      if (w2c_i0) {goto w2c_B352;}
-      goto w2c_B372;
-      w2c_B389:;
-      w2c_j0 = w2c_l22;
-      w2c_l11 = w2c_j0;
-      goto w2c_B387;
-      w2c_B388:;
-      w2c_j0 = w2c_l22;
-      w2c_l11 = w2c_j0;
-      w2c_j0 = 0ull;
-      w2c_l9 = w2c_j0;
-      w2c_B387:;
-      w2c_j0 = w2c_l9;
-      w2c_i0 = !(w2c_j0);
-      if (w2c_i0) {goto w2c_B386;}
-      w2c_j0 = w2c_l11;
-      w2c_i0 = (u32)(w2c_j0);
-      w2c_j1 = w2c_l19;
-      w2c_i1 = (u32)(w2c_j1);
-      w2c_j2 = w2c_l9;
-      w2c_i2 = (u32)(w2c_j2);
-      memory_copy(&instance->w2c_memory, &instance->w2c_memory, w2c_i0, w2c_i1, w2c_i2);
-      w2c_B386:;
-      w2c_j0 = 0ull;
-      w2c_l19 = w2c_j0;
-      w2c_i0 = 0u;
-      w2c_l38 = w2c_i0;
-      w2c_j0 = w2c_l12;
-      w2c_i0 = (u32)(w2c_j0);
-      w2c_i0 = i32_load8_u(&instance->w2c_memory, (u64)(w2c_i0));
-      w2c_i1 = 6u;
-      w2c_i0 = w2c_i0 != w2c_i1;
-      if (w2c_i0) {
-        w2c_i0 = 0u;
-        w2c_l39 = w2c_i0;
-        w2c_j0 = 0ull;
-        w2c_p1 = w2c_j0;
-        goto w2c_B403;
-      }
-      w2c_i0 = 0u;
-      w2c_l39 = w2c_i0;
-      w2c_j0 = 0ull;
-      w2c_p1 = w2c_j0;
-      w2c_j0 = w2c_l12;
-      w2c_j1 = 8ull;
-      w2c_j0 += w2c_j1;
-      w2c_i0 = (u32)(w2c_j0);
-      w2c_i0 = i32_load8_u(&instance->w2c_memory, (u64)(w2c_i0));
-      w2c_i1 = 1u;
-      w2c_i0 = w2c_i0 != w2c_i1;
-      if (w2c_i0) {goto w2c_B403;}
-      w2c_j0 = w2c_l12;
-      w2c_j1 = 16ull;
-      w2c_j0 += w2c_j1;
-      w2c_l12 = w2c_j0;
-      w2c_l3 = w2c_j0;
-      w2c_L406: 
-        w2c_j0 = w2c_l3;
-        w2c_i0 = (u32)(w2c_j0);
-        w2c_j0 = i64_load(&instance->w2c_memory, (u64)(w2c_i0));
-        w2c_l10 = w2c_j0;
-        w2c_i0 = (u32)(w2c_j0);
-        w2c_j0 = i64_load16_u(&instance->w2c_memory, (u64)(w2c_i0));
-        w2c_p2 = w2c_j0;
-        w2c_i0 = !(w2c_j0);
         if (w2c_i0) {
-          w2c_j0 = 0ull;
+          w2c_j0 = w2c_l3;
+          w2c_j1 = w2c_l10;
+          w2c_j0 += w2c_j1;
+          w2c_j1 = 968ull;
+          w2c_j0 += w2c_j1;
+          w2c_p1 = w2c_j0;
+          goto w2c_L322;
         } else {
-          w2c_j0 = w2c_l10;
-          w2c_j1 = 16ull;
-          w2c_j0 += w2c_j1;
-          w2c_l3 = w2c_j0;
-          w2c_j0 = w2c_l10;
-          w2c_j1 = 376ull;
-          w2c_j0 += w2c_j1;
-          w2c_l5 = w2c_j0;
-          w2c_j0 = 0ull;
-          w2c_p1 = w2c_j0;
-          w2c_L410: 
-            w2c_j0 = w2c_l3;
-            w2c_j1 = 8ull;
-            w2c_j0 -= w2c_j1;
-            w2c_i0 = (u32)(w2c_j0);
-            w2c_j0 = i64_load(&instance->w2c_memory, (u64)(w2c_i0));
-            w2c_l7 = w2c_j0;
-            w2c_j0 = w2c_l3;
-            w2c_i0 = (u32)(w2c_j0);
-            w2c_j0 = i64_load(&instance->w2c_memory, (u64)(w2c_i0));
-            w2c_l6 = w2c_j0;
-            w2c_j0 = w2c_l4;
-            w2c_i0 = (u32)(w2c_j0);
-            w2c_j1 = 5ull;
-            i64_store(&instance->w2c_memory, (u64)(w2c_i0) + 560, w2c_j1);
-            w2c_j0 = w2c_l4;
-            w2c_i0 = (u32)(w2c_j0);
-            w2c_j1 = 1060072ull;
-            i64_store(&instance->w2c_memory, (u64)(w2c_i0) + 552, w2c_j1);
-            w2c_j0 = w2c_l4;
-            w2c_i0 = (u32)(w2c_j0);
-            w2c_j1 = w2c_l6;
-            i64_store(&instance->w2c_memory, (u64)(w2c_i0) + 400, w2c_j1);
-            w2c_j0 = w2c_l4;
-            w2c_i0 = (u32)(w2c_j0);
-            w2c_j1 = w2c_l7;
-            i64_store(&instance->w2c_memory, (u64)(w2c_i0) + 392, w2c_j1);
-            w2c_j0 = w2c_l4;
-            w2c_j1 = 552ull;
-            w2c_j0 += w2c_j1;
-            w2c_j1 = w2c_l4;
-            w2c_j2 = 392ull;
-            w2c_j1 += w2c_j2;
-            w2c_i0 = w2c_f15(instance, w2c_j0, w2c_j1);
-            w2c_i1 = 255u;
-            w2c_i0 &= w2c_i1;
-            w2c_l37 = w2c_i0;
-            w2c_i1 = 2u;
-            w2c_i0 = w2c_i0 != w2c_i1;
-            if (w2c_i0) {
-              w2c_i0 = w2c_l37;
-              w2c_i1 = 1u;
-              w2c_i0 -= w2c_i1;
-              if (w2c_i0) {goto w2c_B409;}
-              goto w2c_B407;
-            }
-            w2c_j0 = w2c_l3;
-            w2c_j1 = 24ull;
-            w2c_j0 += w2c_j1;
-            w2c_l3 = w2c_j0;
-            w2c_j0 = w2c_l5;
-            w2c_j1 = 40ull;
-            w2c_j0 += w2c_j1;
-            w2c_l5 = w2c_j0;
-            w2c_j0 = w2c_p2;
-            w2c_j1 = w2c_p1;
-            w2c_j2 = 1ull;
-            w2c_j1 += w2c_j2;
-            w2c_p1 = w2c_j1;
-            w2c_i0 = w2c_j0 != w2c_j1;
-            if (w2c_i0) {goto w2c_L410;}
-          w2c_j0 = w2c_p2;
-          w2c_p1 = w2c_j0;
-          w2c_B409:;
-          w2c_j0 = w2c_p1;
-          w2c_j1 = 3ull;
-          w2c_j0 <<= (w2c_j1 & 63);
+          w2c_i0 = 0u;
+          w2c_l41 = w2c_i0;
+          w2c_j0 = 1048585ull;
+          goto w2c_B321;
         }
-        w2c_l3 = w2c_j0;
-        w2c_i0 = 0u;
-        w2c_j1 = w2c_l10;
-        w2c_j2 = 2ull;
-        w2c_j1 += w2c_j2;
-        w2c_i1 = (u32)(w2c_j1);
-        w2c_i1 = i32_load16_u(&instance->w2c_memory, (u64)(w2c_i1));
-        w2c_i1 = !(w2c_i1);
-        if (w2c_i1) {goto w2c_B405;}
-        w2c_j0 = w2c_l3;
-        w2c_j1 = w2c_l10;
-        w2c_j0 += w2c_j1;
-        w2c_j1 = 968ull;
-        w2c_j0 += w2c_j1;
-        w2c_l3 = w2c_j0;
-        goto w2c_L406;
-        w2c_B407:;
-      w2c_j0 = 0ull;
-      w2c_l3 = w2c_j0;
+        UNREACHABLE;
+        w2c_B323:;
+      w2c_j0 = w2c_l5;
+      w2c_j1 = 16ull;
+      w2c_j0 -= w2c_j1;
+      w2c_i0 = (u32)(w2c_j0);
+      w2c_i0 = i32_load8_u(&instance->w2c_memory, (u64)(w2c_i0));
+      if (w2c_i0) {
+        w2c_i0 = 1u;
+        w2c_l41 = w2c_i0;
+        w2c_j0 = 1048585ull;
+        goto w2c_B321;
+      }
+      w2c_j0 = w2c_l5;
+      w2c_i0 = (u32)(w2c_j0);
+      w2c_j0 = i64_load(&instance->w2c_memory, (u64)(w2c_i0));
+      w2c_l11 = w2c_j0;
+      w2c_i0 = 0u;
+      w2c_l41 = w2c_i0;
       w2c_j0 = w2c_l5;
       w2c_j1 = 8ull;
       w2c_j0 -= w2c_j1;
       w2c_i0 = (u32)(w2c_j0);
-      w2c_i0 = i32_load8_u(&instance->w2c_memory, (u64)(w2c_i0));
-      w2c_l37 = w2c_i0;
-      w2c_i1 = 1u;
-      w2c_i0 = w2c_i0 == w2c_i1;
-      if (w2c_i0) {
-        w2c_j0 = w2c_l5;
-        w2c_i0 = (u32)(w2c_j0);
-        w2c_j0 = i64_load(&instance->w2c_memory, (u64)(w2c_i0));
-        w2c_l3 = w2c_j0;
-      }
-      w2c_j0 = w2c_l3;
+      w2c_j0 = i64_load(&instance->w2c_memory, (u64)(w2c_i0));
+      w2c_B321:;
+      w2c_p2 = w2c_j0;
+      w2c_j0 = w2c_l4;
+      w2c_j1 = 232ull;
+      w2c_j0 += w2c_j1;
+      w2c_j1 = w2c_l15;
+      w2c_j2 = 1060077ull;
+      w2c_j3 = 5ull;
+      w2c_f46(instance, w2c_j0, w2c_j1, w2c_j2, w2c_j3);
+      w2c_j0 = w2c_l4;
+      w2c_i0 = (u32)(w2c_j0);
+      w2c_j0 = i64_load(&instance->w2c_memory, (u64)(w2c_i0) + 232u);
+      w2c_l3 = w2c_j0;
       w2c_j1 = 4294967295ull;
       w2c_j2 = w2c_l3;
       w2c_j3 = 4294967295ull;
       w2c_i2 = w2c_j2 < w2c_j3;
       w2c_j0 = w2c_i2 ? w2c_j0 : w2c_j1;
       w2c_i0 = (u32)(w2c_j0);
-      w2c_i1 = 0u;
-      w2c_j2 = w2c_l3;
-      w2c_j3 = 0ull;
-      w2c_i2 = (u64)((s64)w2c_j2 >= (s64)w2c_j3);
-      w2c_i0 = w2c_i2 ? w2c_i0 : w2c_i1;
-      w2c_i1 = 0u;
-      w2c_i2 = w2c_l37;
-      w2c_i3 = 1u;
-      w2c_i2 = w2c_i2 == w2c_i3;
-      w2c_i0 = w2c_i2 ? w2c_i0 : w2c_i1;
-      w2c_B405:;
-      w2c_l39 = w2c_i0;
-      w2c_j0 = w2c_l12;
+      w2c_l43 = w2c_i0;
+      w2c_j0 = w2c_l4;
+      w2c_i0 = (u32)(w2c_j0);
+      w2c_i0 = i32_load8_u(&instance->w2c_memory, (u64)(w2c_i0) + 240u);
+      w2c_l42 = w2c_i0;
+      w2c_j0 = w2c_l19;
       w2c_l3 = w2c_j0;
-      w2c_L414: 
+      w2c_L332: 
         w2c_j0 = w2c_l3;
         w2c_i0 = (u32)(w2c_j0);
         w2c_j0 = i64_load(&instance->w2c_memory, (u64)(w2c_i0));
-        w2c_l10 = w2c_j0;
+        w2c_l13 = w2c_j0;
         w2c_i0 = (u32)(w2c_j0);
         w2c_j0 = i64_load16_u(&instance->w2c_memory, (u64)(w2c_i0));
-        w2c_p2 = w2c_j0;
+        w2c_l10 = w2c_j0;
         w2c_i0 = !(w2c_j0);
         if (w2c_i0) {
           w2c_j0 = 0ull;
         } else {
-          w2c_j0 = w2c_l10;
+          w2c_j0 = w2c_l13;
           w2c_j1 = 16ull;
           w2c_j0 += w2c_j1;
           w2c_l3 = w2c_j0;
-          w2c_j0 = w2c_l10;
+          w2c_j0 = w2c_l13;
           w2c_j1 = 369ull;
           w2c_j0 += w2c_j1;
           w2c_l5 = w2c_j0;
           w2c_j0 = 0ull;
           w2c_p1 = w2c_j0;
-          w2c_L418: 
+          w2c_L336: 
             w2c_j0 = w2c_l3;
             w2c_j1 = 8ull;
             w2c_j0 -= w2c_j1;
             w2c_i0 = (u32)(w2c_j0);
             w2c_j0 = i64_load(&instance->w2c_memory, (u64)(w2c_i0));
-            w2c_l7 = w2c_j0;
+            w2c_l6 = w2c_j0;
             w2c_j0 = w2c_l3;
             w2c_i0 = (u32)(w2c_j0);
             w2c_j0 = i64_load(&instance->w2c_memory, (u64)(w2c_i0));
-            w2c_l6 = w2c_j0;
+            w2c_l8 = w2c_j0;
             w2c_j0 = w2c_l4;
             w2c_i0 = (u32)(w2c_j0);
             w2c_j1 = 5ull;
-            i64_store(&instance->w2c_memory, (u64)(w2c_i0) + 560, w2c_j1);
+            i64_store(&instance->w2c_memory, (u64)(w2c_i0) + 672, w2c_j1);
             w2c_j0 = w2c_l4;
             w2c_i0 = (u32)(w2c_j0);
-            w2c_j1 = 1060083ull;
-            i64_store(&instance->w2c_memory, (u64)(w2c_i0) + 552, w2c_j1);
+            w2c_j1 = 1060082ull;
+            i64_store(&instance->w2c_memory, (u64)(w2c_i0) + 664, w2c_j1);
+            w2c_j0 = w2c_l4;
+            w2c_i0 = (u32)(w2c_j0);
+            w2c_j1 = w2c_l8;
+            i64_store(&instance->w2c_memory, (u64)(w2c_i0) + 640, w2c_j1);
             w2c_j0 = w2c_l4;
             w2c_i0 = (u32)(w2c_j0);
             w2c_j1 = w2c_l6;
-            i64_store(&instance->w2c_memory, (u64)(w2c_i0) + 400, w2c_j1);
+            i64_store(&instance->w2c_memory, (u64)(w2c_i0) + 632, w2c_j1);
             w2c_j0 = w2c_l4;
-            w2c_i0 = (u32)(w2c_j0);
-            w2c_j1 = w2c_l7;
-            i64_store(&instance->w2c_memory, (u64)(w2c_i0) + 392, w2c_j1);
-            w2c_j0 = w2c_l4;
-            w2c_j1 = 552ull;
+            w2c_j1 = 664ull;
             w2c_j0 += w2c_j1;
             w2c_j1 = w2c_l4;
-            w2c_j2 = 392ull;
+            w2c_j2 = 632ull;
             w2c_j1 += w2c_j2;
             w2c_i0 = w2c_f15(instance, w2c_j0, w2c_j1);
             w2c_i1 = 255u;
@@ -9372,8 +7854,8 @@ static void w2c_f0(Z_dine_ffi_instance_t* instance, u64 w2c_p0, u64 w2c_p1, u64 
               w2c_i0 = w2c_l37;
               w2c_i1 = 1u;
               w2c_i0 -= w2c_i1;
-              if (w2c_i0) {goto w2c_B417;}
-              goto w2c_B415;
+              if (w2c_i0) {goto w2c_B335;}
+              goto w2c_B333;
             }
             w2c_j0 = w2c_l3;
             w2c_j1 = 24ull;
@@ -9383,103 +7865,127 @@ static void w2c_f0(Z_dine_ffi_instance_t* instance, u64 w2c_p0, u64 w2c_p1, u64 
             w2c_j1 = 40ull;
             w2c_j0 += w2c_j1;
             w2c_l5 = w2c_j0;
-            w2c_j0 = w2c_p2;
+            w2c_j0 = w2c_l10;
             w2c_j1 = w2c_p1;
             w2c_j2 = 1ull;
             w2c_j1 += w2c_j2;
             w2c_p1 = w2c_j1;
             w2c_i0 = w2c_j0 != w2c_j1;
-            if (w2c_i0) {goto w2c_L418;}
-          w2c_j0 = w2c_p2;
+            if (w2c_i0) {goto w2c_L336;}
+          w2c_j0 = w2c_l10;
           w2c_p1 = w2c_j0;
-          w2c_B417:;
+          w2c_B335:;
           w2c_j0 = w2c_p1;
           w2c_j1 = 3ull;
           w2c_j0 <<= (w2c_j1 & 63);
         }
         w2c_l3 = w2c_j0;
         w2c_i0 = 0u;
-        w2c_j1 = w2c_l10;
+        w2c_j1 = w2c_l13;
         w2c_j2 = 2ull;
         w2c_j1 += w2c_j2;
         w2c_i1 = (u32)(w2c_j1);
         w2c_i1 = i32_load16_u(&instance->w2c_memory, (u64)(w2c_i1));
         w2c_i1 = !(w2c_i1);
-        if (w2c_i1) {goto w2c_B413;}
+        if (w2c_i1) {goto w2c_B331;}
         w2c_j0 = w2c_l3;
-        w2c_j1 = w2c_l10;
+        w2c_j1 = w2c_l13;
         w2c_j0 += w2c_j1;
         w2c_j1 = 968ull;
         w2c_j0 += w2c_j1;
         w2c_l3 = w2c_j0;
-        goto w2c_L414;
-        w2c_B415:;
-      w2c_i0 = 0u;
-      w2c_j1 = w2c_l5;
-      w2c_j2 = 1ull;
-      w2c_j1 -= w2c_j2;
-      w2c_i1 = (u32)(w2c_j1);
-      w2c_i1 = i32_load8_u(&instance->w2c_memory, (u64)(w2c_i1));
-      w2c_i2 = 3u;
-      w2c_i1 = w2c_i1 != w2c_i2;
-      if (w2c_i1) {goto w2c_B413;}
+        goto w2c_L332;
+        w2c_B333:;
+      w2c_j0 = w2c_l5;
+      w2c_j1 = 1ull;
+      w2c_j0 -= w2c_j1;
+      w2c_i0 = (u32)(w2c_j0);
+      w2c_i0 = i32_load8_u(&instance->w2c_memory, (u64)(w2c_i0));
+      w2c_i1 = 3u;
+      w2c_i0 = w2c_i0 != w2c_i1;
+      if (w2c_i0) {
+        w2c_i0 = 0u;
+        w2c_l45 = w2c_i0;
+        w2c_i0 = 1u;
+        goto w2c_B330;
+      }
       w2c_j0 = w2c_l5;
       w2c_i0 = (u32)(w2c_j0);
       w2c_i0 = i32_load8_u(&instance->w2c_memory, (u64)(w2c_i0));
-      w2c_B413:;
-      w2c_l38 = w2c_i0;
-      w2c_j0 = w2c_l12;
-      w2c_l3 = w2c_j0;
-      w2c_L421: 
-        w2c_j0 = w2c_l3;
+      w2c_B331:;
+      w2c_l45 = w2c_i0;
+      w2c_i0 = 0u;
+      w2c_B330:;
+      w2c_l47 = w2c_i0;
+      w2c_j0 = w2c_l4;
+      w2c_j1 = 216ull;
+      w2c_j0 += w2c_j1;
+      w2c_j1 = w2c_l15;
+      w2c_j2 = 1060087ull;
+      w2c_j3 = 3ull;
+      w2c_f46(instance, w2c_j0, w2c_j1, w2c_j2, w2c_j3);
+      w2c_j0 = w2c_l4;
+      w2c_i0 = (u32)(w2c_j0);
+      w2c_i0 = i32_load8_u(&instance->w2c_memory, (u64)(w2c_i0) + 224u);
+      w2c_l39 = w2c_i0;
+      w2c_j0 = w2c_l4;
+      w2c_i0 = (u32)(w2c_j0);
+      w2c_j0 = i64_load(&instance->w2c_memory, (u64)(w2c_i0) + 216u);
+      w2c_l15 = w2c_j0;
+      w2c_L339: 
+        w2c_j0 = w2c_l19;
         w2c_i0 = (u32)(w2c_j0);
         w2c_j0 = i64_load(&instance->w2c_memory, (u64)(w2c_i0));
-        w2c_p2 = w2c_j0;
+        w2c_l13 = w2c_j0;
         w2c_i0 = (u32)(w2c_j0);
         w2c_j0 = i64_load16_u(&instance->w2c_memory, (u64)(w2c_i0));
-        w2c_l6 = w2c_j0;
+        w2c_l10 = w2c_j0;
         w2c_i0 = !(w2c_j0);
         if (w2c_i0) {
           w2c_j0 = 0ull;
         } else {
-          w2c_j0 = w2c_p2;
+          w2c_j0 = w2c_l13;
           w2c_j1 = 16ull;
           w2c_j0 += w2c_j1;
           w2c_l3 = w2c_j0;
+          w2c_j0 = w2c_l13;
+          w2c_j1 = 376ull;
+          w2c_j0 += w2c_j1;
+          w2c_l5 = w2c_j0;
           w2c_j0 = 0ull;
           w2c_p1 = w2c_j0;
-          w2c_L425: 
+          w2c_L343: 
             w2c_j0 = w2c_l3;
             w2c_j1 = 8ull;
             w2c_j0 -= w2c_j1;
             w2c_i0 = (u32)(w2c_j0);
             w2c_j0 = i64_load(&instance->w2c_memory, (u64)(w2c_i0));
-            w2c_l5 = w2c_j0;
+            w2c_l6 = w2c_j0;
             w2c_j0 = w2c_l3;
             w2c_i0 = (u32)(w2c_j0);
             w2c_j0 = i64_load(&instance->w2c_memory, (u64)(w2c_i0));
-            w2c_l7 = w2c_j0;
+            w2c_l8 = w2c_j0;
             w2c_j0 = w2c_l4;
             w2c_i0 = (u32)(w2c_j0);
             w2c_j1 = 3ull;
-            i64_store(&instance->w2c_memory, (u64)(w2c_i0) + 560, w2c_j1);
+            i64_store(&instance->w2c_memory, (u64)(w2c_i0) + 672, w2c_j1);
             w2c_j0 = w2c_l4;
             w2c_i0 = (u32)(w2c_j0);
-            w2c_j1 = 1060080ull;
-            i64_store(&instance->w2c_memory, (u64)(w2c_i0) + 552, w2c_j1);
+            w2c_j1 = 1060090ull;
+            i64_store(&instance->w2c_memory, (u64)(w2c_i0) + 664, w2c_j1);
             w2c_j0 = w2c_l4;
             w2c_i0 = (u32)(w2c_j0);
-            w2c_j1 = w2c_l7;
-            i64_store(&instance->w2c_memory, (u64)(w2c_i0) + 400, w2c_j1);
+            w2c_j1 = w2c_l8;
+            i64_store(&instance->w2c_memory, (u64)(w2c_i0) + 640, w2c_j1);
             w2c_j0 = w2c_l4;
             w2c_i0 = (u32)(w2c_j0);
-            w2c_j1 = w2c_l5;
-            i64_store(&instance->w2c_memory, (u64)(w2c_i0) + 392, w2c_j1);
+            w2c_j1 = w2c_l6;
+            i64_store(&instance->w2c_memory, (u64)(w2c_i0) + 632, w2c_j1);
             w2c_j0 = w2c_l4;
-            w2c_j1 = 552ull;
+            w2c_j1 = 664ull;
             w2c_j0 += w2c_j1;
             w2c_j1 = w2c_l4;
-            w2c_j2 = 392ull;
+            w2c_j2 = 632ull;
             w2c_j1 += w2c_j2;
             w2c_i0 = w2c_f15(instance, w2c_j0, w2c_j1);
             w2c_i1 = 255u;
@@ -9491,381 +7997,351 @@ static void w2c_f0(Z_dine_ffi_instance_t* instance, u64 w2c_p0, u64 w2c_p1, u64 
               w2c_i0 = w2c_l37;
               w2c_i1 = 1u;
               w2c_i0 -= w2c_i1;
-              if (w2c_i0) {goto w2c_B424;}
-              goto w2c_B422;
+              if (w2c_i0) {goto w2c_B342;}
+              goto w2c_B340;
             }
             w2c_j0 = w2c_l3;
             w2c_j1 = 24ull;
             w2c_j0 += w2c_j1;
             w2c_l3 = w2c_j0;
-            w2c_j0 = w2c_l6;
+            w2c_j0 = w2c_l5;
+            w2c_j1 = 40ull;
+            w2c_j0 += w2c_j1;
+            w2c_l5 = w2c_j0;
+            w2c_j0 = w2c_l10;
             w2c_j1 = w2c_p1;
             w2c_j2 = 1ull;
             w2c_j1 += w2c_j2;
             w2c_p1 = w2c_j1;
             w2c_i0 = w2c_j0 != w2c_j1;
-            if (w2c_i0) {goto w2c_L425;}
-          w2c_j0 = w2c_l6;
+            if (w2c_i0) {goto w2c_L343;}
+          w2c_j0 = w2c_l10;
           w2c_p1 = w2c_j0;
-          w2c_B424:;
+          w2c_B342:;
           w2c_j0 = w2c_p1;
           w2c_j1 = 3ull;
           w2c_j0 <<= (w2c_j1 & 63);
         }
         w2c_l3 = w2c_j0;
-        w2c_j0 = w2c_p2;
+        w2c_j0 = w2c_l13;
         w2c_j1 = 2ull;
         w2c_j0 += w2c_j1;
         w2c_i0 = (u32)(w2c_j0);
         w2c_i0 = i32_load16_u(&instance->w2c_memory, (u64)(w2c_i0));
         w2c_i0 = !(w2c_i0);
-        if (w2c_i0) {goto w2c_B420;}
-        w2c_j0 = w2c_p2;
-        w2c_j1 = w2c_l3;
+        if (w2c_i0) {goto w2c_B319;}
+        w2c_j0 = w2c_l3;
+        w2c_j1 = w2c_l13;
         w2c_j0 += w2c_j1;
         w2c_j1 = 968ull;
         w2c_j0 += w2c_j1;
-        w2c_l3 = w2c_j0;
-        goto w2c_L421;
-        w2c_B422:;
-      w2c_L428: 
-        w2c_j0 = 0ull;
-        w2c_l3 = w2c_j0;
-        w2c_j0 = w2c_l12;
-        w2c_i0 = (u32)(w2c_j0);
-        w2c_j0 = i64_load(&instance->w2c_memory, (u64)(w2c_i0));
-        w2c_l10 = w2c_j0;
-        w2c_i0 = (u32)(w2c_j0);
-        w2c_j0 = i64_load16_u(&instance->w2c_memory, (u64)(w2c_i0));
-        w2c_p2 = w2c_j0;
-        w2c_i0 = !(w2c_j0);
-        w2c_i0 = !(w2c_i0);
-        if (w2c_i0) {
-          w2c_j0 = w2c_l10;
-          w2c_j1 = 16ull;
-          w2c_j0 += w2c_j1;
-          w2c_l3 = w2c_j0;
-          w2c_j0 = w2c_l10;
-          w2c_j1 = 376ull;
-          w2c_j0 += w2c_j1;
-          w2c_l5 = w2c_j0;
-          w2c_j0 = 0ull;
-          w2c_p1 = w2c_j0;
-          w2c_L431: 
-            w2c_j0 = w2c_l3;
-            w2c_j1 = 8ull;
-            w2c_j0 -= w2c_j1;
-            w2c_i0 = (u32)(w2c_j0);
-            w2c_j0 = i64_load(&instance->w2c_memory, (u64)(w2c_i0));
-            w2c_l7 = w2c_j0;
-            w2c_j0 = w2c_l3;
-            w2c_i0 = (u32)(w2c_j0);
-            w2c_j0 = i64_load(&instance->w2c_memory, (u64)(w2c_i0));
-            w2c_l6 = w2c_j0;
-            w2c_j0 = w2c_l4;
-            w2c_i0 = (u32)(w2c_j0);
-            w2c_j1 = 3ull;
-            i64_store(&instance->w2c_memory, (u64)(w2c_i0) + 560, w2c_j1);
-            w2c_j0 = w2c_l4;
-            w2c_i0 = (u32)(w2c_j0);
-            w2c_j1 = 1060080ull;
-            i64_store(&instance->w2c_memory, (u64)(w2c_i0) + 552, w2c_j1);
-            w2c_j0 = w2c_l4;
-            w2c_i0 = (u32)(w2c_j0);
-            w2c_j1 = w2c_l6;
-            i64_store(&instance->w2c_memory, (u64)(w2c_i0) + 400, w2c_j1);
-            w2c_j0 = w2c_l4;
-            w2c_i0 = (u32)(w2c_j0);
-            w2c_j1 = w2c_l7;
-            i64_store(&instance->w2c_memory, (u64)(w2c_i0) + 392, w2c_j1);
-            w2c_j0 = w2c_l4;
-            w2c_j1 = 552ull;
-            w2c_j0 += w2c_j1;
-            w2c_j1 = w2c_l4;
-            w2c_j2 = 392ull;
-            w2c_j1 += w2c_j2;
-            w2c_i0 = w2c_f15(instance, w2c_j0, w2c_j1);
-            w2c_i1 = 255u;
-            w2c_i0 &= w2c_i1;
-            w2c_l37 = w2c_i0;
-            w2c_i1 = 2u;
-            w2c_i0 = w2c_i0 != w2c_i1;
-            if (w2c_i0) {
-              w2c_i0 = w2c_l37;
-              w2c_i1 = 1u;
-              w2c_i0 -= w2c_i1;
-              if (w2c_i0) {goto w2c_B430;}
-              goto w2c_B427;
-            }
-            w2c_j0 = w2c_l3;
-            w2c_j1 = 24ull;
-            w2c_j0 += w2c_j1;
-            w2c_l3 = w2c_j0;
-            w2c_j0 = w2c_l5;
-            w2c_j1 = 40ull;
-            w2c_j0 += w2c_j1;
-            w2c_l5 = w2c_j0;
-            w2c_j0 = w2c_p2;
-            w2c_j1 = w2c_p1;
-            w2c_j2 = 1ull;
-            w2c_j1 += w2c_j2;
-            w2c_p1 = w2c_j1;
-            w2c_i0 = w2c_j0 != w2c_j1;
-            if (w2c_i0) {goto w2c_L431;}
-          w2c_j0 = w2c_p2;
-          w2c_p1 = w2c_j0;
-          w2c_B430:;
-          w2c_j0 = w2c_p1;
-          w2c_j1 = 3ull;
-          w2c_j0 <<= (w2c_j1 & 63);
-          w2c_l3 = w2c_j0;
-        }
-        w2c_j0 = w2c_l10;
-        w2c_j1 = 2ull;
-        w2c_j0 += w2c_j1;
-        w2c_i0 = (u32)(w2c_j0);
-        w2c_i0 = i32_load16_u(&instance->w2c_memory, (u64)(w2c_i0));
-        if (w2c_i0) {
-          w2c_j0 = w2c_l3;
-          w2c_j1 = w2c_l10;
-          w2c_j0 += w2c_j1;
-          w2c_j1 = 968ull;
-          w2c_j0 += w2c_j1;
-          w2c_l12 = w2c_j0;
-          goto w2c_L428;
-        }
-      w2c_j0 = 1ull;
-      w2c_p1 = w2c_j0;
-      goto w2c_B403;
-      w2c_B427:;
-      w2c_j0 = 0ull;
-      w2c_l3 = w2c_j0;
+        w2c_l19 = w2c_j0;
+        goto w2c_L339;
+        w2c_B340:;
       w2c_j0 = w2c_l5;
       w2c_j1 = 8ull;
       w2c_j0 -= w2c_j1;
       w2c_i0 = (u32)(w2c_j0);
       w2c_i0 = i32_load8_u(&instance->w2c_memory, (u64)(w2c_i0));
-      w2c_l37 = w2c_i0;
       w2c_i1 = 1u;
-      w2c_i0 = w2c_i0 == w2c_i1;
+      w2c_i0 = w2c_i0 != w2c_i1;
+      w2c_l37 = w2c_i0;
+      w2c_i0 = !(w2c_i0);
       if (w2c_i0) {
         w2c_j0 = w2c_l5;
         w2c_i0 = (u32)(w2c_j0);
         w2c_j0 = i64_load(&instance->w2c_memory, (u64)(w2c_i0));
         w2c_l3 = w2c_j0;
+        w2c_j1 = 0ull;
+        w2c_j2 = w2c_l3;
+        w2c_j3 = 0ull;
+        w2c_i2 = (u64)((s64)w2c_j2 > (s64)w2c_j3);
+        w2c_j0 = w2c_i2 ? w2c_j0 : w2c_j1;
+        w2c_l15 = w2c_j0;
+        w2c_i0 = w2c_l39;
+        w2c_i1 = 1u;
+        w2c_i0 &= w2c_i1;
+        w2c_i0 = !(w2c_i0);
+        if (w2c_i0) {goto w2c_B346;}
+        goto w2c_B318;
       }
+      w2c_i0 = 1u;
+      w2c_l48 = w2c_i0;
+      w2c_j0 = 0ull;
+      w2c_l15 = w2c_j0;
+      w2c_i0 = w2c_l39;
+      w2c_i1 = 1u;
+      w2c_i0 &= w2c_i1;
+      if (w2c_i0) {goto w2c_B318;}
+      goto w2c_B345;
+      w2c_B346:;
       w2c_j0 = w2c_l3;
       w2c_j1 = 0ull;
-      w2c_j2 = w2c_l3;
-      w2c_j3 = 0ull;
-      w2c_i2 = (u64)((s64)w2c_j2 >= (s64)w2c_j3);
-      w2c_j0 = w2c_i2 ? w2c_j0 : w2c_j1;
-      w2c_j1 = 0ull;
-      w2c_i2 = w2c_l37;
-      w2c_i3 = 1u;
-      w2c_i2 = w2c_i2 == w2c_i3;
-      w2c_j0 = w2c_i2 ? w2c_j0 : w2c_j1;
-      w2c_l19 = w2c_j0;
+      w2c_i0 = (u64)((s64)w2c_j0 >= (s64)w2c_j1);
+      w2c_l48 = w2c_i0;
+      w2c_B345:;
+      w2c_i0 = w2c_l37;
+      w2c_i1 = w2c_l48;
+      w2c_i1 = !(w2c_i1);
+      w2c_i0 |= w2c_i1;
+      w2c_l39 = w2c_i0;
       w2c_j0 = 1ull;
-      w2c_p1 = w2c_j0;
-      goto w2c_B403;
-      w2c_B420:;
-      w2c_L436: 
+      goto w2c_B317;
+      w2c_B320:;
+      w2c_j0 = w2c_l4;
+      w2c_j1 = 264ull;
+      w2c_j0 += w2c_j1;
+      w2c_j1 = w2c_l15;
+      w2c_j2 = 1060077ull;
+      w2c_j3 = 5ull;
+      w2c_f46(instance, w2c_j0, w2c_j1, w2c_j2, w2c_j3);
+      w2c_j0 = w2c_l4;
+      w2c_i0 = (u32)(w2c_j0);
+      w2c_i0 = i32_load8_u(&instance->w2c_memory, (u64)(w2c_i0) + 272u);
+      w2c_l42 = w2c_i0;
+      w2c_j0 = w2c_l4;
+      w2c_j1 = 248ull;
+      w2c_j0 += w2c_j1;
+      w2c_j1 = w2c_l15;
+      w2c_j2 = 1060087ull;
+      w2c_j3 = 3ull;
+      w2c_f46(instance, w2c_j0, w2c_j1, w2c_j2, w2c_j3);
+      w2c_j0 = w2c_l4;
+      w2c_i0 = (u32)(w2c_j0);
+      w2c_j0 = i64_load(&instance->w2c_memory, (u64)(w2c_i0) + 264u);
+      w2c_l3 = w2c_j0;
+      w2c_j1 = 4294967295ull;
+      w2c_j2 = w2c_l3;
+      w2c_j3 = 4294967295ull;
+      w2c_i2 = w2c_j2 < w2c_j3;
+      w2c_j0 = w2c_i2 ? w2c_j0 : w2c_j1;
+      w2c_i0 = (u32)(w2c_j0);
+      w2c_l43 = w2c_i0;
+      w2c_j0 = 0ull;
+      w2c_l11 = w2c_j0;
+      w2c_j0 = 1048585ull;
+      w2c_p2 = w2c_j0;
+      w2c_i0 = 0u;
+      w2c_l47 = w2c_i0;
+      w2c_j0 = w2c_l4;
+      w2c_i0 = (u32)(w2c_j0);
+      w2c_i0 = i32_load8_u(&instance->w2c_memory, (u64)(w2c_i0) + 256u);
+      w2c_l39 = w2c_i0;
+      w2c_j0 = w2c_l4;
+      w2c_i0 = (u32)(w2c_j0);
+      w2c_j0 = i64_load(&instance->w2c_memory, (u64)(w2c_i0) + 248u);
+      w2c_l15 = w2c_j0;
+      w2c_i0 = 0u;
+      w2c_l45 = w2c_i0;
+      w2c_i0 = 0u;
+      w2c_l41 = w2c_i0;
+      w2c_B319:;
+      w2c_j0 = 0ull;
+      goto w2c_B317;
+      w2c_B318:;
+      w2c_i0 = 1u;
+      w2c_l39 = w2c_i0;
+      w2c_j0 = 1ull;
+      w2c_B317:;
+      w2c_l13 = w2c_j0;
+      w2c_j0 = w2c_l11;
+      w2c_j1 = w2c_l11;
+      w2c_i1 = !(w2c_j1);
+      w2c_l37 = w2c_i1;
+      if (w2c_i1) {
+        w2c_j1 = w2c_l4;
+        w2c_j2 = 1000ull;
+        w2c_j1 += w2c_j2;
+      } else {
+        w2c_j1 = w2c_l11;
+        w2c_j2 = 0ull;
+        w2c_i1 = (u64)((s64)w2c_j1 < (s64)w2c_j2);
+        if (w2c_i1) {goto w2c_B305;}
+        w2c_j1 = w2c_l4;
+        w2c_j2 = 200ull;
+        w2c_j1 += w2c_j2;
+        w2c_j2 = w2c_l11;
+        w2c_f114(instance, w2c_j1, w2c_j2);
+        w2c_j1 = w2c_l4;
+        w2c_i1 = (u32)(w2c_j1);
+        w2c_j1 = i64_load(&instance->w2c_memory, (u64)(w2c_i1) + 200u);
+        w2c_i1 = (u32)(w2c_j1);
+        w2c_i2 = 1u;
+        w2c_i1 &= w2c_i2;
+        w2c_i1 = !(w2c_i1);
+        if (w2c_i1) {goto w2c_B305;}
+        w2c_j1 = w2c_l4;
+        w2c_i1 = (u32)(w2c_j1);
+        w2c_j1 = i64_load(&instance->w2c_memory, (u64)(w2c_i1) + 208u);
+      }
+      w2c_l8 = w2c_j1;
+      w2c_j2 = w2c_p2;
+      w2c_j1 -= w2c_j2;
+      w2c_i0 = w2c_j0 > w2c_j1;
+      if (w2c_i0) {
+        w2c_j0 = w2c_l11;
+        w2c_j1 = 3ull;
+        w2c_j0 &= w2c_j1;
+        w2c_l6 = w2c_j0;
         w2c_j0 = 0ull;
-        w2c_l3 = w2c_j0;
-        w2c_j0 = w2c_l12;
-        w2c_i0 = (u32)(w2c_j0);
-        w2c_j0 = i64_load(&instance->w2c_memory, (u64)(w2c_i0));
-        w2c_l10 = w2c_j0;
-        w2c_i0 = (u32)(w2c_j0);
-        w2c_j0 = i64_load16_u(&instance->w2c_memory, (u64)(w2c_i0));
-        w2c_p2 = w2c_j0;
-        w2c_i0 = !(w2c_j0);
-        w2c_i0 = !(w2c_i0);
+        w2c_p1 = w2c_j0;
+        w2c_j0 = w2c_l11;
+        w2c_j1 = 4ull;
+        w2c_i0 = w2c_j0 >= w2c_j1;
         if (w2c_i0) {
-          w2c_j0 = w2c_l10;
-          w2c_j1 = 16ull;
-          w2c_j0 += w2c_j1;
-          w2c_l3 = w2c_j0;
-          w2c_j0 = w2c_l10;
-          w2c_j1 = 376ull;
-          w2c_j0 += w2c_j1;
-          w2c_l5 = w2c_j0;
-          w2c_j0 = 0ull;
-          w2c_p1 = w2c_j0;
-          w2c_L439: 
-            w2c_j0 = w2c_l3;
-            w2c_j1 = 8ull;
-            w2c_j0 -= w2c_j1;
-            w2c_i0 = (u32)(w2c_j0);
-            w2c_j0 = i64_load(&instance->w2c_memory, (u64)(w2c_i0));
-            w2c_l7 = w2c_j0;
-            w2c_j0 = w2c_l3;
-            w2c_i0 = (u32)(w2c_j0);
-            w2c_j0 = i64_load(&instance->w2c_memory, (u64)(w2c_i0));
-            w2c_l6 = w2c_j0;
-            w2c_j0 = w2c_l4;
-            w2c_i0 = (u32)(w2c_j0);
-            w2c_j1 = 3ull;
-            i64_store(&instance->w2c_memory, (u64)(w2c_i0) + 560, w2c_j1);
-            w2c_j0 = w2c_l4;
-            w2c_i0 = (u32)(w2c_j0);
-            w2c_j1 = 1060077ull;
-            i64_store(&instance->w2c_memory, (u64)(w2c_i0) + 552, w2c_j1);
-            w2c_j0 = w2c_l4;
-            w2c_i0 = (u32)(w2c_j0);
-            w2c_j1 = w2c_l6;
-            i64_store(&instance->w2c_memory, (u64)(w2c_i0) + 400, w2c_j1);
-            w2c_j0 = w2c_l4;
-            w2c_i0 = (u32)(w2c_j0);
-            w2c_j1 = w2c_l7;
-            i64_store(&instance->w2c_memory, (u64)(w2c_i0) + 392, w2c_j1);
-            w2c_j0 = w2c_l4;
-            w2c_j1 = 552ull;
-            w2c_j0 += w2c_j1;
-            w2c_j1 = w2c_l4;
-            w2c_j2 = 392ull;
-            w2c_j1 += w2c_j2;
-            w2c_i0 = w2c_f15(instance, w2c_j0, w2c_j1);
-            w2c_i1 = 255u;
-            w2c_i0 &= w2c_i1;
-            w2c_l37 = w2c_i0;
-            w2c_i1 = 2u;
-            w2c_i0 = w2c_i0 != w2c_i1;
-            if (w2c_i0) {
-              w2c_i0 = w2c_l37;
-              w2c_i1 = 1u;
-              w2c_i0 -= w2c_i1;
-              if (w2c_i0) {goto w2c_B438;}
-              goto w2c_B435;
-            }
-            w2c_j0 = w2c_l3;
-            w2c_j1 = 24ull;
+          w2c_j0 = w2c_l11;
+          w2c_j1 = 18446744073709551612ull;
+          w2c_j0 &= w2c_j1;
+          w2c_l10 = w2c_j0;
+          w2c_L352: 
+            w2c_j0 = w2c_p1;
+            w2c_j1 = w2c_l8;
             w2c_j0 += w2c_j1;
             w2c_l3 = w2c_j0;
-            w2c_j0 = w2c_l5;
-            w2c_j1 = 40ull;
-            w2c_j0 += w2c_j1;
-            w2c_l5 = w2c_j0;
-            w2c_j0 = w2c_p2;
+            w2c_i0 = (u32)(w2c_j0);
             w2c_j1 = w2c_p1;
+            w2c_j2 = w2c_p2;
+            w2c_j1 += w2c_j2;
+            w2c_l5 = w2c_j1;
+            w2c_i1 = (u32)(w2c_j1);
+            w2c_i1 = i32_load8_u(&instance->w2c_memory, (u64)(w2c_i1));
+            i32_store8(&instance->w2c_memory, (u64)(w2c_i0), w2c_i1);
+            w2c_j0 = w2c_l3;
+            w2c_j1 = 1ull;
+            w2c_j0 += w2c_j1;
+            w2c_i0 = (u32)(w2c_j0);
+            w2c_j1 = w2c_l5;
             w2c_j2 = 1ull;
+            w2c_j1 += w2c_j2;
+            w2c_i1 = (u32)(w2c_j1);
+            w2c_i1 = i32_load8_u(&instance->w2c_memory, (u64)(w2c_i1));
+            i32_store8(&instance->w2c_memory, (u64)(w2c_i0), w2c_i1);
+            w2c_j0 = w2c_l3;
+            w2c_j1 = 2ull;
+            w2c_j0 += w2c_j1;
+            w2c_i0 = (u32)(w2c_j0);
+            w2c_j1 = w2c_l5;
+            w2c_j2 = 2ull;
+            w2c_j1 += w2c_j2;
+            w2c_i1 = (u32)(w2c_j1);
+            w2c_i1 = i32_load8_u(&instance->w2c_memory, (u64)(w2c_i1));
+            i32_store8(&instance->w2c_memory, (u64)(w2c_i0), w2c_i1);
+            w2c_j0 = w2c_l3;
+            w2c_j1 = 3ull;
+            w2c_j0 += w2c_j1;
+            w2c_i0 = (u32)(w2c_j0);
+            w2c_j1 = w2c_l5;
+            w2c_j2 = 3ull;
+            w2c_j1 += w2c_j2;
+            w2c_i1 = (u32)(w2c_j1);
+            w2c_i1 = i32_load8_u(&instance->w2c_memory, (u64)(w2c_i1));
+            i32_store8(&instance->w2c_memory, (u64)(w2c_i0), w2c_i1);
+            w2c_j0 = w2c_l10;
+            w2c_j1 = w2c_p1;
+            w2c_j2 = 4ull;
             w2c_j1 += w2c_j2;
             w2c_p1 = w2c_j1;
             w2c_i0 = w2c_j0 != w2c_j1;
-            if (w2c_i0) {goto w2c_L439;}
-          w2c_j0 = w2c_p2;
-          w2c_p1 = w2c_j0;
-          w2c_B438:;
-          w2c_j0 = w2c_p1;
-          w2c_j1 = 3ull;
-          w2c_j0 <<= (w2c_j1 & 63);
-          w2c_l3 = w2c_j0;
+            if (w2c_i0) {goto w2c_L352;}
+          w2c_j0 = w2c_l6;
+          w2c_i0 = !(w2c_j0);
+          if (w2c_i0) {goto w2c_B348;}
         }
-        w2c_j0 = w2c_l10;
-        w2c_j1 = 2ull;
+        w2c_j0 = w2c_p1;
+        w2c_j1 = w2c_l8;
         w2c_j0 += w2c_j1;
-        w2c_i0 = (u32)(w2c_j0);
-        w2c_i0 = i32_load16_u(&instance->w2c_memory, (u64)(w2c_i0));
-        if (w2c_i0) {
-          w2c_j0 = w2c_l3;
-          w2c_j1 = w2c_l10;
-          w2c_j0 += w2c_j1;
-          w2c_j1 = 968ull;
-          w2c_j0 += w2c_j1;
-          w2c_l12 = w2c_j0;
-          goto w2c_L436;
-        }
-      w2c_j0 = 0ull;
-      w2c_p1 = w2c_j0;
-      goto w2c_B403;
-      w2c_B435:;
-      w2c_j0 = 0ull;
-      w2c_p1 = w2c_j0;
-      w2c_j0 = 0ull;
-      w2c_l3 = w2c_j0;
-      w2c_j0 = w2c_l5;
-      w2c_j1 = 8ull;
-      w2c_j0 -= w2c_j1;
-      w2c_i0 = (u32)(w2c_j0);
-      w2c_i0 = i32_load8_u(&instance->w2c_memory, (u64)(w2c_i0));
-      w2c_l37 = w2c_i0;
-      w2c_i1 = 1u;
-      w2c_i0 = w2c_i0 == w2c_i1;
-      if (w2c_i0) {
-        w2c_j0 = w2c_l5;
-        w2c_i0 = (u32)(w2c_j0);
-        w2c_j0 = i64_load(&instance->w2c_memory, (u64)(w2c_i0));
         w2c_l3 = w2c_j0;
+        w2c_j0 = w2c_p1;
+        w2c_j1 = w2c_p2;
+        w2c_j0 += w2c_j1;
+        w2c_p1 = w2c_j0;
+        w2c_L353: 
+          w2c_j0 = w2c_l3;
+          w2c_i0 = (u32)(w2c_j0);
+          w2c_j1 = w2c_p1;
+          w2c_i1 = (u32)(w2c_j1);
+          w2c_i1 = i32_load8_u(&instance->w2c_memory, (u64)(w2c_i1));
+          i32_store8(&instance->w2c_memory, (u64)(w2c_i0), w2c_i1);
+          w2c_j0 = w2c_l3;
+          w2c_j1 = 1ull;
+          w2c_j0 += w2c_j1;
+          w2c_l3 = w2c_j0;
+          w2c_j0 = w2c_p1;
+          w2c_j1 = 1ull;
+          w2c_j0 += w2c_j1;
+          w2c_p1 = w2c_j0;
+          w2c_j0 = w2c_l6;
+          w2c_j1 = 1ull;
+          w2c_j0 -= w2c_j1;
+          w2c_l6 = w2c_j0;
+          w2c_j1 = 0ull;
+          w2c_i0 = w2c_j0 != w2c_j1;
+          if (w2c_i0) {goto w2c_L353;}
+        goto w2c_B348;
       }
-      w2c_j0 = w2c_l3;
-      w2c_j1 = 0ull;
-      w2c_j2 = w2c_l3;
-      w2c_j3 = 0ull;
-      w2c_i2 = (u64)((s64)w2c_j2 >= (s64)w2c_j3);
-      w2c_j0 = w2c_i2 ? w2c_j0 : w2c_j1;
-      w2c_j1 = 0ull;
-      w2c_i2 = w2c_l37;
-      w2c_i3 = 1u;
-      w2c_i2 = w2c_i2 == w2c_i3;
-      w2c_j0 = w2c_i2 ? w2c_j0 : w2c_j1;
-      w2c_l19 = w2c_j0;
-      w2c_B403:;
+      w2c_i0 = w2c_l37;
+      if (w2c_i0) {goto w2c_B348;}
+      w2c_j0 = w2c_l8;
+      w2c_i0 = (u32)(w2c_j0);
+      w2c_j1 = w2c_p2;
+      w2c_i1 = (u32)(w2c_j1);
+      w2c_j2 = w2c_l11;
+      w2c_i2 = (u32)(w2c_j2);
+      memory_copy(&instance->w2c_memory, &instance->w2c_memory, w2c_i0, w2c_i1, w2c_i2);
+      w2c_B348:;
       w2c_j0 = w2c_l4;
       w2c_i0 = (u32)(w2c_j0);
       w2c_i1 = 0u;
-      i32_store8(&instance->w2c_memory, (u64)(w2c_i0) + 554, w2c_i1);
+      i32_store8(&instance->w2c_memory, (u64)(w2c_i0) + 666, w2c_i1);
       w2c_j0 = w2c_l4;
       w2c_i0 = (u32)(w2c_j0);
       w2c_i1 = 0u;
-      i32_store16(&instance->w2c_memory, (u64)(w2c_i0) + 552, w2c_i1);
-      w2c_j0 = w2c_l13;
+      i32_store16(&instance->w2c_memory, (u64)(w2c_i0) + 664, w2c_i1);
+      w2c_j0 = w2c_l9;
       w2c_j1 = w2c_l4;
       w2c_i1 = (u32)(w2c_j1);
-      w2c_j1 = i64_load(&instance->w2c_memory, (u64)(w2c_i1) + 432u);
+      w2c_j1 = i64_load(&instance->w2c_memory, (u64)(w2c_i1) + 512u);
       w2c_i0 = w2c_j0 == w2c_j1;
       if (w2c_i0) {
         w2c_j0 = w2c_l4;
-        w2c_j1 = 416ull;
+        w2c_j1 = 496ull;
         w2c_j0 += w2c_j1;
-        w2c_i0 = w2c_f46(instance, w2c_j0);
+        w2c_i0 = w2c_f47(instance, w2c_j0);
         w2c_i0 = !(w2c_i0);
-        if (w2c_i0) {goto w2c_B375;}
+        if (w2c_i0) {goto w2c_B304;}
         w2c_j0 = w2c_l4;
         w2c_i0 = (u32)(w2c_j0);
-        w2c_j0 = i64_load(&instance->w2c_memory, (u64)(w2c_i0) + 424u);
-        w2c_l13 = w2c_j0;
+        w2c_j0 = i64_load(&instance->w2c_memory, (u64)(w2c_i0) + 496u);
+        w2c_l18 = w2c_j0;
         w2c_j0 = w2c_l4;
         w2c_i0 = (u32)(w2c_j0);
-        w2c_j0 = i64_load(&instance->w2c_memory, (u64)(w2c_i0) + 416u);
-        w2c_l14 = w2c_j0;
+        w2c_j0 = i64_load(&instance->w2c_memory, (u64)(w2c_i0) + 504u);
+        w2c_l9 = w2c_j0;
       }
-      w2c_j0 = w2c_l14;
-      w2c_j1 = w2c_l13;
+      w2c_j0 = w2c_l18;
+      w2c_j1 = w2c_l9;
       w2c_j2 = 56ull;
       w2c_j1 *= w2c_j2;
       w2c_j0 += w2c_j1;
       w2c_l3 = w2c_j0;
       w2c_i0 = (u32)(w2c_j0);
-      w2c_i1 = w2c_l38;
-      w2c_i2 = 1u;
-      w2c_i1 &= w2c_i2;
+      w2c_i1 = w2c_l45;
       i32_store8(&instance->w2c_memory, (u64)(w2c_i0) + 36, w2c_i1);
       w2c_j0 = w2c_l3;
       w2c_i0 = (u32)(w2c_j0);
-      w2c_i1 = w2c_l39;
+      w2c_i1 = w2c_l43;
       i32_store(&instance->w2c_memory, (u64)(w2c_i0) + 32, w2c_i1);
       w2c_j0 = w2c_l3;
       w2c_i0 = (u32)(w2c_j0);
-      w2c_j1 = w2c_l9;
+      w2c_j1 = w2c_l11;
       i64_store(&instance->w2c_memory, (u64)(w2c_i0) + 24, w2c_j1);
       w2c_j0 = w2c_l3;
       w2c_i0 = (u32)(w2c_j0);
-      w2c_j1 = w2c_l9;
+      w2c_j1 = w2c_l11;
       i64_store(&instance->w2c_memory, (u64)(w2c_i0) + 16, w2c_j1);
       w2c_j0 = w2c_l3;
       w2c_i0 = (u32)(w2c_j0);
-      w2c_j1 = w2c_l11;
+      w2c_j1 = w2c_l8;
       i64_store(&instance->w2c_memory, (u64)(w2c_i0) + 8, w2c_j1);
       w2c_j0 = w2c_l3;
       w2c_i0 = (u32)(w2c_j0);
@@ -9873,118 +8349,173 @@ static void w2c_f0(Z_dine_ffi_instance_t* instance, u64 w2c_p0, u64 w2c_p1, u64 
       i64_store(&instance->w2c_memory, (u64)(w2c_i0), w2c_j1);
       w2c_j0 = w2c_l3;
       w2c_i0 = (u32)(w2c_j0);
-      w2c_j1 = w2c_l19;
+      w2c_j1 = w2c_l15;
       i64_store(&instance->w2c_memory, (u64)(w2c_i0) + 48, w2c_j1);
       w2c_j0 = w2c_l3;
       w2c_i0 = (u32)(w2c_j0);
-      w2c_j1 = w2c_p1;
+      w2c_j1 = w2c_l13;
       i64_store(&instance->w2c_memory, (u64)(w2c_i0) + 40, w2c_j1);
       w2c_j0 = w2c_l3;
       w2c_i0 = (u32)(w2c_j0);
       w2c_j1 = w2c_l4;
       w2c_i1 = (u32)(w2c_j1);
-      w2c_i1 = i32_load16_u(&instance->w2c_memory, (u64)(w2c_i1) + 552u);
+      w2c_i1 = i32_load16_u(&instance->w2c_memory, (u64)(w2c_i1) + 664u);
       i32_store16(&instance->w2c_memory, (u64)(w2c_i0) + 37, w2c_i1);
       w2c_j0 = w2c_l3;
       w2c_i0 = (u32)(w2c_j0);
       w2c_j1 = w2c_l4;
       w2c_i1 = (u32)(w2c_j1);
-      w2c_i1 = i32_load8_u(&instance->w2c_memory, (u64)(w2c_i1) + 554u);
+      w2c_i1 = i32_load8_u(&instance->w2c_memory, (u64)(w2c_i1) + 666u);
       i32_store8(&instance->w2c_memory, (u64)(w2c_i0) + 39, w2c_i1);
       w2c_j0 = w2c_l4;
       w2c_i0 = (u32)(w2c_j0);
-      w2c_j1 = w2c_l13;
+      w2c_j1 = w2c_l9;
       w2c_j2 = 1ull;
       w2c_j1 += w2c_j2;
-      w2c_l13 = w2c_j1;
-      i64_store(&instance->w2c_memory, (u64)(w2c_i0) + 424, w2c_j1);
-      w2c_j0 = w2c_l15;
+      w2c_l9 = w2c_j1;
+      i64_store(&instance->w2c_memory, (u64)(w2c_i0) + 504, w2c_j1);
+      w2c_i0 = w2c_l38;
+      w2c_i1 = w2c_l47;
+      w2c_i2 = w2c_l41;
+      w2c_i3 = w2c_l42;
+      w2c_i2 |= w2c_i3;
+      w2c_i1 |= w2c_i2;
+      w2c_i2 = w2c_l39;
+      w2c_i1 |= w2c_i2;
+      w2c_i0 |= w2c_i1;
+      w2c_l38 = w2c_i0;
+      w2c_j0 = w2c_l16;
       w2c_j1 = 1ull;
       w2c_j0 += w2c_j1;
-      w2c_l15 = w2c_j0;
-      w2c_j1 = w2c_l21;
+      w2c_l16 = w2c_j0;
+      w2c_j1 = w2c_l14;
       w2c_i0 = w2c_j0 != w2c_j1;
-      if (w2c_i0) {goto w2c_L385;}
-    w2c_j0 = w2c_l17;
+      if (w2c_i0) {goto w2c_L316;}
+    w2c_j0 = w2c_l12;
     w2c_i0 = (u32)(w2c_j0);
     w2c_i0 = i32_load8_u(&instance->w2c_memory, (u64)(w2c_i0));
-    w2c_l38 = w2c_i0;
+    w2c_l39 = w2c_i0;
     w2c_j0 = w2c_l4;
     w2c_i0 = (u32)(w2c_j0);
-    w2c_j0 = i64_load(&instance->w2c_memory, (u64)(w2c_i0) + 432u);
-    w2c_l21 = w2c_j0;
+    w2c_j0 = i64_load(&instance->w2c_memory, (u64)(w2c_i0) + 512u);
+    w2c_l18 = w2c_j0;
     w2c_j0 = w2c_l4;
     w2c_i0 = (u32)(w2c_j0);
-    w2c_j0 = i64_load(&instance->w2c_memory, (u64)(w2c_i0) + 416u);
-    w2c_B376:;
-    w2c_l15 = w2c_j0;
+    w2c_j0 = i64_load(&instance->w2c_memory, (u64)(w2c_i0) + 496u);
+    w2c_B306:;
+    w2c_l14 = w2c_j0;
     w2c_j0 = 0ull;
-    w2c_l9 = w2c_j0;
+    w2c_l11 = w2c_j0;
     w2c_j0 = 1048585ull;
     w2c_p1 = w2c_j0;
     w2c_j0 = w2c_l4;
-    w2c_j1 = 920ull;
+    w2c_j1 = 1000ull;
     w2c_j0 += w2c_j1;
-    w2c_l11 = w2c_j0;
-    w2c_i0 = w2c_l38;
+    w2c_l13 = w2c_j0;
+    w2c_i0 = w2c_l39;
     w2c_i1 = 255u;
     w2c_i0 &= w2c_i1;
     w2c_i1 = 6u;
     w2c_i0 = w2c_i0 != w2c_i1;
-    if (w2c_i0) {goto w2c_B371;}
-    w2c_j0 = w2c_l17;
+    if (w2c_i0) {goto w2c_B301;}
+    w2c_j0 = w2c_l12;
     w2c_j1 = 8ull;
     w2c_j0 += w2c_j1;
     w2c_i0 = (u32)(w2c_j0);
     w2c_i0 = i32_load8_u(&instance->w2c_memory, (u64)(w2c_i0));
     w2c_i1 = 1u;
     w2c_i0 = w2c_i0 == w2c_i1;
-    if (w2c_i0) {goto w2c_B373;}
-    goto w2c_B371;
-    w2c_B375:;
+    if (w2c_i0) {goto w2c_B302;}
+    goto w2c_B301;
+    w2c_B305:;
+    w2c_j0 = w2c_l4;
+    w2c_i0 = (u32)(w2c_j0);
+    w2c_j0 = i64_load(&instance->w2c_memory, (u64)(w2c_i0) + 512u);
+    w2c_p1 = w2c_j0;
     w2c_j0 = w2c_l9;
     w2c_i0 = !(w2c_j0);
     w2c_i0 = !(w2c_i0);
     if (w2c_i0) {
-      w2c_j0 = w2c_l11;
-      w2c_leave(instance, w2c_j0);
-    }
-    w2c_j0 = w2c_l4;
-    w2c_i0 = (u32)(w2c_j0);
-    w2c_j0 = i64_load(&instance->w2c_memory, (u64)(w2c_i0) + 432u);
-    w2c_l5 = w2c_j0;
-    w2c_j0 = w2c_l4;
-    w2c_i0 = (u32)(w2c_j0);
-    w2c_j0 = i64_load(&instance->w2c_memory, (u64)(w2c_i0) + 416u);
-    w2c_l14 = w2c_j0;
-    w2c_j0 = w2c_l4;
-    w2c_i0 = (u32)(w2c_j0);
-    w2c_j0 = i64_load(&instance->w2c_memory, (u64)(w2c_i0) + 424u);
-    w2c_p1 = w2c_j0;
-    w2c_i0 = !(w2c_j0);
-    w2c_i0 = !(w2c_i0);
-    if (w2c_i0) {
-      w2c_j0 = w2c_l14;
+      w2c_j0 = w2c_l18;
       w2c_l3 = w2c_j0;
-      w2c_L446: 
+      w2c_L356: 
         w2c_j0 = w2c_l3;
         w2c_i0 = (u32)(w2c_j0);
         w2c_i0 = i32_load8_u(&instance->w2c_memory, (u64)(w2c_i0));
-        if (w2c_i0) {goto w2c_B447;}
+        if (w2c_i0) {goto w2c_B357;}
         w2c_j0 = w2c_l3;
         w2c_j1 = 24ull;
         w2c_j0 += w2c_j1;
         w2c_i0 = (u32)(w2c_j0);
         w2c_j0 = i64_load(&instance->w2c_memory, (u64)(w2c_i0));
         w2c_i0 = !(w2c_j0);
-        if (w2c_i0) {goto w2c_B447;}
+        if (w2c_i0) {goto w2c_B357;}
         w2c_j0 = w2c_l3;
         w2c_j1 = 8ull;
         w2c_j0 += w2c_j1;
         w2c_i0 = (u32)(w2c_j0);
         w2c_j0 = i64_load(&instance->w2c_memory, (u64)(w2c_i0));
         w2c_leave(instance, w2c_j0);
-        w2c_B447:;
+        w2c_B357:;
+        w2c_j0 = w2c_l3;
+        w2c_j1 = 56ull;
+        w2c_j0 += w2c_j1;
+        w2c_l3 = w2c_j0;
+        w2c_j0 = w2c_l9;
+        w2c_j1 = 1ull;
+        w2c_j0 -= w2c_j1;
+        w2c_l9 = w2c_j0;
+        w2c_j1 = 0ull;
+        w2c_i0 = w2c_j0 != w2c_j1;
+        if (w2c_i0) {goto w2c_L356;}
+    }
+    w2c_j0 = w2c_p1;
+    w2c_i0 = !(w2c_j0);
+    if (w2c_i0) {goto w2c_B270;}
+    goto w2c_B303;
+    w2c_B304:;
+    w2c_i0 = w2c_l37;
+    w2c_i0 = !(w2c_i0);
+    if (w2c_i0) {
+      w2c_j0 = w2c_l8;
+      w2c_leave(instance, w2c_j0);
+    }
+    w2c_j0 = w2c_l4;
+    w2c_i0 = (u32)(w2c_j0);
+    w2c_j0 = i64_load(&instance->w2c_memory, (u64)(w2c_i0) + 512u);
+    w2c_l5 = w2c_j0;
+    w2c_j0 = w2c_l4;
+    w2c_i0 = (u32)(w2c_j0);
+    w2c_j0 = i64_load(&instance->w2c_memory, (u64)(w2c_i0) + 496u);
+    w2c_l18 = w2c_j0;
+    w2c_j0 = w2c_l4;
+    w2c_i0 = (u32)(w2c_j0);
+    w2c_j0 = i64_load(&instance->w2c_memory, (u64)(w2c_i0) + 504u);
+    w2c_p1 = w2c_j0;
+    w2c_i0 = !(w2c_j0);
+    w2c_i0 = !(w2c_i0);
+    if (w2c_i0) {
+      w2c_j0 = w2c_l18;
+      w2c_l3 = w2c_j0;
+      w2c_L360: 
+        w2c_j0 = w2c_l3;
+        w2c_i0 = (u32)(w2c_j0);
+        w2c_i0 = i32_load8_u(&instance->w2c_memory, (u64)(w2c_i0));
+        if (w2c_i0) {goto w2c_B361;}
+        w2c_j0 = w2c_l3;
+        w2c_j1 = 24ull;
+        w2c_j0 += w2c_j1;
+        w2c_i0 = (u32)(w2c_j0);
+        w2c_j0 = i64_load(&instance->w2c_memory, (u64)(w2c_i0));
+        w2c_i0 = !(w2c_j0);
+        if (w2c_i0) {goto w2c_B361;}
+        w2c_j0 = w2c_l3;
+        w2c_j1 = 8ull;
+        w2c_j0 += w2c_j1;
+        w2c_i0 = (u32)(w2c_j0);
+        w2c_j0 = i64_load(&instance->w2c_memory, (u64)(w2c_i0));
+        w2c_leave(instance, w2c_j0);
+        w2c_B361:;
         w2c_j0 = w2c_l3;
         w2c_j1 = 56ull;
         w2c_j0 += w2c_j1;
@@ -9995,30 +8526,23 @@ static void w2c_f0(Z_dine_ffi_instance_t* instance, u64 w2c_p0, u64 w2c_p1, u64 
         w2c_p1 = w2c_j0;
         w2c_j1 = 0ull;
         w2c_i0 = w2c_j0 != w2c_j1;
-        if (w2c_i0) {goto w2c_L446;}
+        if (w2c_i0) {goto w2c_L360;}
     }
     w2c_j0 = w2c_l5;
     w2c_i0 = !(w2c_j0);
-    w2c_i0 = !(w2c_i0);
-    if (w2c_i0) {goto w2c_B372;}
-    goto w2c_B352;
-    w2c_B374:;
-    w2c_j0 = w2c_l4;
-    w2c_j1 = 920ull;
-    w2c_j0 += w2c_j1;
-    w2c_l15 = w2c_j0;
-    w2c_j0 = 0ull;
-    w2c_l21 = w2c_j0;
-    w2c_j0 = 0ull;
-    w2c_l13 = w2c_j0;
-    w2c_B373:;
-    w2c_j0 = w2c_l17;
+    if (w2c_i0) {goto w2c_B270;}
+    w2c_B303:;
+    w2c_j0 = w2c_l18;
+    w2c_leave(instance, w2c_j0);
+    goto w2c_B270;
+    w2c_B302:;
+    w2c_j0 = w2c_l12;
     w2c_j1 = 16ull;
     w2c_j0 += w2c_j1;
     w2c_p1 = w2c_j0;
-    w2c_L448: 
+    w2c_L362: 
       w2c_j0 = 0ull;
-      w2c_l9 = w2c_j0;
+      w2c_l11 = w2c_j0;
       w2c_j0 = 0ull;
       w2c_l3 = w2c_j0;
       w2c_j0 = w2c_p1;
@@ -10041,38 +8565,38 @@ static void w2c_f0(Z_dine_ffi_instance_t* instance, u64 w2c_p0, u64 w2c_p1, u64 
         w2c_l5 = w2c_j0;
         w2c_j0 = 0ull;
         w2c_p1 = w2c_j0;
-        w2c_L452: 
+        w2c_L366: 
           w2c_j0 = w2c_l3;
           w2c_j1 = 8ull;
           w2c_j0 -= w2c_j1;
           w2c_i0 = (u32)(w2c_j0);
           w2c_j0 = i64_load(&instance->w2c_memory, (u64)(w2c_i0));
-          w2c_l7 = w2c_j0;
+          w2c_l6 = w2c_j0;
           w2c_j0 = w2c_l3;
           w2c_i0 = (u32)(w2c_j0);
           w2c_j0 = i64_load(&instance->w2c_memory, (u64)(w2c_i0));
-          w2c_l6 = w2c_j0;
+          w2c_l8 = w2c_j0;
           w2c_j0 = w2c_l4;
           w2c_i0 = (u32)(w2c_j0);
           w2c_j1 = 4ull;
-          i64_store(&instance->w2c_memory, (u64)(w2c_i0) + 424, w2c_j1);
+          i64_store(&instance->w2c_memory, (u64)(w2c_i0) + 504, w2c_j1);
           w2c_j0 = w2c_l4;
           w2c_i0 = (u32)(w2c_j0);
           w2c_j1 = 1060056ull;
-          i64_store(&instance->w2c_memory, (u64)(w2c_i0) + 416, w2c_j1);
+          i64_store(&instance->w2c_memory, (u64)(w2c_i0) + 496, w2c_j1);
+          w2c_j0 = w2c_l4;
+          w2c_i0 = (u32)(w2c_j0);
+          w2c_j1 = w2c_l8;
+          i64_store(&instance->w2c_memory, (u64)(w2c_i0) + 672, w2c_j1);
           w2c_j0 = w2c_l4;
           w2c_i0 = (u32)(w2c_j0);
           w2c_j1 = w2c_l6;
-          i64_store(&instance->w2c_memory, (u64)(w2c_i0) + 560, w2c_j1);
+          i64_store(&instance->w2c_memory, (u64)(w2c_i0) + 664, w2c_j1);
           w2c_j0 = w2c_l4;
-          w2c_i0 = (u32)(w2c_j0);
-          w2c_j1 = w2c_l7;
-          i64_store(&instance->w2c_memory, (u64)(w2c_i0) + 552, w2c_j1);
-          w2c_j0 = w2c_l4;
-          w2c_j1 = 416ull;
+          w2c_j1 = 496ull;
           w2c_j0 += w2c_j1;
           w2c_j1 = w2c_l4;
-          w2c_j2 = 552ull;
+          w2c_j2 = 664ull;
           w2c_j1 += w2c_j2;
           w2c_i0 = w2c_f15(instance, w2c_j0, w2c_j1);
           w2c_i1 = 255u;
@@ -10084,8 +8608,8 @@ static void w2c_f0(Z_dine_ffi_instance_t* instance, u64 w2c_p0, u64 w2c_p1, u64 
             w2c_i0 = w2c_l37;
             w2c_i1 = 1u;
             w2c_i0 -= w2c_i1;
-            if (w2c_i0) {goto w2c_B451;}
-            goto w2c_B449;
+            if (w2c_i0) {goto w2c_B365;}
+            goto w2c_B363;
           }
           w2c_j0 = w2c_l3;
           w2c_j1 = 24ull;
@@ -10101,10 +8625,10 @@ static void w2c_f0(Z_dine_ffi_instance_t* instance, u64 w2c_p0, u64 w2c_p1, u64 
           w2c_j1 += w2c_j2;
           w2c_p1 = w2c_j1;
           w2c_i0 = w2c_j0 != w2c_j1;
-          if (w2c_i0) {goto w2c_L452;}
+          if (w2c_i0) {goto w2c_L366;}
         w2c_j0 = w2c_p2;
         w2c_p1 = w2c_j0;
-        w2c_B451:;
+        w2c_B365:;
         w2c_j0 = w2c_p1;
         w2c_j1 = 3ull;
         w2c_j0 <<= (w2c_j1 & 63);
@@ -10122,22 +8646,22 @@ static void w2c_f0(Z_dine_ffi_instance_t* instance, u64 w2c_p0, u64 w2c_p1, u64 
         w2c_j1 = 968ull;
         w2c_j0 += w2c_j1;
         w2c_p1 = w2c_j0;
-        goto w2c_L448;
+        goto w2c_L362;
       } else {
         w2c_j0 = 1048585ull;
         w2c_p1 = w2c_j0;
         w2c_j0 = w2c_l4;
-        w2c_j1 = 920ull;
+        w2c_j1 = 1000ull;
         w2c_j0 += w2c_j1;
-        w2c_l11 = w2c_j0;
-        goto w2c_B371;
+        w2c_l13 = w2c_j0;
+        goto w2c_B301;
       }
       UNREACHABLE;
-      w2c_B449:;
+      w2c_B363:;
     w2c_j0 = w2c_l4;
-    w2c_j1 = 920ull;
+    w2c_j1 = 1000ull;
     w2c_j0 += w2c_j1;
-    w2c_l11 = w2c_j0;
+    w2c_l13 = w2c_j0;
     w2c_j0 = w2c_l5;
     w2c_j1 = 16ull;
     w2c_j0 -= w2c_j1;
@@ -10146,7 +8670,7 @@ static void w2c_f0(Z_dine_ffi_instance_t* instance, u64 w2c_p0, u64 w2c_p1, u64 
     if (w2c_i0) {
       w2c_j0 = 1048585ull;
       w2c_p1 = w2c_j0;
-      goto w2c_B371;
+      goto w2c_B301;
     }
     w2c_j0 = w2c_l5;
     w2c_j1 = 8ull;
@@ -10159,16 +8683,16 @@ static void w2c_f0(Z_dine_ffi_instance_t* instance, u64 w2c_p0, u64 w2c_p1, u64 
     w2c_j0 = i64_load(&instance->w2c_memory, (u64)(w2c_i0));
     w2c_l10 = w2c_j0;
     w2c_i0 = !(w2c_j0);
-    if (w2c_i0) {goto w2c_B371;}
+    if (w2c_i0) {goto w2c_B301;}
     w2c_j0 = w2c_l10;
     w2c_j1 = 0ull;
     w2c_i0 = (u64)((s64)w2c_j0 < (s64)w2c_j1);
-    if (w2c_i0) {goto w2c_B456;}
+    if (w2c_i0) {goto w2c_B370;}
     w2c_j0 = w2c_l4;
     w2c_j1 = 184ull;
     w2c_j0 += w2c_j1;
     w2c_j1 = w2c_l10;
-    w2c_f113(instance, w2c_j0, w2c_j1);
+    w2c_f114(instance, w2c_j0, w2c_j1);
     w2c_j0 = w2c_l4;
     w2c_i0 = (u32)(w2c_j0);
     w2c_j0 = i64_load(&instance->w2c_memory, (u64)(w2c_i0) + 184u);
@@ -10176,24 +8700,24 @@ static void w2c_f0(Z_dine_ffi_instance_t* instance, u64 w2c_p0, u64 w2c_p1, u64 
     w2c_i1 = 1u;
     w2c_i0 &= w2c_i1;
     w2c_i0 = !(w2c_i0);
-    if (w2c_i0) {goto w2c_B456;}
+    if (w2c_i0) {goto w2c_B370;}
     w2c_j0 = w2c_l10;
     w2c_j1 = w2c_l4;
     w2c_i1 = (u32)(w2c_j1);
     w2c_j1 = i64_load(&instance->w2c_memory, (u64)(w2c_i1) + 192u);
-    w2c_l11 = w2c_j1;
+    w2c_l13 = w2c_j1;
     w2c_j2 = w2c_p1;
     w2c_j1 -= w2c_j2;
     w2c_i0 = w2c_j0 <= w2c_j1;
     if (w2c_i0) {
       w2c_j0 = w2c_l10;
-      w2c_l9 = w2c_j0;
-      goto w2c_B371;
+      w2c_l11 = w2c_j0;
+      goto w2c_B301;
     }
     w2c_j0 = w2c_l10;
     w2c_j1 = 3ull;
     w2c_j0 &= w2c_j1;
-    w2c_l6 = w2c_j0;
+    w2c_l8 = w2c_j0;
     w2c_j0 = 0ull;
     w2c_l3 = w2c_j0;
     w2c_j0 = w2c_l10;
@@ -10204,16 +8728,16 @@ static void w2c_f0(Z_dine_ffi_instance_t* instance, u64 w2c_p0, u64 w2c_p1, u64 
       w2c_j1 = 9223372036854775804ull;
       w2c_j0 &= w2c_j1;
       w2c_p2 = w2c_j0;
-      w2c_L460: 
+      w2c_L374: 
         w2c_j0 = w2c_l3;
-        w2c_j1 = w2c_l11;
+        w2c_j1 = w2c_l13;
         w2c_j0 += w2c_j1;
         w2c_l5 = w2c_j0;
         w2c_i0 = (u32)(w2c_j0);
         w2c_j1 = w2c_p1;
         w2c_j2 = w2c_l3;
         w2c_j1 += w2c_j2;
-        w2c_l7 = w2c_j1;
+        w2c_l6 = w2c_j1;
         w2c_i1 = (u32)(w2c_j1);
         w2c_i1 = i32_load8_u(&instance->w2c_memory, (u64)(w2c_i1));
         i32_store8(&instance->w2c_memory, (u64)(w2c_i0), w2c_i1);
@@ -10221,7 +8745,7 @@ static void w2c_f0(Z_dine_ffi_instance_t* instance, u64 w2c_p0, u64 w2c_p1, u64 
         w2c_j1 = 1ull;
         w2c_j0 += w2c_j1;
         w2c_i0 = (u32)(w2c_j0);
-        w2c_j1 = w2c_l7;
+        w2c_j1 = w2c_l6;
         w2c_j2 = 1ull;
         w2c_j1 += w2c_j2;
         w2c_i1 = (u32)(w2c_j1);
@@ -10231,7 +8755,7 @@ static void w2c_f0(Z_dine_ffi_instance_t* instance, u64 w2c_p0, u64 w2c_p1, u64 
         w2c_j1 = 2ull;
         w2c_j0 += w2c_j1;
         w2c_i0 = (u32)(w2c_j0);
-        w2c_j1 = w2c_l7;
+        w2c_j1 = w2c_l6;
         w2c_j2 = 2ull;
         w2c_j1 += w2c_j2;
         w2c_i1 = (u32)(w2c_j1);
@@ -10241,7 +8765,7 @@ static void w2c_f0(Z_dine_ffi_instance_t* instance, u64 w2c_p0, u64 w2c_p1, u64 
         w2c_j1 = 3ull;
         w2c_j0 += w2c_j1;
         w2c_i0 = (u32)(w2c_j0);
-        w2c_j1 = w2c_l7;
+        w2c_j1 = w2c_l6;
         w2c_j2 = 3ull;
         w2c_j1 += w2c_j2;
         w2c_i1 = (u32)(w2c_j1);
@@ -10253,14 +8777,14 @@ static void w2c_f0(Z_dine_ffi_instance_t* instance, u64 w2c_p0, u64 w2c_p1, u64 
         w2c_j1 += w2c_j2;
         w2c_l3 = w2c_j1;
         w2c_i0 = w2c_j0 != w2c_j1;
-        if (w2c_i0) {goto w2c_L460;}
-      w2c_j0 = w2c_l6;
+        if (w2c_i0) {goto w2c_L374;}
+      w2c_j0 = w2c_l8;
       w2c_i0 = !(w2c_j0);
-      if (w2c_i0) {goto w2c_B458;}
+      if (w2c_i0) {goto w2c_B372;}
     }
-    w2c_L461: 
+    w2c_L375: 
       w2c_j0 = w2c_l3;
-      w2c_j1 = w2c_l11;
+      w2c_j1 = w2c_l13;
       w2c_j0 += w2c_j1;
       w2c_i0 = (u32)(w2c_j0);
       w2c_j1 = w2c_p1;
@@ -10273,106 +8797,103 @@ static void w2c_f0(Z_dine_ffi_instance_t* instance, u64 w2c_p0, u64 w2c_p1, u64 
       w2c_j1 = 1ull;
       w2c_j0 += w2c_j1;
       w2c_l3 = w2c_j0;
-      w2c_j0 = w2c_l6;
+      w2c_j0 = w2c_l8;
       w2c_j1 = 1ull;
       w2c_j0 -= w2c_j1;
-      w2c_l6 = w2c_j0;
+      w2c_l8 = w2c_j0;
       w2c_j1 = 0ull;
       w2c_i0 = w2c_j0 != w2c_j1;
-      if (w2c_i0) {goto w2c_L461;}
-    w2c_B458:;
+      if (w2c_i0) {goto w2c_L375;}
+    w2c_B372:;
     w2c_j0 = w2c_l10;
-    w2c_l9 = w2c_j0;
-    goto w2c_B370;
-    w2c_B456:;
-    w2c_j0 = w2c_l13;
+    w2c_l11 = w2c_j0;
+    goto w2c_B300;
+    w2c_B370:;
+    w2c_j0 = w2c_l9;
     w2c_i0 = !(w2c_j0);
     w2c_i0 = !(w2c_i0);
     if (w2c_i0) {
-      w2c_j0 = w2c_l15;
+      w2c_j0 = w2c_l14;
       w2c_l3 = w2c_j0;
-      w2c_L463: 
+      w2c_L377: 
         w2c_j0 = w2c_l3;
         w2c_i0 = (u32)(w2c_j0);
         w2c_i0 = i32_load8_u(&instance->w2c_memory, (u64)(w2c_i0));
-        if (w2c_i0) {goto w2c_B464;}
+        if (w2c_i0) {goto w2c_B378;}
         w2c_j0 = w2c_l3;
         w2c_j1 = 24ull;
         w2c_j0 += w2c_j1;
         w2c_i0 = (u32)(w2c_j0);
         w2c_j0 = i64_load(&instance->w2c_memory, (u64)(w2c_i0));
         w2c_i0 = !(w2c_j0);
-        if (w2c_i0) {goto w2c_B464;}
+        if (w2c_i0) {goto w2c_B378;}
         w2c_j0 = w2c_l3;
         w2c_j1 = 8ull;
         w2c_j0 += w2c_j1;
         w2c_i0 = (u32)(w2c_j0);
         w2c_j0 = i64_load(&instance->w2c_memory, (u64)(w2c_i0));
         w2c_leave(instance, w2c_j0);
-        w2c_B464:;
+        w2c_B378:;
         w2c_j0 = w2c_l3;
         w2c_j1 = 56ull;
         w2c_j0 += w2c_j1;
         w2c_l3 = w2c_j0;
-        w2c_j0 = w2c_l13;
+        w2c_j0 = w2c_l9;
         w2c_j1 = 1ull;
         w2c_j0 -= w2c_j1;
-        w2c_l13 = w2c_j0;
+        w2c_l9 = w2c_j0;
         w2c_j1 = 0ull;
         w2c_i0 = w2c_j0 != w2c_j1;
-        if (w2c_i0) {goto w2c_L463;}
+        if (w2c_i0) {goto w2c_L377;}
     }
-    w2c_j0 = w2c_l21;
+    w2c_j0 = w2c_l18;
     w2c_i0 = !(w2c_j0);
-    if (w2c_i0) {goto w2c_B352;}
-    goto w2c_B353;
-    w2c_B372:;
-    w2c_j0 = w2c_l14;
-    w2c_leave(instance, w2c_j0);
-    goto w2c_B352;
-    w2c_B371:;
-    w2c_j0 = w2c_l9;
-    w2c_i0 = !(w2c_j0);
-    if (w2c_i0) {goto w2c_B370;}
+    if (w2c_i0) {goto w2c_B270;}
+    goto w2c_B271;
+    w2c_B301:;
     w2c_j0 = w2c_l11;
+    w2c_i0 = !(w2c_j0);
+    if (w2c_i0) {goto w2c_B300;}
+    w2c_j0 = w2c_l13;
     w2c_i0 = (u32)(w2c_j0);
     w2c_j1 = w2c_p1;
     w2c_i1 = (u32)(w2c_j1);
-    w2c_j2 = w2c_l9;
+    w2c_j2 = w2c_l11;
     w2c_i2 = (u32)(w2c_j2);
     memory_copy(&instance->w2c_memory, &instance->w2c_memory, w2c_i0, w2c_i1, w2c_i2);
-    w2c_B370:;
+    w2c_B300:;
     w2c_j0 = w2c_l4;
     w2c_i0 = (u32)(w2c_j0);
     w2c_j1 = 6ull;
-    i64_store(&instance->w2c_memory, (u64)(w2c_i0) + 400, w2c_j1);
+    i64_store(&instance->w2c_memory, (u64)(w2c_i0) + 640, w2c_j1);
     w2c_j0 = w2c_l4;
     w2c_i0 = (u32)(w2c_j0);
     w2c_j1 = 1060093ull;
-    i64_store(&instance->w2c_memory, (u64)(w2c_i0) + 392, w2c_j1);
+    i64_store(&instance->w2c_memory, (u64)(w2c_i0) + 632, w2c_j1);
     w2c_j0 = 0ull;
-    w2c_l12 = w2c_j0;
+    w2c_l15 = w2c_j0;
     w2c_j0 = 1048585ull;
-    w2c_l19 = w2c_j0;
-    w2c_j0 = w2c_l17;
+    w2c_l16 = w2c_j0;
+    w2c_j0 = w2c_l12;
     w2c_i0 = (u32)(w2c_j0);
     w2c_i0 = i32_load8_u(&instance->w2c_memory, (u64)(w2c_i0));
     w2c_i1 = 6u;
     w2c_i0 = w2c_i0 != w2c_i1;
-    if (w2c_i0) {goto w2c_B465;}
-    w2c_j0 = w2c_l17;
+    w2c_l39 = w2c_i0;
+    if (w2c_i0) {goto w2c_B379;}
+    w2c_j0 = w2c_l12;
     w2c_j1 = 8ull;
     w2c_j0 += w2c_j1;
     w2c_i0 = (u32)(w2c_j0);
     w2c_i0 = i32_load8_u(&instance->w2c_memory, (u64)(w2c_i0));
     w2c_i1 = 1u;
     w2c_i0 = w2c_i0 != w2c_i1;
-    if (w2c_i0) {goto w2c_B465;}
-    w2c_j0 = w2c_l17;
+    if (w2c_i0) {goto w2c_B379;}
+    w2c_j0 = w2c_l12;
     w2c_j1 = 16ull;
     w2c_j0 += w2c_j1;
     w2c_p1 = w2c_j0;
-    w2c_L466: 
+    w2c_L380: 
       w2c_j0 = 0ull;
       w2c_l3 = w2c_j0;
       w2c_j0 = w2c_p1;
@@ -10395,38 +8916,38 @@ static void w2c_f0(Z_dine_ffi_instance_t* instance, u64 w2c_p0, u64 w2c_p1, u64 
         w2c_l5 = w2c_j0;
         w2c_j0 = 0ull;
         w2c_p1 = w2c_j0;
-        w2c_L470: 
+        w2c_L384: 
           w2c_j0 = w2c_l3;
           w2c_j1 = 8ull;
           w2c_j0 -= w2c_j1;
           w2c_i0 = (u32)(w2c_j0);
           w2c_j0 = i64_load(&instance->w2c_memory, (u64)(w2c_i0));
-          w2c_l7 = w2c_j0;
+          w2c_l6 = w2c_j0;
           w2c_j0 = w2c_l3;
           w2c_i0 = (u32)(w2c_j0);
           w2c_j0 = i64_load(&instance->w2c_memory, (u64)(w2c_i0));
-          w2c_l6 = w2c_j0;
+          w2c_l8 = w2c_j0;
           w2c_j0 = w2c_l4;
           w2c_i0 = (u32)(w2c_j0);
           w2c_j1 = 8ull;
-          i64_store(&instance->w2c_memory, (u64)(w2c_i0) + 424, w2c_j1);
+          i64_store(&instance->w2c_memory, (u64)(w2c_i0) + 504, w2c_j1);
           w2c_j0 = w2c_l4;
           w2c_i0 = (u32)(w2c_j0);
-          w2c_j1 = 1060064ull;
-          i64_store(&instance->w2c_memory, (u64)(w2c_i0) + 416, w2c_j1);
+          w2c_j1 = 1060069ull;
+          i64_store(&instance->w2c_memory, (u64)(w2c_i0) + 496, w2c_j1);
+          w2c_j0 = w2c_l4;
+          w2c_i0 = (u32)(w2c_j0);
+          w2c_j1 = w2c_l8;
+          i64_store(&instance->w2c_memory, (u64)(w2c_i0) + 672, w2c_j1);
           w2c_j0 = w2c_l4;
           w2c_i0 = (u32)(w2c_j0);
           w2c_j1 = w2c_l6;
-          i64_store(&instance->w2c_memory, (u64)(w2c_i0) + 560, w2c_j1);
+          i64_store(&instance->w2c_memory, (u64)(w2c_i0) + 664, w2c_j1);
           w2c_j0 = w2c_l4;
-          w2c_i0 = (u32)(w2c_j0);
-          w2c_j1 = w2c_l7;
-          i64_store(&instance->w2c_memory, (u64)(w2c_i0) + 552, w2c_j1);
-          w2c_j0 = w2c_l4;
-          w2c_j1 = 416ull;
+          w2c_j1 = 496ull;
           w2c_j0 += w2c_j1;
           w2c_j1 = w2c_l4;
-          w2c_j2 = 552ull;
+          w2c_j2 = 664ull;
           w2c_j1 += w2c_j2;
           w2c_i0 = w2c_f15(instance, w2c_j0, w2c_j1);
           w2c_i1 = 255u;
@@ -10438,8 +8959,8 @@ static void w2c_f0(Z_dine_ffi_instance_t* instance, u64 w2c_p0, u64 w2c_p1, u64 
             w2c_i0 = w2c_l37;
             w2c_i1 = 1u;
             w2c_i0 -= w2c_i1;
-            if (w2c_i0) {goto w2c_B469;}
-            goto w2c_B467;
+            if (w2c_i0) {goto w2c_B383;}
+            goto w2c_B381;
           }
           w2c_j0 = w2c_l3;
           w2c_j1 = 24ull;
@@ -10455,10 +8976,10 @@ static void w2c_f0(Z_dine_ffi_instance_t* instance, u64 w2c_p0, u64 w2c_p1, u64 
           w2c_j1 += w2c_j2;
           w2c_p1 = w2c_j1;
           w2c_i0 = w2c_j0 != w2c_j1;
-          if (w2c_i0) {goto w2c_L470;}
+          if (w2c_i0) {goto w2c_L384;}
         w2c_j0 = w2c_p2;
         w2c_p1 = w2c_j0;
-        w2c_B469:;
+        w2c_B383:;
         w2c_j0 = w2c_p1;
         w2c_j1 = 3ull;
         w2c_j0 <<= (w2c_j1 & 63);
@@ -10470,72 +8991,322 @@ static void w2c_f0(Z_dine_ffi_instance_t* instance, u64 w2c_p0, u64 w2c_p1, u64 
       w2c_i0 = (u32)(w2c_j0);
       w2c_i0 = i32_load16_u(&instance->w2c_memory, (u64)(w2c_i0));
       w2c_i0 = !(w2c_i0);
-      if (w2c_i0) {goto w2c_B465;}
+      if (w2c_i0) {goto w2c_B379;}
       w2c_j0 = w2c_l3;
       w2c_j1 = w2c_l10;
       w2c_j0 += w2c_j1;
       w2c_j1 = 968ull;
       w2c_j0 += w2c_j1;
       w2c_p1 = w2c_j0;
-      goto w2c_L466;
-      w2c_B467:;
+      goto w2c_L380;
+      w2c_B381:;
     w2c_j0 = w2c_l5;
     w2c_j1 = 16ull;
     w2c_j0 -= w2c_j1;
     w2c_i0 = (u32)(w2c_j0);
     w2c_i0 = i32_load8_u(&instance->w2c_memory, (u64)(w2c_i0));
-    if (w2c_i0) {goto w2c_B465;}
+    if (w2c_i0) {goto w2c_B379;}
     w2c_j0 = w2c_l5;
     w2c_j1 = 8ull;
     w2c_j0 -= w2c_j1;
     w2c_i0 = (u32)(w2c_j0);
     w2c_j0 = i64_load(&instance->w2c_memory, (u64)(w2c_i0));
-    w2c_l19 = w2c_j0;
+    w2c_l16 = w2c_j0;
     w2c_j0 = w2c_l5;
     w2c_i0 = (u32)(w2c_j0);
     w2c_j0 = i64_load(&instance->w2c_memory, (u64)(w2c_i0));
-    w2c_l12 = w2c_j0;
-    w2c_B465:;
+    w2c_l15 = w2c_j0;
+    w2c_B379:;
     w2c_j0 = w2c_l4;
     w2c_i0 = (u32)(w2c_j0);
-    w2c_j1 = w2c_l12;
-    i64_store(&instance->w2c_memory, (u64)(w2c_i0) + 424, w2c_j1);
+    w2c_j1 = w2c_l15;
+    i64_store(&instance->w2c_memory, (u64)(w2c_i0) + 504, w2c_j1);
     w2c_j0 = w2c_l4;
     w2c_i0 = (u32)(w2c_j0);
-    w2c_j1 = w2c_l19;
-    i64_store(&instance->w2c_memory, (u64)(w2c_i0) + 416, w2c_j1);
+    w2c_j1 = w2c_l16;
+    i64_store(&instance->w2c_memory, (u64)(w2c_i0) + 496, w2c_j1);
     w2c_j0 = w2c_l4;
-    w2c_j1 = 416ull;
+    w2c_j1 = 496ull;
     w2c_j0 += w2c_j1;
     w2c_j1 = w2c_l4;
-    w2c_j2 = 392ull;
+    w2c_j2 = 632ull;
     w2c_j1 += w2c_j2;
     w2c_i0 = w2c_f32(instance, w2c_j0, w2c_j1);
+    w2c_l41 = w2c_i0;
+    w2c_i0 = w2c_l39;
+    if (w2c_i0) {goto w2c_B387;}
+    w2c_j0 = w2c_l12;
+    w2c_j1 = 8ull;
+    w2c_j0 += w2c_j1;
+    w2c_i0 = (u32)(w2c_j0);
+    w2c_i0 = i32_load8_u(&instance->w2c_memory, (u64)(w2c_i0));
+    w2c_i1 = 1u;
+    w2c_i0 = w2c_i0 != w2c_i1;
+    if (w2c_i0) {goto w2c_B387;}
+    w2c_j0 = w2c_l12;
+    w2c_j1 = 16ull;
+    w2c_j0 += w2c_j1;
+    w2c_l15 = w2c_j0;
+    w2c_l3 = w2c_j0;
+    w2c_L389: 
+      w2c_j0 = w2c_l3;
+      w2c_i0 = (u32)(w2c_j0);
+      w2c_j0 = i64_load(&instance->w2c_memory, (u64)(w2c_i0));
+      w2c_l10 = w2c_j0;
+      w2c_i0 = (u32)(w2c_j0);
+      w2c_j0 = i64_load16_u(&instance->w2c_memory, (u64)(w2c_i0));
+      w2c_p2 = w2c_j0;
+      w2c_i0 = !(w2c_j0);
+      if (w2c_i0) {
+        w2c_j0 = 0ull;
+      } else {
+        w2c_j0 = w2c_l10;
+        w2c_j1 = 16ull;
+        w2c_j0 += w2c_j1;
+        w2c_l3 = w2c_j0;
+        w2c_j0 = w2c_l10;
+        w2c_j1 = 368ull;
+        w2c_j0 += w2c_j1;
+        w2c_l8 = w2c_j0;
+        w2c_j0 = 0ull;
+        w2c_p1 = w2c_j0;
+        w2c_L393: 
+          w2c_j0 = w2c_l3;
+          w2c_j1 = 8ull;
+          w2c_j0 -= w2c_j1;
+          w2c_i0 = (u32)(w2c_j0);
+          w2c_j0 = i64_load(&instance->w2c_memory, (u64)(w2c_i0));
+          w2c_l5 = w2c_j0;
+          w2c_j0 = w2c_l3;
+          w2c_i0 = (u32)(w2c_j0);
+          w2c_j0 = i64_load(&instance->w2c_memory, (u64)(w2c_i0));
+          w2c_l6 = w2c_j0;
+          w2c_j0 = w2c_l4;
+          w2c_i0 = (u32)(w2c_j0);
+          w2c_j1 = 4ull;
+          i64_store(&instance->w2c_memory, (u64)(w2c_i0) + 504, w2c_j1);
+          w2c_j0 = w2c_l4;
+          w2c_i0 = (u32)(w2c_j0);
+          w2c_j1 = 1060056ull;
+          i64_store(&instance->w2c_memory, (u64)(w2c_i0) + 496, w2c_j1);
+          w2c_j0 = w2c_l4;
+          w2c_i0 = (u32)(w2c_j0);
+          w2c_j1 = w2c_l6;
+          i64_store(&instance->w2c_memory, (u64)(w2c_i0) + 672, w2c_j1);
+          w2c_j0 = w2c_l4;
+          w2c_i0 = (u32)(w2c_j0);
+          w2c_j1 = w2c_l5;
+          i64_store(&instance->w2c_memory, (u64)(w2c_i0) + 664, w2c_j1);
+          w2c_j0 = w2c_l4;
+          w2c_j1 = 496ull;
+          w2c_j0 += w2c_j1;
+          w2c_j1 = w2c_l4;
+          w2c_j2 = 664ull;
+          w2c_j1 += w2c_j2;
+          w2c_i0 = w2c_f15(instance, w2c_j0, w2c_j1);
+          w2c_i1 = 255u;
+          w2c_i0 &= w2c_i1;
+          w2c_l37 = w2c_i0;
+          w2c_i1 = 2u;
+          w2c_i0 = w2c_i0 != w2c_i1;
+          if (w2c_i0) {
+            w2c_i0 = w2c_l37;
+            w2c_i1 = 1u;
+            w2c_i0 -= w2c_i1;
+            if (w2c_i0) {goto w2c_B392;}
+            goto w2c_B390;
+          }
+          w2c_j0 = w2c_l3;
+          w2c_j1 = 24ull;
+          w2c_j0 += w2c_j1;
+          w2c_l3 = w2c_j0;
+          w2c_j0 = w2c_l8;
+          w2c_j1 = 40ull;
+          w2c_j0 += w2c_j1;
+          w2c_l8 = w2c_j0;
+          w2c_j0 = w2c_p2;
+          w2c_j1 = w2c_p1;
+          w2c_j2 = 1ull;
+          w2c_j1 += w2c_j2;
+          w2c_p1 = w2c_j1;
+          w2c_i0 = w2c_j0 != w2c_j1;
+          if (w2c_i0) {goto w2c_L393;}
+        w2c_j0 = w2c_p2;
+        w2c_p1 = w2c_j0;
+        w2c_B392:;
+        w2c_j0 = w2c_p1;
+        w2c_j1 = 3ull;
+        w2c_j0 <<= (w2c_j1 & 63);
+      }
+      w2c_l3 = w2c_j0;
+      w2c_j0 = w2c_l10;
+      w2c_j1 = 2ull;
+      w2c_j0 += w2c_j1;
+      w2c_i0 = (u32)(w2c_j0);
+      w2c_i0 = i32_load16_u(&instance->w2c_memory, (u64)(w2c_i0));
+      w2c_i0 = !(w2c_i0);
+      if (w2c_i0) {goto w2c_B388;}
+      w2c_j0 = w2c_l3;
+      w2c_j1 = w2c_l10;
+      w2c_j0 += w2c_j1;
+      w2c_j1 = 968ull;
+      w2c_j0 += w2c_j1;
+      w2c_l3 = w2c_j0;
+      goto w2c_L389;
+      w2c_B390:;
+    w2c_j0 = w2c_l8;
+    w2c_i0 = (u32)(w2c_j0);
+    w2c_i0 = i32_load8_u(&instance->w2c_memory, (u64)(w2c_i0));
+    w2c_i0 = !(w2c_i0);
+    if (w2c_i0) {goto w2c_B388;}
+    w2c_i0 = 1u;
+    goto w2c_B386;
+    w2c_B388:;
+    w2c_L395: 
+      w2c_j0 = w2c_l15;
+      w2c_i0 = (u32)(w2c_j0);
+      w2c_j0 = i64_load(&instance->w2c_memory, (u64)(w2c_i0));
+      w2c_l10 = w2c_j0;
+      w2c_i0 = (u32)(w2c_j0);
+      w2c_j0 = i64_load16_u(&instance->w2c_memory, (u64)(w2c_i0));
+      w2c_p2 = w2c_j0;
+      w2c_i0 = !(w2c_j0);
+      if (w2c_i0) {
+        w2c_j0 = 0ull;
+      } else {
+        w2c_j0 = w2c_l10;
+        w2c_j1 = 16ull;
+        w2c_j0 += w2c_j1;
+        w2c_l3 = w2c_j0;
+        w2c_j0 = w2c_l10;
+        w2c_j1 = 368ull;
+        w2c_j0 += w2c_j1;
+        w2c_l8 = w2c_j0;
+        w2c_j0 = 0ull;
+        w2c_p1 = w2c_j0;
+        w2c_L399: 
+          w2c_j0 = w2c_l3;
+          w2c_j1 = 8ull;
+          w2c_j0 -= w2c_j1;
+          w2c_i0 = (u32)(w2c_j0);
+          w2c_j0 = i64_load(&instance->w2c_memory, (u64)(w2c_i0));
+          w2c_l5 = w2c_j0;
+          w2c_j0 = w2c_l3;
+          w2c_i0 = (u32)(w2c_j0);
+          w2c_j0 = i64_load(&instance->w2c_memory, (u64)(w2c_i0));
+          w2c_l6 = w2c_j0;
+          w2c_j0 = w2c_l4;
+          w2c_i0 = (u32)(w2c_j0);
+          w2c_j1 = 8ull;
+          i64_store(&instance->w2c_memory, (u64)(w2c_i0) + 504, w2c_j1);
+          w2c_j0 = w2c_l4;
+          w2c_i0 = (u32)(w2c_j0);
+          w2c_j1 = 1060069ull;
+          i64_store(&instance->w2c_memory, (u64)(w2c_i0) + 496, w2c_j1);
+          w2c_j0 = w2c_l4;
+          w2c_i0 = (u32)(w2c_j0);
+          w2c_j1 = w2c_l6;
+          i64_store(&instance->w2c_memory, (u64)(w2c_i0) + 672, w2c_j1);
+          w2c_j0 = w2c_l4;
+          w2c_i0 = (u32)(w2c_j0);
+          w2c_j1 = w2c_l5;
+          i64_store(&instance->w2c_memory, (u64)(w2c_i0) + 664, w2c_j1);
+          w2c_j0 = w2c_l4;
+          w2c_j1 = 496ull;
+          w2c_j0 += w2c_j1;
+          w2c_j1 = w2c_l4;
+          w2c_j2 = 664ull;
+          w2c_j1 += w2c_j2;
+          w2c_i0 = w2c_f15(instance, w2c_j0, w2c_j1);
+          w2c_i1 = 255u;
+          w2c_i0 &= w2c_i1;
+          w2c_l37 = w2c_i0;
+          w2c_i1 = 2u;
+          w2c_i0 = w2c_i0 != w2c_i1;
+          if (w2c_i0) {
+            w2c_i0 = w2c_l37;
+            w2c_i1 = 1u;
+            w2c_i0 -= w2c_i1;
+            if (w2c_i0) {goto w2c_B398;}
+            goto w2c_B396;
+          }
+          w2c_j0 = w2c_l3;
+          w2c_j1 = 24ull;
+          w2c_j0 += w2c_j1;
+          w2c_l3 = w2c_j0;
+          w2c_j0 = w2c_l8;
+          w2c_j1 = 40ull;
+          w2c_j0 += w2c_j1;
+          w2c_l8 = w2c_j0;
+          w2c_j0 = w2c_p2;
+          w2c_j1 = w2c_p1;
+          w2c_j2 = 1ull;
+          w2c_j1 += w2c_j2;
+          w2c_p1 = w2c_j1;
+          w2c_i0 = w2c_j0 != w2c_j1;
+          if (w2c_i0) {goto w2c_L399;}
+        w2c_j0 = w2c_p2;
+        w2c_p1 = w2c_j0;
+        w2c_B398:;
+        w2c_j0 = w2c_p1;
+        w2c_j1 = 3ull;
+        w2c_j0 <<= (w2c_j1 & 63);
+      }
+      w2c_l3 = w2c_j0;
+      w2c_j0 = w2c_l10;
+      w2c_j1 = 2ull;
+      w2c_j0 += w2c_j1;
+      w2c_i0 = (u32)(w2c_j0);
+      w2c_i0 = i32_load16_u(&instance->w2c_memory, (u64)(w2c_i0));
+      w2c_i0 = !(w2c_i0);
+      if (w2c_i0) {goto w2c_B387;}
+      w2c_j0 = w2c_l3;
+      w2c_j1 = w2c_l10;
+      w2c_j0 += w2c_j1;
+      w2c_j1 = 968ull;
+      w2c_j0 += w2c_j1;
+      w2c_l15 = w2c_j0;
+      goto w2c_L395;
+      w2c_B396:;
+    w2c_j0 = w2c_l8;
+    w2c_i0 = (u32)(w2c_j0);
+    w2c_i0 = i32_load8_u(&instance->w2c_memory, (u64)(w2c_i0));
+    w2c_i0 = !(w2c_i0);
+    if (w2c_i0) {goto w2c_B387;}
+    w2c_i0 = 1u;
+    goto w2c_B386;
+    w2c_B387:;
+    w2c_j0 = w2c_l12;
+    w2c_j1 = 1059704ull;
+    w2c_i0 = w2c_f45(instance, w2c_j0, w2c_j1);
+    w2c_i1 = w2c_l38;
+    w2c_i0 |= w2c_i1;
+    w2c_B386:;
     w2c_l37 = w2c_i0;
     w2c_j0 = w2c_l4;
     w2c_i0 = (u32)(w2c_j0);
-    w2c_j0 = i64_load(&instance->w2c_memory, (u64)(w2c_i0) + 848u);
+    w2c_j0 = i64_load(&instance->w2c_memory, (u64)(w2c_i0) + 744u);
     w2c_l10 = w2c_j0;
     w2c_j1 = w2c_l4;
     w2c_i1 = (u32)(w2c_j1);
-    w2c_j1 = i64_load(&instance->w2c_memory, (u64)(w2c_i1) + 856u);
+    w2c_j1 = i64_load(&instance->w2c_memory, (u64)(w2c_i1) + 752u);
     w2c_i0 = w2c_j0 == w2c_j1;
     if (w2c_i0) {
       w2c_j0 = w2c_l4;
-      w2c_j1 = 840ull;
+      w2c_j1 = 736ull;
       w2c_j0 += w2c_j1;
-      w2c_i0 = w2c_f46(instance, w2c_j0);
+      w2c_i0 = w2c_f47(instance, w2c_j0);
       w2c_i0 = !(w2c_i0);
-      if (w2c_i0) {goto w2c_B368;}
+      if (w2c_i0) {goto w2c_B298;}
       w2c_j0 = w2c_l4;
       w2c_i0 = (u32)(w2c_j0);
-      w2c_j0 = i64_load(&instance->w2c_memory, (u64)(w2c_i0) + 848u);
+      w2c_j0 = i64_load(&instance->w2c_memory, (u64)(w2c_i0) + 744u);
       w2c_l10 = w2c_j0;
     }
     w2c_j0 = w2c_l4;
     w2c_i0 = (u32)(w2c_j0);
-    w2c_j0 = i64_load(&instance->w2c_memory, (u64)(w2c_i0) + 840u);
-    w2c_l17 = w2c_j0;
+    w2c_j0 = i64_load(&instance->w2c_memory, (u64)(w2c_i0) + 736u);
+    w2c_l19 = w2c_j0;
     w2c_j1 = w2c_l10;
     w2c_j2 = 56ull;
     w2c_j1 *= w2c_j2;
@@ -10546,31 +9317,31 @@ static void w2c_f0(Z_dine_ffi_instance_t* instance, u64 w2c_p0, u64 w2c_p1, u64 
     i64_store32(&instance->w2c_memory, (u64)(w2c_i0) + 49, w2c_j1);
     w2c_j0 = w2c_l3;
     w2c_i0 = (u32)(w2c_j0);
-    w2c_i1 = w2c_l37;
+    w2c_i1 = w2c_l41;
     i32_store8(&instance->w2c_memory, (u64)(w2c_i0) + 48, w2c_i1);
     w2c_j0 = w2c_l3;
     w2c_i0 = (u32)(w2c_j0);
-    w2c_j1 = w2c_l21;
+    w2c_j1 = w2c_l18;
     i64_store(&instance->w2c_memory, (u64)(w2c_i0) + 40, w2c_j1);
     w2c_j0 = w2c_l3;
     w2c_i0 = (u32)(w2c_j0);
-    w2c_j1 = w2c_l13;
+    w2c_j1 = w2c_l9;
     i64_store(&instance->w2c_memory, (u64)(w2c_i0) + 32, w2c_j1);
     w2c_j0 = w2c_l3;
     w2c_i0 = (u32)(w2c_j0);
-    w2c_j1 = w2c_l15;
+    w2c_j1 = w2c_l14;
     i64_store(&instance->w2c_memory, (u64)(w2c_i0) + 24, w2c_j1);
     w2c_j0 = w2c_l3;
     w2c_i0 = (u32)(w2c_j0);
-    w2c_j1 = w2c_l9;
+    w2c_j1 = w2c_l11;
     i64_store(&instance->w2c_memory, (u64)(w2c_i0) + 16, w2c_j1);
     w2c_j0 = w2c_l3;
     w2c_i0 = (u32)(w2c_j0);
-    w2c_j1 = w2c_l9;
+    w2c_j1 = w2c_l11;
     i64_store(&instance->w2c_memory, (u64)(w2c_i0) + 8, w2c_j1);
     w2c_j0 = w2c_l3;
     w2c_i0 = (u32)(w2c_j0);
-    w2c_j1 = w2c_l11;
+    w2c_j1 = w2c_l13;
     i64_store(&instance->w2c_memory, (u64)(w2c_i0), w2c_j1);
     w2c_j0 = w2c_l3;
     w2c_j1 = 55ull;
@@ -10589,112 +9360,118 @@ static void w2c_f0(Z_dine_ffi_instance_t* instance, u64 w2c_p0, u64 w2c_p1, u64 
     w2c_j1 = w2c_l10;
     w2c_j2 = 1ull;
     w2c_j1 += w2c_j2;
-    w2c_l21 = w2c_j1;
-    i64_store(&instance->w2c_memory, (u64)(w2c_i0) + 848, w2c_j1);
-    w2c_j0 = w2c_l16;
+    w2c_l23 = w2c_j1;
+    i64_store(&instance->w2c_memory, (u64)(w2c_i0) + 744, w2c_j1);
+    w2c_i0 = w2c_l37;
+    w2c_i1 = w2c_l40;
+    w2c_i0 |= w2c_i1;
+    w2c_l40 = w2c_i0;
+    w2c_j0 = w2c_l17;
     w2c_j1 = 1ull;
     w2c_j0 += w2c_j1;
-    w2c_l16 = w2c_j0;
+    w2c_l17 = w2c_j0;
     w2c_j1 = w2c_l20;
     w2c_i0 = w2c_j0 != w2c_j1;
-    if (w2c_i0) {goto w2c_L369;}
+    if (w2c_i0) {goto w2c_L299;}
   w2c_j0 = w2c_l4;
   w2c_i0 = (u32)(w2c_j0);
-  w2c_j0 = i64_load(&instance->w2c_memory, (u64)(w2c_i0) + 856u);
-  w2c_l30 = w2c_j0;
+  w2c_j0 = i64_load(&instance->w2c_memory, (u64)(w2c_i0) + 752u);
+  w2c_l18 = w2c_j0;
   w2c_j0 = 0ull;
   w2c_l14 = w2c_j0;
   w2c_j0 = w2c_l4;
   w2c_i0 = (u32)(w2c_j0);
   w2c_j1 = 0ull;
-  i64_store(&instance->w2c_memory, (u64)(w2c_i0) + 856, w2c_j1);
+  i64_store(&instance->w2c_memory, (u64)(w2c_i0) + 752, w2c_j1);
   w2c_j0 = w2c_l4;
   w2c_i0 = (u32)(w2c_j0);
   w2c_j1 = 0ull;
-  i64_store(&instance->w2c_memory, (u64)(w2c_i0) + 848, w2c_j1);
+  i64_store(&instance->w2c_memory, (u64)(w2c_i0) + 744, w2c_j1);
   w2c_j0 = w2c_l4;
   w2c_i0 = (u32)(w2c_j0);
   w2c_j1 = 0ull;
-  i64_store(&instance->w2c_memory, (u64)(w2c_i0) + 840, w2c_j1);
+  i64_store(&instance->w2c_memory, (u64)(w2c_i0) + 736, w2c_j1);
   w2c_j0 = w2c_l4;
   w2c_i0 = (u32)(w2c_j0);
   w2c_j1 = 0ull;
-  i64_store(&instance->w2c_memory, (u64)(w2c_i0) + 368, w2c_j1);
-  w2c_j0 = w2c_l21;
+  i64_store(&instance->w2c_memory, (u64)(w2c_i0) + 472, w2c_j1);
+  w2c_j0 = w2c_l23;
   w2c_i0 = !(w2c_j0);
   w2c_i0 = !(w2c_i0);
-  if (w2c_i0) {goto w2c_B367;}
+  if (w2c_i0) {goto w2c_B297;}
   w2c_i0 = 1u;
-  w2c_l40 = w2c_i0;
+  w2c_l41 = w2c_i0;
+  w2c_i0 = 0u;
+  w2c_l42 = w2c_i0;
   w2c_j0 = 0ull;
-  goto w2c_B365;
-  w2c_B368:;
+  goto w2c_B268;
+  w2c_B298:;
+  w2c_j0 = w2c_l11;
+  w2c_i0 = !(w2c_j0);
+  w2c_i0 = !(w2c_i0);
+  if (w2c_i0) {
+    w2c_j0 = w2c_l13;
+    w2c_leave(instance, w2c_j0);
+  }
   w2c_j0 = w2c_l9;
   w2c_i0 = !(w2c_j0);
   w2c_i0 = !(w2c_i0);
   if (w2c_i0) {
-    w2c_j0 = w2c_l11;
-    w2c_leave(instance, w2c_j0);
-  }
-  w2c_j0 = w2c_l13;
-  w2c_i0 = !(w2c_j0);
-  w2c_i0 = !(w2c_i0);
-  if (w2c_i0) {
-    w2c_j0 = w2c_l15;
+    w2c_j0 = w2c_l14;
     w2c_l3 = w2c_j0;
-    w2c_L475: 
+    w2c_L404: 
       w2c_j0 = w2c_l3;
       w2c_i0 = (u32)(w2c_j0);
       w2c_i0 = i32_load8_u(&instance->w2c_memory, (u64)(w2c_i0));
-      if (w2c_i0) {goto w2c_B476;}
+      if (w2c_i0) {goto w2c_B405;}
       w2c_j0 = w2c_l3;
       w2c_j1 = 24ull;
       w2c_j0 += w2c_j1;
       w2c_i0 = (u32)(w2c_j0);
       w2c_j0 = i64_load(&instance->w2c_memory, (u64)(w2c_i0));
       w2c_i0 = !(w2c_j0);
-      if (w2c_i0) {goto w2c_B476;}
+      if (w2c_i0) {goto w2c_B405;}
       w2c_j0 = w2c_l3;
       w2c_j1 = 8ull;
       w2c_j0 += w2c_j1;
       w2c_i0 = (u32)(w2c_j0);
       w2c_j0 = i64_load(&instance->w2c_memory, (u64)(w2c_i0));
       w2c_leave(instance, w2c_j0);
-      w2c_B476:;
+      w2c_B405:;
       w2c_j0 = w2c_l3;
       w2c_j1 = 56ull;
       w2c_j0 += w2c_j1;
       w2c_l3 = w2c_j0;
-      w2c_j0 = w2c_l13;
+      w2c_j0 = w2c_l9;
       w2c_j1 = 1ull;
       w2c_j0 -= w2c_j1;
-      w2c_l13 = w2c_j0;
+      w2c_l9 = w2c_j0;
       w2c_j1 = 0ull;
       w2c_i0 = w2c_j0 != w2c_j1;
-      if (w2c_i0) {goto w2c_L475;}
+      if (w2c_i0) {goto w2c_L404;}
   }
-  w2c_j0 = w2c_l21;
+  w2c_j0 = w2c_l18;
   w2c_i0 = !(w2c_j0);
   w2c_i0 = !(w2c_i0);
-  if (w2c_i0) {goto w2c_B353;}
-  goto w2c_B352;
-  w2c_B367:;
+  if (w2c_i0) {goto w2c_B271;}
+  goto w2c_B270;
+  w2c_B297:;
   w2c_j0 = w2c_l4;
-  w2c_j1 = 412ull;
+  w2c_j1 = 492ull;
   w2c_j0 += w2c_j1;
   w2c_l35 = w2c_j0;
   w2c_j0 = w2c_l4;
-  w2c_j1 = 440ull;
+  w2c_j1 = 520ull;
   w2c_j0 += w2c_j1;
   w2c_l33 = w2c_j0;
   w2c_j0 = 0ull;
   w2c_l3 = w2c_j0;
   w2c_i0 = 0u;
   w2c_l37 = w2c_i0;
-  w2c_L477: 
-    w2c_j0 = w2c_l17;
+  w2c_L406: 
+    w2c_j0 = w2c_l19;
     w2c_j1 = w2c_l3;
-    w2c_l19 = w2c_j1;
+    w2c_l15 = w2c_j1;
     w2c_j2 = 56ull;
     w2c_j1 *= w2c_j2;
     w2c_j0 += w2c_j1;
@@ -10707,34 +9484,34 @@ static void w2c_f0(Z_dine_ffi_instance_t* instance, u64 w2c_p0, u64 w2c_p1, u64 
     w2c_j0 += w2c_j1;
     w2c_i0 = (u32)(w2c_j0);
     w2c_j0 = i64_load(&instance->w2c_memory, (u64)(w2c_i0));
-    w2c_l9 = w2c_j0;
+    w2c_l11 = w2c_j0;
     w2c_i0 = w2c_l37;
     w2c_i1 = 1u;
     w2c_i0 &= w2c_i1;
     if (w2c_i0) {
       w2c_j0 = w2c_l4;
-      w2c_j1 = 368ull;
+      w2c_j1 = 472ull;
       w2c_j0 += w2c_j1;
       w2c_l3 = w2c_j0;
-      w2c_L481: 
+      w2c_L410: 
         w2c_j0 = w2c_l3;
         w2c_i0 = (u32)(w2c_j0);
         w2c_j0 = i64_load(&instance->w2c_memory, (u64)(w2c_i0));
-        w2c_l13 = w2c_j0;
+        w2c_l9 = w2c_j0;
         w2c_i0 = (u32)(w2c_j0);
         w2c_j0 = i64_load16_u(&instance->w2c_memory, (u64)(w2c_i0));
-        w2c_l6 = w2c_j0;
+        w2c_l8 = w2c_j0;
         w2c_i0 = !(w2c_j0);
         if (w2c_i0) {
           w2c_j0 = 0ull;
         } else {
-          w2c_j0 = w2c_l13;
+          w2c_j0 = w2c_l9;
           w2c_j1 = 16ull;
           w2c_j0 += w2c_j1;
           w2c_l3 = w2c_j0;
           w2c_j0 = 0ull;
           w2c_p1 = w2c_j0;
-          w2c_L484: 
+          w2c_L413: 
             w2c_j0 = w2c_l3;
             w2c_j1 = 8ull;
             w2c_j0 -= w2c_j1;
@@ -10744,28 +9521,28 @@ static void w2c_f0(Z_dine_ffi_instance_t* instance, u64 w2c_p0, u64 w2c_p1, u64 
             w2c_j0 = w2c_l3;
             w2c_i0 = (u32)(w2c_j0);
             w2c_j0 = i64_load(&instance->w2c_memory, (u64)(w2c_i0));
-            w2c_l7 = w2c_j0;
+            w2c_l6 = w2c_j0;
             w2c_j0 = w2c_l4;
             w2c_i0 = (u32)(w2c_j0);
-            w2c_j1 = w2c_l9;
-            i64_store(&instance->w2c_memory, (u64)(w2c_i0) + 424, w2c_j1);
+            w2c_j1 = w2c_l11;
+            i64_store(&instance->w2c_memory, (u64)(w2c_i0) + 504, w2c_j1);
             w2c_j0 = w2c_l4;
             w2c_i0 = (u32)(w2c_j0);
             w2c_j1 = w2c_p2;
-            i64_store(&instance->w2c_memory, (u64)(w2c_i0) + 416, w2c_j1);
+            i64_store(&instance->w2c_memory, (u64)(w2c_i0) + 496, w2c_j1);
             w2c_j0 = w2c_l4;
             w2c_i0 = (u32)(w2c_j0);
-            w2c_j1 = w2c_l7;
-            i64_store(&instance->w2c_memory, (u64)(w2c_i0) + 560, w2c_j1);
+            w2c_j1 = w2c_l6;
+            i64_store(&instance->w2c_memory, (u64)(w2c_i0) + 672, w2c_j1);
             w2c_j0 = w2c_l4;
             w2c_i0 = (u32)(w2c_j0);
             w2c_j1 = w2c_l5;
-            i64_store(&instance->w2c_memory, (u64)(w2c_i0) + 552, w2c_j1);
+            i64_store(&instance->w2c_memory, (u64)(w2c_i0) + 664, w2c_j1);
             w2c_j0 = w2c_l4;
-            w2c_j1 = 416ull;
+            w2c_j1 = 496ull;
             w2c_j0 += w2c_j1;
             w2c_j1 = w2c_l4;
-            w2c_j2 = 552ull;
+            w2c_j2 = 664ull;
             w2c_j1 += w2c_j2;
             w2c_i0 = w2c_f15(instance, w2c_j0, w2c_j1);
             w2c_i1 = 255u;
@@ -10777,73 +9554,73 @@ static void w2c_f0(Z_dine_ffi_instance_t* instance, u64 w2c_p0, u64 w2c_p1, u64 
               w2c_i0 = w2c_l37;
               w2c_i1 = 1u;
               w2c_i0 -= w2c_i1;
-              if (w2c_i0) {goto w2c_B483;}
-              goto w2c_B478;
+              if (w2c_i0) {goto w2c_B412;}
+              goto w2c_B407;
             }
             w2c_j0 = w2c_l3;
             w2c_j1 = 16ull;
             w2c_j0 += w2c_j1;
             w2c_l3 = w2c_j0;
-            w2c_j0 = w2c_l6;
+            w2c_j0 = w2c_l8;
             w2c_j1 = w2c_p1;
             w2c_j2 = 1ull;
             w2c_j1 += w2c_j2;
             w2c_p1 = w2c_j1;
             w2c_i0 = w2c_j0 != w2c_j1;
-            if (w2c_i0) {goto w2c_L484;}
-          w2c_j0 = w2c_l6;
+            if (w2c_i0) {goto w2c_L413;}
+          w2c_j0 = w2c_l8;
           w2c_p1 = w2c_j0;
-          w2c_B483:;
+          w2c_B412:;
           w2c_j0 = w2c_p1;
           w2c_j1 = 3ull;
           w2c_j0 <<= (w2c_j1 & 63);
         }
         w2c_l3 = w2c_j0;
-        w2c_j0 = w2c_l13;
+        w2c_j0 = w2c_l9;
         w2c_j1 = 2ull;
         w2c_j0 += w2c_j1;
         w2c_i0 = (u32)(w2c_j0);
         w2c_i0 = i32_load16_u(&instance->w2c_memory, (u64)(w2c_i0));
         if (w2c_i0) {
           w2c_j0 = w2c_l3;
-          w2c_j1 = w2c_l13;
+          w2c_j1 = w2c_l9;
           w2c_j0 += w2c_j1;
           w2c_j1 = 312ull;
           w2c_j0 += w2c_j1;
           w2c_l3 = w2c_j0;
-          goto w2c_L481;
+          goto w2c_L410;
         }
       w2c_j0 = w2c_l4;
       w2c_i0 = (u32)(w2c_j0);
-      w2c_j1 = w2c_l9;
-      i64_store(&instance->w2c_memory, (u64)(w2c_i0) + 400, w2c_j1);
+      w2c_j1 = w2c_l11;
+      i64_store(&instance->w2c_memory, (u64)(w2c_i0) + 640, w2c_j1);
       w2c_j0 = w2c_l4;
       w2c_i0 = (u32)(w2c_j0);
       w2c_j1 = w2c_p2;
-      i64_store(&instance->w2c_memory, (u64)(w2c_i0) + 392, w2c_j1);
+      i64_store(&instance->w2c_memory, (u64)(w2c_i0) + 632, w2c_j1);
       w2c_j0 = w2c_l4;
       w2c_i0 = (u32)(w2c_j0);
-      w2c_j0 = i64_load(&instance->w2c_memory, (u64)(w2c_i0) + 368u);
+      w2c_j0 = i64_load(&instance->w2c_memory, (u64)(w2c_i0) + 472u);
       w2c_l16 = w2c_j0;
       w2c_j1 = 2ull;
       w2c_j0 += w2c_j1;
       w2c_i0 = (u32)(w2c_j0);
       w2c_i0 = i32_load16_u(&instance->w2c_memory, (u64)(w2c_i0));
-      goto w2c_B479;
+      goto w2c_B408;
     }
     w2c_j0 = w2c_l4;
     w2c_i0 = (u32)(w2c_j0);
-    w2c_j1 = w2c_l9;
-    i64_store(&instance->w2c_memory, (u64)(w2c_i0) + 400, w2c_j1);
+    w2c_j1 = w2c_l11;
+    i64_store(&instance->w2c_memory, (u64)(w2c_i0) + 640, w2c_j1);
     w2c_j0 = w2c_l4;
     w2c_i0 = (u32)(w2c_j0);
     w2c_j1 = w2c_p2;
-    i64_store(&instance->w2c_memory, (u64)(w2c_i0) + 392, w2c_j1);
+    i64_store(&instance->w2c_memory, (u64)(w2c_i0) + 632, w2c_j1);
     w2c_j0 = w2c_l4;
     w2c_j1 = 168ull;
     w2c_j0 += w2c_j1;
     w2c_j1 = 312ull;
-    w2c_f113(instance, w2c_j0, w2c_j1);
+    w2c_f114(instance, w2c_j0, w2c_j1);
     w2c_j0 = w2c_l4;
     w2c_i0 = (u32)(w2c_j0);
     w2c_j0 = i64_load(&instance->w2c_memory, (u64)(w2c_i0) + 168u);
@@ -10851,7 +9628,7 @@ static void w2c_f0(Z_dine_ffi_instance_t* instance, u64 w2c_p0, u64 w2c_p1, u64 
     w2c_i1 = 1u;
     w2c_i0 &= w2c_i1;
     w2c_i0 = !(w2c_i0);
-    if (w2c_i0) {goto w2c_B354;}
+    if (w2c_i0) {goto w2c_B260;}
     w2c_j0 = w2c_l4;
     w2c_i0 = (u32)(w2c_j0);
     w2c_j0 = i64_load(&instance->w2c_memory, (u64)(w2c_i0) + 176u);
@@ -10862,24 +9639,24 @@ static void w2c_f0(Z_dine_ffi_instance_t* instance, u64 w2c_p0, u64 w2c_p1, u64 
     w2c_j0 = w2c_l4;
     w2c_i0 = (u32)(w2c_j0);
     w2c_j1 = w2c_l16;
-    i64_store(&instance->w2c_memory, (u64)(w2c_i0) + 368, w2c_j1);
+    i64_store(&instance->w2c_memory, (u64)(w2c_i0) + 472, w2c_j1);
     w2c_i0 = 0u;
-    w2c_B479:;
+    w2c_B408:;
     w2c_l39 = w2c_i0;
-    w2c_j0 = w2c_l19;
+    w2c_j0 = w2c_l15;
     w2c_i0 = (u32)(w2c_j0);
-    w2c_l40 = w2c_i0;
+    w2c_l41 = w2c_i0;
     w2c_i0 = 0u;
     w2c_i1 = w2c_l39;
     w2c_i0 -= w2c_i1;
     w2c_l38 = w2c_i0;
     w2c_j0 = 0ull;
-    w2c_l15 = w2c_j0;
+    w2c_l17 = w2c_j0;
     w2c_j0 = 0ull;
-    w2c_l11 = w2c_j0;
+    w2c_l12 = w2c_j0;
     w2c_j0 = w2c_l16;
     w2c_l3 = w2c_j0;
-    w2c_l12 = w2c_j0;
+    w2c_l13 = w2c_j0;
     w2c_j0 = 15ull;
     w2c_i1 = w2c_l39;
     w2c_j1 = (u64)(w2c_i1);
@@ -10887,27 +9664,27 @@ static void w2c_f0(Z_dine_ffi_instance_t* instance, u64 w2c_p0, u64 w2c_p1, u64 
     w2c_j1 &= w2c_j2;
     w2c_l14 = w2c_j1;
     w2c_j0 -= w2c_j1;
-    w2c_l23 = w2c_j0;
-    w2c_l13 = w2c_j0;
+    w2c_l27 = w2c_j0;
+    w2c_l9 = w2c_j0;
     w2c_j0 = 0ull;
-    w2c_l6 = w2c_j0;
-    w2c_L488: 
+    w2c_l8 = w2c_j0;
+    w2c_L417: 
       w2c_j0 = 0ull;
       w2c_p1 = w2c_j0;
       w2c_j0 = w2c_l3;
-      w2c_l7 = w2c_j0;
+      w2c_l6 = w2c_j0;
       w2c_i0 = (u32)(w2c_j0);
       w2c_j0 = i64_load16_u(&instance->w2c_memory, (u64)(w2c_i0));
       w2c_l5 = w2c_j0;
       w2c_i0 = !(w2c_j0);
-      if (w2c_i0) {goto w2c_B489;}
-      w2c_j0 = w2c_l7;
+      if (w2c_i0) {goto w2c_B418;}
+      w2c_j0 = w2c_l6;
       w2c_j1 = 8ull;
       w2c_j0 += w2c_j1;
       w2c_l3 = w2c_j0;
-      w2c_L490: 
+      w2c_L419: 
         w2c_j0 = w2c_l4;
-        w2c_j1 = 392ull;
+        w2c_j1 = 632ull;
         w2c_j0 += w2c_j1;
         w2c_j1 = w2c_l3;
         w2c_i0 = w2c_f15(instance, w2c_j0, w2c_j1);
@@ -10920,8 +9697,8 @@ static void w2c_f0(Z_dine_ffi_instance_t* instance, u64 w2c_p0, u64 w2c_p1, u64 
           w2c_i0 = w2c_l37;
           w2c_i1 = 1u;
           w2c_i0 -= w2c_i1;
-          if (w2c_i0) {goto w2c_B489;}
-          goto w2c_B487;
+          if (w2c_i0) {goto w2c_B418;}
+          goto w2c_B416;
         }
         w2c_j0 = w2c_l3;
         w2c_j1 = 16ull;
@@ -10933,21 +9710,21 @@ static void w2c_f0(Z_dine_ffi_instance_t* instance, u64 w2c_p0, u64 w2c_p1, u64 
         w2c_j1 += w2c_j2;
         w2c_p1 = w2c_j1;
         w2c_i0 = w2c_j0 != w2c_j1;
-        if (w2c_i0) {goto w2c_L490;}
+        if (w2c_i0) {goto w2c_L419;}
       w2c_j0 = w2c_l5;
       w2c_p1 = w2c_j0;
-      w2c_B489:;
-      w2c_j0 = w2c_l13;
+      w2c_B418:;
+      w2c_j0 = w2c_l9;
       w2c_j1 = 1ull;
       w2c_j0 += w2c_j1;
-      w2c_l13 = w2c_j0;
+      w2c_l9 = w2c_j0;
       w2c_j0 = w2c_p1;
-      w2c_j1 = w2c_l6;
+      w2c_j1 = w2c_l8;
       w2c_j2 = 4ull;
       w2c_j1 <<= (w2c_j2 & 63);
       w2c_j0 += w2c_j1;
-      w2c_l6 = w2c_j0;
-      w2c_j0 = w2c_l7;
+      w2c_l8 = w2c_j0;
+      w2c_j0 = w2c_l6;
       w2c_j1 = 2ull;
       w2c_j0 += w2c_j1;
       w2c_i0 = (u32)(w2c_j0);
@@ -10957,11 +9734,11 @@ static void w2c_f0(Z_dine_ffi_instance_t* instance, u64 w2c_p0, u64 w2c_p1, u64 
         w2c_i1 = 1u;
         w2c_i0 += w2c_i1;
         w2c_l38 = w2c_i0;
-        w2c_j0 = w2c_l11;
+        w2c_j0 = w2c_l12;
         w2c_j1 = 1ull;
         w2c_j0 += w2c_j1;
-        w2c_l11 = w2c_j0;
-        w2c_j0 = w2c_l7;
+        w2c_l12 = w2c_j0;
+        w2c_j0 = w2c_l6;
         w2c_j1 = w2c_p1;
         w2c_j2 = 3ull;
         w2c_j1 <<= (w2c_j2 & 63);
@@ -10972,28 +9749,28 @@ static void w2c_f0(Z_dine_ffi_instance_t* instance, u64 w2c_p0, u64 w2c_p1, u64 
         w2c_j0 = i64_load(&instance->w2c_memory, (u64)(w2c_i0));
         w2c_l3 = w2c_j0;
         w2c_j0 = w2c_p1;
-        w2c_l15 = w2c_j0;
-        w2c_j0 = w2c_l7;
-        w2c_l12 = w2c_j0;
-        goto w2c_L488;
+        w2c_l17 = w2c_j0;
+        w2c_j0 = w2c_l6;
+        w2c_l13 = w2c_j0;
+        goto w2c_L417;
       }
     w2c_j0 = w2c_l34;
     w2c_j1 = 9223372036854775806ull;
     w2c_i0 = w2c_j0 > w2c_j1;
-    if (w2c_i0) {goto w2c_B356;}
+    if (w2c_i0) {goto w2c_B273;}
     w2c_j0 = w2c_l4;
-    w2c_j1 = 368ull;
+    w2c_j1 = 472ull;
     w2c_j0 += w2c_j1;
-    w2c_j1 = w2c_l12;
-    w2c_j2 = w2c_l15;
+    w2c_j1 = w2c_l13;
+    w2c_j2 = w2c_l17;
     w2c_j3 = 3ull;
     w2c_j2 <<= (w2c_j3 & 63);
     w2c_l3 = w2c_j2;
     w2c_j1 += w2c_j2;
     w2c_j2 = 312ull;
     w2c_j1 += w2c_j2;
-    w2c_j2 = w2c_l13;
-    w2c_j3 = w2c_l23;
+    w2c_j2 = w2c_l9;
+    w2c_j3 = w2c_l27;
     w2c_j2 -= w2c_j3;
     w2c_p1 = w2c_j2;
     w2c_j3 = 1ull;
@@ -11014,20 +9791,20 @@ static void w2c_f0(Z_dine_ffi_instance_t* instance, u64 w2c_p0, u64 w2c_p1, u64 
       if (w2c_i0) {
         w2c_j0 = w2c_l16;
         w2c_l5 = w2c_j0;
-        w2c_j0 = w2c_l23;
-        goto w2c_B496;
+        w2c_j0 = w2c_l27;
+        goto w2c_B425;
       }
       w2c_i0 = w2c_l39;
       w2c_i1 = 65535u;
       w2c_i0 &= w2c_i1;
       w2c_i1 = 10u;
       w2c_i0 = w2c_i0 > w2c_i1;
-      if (w2c_i0) {goto w2c_B356;}
+      if (w2c_i0) {goto w2c_B273;}
       w2c_j0 = w2c_l4;
       w2c_j1 = 152ull;
       w2c_j0 += w2c_j1;
       w2c_j1 = 440ull;
-      w2c_f113(instance, w2c_j0, w2c_j1);
+      w2c_f114(instance, w2c_j0, w2c_j1);
       w2c_j0 = w2c_l4;
       w2c_i0 = (u32)(w2c_j0);
       w2c_j0 = i64_load(&instance->w2c_memory, (u64)(w2c_i0) + 152u);
@@ -11035,7 +9812,7 @@ static void w2c_f0(Z_dine_ffi_instance_t* instance, u64 w2c_p0, u64 w2c_p1, u64 
       w2c_i1 = 1u;
       w2c_i0 &= w2c_i1;
       w2c_i0 = !(w2c_i0);
-      if (w2c_i0) {goto w2c_B356;}
+      if (w2c_i0) {goto w2c_B273;}
       w2c_j0 = w2c_l4;
       w2c_i0 = (u32)(w2c_j0);
       w2c_j0 = i64_load(&instance->w2c_memory, (u64)(w2c_i0) + 160u);
@@ -11060,83 +9837,83 @@ static void w2c_f0(Z_dine_ffi_instance_t* instance, u64 w2c_p0, u64 w2c_p1, u64 
       w2c_j0 = w2c_l4;
       w2c_i0 = (u32)(w2c_j0);
       w2c_j1 = w2c_l5;
-      i64_store(&instance->w2c_memory, (u64)(w2c_i0) + 368, w2c_j1);
+      i64_store(&instance->w2c_memory, (u64)(w2c_i0) + 472, w2c_j1);
       w2c_j0 = 14ull;
       w2c_j1 = w2c_l14;
       w2c_j0 -= w2c_j1;
-      w2c_B496:;
-      w2c_l29 = w2c_j0;
+      w2c_B425:;
+      w2c_l28 = w2c_j0;
       w2c_j0 = w2c_l4;
       w2c_i0 = (u32)(w2c_j0);
       w2c_j1 = 0ull;
-      i64_store(&instance->w2c_memory, (u64)(w2c_i0) + 424, w2c_j1);
+      i64_store(&instance->w2c_memory, (u64)(w2c_i0) + 504, w2c_j1);
       w2c_j0 = w2c_l4;
       w2c_i0 = (u32)(w2c_j0);
       w2c_j1 = 0ull;
-      i64_store(&instance->w2c_memory, (u64)(w2c_i0) + 416, w2c_j1);
-      w2c_j0 = w2c_l13;
-      w2c_j1 = w2c_l29;
+      i64_store(&instance->w2c_memory, (u64)(w2c_i0) + 496, w2c_j1);
+      w2c_j0 = w2c_l9;
+      w2c_j1 = w2c_l28;
       w2c_i0 = w2c_j0 <= w2c_j1;
-      if (w2c_i0) {goto w2c_B498;}
-      w2c_j0 = w2c_l11;
-      w2c_j1 = w2c_l23;
+      if (w2c_i0) {goto w2c_B427;}
+      w2c_j0 = w2c_l12;
+      w2c_j1 = w2c_l27;
       w2c_j0 += w2c_j1;
-      w2c_j1 = w2c_l29;
+      w2c_j1 = w2c_l28;
       w2c_j0 -= w2c_j1;
-      w2c_l7 = w2c_j0;
-      w2c_j0 = w2c_l13;
-      w2c_j1 = w2c_l29;
+      w2c_l6 = w2c_j0;
+      w2c_j0 = w2c_l9;
+      w2c_j1 = w2c_l28;
       w2c_j0 -= w2c_j1;
       w2c_j1 = 3ull;
       w2c_j0 &= w2c_j1;
       w2c_i0 = !(w2c_j0);
       if (w2c_i0) {
-        w2c_j0 = w2c_l13;
+        w2c_j0 = w2c_l9;
         w2c_l3 = w2c_j0;
-        goto w2c_B499;
+        goto w2c_B428;
       }
       w2c_i0 = w2c_l38;
-      w2c_j1 = w2c_l29;
+      w2c_j1 = w2c_l28;
       w2c_i1 = (u32)(w2c_j1);
       w2c_i0 -= w2c_i1;
       w2c_j0 = (u64)(w2c_i0);
       w2c_j1 = 3ull;
       w2c_j0 &= w2c_j1;
       w2c_p1 = w2c_j0;
-      w2c_j0 = w2c_l13;
+      w2c_j0 = w2c_l9;
       w2c_l3 = w2c_j0;
-      w2c_L501: 
+      w2c_L430: 
         w2c_j0 = w2c_l3;
         w2c_j1 = 1ull;
         w2c_j0 -= w2c_j1;
         w2c_l3 = w2c_j0;
         w2c_j1 = w2c_l4;
-        w2c_j2 = 416ull;
+        w2c_j2 = 496ull;
         w2c_j1 += w2c_j2;
         w2c_j0 += w2c_j1;
         w2c_i0 = (u32)(w2c_j0);
-        w2c_j1 = w2c_l6;
+        w2c_j1 = w2c_l8;
         w2c_i1 = (u32)(w2c_j1);
         w2c_i2 = 15u;
         w2c_i1 &= w2c_i2;
         i32_store8(&instance->w2c_memory, (u64)(w2c_i0), w2c_i1);
-        w2c_j0 = w2c_l6;
+        w2c_j0 = w2c_l8;
         w2c_j1 = 4ull;
         w2c_j0 >>= (w2c_j1 & 63);
-        w2c_l6 = w2c_j0;
+        w2c_l8 = w2c_j0;
         w2c_j0 = w2c_p1;
         w2c_j1 = 1ull;
         w2c_j0 -= w2c_j1;
         w2c_p1 = w2c_j0;
         w2c_j1 = 0ull;
         w2c_i0 = w2c_j0 != w2c_j1;
-        if (w2c_i0) {goto w2c_L501;}
-      w2c_B499:;
-      w2c_j0 = w2c_l7;
+        if (w2c_i0) {goto w2c_L430;}
+      w2c_B428:;
+      w2c_j0 = w2c_l6;
       w2c_j1 = 3ull;
       w2c_i0 = w2c_j0 < w2c_j1;
-      if (w2c_i0) {goto w2c_B498;}
-      w2c_L502: 
+      if (w2c_i0) {goto w2c_B427;}
+      w2c_L431: 
         w2c_j0 = w2c_l3;
         w2c_j1 = w2c_l35;
         w2c_j0 += w2c_j1;
@@ -11144,7 +9921,7 @@ static void w2c_f0(Z_dine_ffi_instance_t* instance, u64 w2c_p0, u64 w2c_p1, u64 
         w2c_j1 = 3ull;
         w2c_j0 += w2c_j1;
         w2c_i0 = (u32)(w2c_j0);
-        w2c_j1 = w2c_l6;
+        w2c_j1 = w2c_l8;
         w2c_i1 = (u32)(w2c_j1);
         w2c_l37 = w2c_i1;
         w2c_i2 = 15u;
@@ -11178,54 +9955,54 @@ static void w2c_f0(Z_dine_ffi_instance_t* instance, u64 w2c_p0, u64 w2c_p1, u64 
         w2c_i2 = 15u;
         w2c_i1 &= w2c_i2;
         i32_store8(&instance->w2c_memory, (u64)(w2c_i0), w2c_i1);
-        w2c_j0 = w2c_l6;
+        w2c_j0 = w2c_l8;
         w2c_j1 = 16ull;
         w2c_j0 >>= (w2c_j1 & 63);
-        w2c_l6 = w2c_j0;
-        w2c_j0 = w2c_l29;
+        w2c_l8 = w2c_j0;
+        w2c_j0 = w2c_l28;
         w2c_j1 = w2c_l3;
         w2c_j2 = 4ull;
         w2c_j1 -= w2c_j2;
         w2c_l3 = w2c_j1;
         w2c_i0 = w2c_j0 < w2c_j1;
-        if (w2c_i0) {goto w2c_L502;}
-      w2c_B498:;
+        if (w2c_i0) {goto w2c_L431;}
+      w2c_B427:;
       w2c_j0 = w2c_l4;
       w2c_i0 = (u32)(w2c_j0);
       w2c_j1 = w2c_l4;
       w2c_i1 = (u32)(w2c_j1);
-      w2c_j1 = i64_load(&instance->w2c_memory, (u64)(w2c_i1) + 424u);
-      i64_store(&instance->w2c_memory, (u64)(w2c_i0) + 560, w2c_j1);
+      w2c_j1 = i64_load(&instance->w2c_memory, (u64)(w2c_i1) + 504u);
+      i64_store(&instance->w2c_memory, (u64)(w2c_i0) + 672, w2c_j1);
       w2c_j0 = w2c_l4;
       w2c_i0 = (u32)(w2c_j0);
       w2c_j1 = w2c_l4;
       w2c_i1 = (u32)(w2c_j1);
-      w2c_j1 = i64_load(&instance->w2c_memory, (u64)(w2c_i1) + 416u);
-      i64_store(&instance->w2c_memory, (u64)(w2c_i0) + 552, w2c_j1);
+      w2c_j1 = i64_load(&instance->w2c_memory, (u64)(w2c_i1) + 496u);
+      i64_store(&instance->w2c_memory, (u64)(w2c_i0) + 664, w2c_j1);
       w2c_j0 = 16ull;
-      w2c_j1 = w2c_l29;
+      w2c_j1 = w2c_l28;
       w2c_j0 -= w2c_j1;
       w2c_l3 = w2c_j0;
       w2c_j1 = 2ull;
       w2c_i0 = w2c_j0 >= w2c_j1;
       if (w2c_i0) {
         w2c_j0 = w2c_l4;
-        w2c_j1 = 552ull;
+        w2c_j1 = 664ull;
         w2c_j0 += w2c_j1;
-        w2c_j1 = w2c_l29;
+        w2c_j1 = w2c_l28;
         w2c_j0 += w2c_j1;
         w2c_l16 = w2c_j0;
         w2c_j0 = w2c_l4;
-        w2c_j1 = 368ull;
+        w2c_j1 = 472ull;
         w2c_j0 += w2c_j1;
         w2c_l14 = w2c_j0;
-        w2c_L504: 
+        w2c_L433: 
           w2c_j0 = w2c_l3;
-          w2c_l23 = w2c_j0;
+          w2c_l27 = w2c_j0;
           w2c_j0 = w2c_l14;
           w2c_i0 = (u32)(w2c_j0);
           w2c_j0 = i64_load(&instance->w2c_memory, (u64)(w2c_i0));
-          w2c_l12 = w2c_j0;
+          w2c_l13 = w2c_j0;
           w2c_j1 = w2c_l16;
           w2c_i1 = (u32)(w2c_j1);
           w2c_i1 = i32_load8_u(&instance->w2c_memory, (u64)(w2c_i1));
@@ -11233,7 +10010,7 @@ static void w2c_f0(Z_dine_ffi_instance_t* instance, u64 w2c_p0, u64 w2c_p1, u64 
           w2c_j1 = (u64)(w2c_i1);
           w2c_j2 = 255ull;
           w2c_j1 &= w2c_j2;
-          w2c_l28 = w2c_j1;
+          w2c_l29 = w2c_j1;
           w2c_j2 = 3ull;
           w2c_j1 <<= (w2c_j2 & 63);
           w2c_p1 = w2c_j1;
@@ -11246,8 +10023,8 @@ static void w2c_f0(Z_dine_ffi_instance_t* instance, u64 w2c_p0, u64 w2c_p1, u64 
           w2c_i0 = i32_load16_u(&instance->w2c_memory, (u64)(w2c_i0));
           w2c_i1 = 15u;
           w2c_i0 = w2c_i0 < w2c_i1;
-          if (w2c_i0) {goto w2c_B505;}
-          w2c_j0 = w2c_l12;
+          if (w2c_i0) {goto w2c_B434;}
+          w2c_j0 = w2c_l13;
           w2c_j1 = 2ull;
           w2c_j0 += w2c_j1;
           w2c_i0 = (u32)(w2c_j0);
@@ -11261,7 +10038,7 @@ static void w2c_f0(Z_dine_ffi_instance_t* instance, u64 w2c_p0, u64 w2c_p1, u64 
             w2c_j1 = 120ull;
             w2c_j0 += w2c_j1;
             w2c_j1 = 312ull;
-            w2c_f113(instance, w2c_j0, w2c_j1);
+            w2c_f114(instance, w2c_j0, w2c_j1);
             w2c_j0 = w2c_l4;
             w2c_i0 = (u32)(w2c_j0);
             w2c_j0 = i64_load(&instance->w2c_memory, (u64)(w2c_i0) + 120u);
@@ -11269,17 +10046,17 @@ static void w2c_f0(Z_dine_ffi_instance_t* instance, u64 w2c_p0, u64 w2c_p1, u64 
             w2c_i1 = 1u;
             w2c_i0 &= w2c_i1;
             w2c_i0 = !(w2c_i0);
-            if (w2c_i0) {goto w2c_B494;}
+            if (w2c_i0) {goto w2c_B423;}
             w2c_j0 = w2c_l4;
             w2c_i0 = (u32)(w2c_j0);
             w2c_j0 = i64_load(&instance->w2c_memory, (u64)(w2c_i0) + 128u);
-            goto w2c_B506;
+            goto w2c_B435;
           }
           w2c_j0 = w2c_l4;
           w2c_j1 = 136ull;
           w2c_j0 += w2c_j1;
           w2c_j1 = 440ull;
-          w2c_f113(instance, w2c_j0, w2c_j1);
+          w2c_f114(instance, w2c_j0, w2c_j1);
           w2c_j0 = w2c_l4;
           w2c_i0 = (u32)(w2c_j0);
           w2c_j0 = i64_load(&instance->w2c_memory, (u64)(w2c_i0) + 136u);
@@ -11287,12 +10064,12 @@ static void w2c_f0(Z_dine_ffi_instance_t* instance, u64 w2c_p0, u64 w2c_p1, u64 
           w2c_i1 = 1u;
           w2c_i0 &= w2c_i1;
           w2c_i0 = !(w2c_i0);
-          if (w2c_i0) {goto w2c_B494;}
+          if (w2c_i0) {goto w2c_B423;}
           w2c_j0 = w2c_l4;
           w2c_i0 = (u32)(w2c_j0);
           w2c_j0 = i64_load(&instance->w2c_memory, (u64)(w2c_i0) + 144u);
-          w2c_B506:;
-          w2c_l6 = w2c_j0;
+          w2c_B435:;
+          w2c_l8 = w2c_j0;
           w2c_j1 = 2ull;
           w2c_j0 += w2c_j1;
           w2c_i0 = (u32)(w2c_j0);
@@ -11304,38 +10081,38 @@ static void w2c_f0(Z_dine_ffi_instance_t* instance, u64 w2c_p0, u64 w2c_p1, u64 
           w2c_i1 = (u32)(w2c_j1);
           w2c_j1 = i64_load(&instance->w2c_memory, (u64)(w2c_i1));
           w2c_l3 = w2c_j1;
-          i64_store(&instance->w2c_memory, (u64)(w2c_i0) + 488, w2c_j1);
+          i64_store(&instance->w2c_memory, (u64)(w2c_i0) + 568, w2c_j1);
           w2c_j0 = w2c_l4;
           w2c_i0 = (u32)(w2c_j0);
           w2c_j1 = 15ull;
-          i64_store(&instance->w2c_memory, (u64)(w2c_i0) + 456, w2c_j1);
+          i64_store(&instance->w2c_memory, (u64)(w2c_i0) + 536, w2c_j1);
           w2c_j0 = w2c_l4;
           w2c_i0 = (u32)(w2c_j0);
           w2c_j1 = w2c_l3;
           w2c_j2 = 248ull;
           w2c_j1 += w2c_j2;
-          i64_store(&instance->w2c_memory, (u64)(w2c_i0) + 440, w2c_j1);
+          i64_store(&instance->w2c_memory, (u64)(w2c_i0) + 520, w2c_j1);
           w2c_j0 = w2c_l4;
           w2c_i0 = (u32)(w2c_j0);
           w2c_j1 = 15ull;
-          i64_store(&instance->w2c_memory, (u64)(w2c_i0) + 432, w2c_j1);
+          i64_store(&instance->w2c_memory, (u64)(w2c_i0) + 512, w2c_j1);
           w2c_j0 = w2c_l4;
           w2c_i0 = (u32)(w2c_j0);
           w2c_j1 = w2c_l3;
           w2c_j2 = 8ull;
           w2c_j1 += w2c_j2;
-          i64_store(&instance->w2c_memory, (u64)(w2c_i0) + 416, w2c_j1);
+          i64_store(&instance->w2c_memory, (u64)(w2c_i0) + 496, w2c_j1);
           w2c_j0 = w2c_l4;
           w2c_i0 = (u32)(w2c_j0);
           w2c_j1 = w2c_l3;
           w2c_i1 = (u32)(w2c_j1);
           w2c_j1 = i64_load16_u(&instance->w2c_memory, (u64)(w2c_i1));
           w2c_l5 = w2c_j1;
-          i64_store(&instance->w2c_memory, (u64)(w2c_i0) + 448, w2c_j1);
+          i64_store(&instance->w2c_memory, (u64)(w2c_i0) + 528, w2c_j1);
           w2c_j0 = w2c_l4;
           w2c_i0 = (u32)(w2c_j0);
           w2c_j1 = w2c_l5;
-          i64_store(&instance->w2c_memory, (u64)(w2c_i0) + 424, w2c_j1);
+          i64_store(&instance->w2c_memory, (u64)(w2c_i0) + 504, w2c_j1);
           w2c_j0 = w2c_l4;
           w2c_i0 = (u32)(w2c_j0);
           w2c_j1 = 16ull;
@@ -11347,7 +10124,7 @@ static void w2c_f0(Z_dine_ffi_instance_t* instance, u64 w2c_p0, u64 w2c_p1, u64 
           w2c_i3 = i32_load16_u(&instance->w2c_memory, (u64)(w2c_i3));
           w2c_l38 = w2c_i3;
           w2c_j1 = w2c_i3 ? w2c_j1 : w2c_j2;
-          i64_store(&instance->w2c_memory, (u64)(w2c_i0) + 480, w2c_j1);
+          i64_store(&instance->w2c_memory, (u64)(w2c_i0) + 560, w2c_j1);
           w2c_j0 = w2c_l4;
           w2c_i0 = (u32)(w2c_j0);
           w2c_j1 = w2c_l5;
@@ -11356,18 +10133,18 @@ static void w2c_f0(Z_dine_ffi_instance_t* instance, u64 w2c_p0, u64 w2c_p1, u64 
           w2c_j2 = 0ull;
           w2c_i3 = w2c_l38;
           w2c_j1 = w2c_i3 ? w2c_j1 : w2c_j2;
-          i64_store(&instance->w2c_memory, (u64)(w2c_i0) + 472, w2c_j1);
+          i64_store(&instance->w2c_memory, (u64)(w2c_i0) + 552, w2c_j1);
           w2c_j0 = w2c_l4;
           w2c_i0 = (u32)(w2c_j0);
           w2c_j1 = w2c_l3;
           w2c_j2 = 312ull;
           w2c_j1 += w2c_j2;
           w2c_l3 = w2c_j1;
-          i64_store(&instance->w2c_memory, (u64)(w2c_i0) + 464, w2c_j1);
-          w2c_j0 = w2c_l6;
+          i64_store(&instance->w2c_memory, (u64)(w2c_i0) + 544, w2c_j1);
+          w2c_j0 = w2c_l8;
           w2c_j1 = 248ull;
           w2c_j0 += w2c_j1;
-          w2c_l31 = w2c_j0;
+          w2c_l30 = w2c_j0;
           w2c_j0 = w2c_p1;
           w2c_j1 = w2c_l3;
           w2c_j0 += w2c_j1;
@@ -11390,30 +10167,30 @@ static void w2c_f0(Z_dine_ffi_instance_t* instance, u64 w2c_p0, u64 w2c_p1, u64 
           w2c_l32 = w2c_j0;
           w2c_j1 = 8ull;
           w2c_j0 -= w2c_j1;
-          w2c_l26 = w2c_j0;
+          w2c_l25 = w2c_j0;
           w2c_j1 = 4ull;
           w2c_j0 <<= (w2c_j1 & 63);
           w2c_l3 = w2c_j0;
-          w2c_j1 = w2c_l6;
+          w2c_j1 = w2c_l8;
           w2c_j2 = 8ull;
           w2c_j1 += w2c_j2;
           w2c_p1 = w2c_j1;
           w2c_j2 = w2c_l5;
           w2c_j3 = 136ull;
           w2c_j2 += w2c_j3;
-          w2c_l7 = w2c_j2;
+          w2c_l6 = w2c_j2;
           w2c_j1 -= w2c_j2;
           w2c_i0 = w2c_j0 > w2c_j1;
           if (w2c_i0) {
-            w2c_j0 = w2c_l26;
+            w2c_j0 = w2c_l25;
             w2c_i0 = !(w2c_j0);
-            if (w2c_i0) {goto w2c_B510;}
+            if (w2c_i0) {goto w2c_B439;}
             w2c_j0 = w2c_l32;
             w2c_j1 = 3ull;
             w2c_j0 &= w2c_j1;
-            w2c_l11 = w2c_j0;
-            w2c_j0 = 0ull;
             w2c_l12 = w2c_j0;
+            w2c_j0 = 0ull;
+            w2c_l13 = w2c_j0;
             w2c_i0 = w2c_l39;
             w2c_i1 = 9u;
             w2c_i0 -= w2c_i1;
@@ -11422,24 +10199,24 @@ static void w2c_f0(Z_dine_ffi_instance_t* instance, u64 w2c_p0, u64 w2c_p1, u64 
             w2c_i1 = 3u;
             w2c_i0 = w2c_i0 >= w2c_i1;
             if (w2c_i0) {
-              w2c_j0 = w2c_l26;
+              w2c_j0 = w2c_l25;
               w2c_j1 = 18446744073709551612ull;
               w2c_j0 &= w2c_j1;
-              w2c_l22 = w2c_j0;
+              w2c_l31 = w2c_j0;
               w2c_j0 = 0ull;
-              w2c_l7 = w2c_j0;
-              w2c_L514: 
+              w2c_l6 = w2c_j0;
+              w2c_L443: 
                 w2c_j0 = w2c_l5;
-                w2c_j1 = w2c_l7;
+                w2c_j1 = w2c_l6;
                 w2c_j0 += w2c_j1;
                 w2c_l3 = w2c_j0;
                 w2c_j1 = 136ull;
                 w2c_j0 += w2c_j1;
                 w2c_i0 = (u32)(w2c_j0);
                 w2c_j0 = i64_load(&instance->w2c_memory, (u64)(w2c_i0));
-                w2c_l15 = w2c_j0;
+                w2c_l17 = w2c_j0;
                 w2c_j0 = w2c_l6;
-                w2c_j1 = w2c_l7;
+                w2c_j1 = w2c_l8;
                 w2c_j0 += w2c_j1;
                 w2c_p1 = w2c_j0;
                 w2c_j1 = 16ull;
@@ -11455,14 +10232,14 @@ static void w2c_f0(Z_dine_ffi_instance_t* instance, u64 w2c_p0, u64 w2c_p1, u64 
                 w2c_j1 = 8ull;
                 w2c_j0 += w2c_j1;
                 w2c_i0 = (u32)(w2c_j0);
-                w2c_j1 = w2c_l15;
+                w2c_j1 = w2c_l17;
                 i64_store(&instance->w2c_memory, (u64)(w2c_i0), w2c_j1);
                 w2c_j0 = w2c_l3;
                 w2c_j1 = 152ull;
                 w2c_j0 += w2c_j1;
                 w2c_i0 = (u32)(w2c_j0);
                 w2c_j0 = i64_load(&instance->w2c_memory, (u64)(w2c_i0));
-                w2c_l15 = w2c_j0;
+                w2c_l17 = w2c_j0;
                 w2c_j0 = w2c_p1;
                 w2c_j1 = 32ull;
                 w2c_j0 += w2c_j1;
@@ -11477,14 +10254,14 @@ static void w2c_f0(Z_dine_ffi_instance_t* instance, u64 w2c_p0, u64 w2c_p1, u64 
                 w2c_j1 = 24ull;
                 w2c_j0 += w2c_j1;
                 w2c_i0 = (u32)(w2c_j0);
-                w2c_j1 = w2c_l15;
+                w2c_j1 = w2c_l17;
                 i64_store(&instance->w2c_memory, (u64)(w2c_i0), w2c_j1);
                 w2c_j0 = w2c_l3;
                 w2c_j1 = 168ull;
                 w2c_j0 += w2c_j1;
                 w2c_i0 = (u32)(w2c_j0);
                 w2c_j0 = i64_load(&instance->w2c_memory, (u64)(w2c_i0));
-                w2c_l15 = w2c_j0;
+                w2c_l17 = w2c_j0;
                 w2c_j0 = w2c_p1;
                 w2c_j1 = 48ull;
                 w2c_j0 += w2c_j1;
@@ -11499,14 +10276,14 @@ static void w2c_f0(Z_dine_ffi_instance_t* instance, u64 w2c_p0, u64 w2c_p1, u64 
                 w2c_j1 = 40ull;
                 w2c_j0 += w2c_j1;
                 w2c_i0 = (u32)(w2c_j0);
-                w2c_j1 = w2c_l15;
+                w2c_j1 = w2c_l17;
                 i64_store(&instance->w2c_memory, (u64)(w2c_i0), w2c_j1);
                 w2c_j0 = w2c_l3;
                 w2c_j1 = 184ull;
                 w2c_j0 += w2c_j1;
                 w2c_i0 = (u32)(w2c_j0);
                 w2c_j0 = i64_load(&instance->w2c_memory, (u64)(w2c_i0));
-                w2c_l15 = w2c_j0;
+                w2c_l17 = w2c_j0;
                 w2c_j0 = w2c_p1;
                 w2c_j1 = 18446744073709551552ull;
                 w2c_j0 -= w2c_j1;
@@ -11521,25 +10298,25 @@ static void w2c_f0(Z_dine_ffi_instance_t* instance, u64 w2c_p0, u64 w2c_p1, u64 
                 w2c_j1 = 56ull;
                 w2c_j0 += w2c_j1;
                 w2c_i0 = (u32)(w2c_j0);
-                w2c_j1 = w2c_l15;
+                w2c_j1 = w2c_l17;
                 i64_store(&instance->w2c_memory, (u64)(w2c_i0), w2c_j1);
-                w2c_j0 = w2c_l7;
+                w2c_j0 = w2c_l6;
                 w2c_j1 = 18446744073709551552ull;
                 w2c_j0 -= w2c_j1;
-                w2c_l7 = w2c_j0;
-                w2c_j0 = w2c_l22;
-                w2c_j1 = w2c_l12;
+                w2c_l6 = w2c_j0;
+                w2c_j0 = w2c_l31;
+                w2c_j1 = w2c_l13;
                 w2c_j2 = 4ull;
                 w2c_j1 += w2c_j2;
-                w2c_l12 = w2c_j1;
+                w2c_l13 = w2c_j1;
                 w2c_i0 = w2c_j0 != w2c_j1;
-                if (w2c_i0) {goto w2c_L514;}
-              w2c_j0 = w2c_l11;
+                if (w2c_i0) {goto w2c_L443;}
+              w2c_j0 = w2c_l12;
               w2c_i0 = !(w2c_j0);
-              if (w2c_i0) {goto w2c_B511;}
+              if (w2c_i0) {goto w2c_B440;}
             }
-            w2c_j0 = w2c_l6;
-            w2c_j1 = w2c_l12;
+            w2c_j0 = w2c_l8;
+            w2c_j1 = w2c_l13;
             w2c_j2 = 4ull;
             w2c_j1 <<= (w2c_j2 & 63);
             w2c_p1 = w2c_j1;
@@ -11553,11 +10330,11 @@ static void w2c_f0(Z_dine_ffi_instance_t* instance, u64 w2c_p0, u64 w2c_p1, u64 
             w2c_j1 = 136ull;
             w2c_j0 += w2c_j1;
             w2c_p1 = w2c_j0;
-            w2c_L515: 
+            w2c_L444: 
               w2c_j0 = w2c_p1;
               w2c_i0 = (u32)(w2c_j0);
               w2c_j0 = i64_load(&instance->w2c_memory, (u64)(w2c_i0));
-              w2c_l7 = w2c_j0;
+              w2c_l6 = w2c_j0;
               w2c_j0 = w2c_l3;
               w2c_i0 = (u32)(w2c_j0);
               w2c_j1 = w2c_p1;
@@ -11566,7 +10343,7 @@ static void w2c_f0(Z_dine_ffi_instance_t* instance, u64 w2c_p0, u64 w2c_p1, u64 
               i64_store(&instance->w2c_memory, (u64)(w2c_i0) + 8, w2c_j1);
               w2c_j0 = w2c_l3;
               w2c_i0 = (u32)(w2c_j0);
-              w2c_j1 = w2c_l7;
+              w2c_j1 = w2c_l6;
               i64_store(&instance->w2c_memory, (u64)(w2c_i0), w2c_j1);
               w2c_j0 = w2c_l3;
               w2c_j1 = 16ull;
@@ -11576,47 +10353,47 @@ static void w2c_f0(Z_dine_ffi_instance_t* instance, u64 w2c_p0, u64 w2c_p1, u64 
               w2c_j1 = 16ull;
               w2c_j0 += w2c_j1;
               w2c_p1 = w2c_j0;
-              w2c_j0 = w2c_l11;
+              w2c_j0 = w2c_l12;
               w2c_j1 = 1ull;
               w2c_j0 -= w2c_j1;
-              w2c_l11 = w2c_j0;
+              w2c_l12 = w2c_j0;
               w2c_j1 = 0ull;
               w2c_i0 = w2c_j0 != w2c_j1;
-              if (w2c_i0) {goto w2c_L515;}
-            goto w2c_B511;
+              if (w2c_i0) {goto w2c_L444;}
+            goto w2c_B440;
           }
           w2c_j0 = w2c_l3;
           w2c_i0 = !(w2c_j0);
-          if (w2c_i0) {goto w2c_B511;}
+          if (w2c_i0) {goto w2c_B440;}
           w2c_j0 = w2c_p1;
           w2c_i0 = (u32)(w2c_j0);
-          w2c_j1 = w2c_l7;
+          w2c_j1 = w2c_l6;
           w2c_i1 = (u32)(w2c_j1);
           w2c_j2 = w2c_l3;
           w2c_i2 = (u32)(w2c_j2);
           memory_copy(&instance->w2c_memory, &instance->w2c_memory, w2c_i0, w2c_i1, w2c_i2);
-          w2c_B511:;
-          w2c_j0 = w2c_l26;
+          w2c_B440:;
+          w2c_j0 = w2c_l25;
           w2c_j1 = 2ull;
           w2c_j0 <<= (w2c_j1 & 63);
           w2c_l3 = w2c_j0;
-          w2c_j1 = w2c_l31;
+          w2c_j1 = w2c_l30;
           w2c_j2 = w2c_l5;
           w2c_j3 = 280ull;
           w2c_j2 += w2c_j3;
           w2c_p1 = w2c_j2;
           w2c_j1 -= w2c_j2;
           w2c_i0 = w2c_j0 <= w2c_j1;
-          if (w2c_i0) {goto w2c_B509;}
-          w2c_j0 = w2c_l26;
+          if (w2c_i0) {goto w2c_B438;}
+          w2c_j0 = w2c_l25;
           w2c_i0 = !(w2c_j0);
-          if (w2c_i0) {goto w2c_B508;}
+          if (w2c_i0) {goto w2c_B437;}
           w2c_j0 = w2c_l32;
           w2c_j1 = 3ull;
           w2c_j0 &= w2c_j1;
-          w2c_l11 = w2c_j0;
-          w2c_j0 = 0ull;
           w2c_l12 = w2c_j0;
+          w2c_j0 = 0ull;
+          w2c_l13 = w2c_j0;
           w2c_i0 = w2c_l39;
           w2c_i1 = 9u;
           w2c_i0 -= w2c_i1;
@@ -11625,15 +10402,15 @@ static void w2c_f0(Z_dine_ffi_instance_t* instance, u64 w2c_p0, u64 w2c_p1, u64 
           w2c_i1 = 3u;
           w2c_i0 = w2c_i0 >= w2c_i1;
           if (w2c_i0) {
-            w2c_j0 = w2c_l26;
+            w2c_j0 = w2c_l25;
             w2c_j1 = 18446744073709551612ull;
             w2c_j0 &= w2c_j1;
-            w2c_l15 = w2c_j0;
+            w2c_l17 = w2c_j0;
             w2c_j0 = 0ull;
             w2c_l3 = w2c_j0;
-            w2c_L517: 
+            w2c_L446: 
               w2c_j0 = w2c_l3;
-              w2c_j1 = w2c_l6;
+              w2c_j1 = w2c_l8;
               w2c_j0 += w2c_j1;
               w2c_p1 = w2c_j0;
               w2c_j1 = 248ull;
@@ -11642,7 +10419,7 @@ static void w2c_f0(Z_dine_ffi_instance_t* instance, u64 w2c_p0, u64 w2c_p1, u64 
               w2c_j1 = w2c_l3;
               w2c_j2 = w2c_l5;
               w2c_j1 += w2c_j2;
-              w2c_l7 = w2c_j1;
+              w2c_l6 = w2c_j1;
               w2c_j2 = 280ull;
               w2c_j1 += w2c_j2;
               w2c_i1 = (u32)(w2c_j1);
@@ -11652,7 +10429,7 @@ static void w2c_f0(Z_dine_ffi_instance_t* instance, u64 w2c_p0, u64 w2c_p1, u64 
               w2c_j1 = 252ull;
               w2c_j0 += w2c_j1;
               w2c_i0 = (u32)(w2c_j0);
-              w2c_j1 = w2c_l7;
+              w2c_j1 = w2c_l6;
               w2c_j2 = 284ull;
               w2c_j1 += w2c_j2;
               w2c_i1 = (u32)(w2c_j1);
@@ -11662,7 +10439,7 @@ static void w2c_f0(Z_dine_ffi_instance_t* instance, u64 w2c_p0, u64 w2c_p1, u64 
               w2c_j1 = 256ull;
               w2c_j0 += w2c_j1;
               w2c_i0 = (u32)(w2c_j0);
-              w2c_j1 = w2c_l7;
+              w2c_j1 = w2c_l6;
               w2c_j2 = 288ull;
               w2c_j1 += w2c_j2;
               w2c_i1 = (u32)(w2c_j1);
@@ -11672,7 +10449,7 @@ static void w2c_f0(Z_dine_ffi_instance_t* instance, u64 w2c_p0, u64 w2c_p1, u64 
               w2c_j1 = 260ull;
               w2c_j0 += w2c_j1;
               w2c_i0 = (u32)(w2c_j0);
-              w2c_j1 = w2c_l7;
+              w2c_j1 = w2c_l6;
               w2c_j2 = 292ull;
               w2c_j1 += w2c_j2;
               w2c_i1 = (u32)(w2c_j1);
@@ -11682,19 +10459,19 @@ static void w2c_f0(Z_dine_ffi_instance_t* instance, u64 w2c_p0, u64 w2c_p1, u64 
               w2c_j1 = 16ull;
               w2c_j0 += w2c_j1;
               w2c_l3 = w2c_j0;
-              w2c_j0 = w2c_l15;
-              w2c_j1 = w2c_l12;
+              w2c_j0 = w2c_l17;
+              w2c_j1 = w2c_l13;
               w2c_j2 = 4ull;
               w2c_j1 += w2c_j2;
-              w2c_l12 = w2c_j1;
+              w2c_l13 = w2c_j1;
               w2c_i0 = w2c_j0 != w2c_j1;
-              if (w2c_i0) {goto w2c_L517;}
-            w2c_j0 = w2c_l11;
+              if (w2c_i0) {goto w2c_L446;}
+            w2c_j0 = w2c_l12;
             w2c_i0 = !(w2c_j0);
-            if (w2c_i0) {goto w2c_B508;}
+            if (w2c_i0) {goto w2c_B437;}
           }
-          w2c_j0 = w2c_l6;
-          w2c_j1 = w2c_l12;
+          w2c_j0 = w2c_l8;
+          w2c_j1 = w2c_l13;
           w2c_j2 = 2ull;
           w2c_j1 <<= (w2c_j2 & 63);
           w2c_p1 = w2c_j1;
@@ -11708,7 +10485,7 @@ static void w2c_f0(Z_dine_ffi_instance_t* instance, u64 w2c_p0, u64 w2c_p1, u64 
           w2c_j1 = 280ull;
           w2c_j0 += w2c_j1;
           w2c_p1 = w2c_j0;
-          w2c_L518: 
+          w2c_L447: 
             w2c_j0 = w2c_l3;
             w2c_i0 = (u32)(w2c_j0);
             w2c_j1 = w2c_p1;
@@ -11723,33 +10500,33 @@ static void w2c_f0(Z_dine_ffi_instance_t* instance, u64 w2c_p0, u64 w2c_p1, u64 
             w2c_j1 = 4ull;
             w2c_j0 += w2c_j1;
             w2c_p1 = w2c_j0;
-            w2c_j0 = w2c_l11;
+            w2c_j0 = w2c_l12;
             w2c_j1 = 1ull;
             w2c_j0 -= w2c_j1;
-            w2c_l11 = w2c_j0;
+            w2c_l12 = w2c_j0;
             w2c_j1 = 0ull;
             w2c_i0 = w2c_j0 != w2c_j1;
-            if (w2c_i0) {goto w2c_L518;}
-          goto w2c_B508;
-          w2c_B510:;
+            if (w2c_i0) {goto w2c_L447;}
+          goto w2c_B437;
+          w2c_B439:;
           w2c_j0 = w2c_l5;
           w2c_j1 = 280ull;
           w2c_j0 += w2c_j1;
           w2c_p1 = w2c_j0;
           w2c_j0 = 0ull;
           w2c_l3 = w2c_j0;
-          w2c_B509:;
+          w2c_B438:;
           w2c_j0 = w2c_l3;
           w2c_i0 = !(w2c_j0);
-          if (w2c_i0) {goto w2c_B508;}
-          w2c_j0 = w2c_l31;
+          if (w2c_i0) {goto w2c_B437;}
+          w2c_j0 = w2c_l30;
           w2c_i0 = (u32)(w2c_j0);
           w2c_j1 = w2c_p1;
           w2c_i1 = (u32)(w2c_j1);
           w2c_j2 = w2c_l3;
           w2c_i2 = (u32)(w2c_j2);
           memory_copy(&instance->w2c_memory, &instance->w2c_memory, w2c_i0, w2c_i1, w2c_i2);
-          w2c_B508:;
+          w2c_B437:;
           w2c_j0 = w2c_l5;
           w2c_j1 = 276ull;
           w2c_j0 += w2c_j1;
@@ -11761,18 +10538,18 @@ static void w2c_f0(Z_dine_ffi_instance_t* instance, u64 w2c_p0, u64 w2c_p1, u64 
           w2c_j0 += w2c_j1;
           w2c_i0 = (u32)(w2c_j0);
           w2c_j0 = i64_load(&instance->w2c_memory, (u64)(w2c_i0));
-          w2c_l22 = w2c_j0;
+          w2c_l31 = w2c_j0;
           w2c_j0 = w2c_l5;
           w2c_j1 = 120ull;
           w2c_j0 += w2c_j1;
           w2c_i0 = (u32)(w2c_j0);
           w2c_j0 = i64_load(&instance->w2c_memory, (u64)(w2c_i0));
-          w2c_l31 = w2c_j0;
+          w2c_l30 = w2c_j0;
           w2c_i0 = w2c_l38;
           w2c_i1 = 65535u;
           w2c_i0 &= w2c_i1;
           w2c_i0 = !(w2c_i0);
-          if (w2c_i0) {goto w2c_B519;}
+          if (w2c_i0) {goto w2c_B448;}
           w2c_j0 = w2c_l32;
           w2c_j1 = 7ull;
           w2c_j0 -= w2c_j1;
@@ -11780,39 +10557,39 @@ static void w2c_f0(Z_dine_ffi_instance_t* instance, u64 w2c_p0, u64 w2c_p1, u64 
           w2c_j1 = 3ull;
           w2c_j0 <<= (w2c_j1 & 63);
           w2c_p1 = w2c_j0;
-          w2c_j1 = w2c_l6;
+          w2c_j1 = w2c_l8;
           w2c_j2 = 312ull;
           w2c_j1 += w2c_j2;
-          w2c_l7 = w2c_j1;
+          w2c_l6 = w2c_j1;
           w2c_j2 = w2c_l5;
           w2c_j3 = 376ull;
           w2c_j2 += w2c_j3;
-          w2c_l11 = w2c_j2;
+          w2c_l12 = w2c_j2;
           w2c_j1 -= w2c_j2;
           w2c_i0 = w2c_j0 > w2c_j1;
           if (w2c_i0) {
             w2c_j0 = w2c_l3;
             w2c_i0 = !(w2c_j0);
-            if (w2c_i0) {goto w2c_B519;}
+            if (w2c_i0) {goto w2c_B448;}
             w2c_j0 = w2c_l3;
             w2c_j1 = 3ull;
             w2c_j0 &= w2c_j1;
-            w2c_l11 = w2c_j0;
-            w2c_j0 = 0ull;
             w2c_l12 = w2c_j0;
-            w2c_j0 = w2c_l26;
+            w2c_j0 = 0ull;
+            w2c_l13 = w2c_j0;
+            w2c_j0 = w2c_l25;
             w2c_j1 = 3ull;
             w2c_i0 = w2c_j0 >= w2c_j1;
             if (w2c_i0) {
               w2c_j0 = w2c_l3;
               w2c_j1 = 18446744073709551612ull;
               w2c_j0 &= w2c_j1;
-              w2c_l15 = w2c_j0;
+              w2c_l17 = w2c_j0;
               w2c_j0 = 0ull;
               w2c_l3 = w2c_j0;
-              w2c_L522: 
+              w2c_L451: 
                 w2c_j0 = w2c_l3;
-                w2c_j1 = w2c_l6;
+                w2c_j1 = w2c_l8;
                 w2c_j0 += w2c_j1;
                 w2c_p1 = w2c_j0;
                 w2c_j1 = 312ull;
@@ -11821,7 +10598,7 @@ static void w2c_f0(Z_dine_ffi_instance_t* instance, u64 w2c_p0, u64 w2c_p1, u64 
                 w2c_j1 = w2c_l3;
                 w2c_j2 = w2c_l5;
                 w2c_j1 += w2c_j2;
-                w2c_l7 = w2c_j1;
+                w2c_l6 = w2c_j1;
                 w2c_j2 = 376ull;
                 w2c_j1 += w2c_j2;
                 w2c_i1 = (u32)(w2c_j1);
@@ -11831,7 +10608,7 @@ static void w2c_f0(Z_dine_ffi_instance_t* instance, u64 w2c_p0, u64 w2c_p1, u64 
                 w2c_j1 = 320ull;
                 w2c_j0 += w2c_j1;
                 w2c_i0 = (u32)(w2c_j0);
-                w2c_j1 = w2c_l7;
+                w2c_j1 = w2c_l6;
                 w2c_j2 = 384ull;
                 w2c_j1 += w2c_j2;
                 w2c_i1 = (u32)(w2c_j1);
@@ -11841,7 +10618,7 @@ static void w2c_f0(Z_dine_ffi_instance_t* instance, u64 w2c_p0, u64 w2c_p1, u64 
                 w2c_j1 = 328ull;
                 w2c_j0 += w2c_j1;
                 w2c_i0 = (u32)(w2c_j0);
-                w2c_j1 = w2c_l7;
+                w2c_j1 = w2c_l6;
                 w2c_j2 = 392ull;
                 w2c_j1 += w2c_j2;
                 w2c_i1 = (u32)(w2c_j1);
@@ -11851,7 +10628,7 @@ static void w2c_f0(Z_dine_ffi_instance_t* instance, u64 w2c_p0, u64 w2c_p1, u64 
                 w2c_j1 = 336ull;
                 w2c_j0 += w2c_j1;
                 w2c_i0 = (u32)(w2c_j0);
-                w2c_j1 = w2c_l7;
+                w2c_j1 = w2c_l6;
                 w2c_j2 = 400ull;
                 w2c_j1 += w2c_j2;
                 w2c_i1 = (u32)(w2c_j1);
@@ -11861,19 +10638,19 @@ static void w2c_f0(Z_dine_ffi_instance_t* instance, u64 w2c_p0, u64 w2c_p1, u64 
                 w2c_j1 = 32ull;
                 w2c_j0 += w2c_j1;
                 w2c_l3 = w2c_j0;
-                w2c_j0 = w2c_l15;
-                w2c_j1 = w2c_l12;
+                w2c_j0 = w2c_l17;
+                w2c_j1 = w2c_l13;
                 w2c_j2 = 4ull;
                 w2c_j1 += w2c_j2;
-                w2c_l12 = w2c_j1;
+                w2c_l13 = w2c_j1;
                 w2c_i0 = w2c_j0 != w2c_j1;
-                if (w2c_i0) {goto w2c_L522;}
-              w2c_j0 = w2c_l11;
+                if (w2c_i0) {goto w2c_L451;}
+              w2c_j0 = w2c_l12;
               w2c_i0 = !(w2c_j0);
-              if (w2c_i0) {goto w2c_B519;}
+              if (w2c_i0) {goto w2c_B448;}
             }
-            w2c_j0 = w2c_l6;
-            w2c_j1 = w2c_l12;
+            w2c_j0 = w2c_l8;
+            w2c_j1 = w2c_l13;
             w2c_j2 = 3ull;
             w2c_j1 <<= (w2c_j2 & 63);
             w2c_p1 = w2c_j1;
@@ -11887,7 +10664,7 @@ static void w2c_f0(Z_dine_ffi_instance_t* instance, u64 w2c_p0, u64 w2c_p1, u64 
             w2c_j1 = 376ull;
             w2c_j0 += w2c_j1;
             w2c_p1 = w2c_j0;
-            w2c_L523: 
+            w2c_L452: 
               w2c_j0 = w2c_l3;
               w2c_i0 = (u32)(w2c_j0);
               w2c_j1 = w2c_p1;
@@ -11902,50 +10679,50 @@ static void w2c_f0(Z_dine_ffi_instance_t* instance, u64 w2c_p0, u64 w2c_p1, u64 
               w2c_j1 = 8ull;
               w2c_j0 += w2c_j1;
               w2c_p1 = w2c_j0;
-              w2c_j0 = w2c_l11;
+              w2c_j0 = w2c_l12;
               w2c_j1 = 1ull;
               w2c_j0 -= w2c_j1;
-              w2c_l11 = w2c_j0;
+              w2c_l12 = w2c_j0;
               w2c_j1 = 0ull;
               w2c_i0 = w2c_j0 != w2c_j1;
-              if (w2c_i0) {goto w2c_L523;}
-            goto w2c_B519;
+              if (w2c_i0) {goto w2c_L452;}
+            goto w2c_B448;
           }
           w2c_j0 = w2c_p1;
           w2c_i0 = !(w2c_j0);
-          if (w2c_i0) {goto w2c_B519;}
-          w2c_j0 = w2c_l7;
+          if (w2c_i0) {goto w2c_B448;}
+          w2c_j0 = w2c_l6;
           w2c_i0 = (u32)(w2c_j0);
-          w2c_j1 = w2c_l11;
+          w2c_j1 = w2c_l12;
           w2c_i1 = (u32)(w2c_j1);
           w2c_j2 = w2c_p1;
           w2c_i2 = (u32)(w2c_j2);
           memory_copy(&instance->w2c_memory, &instance->w2c_memory, w2c_i0, w2c_i1, w2c_i2);
-          w2c_B519:;
+          w2c_B448:;
           w2c_j0 = w2c_l5;
           w2c_i0 = (u32)(w2c_j0);
           w2c_i1 = 7u;
           i32_store16(&instance->w2c_memory, (u64)(w2c_i0), w2c_i1);
-          w2c_j0 = w2c_l6;
+          w2c_j0 = w2c_l8;
           w2c_i0 = (u32)(w2c_j0);
-          w2c_j1 = w2c_l26;
+          w2c_j1 = w2c_l25;
           i64_store16(&instance->w2c_memory, (u64)(w2c_i0), w2c_j1);
           w2c_j0 = w2c_l36;
           w2c_i0 = (u32)(w2c_j0);
           w2c_j1 = w2c_l5;
           i64_store(&instance->w2c_memory, (u64)(w2c_i0), w2c_j1);
           w2c_j0 = w2c_l4;
-          w2c_j1 = 416ull;
+          w2c_j1 = 496ull;
           w2c_j0 += w2c_j1;
-          w2c_j1 = w2c_l28;
-          w2c_j2 = w2c_l31;
-          w2c_j3 = w2c_l22;
-          w2c_f47(instance, w2c_j0, w2c_j1, w2c_j2, w2c_j3);
+          w2c_j1 = w2c_l29;
+          w2c_j2 = w2c_l30;
+          w2c_j3 = w2c_l31;
+          w2c_f48(instance, w2c_j0, w2c_j1, w2c_j2, w2c_j3);
           w2c_j0 = w2c_l33;
-          w2c_j1 = w2c_l28;
+          w2c_j1 = w2c_l29;
           w2c_i2 = w2c_l39;
-          w2c_f48(instance, w2c_j0, w2c_j1, w2c_i2);
-          w2c_j0 = w2c_l28;
+          w2c_f49(instance, w2c_j0, w2c_j1, w2c_i2);
+          w2c_j0 = w2c_l29;
           w2c_j1 = 1ull;
           w2c_j0 += w2c_j1;
           w2c_l3 = w2c_j0;
@@ -11954,54 +10731,54 @@ static void w2c_f0(Z_dine_ffi_instance_t* instance, u64 w2c_p0, u64 w2c_p1, u64 
           w2c_p1 = w2c_j0;
           w2c_j0 = w2c_l4;
           w2c_i0 = (u32)(w2c_j0);
-          w2c_j0 = i64_load(&instance->w2c_memory, (u64)(w2c_i0) + 464u);
+          w2c_j0 = i64_load(&instance->w2c_memory, (u64)(w2c_i0) + 544u);
           w2c_l5 = w2c_j0;
           w2c_j0 = w2c_l4;
           w2c_i0 = (u32)(w2c_j0);
-          w2c_j0 = i64_load(&instance->w2c_memory, (u64)(w2c_i0) + 472u);
-          w2c_l7 = w2c_j0;
+          w2c_j0 = i64_load(&instance->w2c_memory, (u64)(w2c_i0) + 552u);
+          w2c_l6 = w2c_j0;
           w2c_j1 = w2c_l3;
           w2c_i0 = w2c_j0 == w2c_j1;
-          if (w2c_i0) {goto w2c_B524;}
-          w2c_j0 = w2c_l7;
+          if (w2c_i0) {goto w2c_B453;}
+          w2c_j0 = w2c_l6;
           w2c_j1 = w2c_l3;
           w2c_j0 -= w2c_j1;
           w2c_j1 = 3ull;
           w2c_j0 <<= (w2c_j1 & 63);
           w2c_l3 = w2c_j0;
           w2c_i0 = !(w2c_j0);
-          if (w2c_i0) {goto w2c_B524;}
+          if (w2c_i0) {goto w2c_B453;}
           w2c_j0 = w2c_p1;
           w2c_j1 = w2c_l5;
           w2c_j0 += w2c_j1;
-          w2c_l7 = w2c_j0;
+          w2c_l6 = w2c_j0;
           w2c_j1 = 8ull;
           w2c_j0 += w2c_j1;
           w2c_i0 = (u32)(w2c_j0);
-          w2c_j1 = w2c_l7;
+          w2c_j1 = w2c_l6;
           w2c_i1 = (u32)(w2c_j1);
           w2c_j2 = w2c_l3;
           w2c_i2 = (u32)(w2c_j2);
           memory_copy(&instance->w2c_memory, &instance->w2c_memory, w2c_i0, w2c_i1, w2c_i2);
-          w2c_B524:;
+          w2c_B453:;
           w2c_j0 = w2c_p1;
           w2c_j1 = w2c_l5;
           w2c_j0 += w2c_j1;
           w2c_i0 = (u32)(w2c_j0);
-          w2c_j1 = w2c_l6;
+          w2c_j1 = w2c_l8;
           i64_store(&instance->w2c_memory, (u64)(w2c_i0), w2c_j1);
           w2c_j0 = w2c_l4;
           w2c_i0 = (u32)(w2c_j0);
-          w2c_j0 = i64_load(&instance->w2c_memory, (u64)(w2c_i0) + 488u);
-          w2c_l12 = w2c_j0;
+          w2c_j0 = i64_load(&instance->w2c_memory, (u64)(w2c_i0) + 568u);
+          w2c_l13 = w2c_j0;
           w2c_i0 = (u32)(w2c_j0);
           w2c_j1 = w2c_l4;
           w2c_i1 = (u32)(w2c_j1);
-          w2c_j1 = i64_load(&instance->w2c_memory, (u64)(w2c_i1) + 424u);
+          w2c_j1 = i64_load(&instance->w2c_memory, (u64)(w2c_i1) + 504u);
           i64_store16(&instance->w2c_memory, (u64)(w2c_i0), w2c_j1);
           w2c_j0 = w2c_l14;
           w2c_i0 = (u32)(w2c_j0);
-          w2c_j1 = w2c_l12;
+          w2c_j1 = w2c_l13;
           i64_store(&instance->w2c_memory, (u64)(w2c_i0), w2c_j1);
           w2c_j0 = w2c_l16;
           w2c_i0 = (u32)(w2c_j0);
@@ -12014,7 +10791,7 @@ static void w2c_f0(Z_dine_ffi_instance_t* instance, u64 w2c_p0, u64 w2c_p1, u64 
             w2c_i0 = (u32)(w2c_j0);
             w2c_i0 = i32_load8_u(&instance->w2c_memory, (u64)(w2c_i0));
             w2c_l37 = w2c_i0;
-            goto w2c_B505;
+            goto w2c_B434;
           }
           w2c_j0 = w2c_l16;
           w2c_i0 = (u32)(w2c_j0);
@@ -12029,8 +10806,8 @@ static void w2c_f0(Z_dine_ffi_instance_t* instance, u64 w2c_p0, u64 w2c_p1, u64 
           w2c_i1 += w2c_i2;
           w2c_l37 = w2c_i1;
           i32_store8(&instance->w2c_memory, (u64)(w2c_i0), w2c_i1);
-          w2c_B505:;
-          w2c_j0 = w2c_l23;
+          w2c_B434:;
+          w2c_j0 = w2c_l27;
           w2c_j1 = 1ull;
           w2c_j0 -= w2c_j1;
           w2c_l3 = w2c_j0;
@@ -12038,52 +10815,52 @@ static void w2c_f0(Z_dine_ffi_instance_t* instance, u64 w2c_p0, u64 w2c_p1, u64 
           w2c_j1 = 1ull;
           w2c_j0 += w2c_j1;
           w2c_l16 = w2c_j0;
-          w2c_j0 = w2c_l12;
+          w2c_j0 = w2c_l13;
           w2c_i1 = w2c_l37;
           w2c_j1 = (u64)(w2c_i1);
           w2c_j2 = 255ull;
           w2c_j1 &= w2c_j2;
-          w2c_l15 = w2c_j1;
+          w2c_l17 = w2c_j1;
           w2c_j2 = 3ull;
           w2c_j1 <<= (w2c_j2 & 63);
           w2c_j0 += w2c_j1;
           w2c_j1 = 312ull;
           w2c_j0 += w2c_j1;
           w2c_l14 = w2c_j0;
-          w2c_j0 = w2c_l23;
+          w2c_j0 = w2c_l27;
           w2c_j1 = 2ull;
           w2c_i0 = w2c_j0 > w2c_j1;
-          if (w2c_i0) {goto w2c_L504;}
+          if (w2c_i0) {goto w2c_L433;}
         w2c_j0 = w2c_l4;
         w2c_i0 = (u32)(w2c_j0);
-        w2c_j0 = i64_load(&instance->w2c_memory, (u64)(w2c_i0) + 368u);
+        w2c_j0 = i64_load(&instance->w2c_memory, (u64)(w2c_i0) + 472u);
         w2c_l5 = w2c_j0;
       }
       w2c_j0 = w2c_l5;
       w2c_i0 = (u32)(w2c_j0);
       w2c_i0 = i32_load16_u(&instance->w2c_memory, (u64)(w2c_i0));
       w2c_i0 = !(w2c_i0);
-      if (w2c_i0) {goto w2c_B493;}
-      w2c_j0 = w2c_l15;
+      if (w2c_i0) {goto w2c_B422;}
+      w2c_j0 = w2c_l17;
       w2c_j1 = 3ull;
       w2c_j0 <<= (w2c_j1 & 63);
       w2c_l3 = w2c_j0;
       w2c_j0 = w2c_l4;
       w2c_i0 = (u32)(w2c_j0);
-      w2c_j0 = i64_load8_u(&instance->w2c_memory, (u64)(w2c_i0) + 567u);
-      w2c_l6 = w2c_j0;
-      w2c_j0 = w2c_l13;
-      w2c_j1 = w2c_l29;
+      w2c_j0 = i64_load8_u(&instance->w2c_memory, (u64)(w2c_i0) + 679u);
+      w2c_l8 = w2c_j0;
+      w2c_j0 = w2c_l9;
+      w2c_j1 = w2c_l28;
       w2c_j0 -= w2c_j1;
       w2c_p1 = w2c_j0;
     }
     w2c_j0 = w2c_l4;
     w2c_i0 = (u32)(w2c_j0);
     w2c_j1 = w2c_l4;
-    w2c_j2 = 368ull;
+    w2c_j2 = 472ull;
     w2c_j1 += w2c_j2;
     w2c_j2 = w2c_l3;
-    w2c_j3 = w2c_l12;
+    w2c_j3 = w2c_l13;
     w2c_j2 += w2c_j3;
     w2c_j3 = 312ull;
     w2c_j2 += w2c_j3;
@@ -12095,44 +10872,44 @@ static void w2c_f0(Z_dine_ffi_instance_t* instance, u64 w2c_p0, u64 w2c_p1, u64 
     w2c_i1 = (u32)(w2c_j1);
     w2c_j1 = i64_load(&instance->w2c_memory, (u64)(w2c_i1));
     w2c_l3 = w2c_j1;
-    i64_store(&instance->w2c_memory, (u64)(w2c_i0) + 488, w2c_j1);
+    i64_store(&instance->w2c_memory, (u64)(w2c_i0) + 568, w2c_j1);
     w2c_j0 = w2c_l4;
     w2c_i0 = (u32)(w2c_j0);
     w2c_j1 = w2c_l3;
     w2c_j2 = 312ull;
     w2c_j1 += w2c_j2;
-    i64_store(&instance->w2c_memory, (u64)(w2c_i0) + 464, w2c_j1);
+    i64_store(&instance->w2c_memory, (u64)(w2c_i0) + 544, w2c_j1);
     w2c_j0 = w2c_l4;
     w2c_i0 = (u32)(w2c_j0);
     w2c_j1 = 15ull;
-    i64_store(&instance->w2c_memory, (u64)(w2c_i0) + 456, w2c_j1);
+    i64_store(&instance->w2c_memory, (u64)(w2c_i0) + 536, w2c_j1);
     w2c_j0 = w2c_l4;
     w2c_i0 = (u32)(w2c_j0);
     w2c_j1 = w2c_l3;
     w2c_j2 = 248ull;
     w2c_j1 += w2c_j2;
-    i64_store(&instance->w2c_memory, (u64)(w2c_i0) + 440, w2c_j1);
+    i64_store(&instance->w2c_memory, (u64)(w2c_i0) + 520, w2c_j1);
     w2c_j0 = w2c_l4;
     w2c_i0 = (u32)(w2c_j0);
     w2c_j1 = 15ull;
-    i64_store(&instance->w2c_memory, (u64)(w2c_i0) + 432, w2c_j1);
+    i64_store(&instance->w2c_memory, (u64)(w2c_i0) + 512, w2c_j1);
     w2c_j0 = w2c_l4;
     w2c_i0 = (u32)(w2c_j0);
     w2c_j1 = w2c_l3;
     w2c_j2 = 8ull;
     w2c_j1 += w2c_j2;
-    i64_store(&instance->w2c_memory, (u64)(w2c_i0) + 416, w2c_j1);
+    i64_store(&instance->w2c_memory, (u64)(w2c_i0) + 496, w2c_j1);
     w2c_j0 = w2c_l4;
     w2c_i0 = (u32)(w2c_j0);
     w2c_j1 = w2c_l3;
     w2c_i1 = (u32)(w2c_j1);
     w2c_j1 = i64_load16_u(&instance->w2c_memory, (u64)(w2c_i1));
     w2c_p1 = w2c_j1;
-    i64_store(&instance->w2c_memory, (u64)(w2c_i0) + 448, w2c_j1);
+    i64_store(&instance->w2c_memory, (u64)(w2c_i0) + 528, w2c_j1);
     w2c_j0 = w2c_l4;
     w2c_i0 = (u32)(w2c_j0);
     w2c_j1 = w2c_p1;
-    i64_store(&instance->w2c_memory, (u64)(w2c_i0) + 424, w2c_j1);
+    i64_store(&instance->w2c_memory, (u64)(w2c_i0) + 504, w2c_j1);
     w2c_j0 = w2c_l4;
     w2c_i0 = (u32)(w2c_j0);
     w2c_j1 = 16ull;
@@ -12144,7 +10921,7 @@ static void w2c_f0(Z_dine_ffi_instance_t* instance, u64 w2c_p0, u64 w2c_p1, u64 
     w2c_i3 = i32_load16_u(&instance->w2c_memory, (u64)(w2c_i3));
     w2c_l37 = w2c_i3;
     w2c_j1 = w2c_i3 ? w2c_j1 : w2c_j2;
-    i64_store(&instance->w2c_memory, (u64)(w2c_i0) + 480, w2c_j1);
+    i64_store(&instance->w2c_memory, (u64)(w2c_i0) + 560, w2c_j1);
     w2c_j0 = w2c_l4;
     w2c_i0 = (u32)(w2c_j0);
     w2c_j1 = w2c_p1;
@@ -12153,29 +10930,29 @@ static void w2c_f0(Z_dine_ffi_instance_t* instance, u64 w2c_p0, u64 w2c_p1, u64 
     w2c_j2 = 0ull;
     w2c_i3 = w2c_l37;
     w2c_j1 = w2c_i3 ? w2c_j1 : w2c_j2;
-    i64_store(&instance->w2c_memory, (u64)(w2c_i0) + 472, w2c_j1);
+    i64_store(&instance->w2c_memory, (u64)(w2c_i0) + 552, w2c_j1);
     w2c_j0 = w2c_l4;
-    w2c_j1 = 416ull;
+    w2c_j1 = 496ull;
     w2c_j0 += w2c_j1;
-    w2c_j1 = w2c_l6;
+    w2c_j1 = w2c_l8;
     w2c_j2 = 15ull;
     w2c_j1 &= w2c_j2;
     w2c_l3 = w2c_j1;
     w2c_j2 = w2c_p2;
-    w2c_j3 = w2c_l9;
-    w2c_f47(instance, w2c_j0, w2c_j1, w2c_j2, w2c_j3);
+    w2c_j3 = w2c_l11;
+    w2c_f48(instance, w2c_j0, w2c_j1, w2c_j2, w2c_j3);
     w2c_j0 = w2c_l33;
     w2c_j1 = w2c_l3;
-    w2c_i2 = w2c_l40;
-    w2c_f48(instance, w2c_j0, w2c_j1, w2c_i2);
+    w2c_i2 = w2c_l41;
+    w2c_f49(instance, w2c_j0, w2c_j1, w2c_i2);
     w2c_j0 = w2c_l4;
     w2c_i0 = (u32)(w2c_j0);
-    w2c_j0 = i64_load(&instance->w2c_memory, (u64)(w2c_i0) + 488u);
+    w2c_j0 = i64_load(&instance->w2c_memory, (u64)(w2c_i0) + 568u);
     w2c_l3 = w2c_j0;
     w2c_i0 = (u32)(w2c_j0);
     w2c_j1 = w2c_l4;
     w2c_i1 = (u32)(w2c_j1);
-    w2c_j1 = i64_load(&instance->w2c_memory, (u64)(w2c_i1) + 424u);
+    w2c_j1 = i64_load(&instance->w2c_memory, (u64)(w2c_i1) + 504u);
     i64_store16(&instance->w2c_memory, (u64)(w2c_i0), w2c_j1);
     w2c_j0 = w2c_l5;
     w2c_i0 = (u32)(w2c_j0);
@@ -12185,23 +10962,23 @@ static void w2c_f0(Z_dine_ffi_instance_t* instance, u64 w2c_p0, u64 w2c_p1, u64 
     w2c_j1 = 1ull;
     w2c_j0 += w2c_j1;
     w2c_l34 = w2c_j0;
-    goto w2c_B478;
-    w2c_B494:;
+    goto w2c_B407;
+    w2c_B423:;
     w2c_j0 = w2c_l4;
     w2c_i0 = (u32)(w2c_j0);
-    w2c_j0 = i64_load(&instance->w2c_memory, (u64)(w2c_i0) + 368u);
+    w2c_j0 = i64_load(&instance->w2c_memory, (u64)(w2c_i0) + 472u);
     w2c_l5 = w2c_j0;
     w2c_i0 = (u32)(w2c_j0);
     w2c_i0 = i32_load16_u(&instance->w2c_memory, (u64)(w2c_i0));
-    if (w2c_i0) {goto w2c_B355;}
-    w2c_B493:;
+    if (w2c_i0) {goto w2c_B272;}
+    w2c_B422:;
     w2c_j0 = w2c_l5;
     w2c_j1 = 2ull;
     w2c_j0 += w2c_j1;
     w2c_i0 = (u32)(w2c_j0);
     w2c_i0 = i32_load16_u(&instance->w2c_memory, (u64)(w2c_i0));
     w2c_i0 = !(w2c_i0);
-    if (w2c_i0) {goto w2c_B355;}
+    if (w2c_i0) {goto w2c_B272;}
     w2c_j0 = w2c_l5;
     w2c_j1 = 312ull;
     w2c_j0 += w2c_j1;
@@ -12212,23 +10989,23 @@ static void w2c_f0(Z_dine_ffi_instance_t* instance, u64 w2c_p0, u64 w2c_p1, u64 
     w2c_leave(instance, w2c_j0);
     w2c_j0 = w2c_l3;
     w2c_l5 = w2c_j0;
-    goto w2c_B355;
-    w2c_B487:;
+    goto w2c_B272;
+    w2c_B416:;
     w2c_j0 = w2c_p1;
     w2c_j1 = 15ull;
     w2c_j0 &= w2c_j1;
     w2c_l3 = w2c_j0;
     w2c_j1 = w2c_l4;
-    w2c_j2 = 368ull;
+    w2c_j2 = 472ull;
     w2c_j1 += w2c_j2;
-    w2c_j2 = w2c_l12;
-    w2c_j3 = w2c_l15;
+    w2c_j2 = w2c_l13;
+    w2c_j3 = w2c_l17;
     w2c_j4 = 3ull;
     w2c_j3 <<= (w2c_j4 & 63);
     w2c_j2 += w2c_j3;
     w2c_j3 = 312ull;
     w2c_j2 += w2c_j3;
-    w2c_j3 = w2c_l13;
+    w2c_j3 = w2c_l9;
     w2c_j4 = w2c_l14;
     w2c_j3 += w2c_j4;
     w2c_j4 = 15ull;
@@ -12240,7 +11017,7 @@ static void w2c_f0(Z_dine_ffi_instance_t* instance, u64 w2c_p0, u64 w2c_p1, u64 
     w2c_i1 = (u32)(w2c_j1);
     w2c_j1 = i64_load16_u(&instance->w2c_memory, (u64)(w2c_i1));
     w2c_i0 = w2c_j0 >= w2c_j1;
-    if (w2c_i0) {goto w2c_B364;}
+    if (w2c_i0) {goto w2c_B267;}
     w2c_j0 = w2c_p1;
     w2c_j1 = w2c_l3;
     w2c_j2 = 2ull;
@@ -12249,84 +11026,138 @@ static void w2c_f0(Z_dine_ffi_instance_t* instance, u64 w2c_p0, u64 w2c_p1, u64 
     w2c_j1 = 248ull;
     w2c_j0 += w2c_j1;
     w2c_i0 = (u32)(w2c_j0);
-    w2c_i1 = w2c_l40;
+    w2c_i1 = w2c_l41;
     i32_store(&instance->w2c_memory, (u64)(w2c_i0), w2c_i1);
-    w2c_B478:;
-    w2c_j0 = w2c_l19;
+    w2c_B407:;
+    w2c_j0 = w2c_l15;
     w2c_j1 = 1ull;
     w2c_j0 += w2c_j1;
     w2c_l3 = w2c_j0;
     w2c_i0 = 1u;
     w2c_l37 = w2c_i0;
     w2c_j0 = w2c_l10;
-    w2c_j1 = w2c_l19;
+    w2c_j1 = w2c_l15;
     w2c_i0 = w2c_j0 != w2c_j1;
-    if (w2c_i0) {goto w2c_L477;}
+    if (w2c_i0) {goto w2c_L406;}
   w2c_i0 = 0u;
-  w2c_l40 = w2c_i0;
-  w2c_j0 = w2c_l21;
+  w2c_l42 = w2c_i0;
+  w2c_i0 = 0u;
+  w2c_l41 = w2c_i0;
+  w2c_j0 = w2c_l23;
   w2c_l14 = w2c_j0;
   w2c_j0 = w2c_l4;
   w2c_i0 = (u32)(w2c_j0);
-  w2c_j0 = i64_load(&instance->w2c_memory, (u64)(w2c_i0) + 368u);
-  w2c_B365:;
+  w2c_j0 = i64_load(&instance->w2c_memory, (u64)(w2c_i0) + 472u);
+  goto w2c_B268;
+  w2c_B274:;
+  w2c_j0 = 0ull;
+  w2c_l22 = w2c_j0;
+  w2c_j0 = w2c_l4;
+  w2c_i0 = (u32)(w2c_j0);
+  w2c_j1 = 0ull;
+  i64_store(&instance->w2c_memory, (u64)(w2c_i0) + 936, w2c_j1);
+  w2c_j0 = w2c_l4;
+  w2c_i0 = (u32)(w2c_j0);
+  w2c_j1 = 0ull;
+  i64_store(&instance->w2c_memory, (u64)(w2c_i0) + 928, w2c_j1);
+  w2c_j0 = w2c_l4;
+  w2c_i0 = (u32)(w2c_j0);
+  w2c_j1 = 0ull;
+  i64_store(&instance->w2c_memory, (u64)(w2c_i0) + 920, w2c_j1);
+  w2c_i0 = 1u;
+  w2c_l44 = w2c_i0;
+  w2c_j0 = w2c_l4;
+  w2c_j1 = 1000ull;
+  w2c_j0 += w2c_j1;
+  w2c_l24 = w2c_j0;
+  w2c_l21 = w2c_j0;
+  goto w2c_B269;
+  w2c_B273:;
+  w2c_j0 = w2c_l16;
+  w2c_l5 = w2c_j0;
+  w2c_B272:;
+  w2c_j0 = w2c_l5;
+  w2c_f50(instance, w2c_j0);
+  goto w2c_B260;
+  w2c_B271:;
+  w2c_j0 = w2c_l14;
+  w2c_leave(instance, w2c_j0);
+  w2c_B270:;
+  w2c_j0 = w2c_l4;
+  w2c_j1 = 736ull;
+  w2c_j0 += w2c_j1;
+  w2c_f13(instance, w2c_j0);
+  goto w2c_B259;
+  w2c_B269:;
+  w2c_j0 = 0ull;
+  w2c_l20 = w2c_j0;
+  w2c_j0 = w2c_l4;
+  w2c_j1 = 1000ull;
+  w2c_j0 += w2c_j1;
+  w2c_l19 = w2c_j0;
+  w2c_i0 = 1u;
+  w2c_l42 = w2c_i0;
+  w2c_i0 = 1u;
+  w2c_l41 = w2c_i0;
+  w2c_j0 = 0ull;
+  w2c_B268:;
   w2c_l16 = w2c_j0;
+  w2c_j0 = 0ull;
+  w2c_l12 = w2c_j0;
   w2c_j0 = w2c_l4;
   w2c_i0 = (u32)(w2c_j0);
   w2c_j1 = 0ull;
-  i64_store(&instance->w2c_memory, (u64)(w2c_i0) + 848, w2c_j1);
+  i64_store(&instance->w2c_memory, (u64)(w2c_i0) + 744, w2c_j1);
   w2c_j0 = w2c_l4;
   w2c_i0 = (u32)(w2c_j0);
   w2c_j1 = 0ull;
-  i64_store(&instance->w2c_memory, (u64)(w2c_i0) + 856, w2c_j1);
+  i64_store(&instance->w2c_memory, (u64)(w2c_i0) + 752, w2c_j1);
   w2c_j0 = w2c_l4;
   w2c_i0 = (u32)(w2c_j0);
   w2c_j1 = w2c_l4;
-  w2c_j2 = 920ull;
+  w2c_j2 = 1000ull;
   w2c_j1 += w2c_j2;
-  i64_store(&instance->w2c_memory, (u64)(w2c_i0) + 840, w2c_j1);
-  w2c_j0 = w2c_l27;
+  i64_store(&instance->w2c_memory, (u64)(w2c_i0) + 736, w2c_j1);
+  w2c_j0 = w2c_l22;
   w2c_i0 = !(w2c_j0);
   w2c_i0 = !(w2c_i0);
   if (w2c_i0) {
     w2c_j0 = w2c_l14;
     w2c_i0 = (u32)(w2c_j0);
-    w2c_l42 = w2c_i0;
+    w2c_l43 = w2c_i0;
     w2c_j0 = w2c_l4;
-    w2c_j1 = 920ull;
+    w2c_j1 = 1000ull;
     w2c_j0 += w2c_j1;
+    w2c_l17 = w2c_j0;
+    w2c_j0 = 0ull;
     w2c_l15 = w2c_j0;
-    w2c_j0 = 0ull;
-    w2c_l11 = w2c_j0;
-    w2c_j0 = 0ull;
-    w2c_l19 = w2c_j0;
-    w2c_L527: 
+    w2c_L460: 
       w2c_j0 = w2c_l4;
       w2c_j1 = 104ull;
       w2c_j0 += w2c_j1;
       w2c_j1 = w2c_l24;
-      w2c_j2 = w2c_l19;
+      w2c_j2 = w2c_l15;
       w2c_j3 = 40ull;
       w2c_j2 *= w2c_j3;
       w2c_j1 += w2c_j2;
-      w2c_l12 = w2c_j1;
+      w2c_l13 = w2c_j1;
       w2c_j2 = 0ull;
-      w2c_f49(instance, w2c_j0, w2c_j1, w2c_j2);
-      w2c_i0 = w2c_l40;
+      w2c_f51(instance, w2c_j0, w2c_j1, w2c_j2);
+      w2c_i0 = w2c_l41;
       w2c_i0 = !(w2c_i0);
       if (w2c_i0) {
         w2c_j0 = w2c_l4;
         w2c_i0 = (u32)(w2c_j0);
         w2c_j0 = i64_load(&instance->w2c_memory, (u64)(w2c_i0) + 112u);
-        w2c_l9 = w2c_j0;
+        w2c_l11 = w2c_j0;
         w2c_j0 = w2c_l4;
         w2c_i0 = (u32)(w2c_j0);
         w2c_j0 = i64_load(&instance->w2c_memory, (u64)(w2c_i0) + 104u);
-        w2c_l13 = w2c_j0;
-        w2c_j0 = w2c_l16;
         w2c_l10 = w2c_j0;
-        w2c_L531: 
-          w2c_j0 = w2c_l10;
+        w2c_j0 = w2c_l16;
+        w2c_l9 = w2c_j0;
+        w2c_L464: 
+          w2c_j0 = w2c_l9;
           w2c_i0 = (u32)(w2c_j0);
           w2c_j0 = i64_load16_u(&instance->w2c_memory, (u64)(w2c_i0));
           w2c_p2 = w2c_j0;
@@ -12334,17 +11165,17 @@ static void w2c_f0(Z_dine_ffi_instance_t* instance, u64 w2c_p0, u64 w2c_p1, u64 
           if (w2c_i0) {
             w2c_j0 = 0ull;
           } else {
-            w2c_j0 = w2c_l10;
+            w2c_j0 = w2c_l9;
             w2c_j1 = 16ull;
             w2c_j0 += w2c_j1;
             w2c_l3 = w2c_j0;
-            w2c_j0 = w2c_l10;
+            w2c_j0 = w2c_l9;
             w2c_j1 = 248ull;
             w2c_j0 += w2c_j1;
-            w2c_l6 = w2c_j0;
+            w2c_l8 = w2c_j0;
             w2c_j0 = 0ull;
             w2c_p1 = w2c_j0;
-            w2c_L535: 
+            w2c_L468: 
               w2c_j0 = w2c_l3;
               w2c_j1 = 8ull;
               w2c_j0 -= w2c_j1;
@@ -12354,28 +11185,28 @@ static void w2c_f0(Z_dine_ffi_instance_t* instance, u64 w2c_p0, u64 w2c_p1, u64 
               w2c_j0 = w2c_l3;
               w2c_i0 = (u32)(w2c_j0);
               w2c_j0 = i64_load(&instance->w2c_memory, (u64)(w2c_i0));
-              w2c_l7 = w2c_j0;
+              w2c_l6 = w2c_j0;
               w2c_j0 = w2c_l4;
               w2c_i0 = (u32)(w2c_j0);
-              w2c_j1 = w2c_l9;
-              i64_store(&instance->w2c_memory, (u64)(w2c_i0) + 424, w2c_j1);
+              w2c_j1 = w2c_l11;
+              i64_store(&instance->w2c_memory, (u64)(w2c_i0) + 504, w2c_j1);
               w2c_j0 = w2c_l4;
               w2c_i0 = (u32)(w2c_j0);
-              w2c_j1 = w2c_l13;
-              i64_store(&instance->w2c_memory, (u64)(w2c_i0) + 416, w2c_j1);
+              w2c_j1 = w2c_l10;
+              i64_store(&instance->w2c_memory, (u64)(w2c_i0) + 496, w2c_j1);
               w2c_j0 = w2c_l4;
               w2c_i0 = (u32)(w2c_j0);
-              w2c_j1 = w2c_l7;
-              i64_store(&instance->w2c_memory, (u64)(w2c_i0) + 560, w2c_j1);
+              w2c_j1 = w2c_l6;
+              i64_store(&instance->w2c_memory, (u64)(w2c_i0) + 672, w2c_j1);
               w2c_j0 = w2c_l4;
               w2c_i0 = (u32)(w2c_j0);
               w2c_j1 = w2c_l5;
-              i64_store(&instance->w2c_memory, (u64)(w2c_i0) + 552, w2c_j1);
+              i64_store(&instance->w2c_memory, (u64)(w2c_i0) + 664, w2c_j1);
               w2c_j0 = w2c_l4;
-              w2c_j1 = 416ull;
+              w2c_j1 = 496ull;
               w2c_j0 += w2c_j1;
               w2c_j1 = w2c_l4;
-              w2c_j2 = 552ull;
+              w2c_j2 = 664ull;
               w2c_j1 += w2c_j2;
               w2c_i0 = w2c_f15(instance, w2c_j0, w2c_j1);
               w2c_i1 = 255u;
@@ -12387,73 +11218,73 @@ static void w2c_f0(Z_dine_ffi_instance_t* instance, u64 w2c_p0, u64 w2c_p1, u64 
                 w2c_i0 = w2c_l37;
                 w2c_i1 = 1u;
                 w2c_i0 -= w2c_i1;
-                if (w2c_i0) {goto w2c_B534;}
-                goto w2c_B532;
+                if (w2c_i0) {goto w2c_B467;}
+                goto w2c_B465;
               }
               w2c_j0 = w2c_l3;
               w2c_j1 = 16ull;
               w2c_j0 += w2c_j1;
               w2c_l3 = w2c_j0;
-              w2c_j0 = w2c_l6;
+              w2c_j0 = w2c_l8;
               w2c_j1 = 4ull;
               w2c_j0 += w2c_j1;
-              w2c_l6 = w2c_j0;
+              w2c_l8 = w2c_j0;
               w2c_j0 = w2c_p2;
               w2c_j1 = w2c_p1;
               w2c_j2 = 1ull;
               w2c_j1 += w2c_j2;
               w2c_p1 = w2c_j1;
               w2c_i0 = w2c_j0 != w2c_j1;
-              if (w2c_i0) {goto w2c_L535;}
+              if (w2c_i0) {goto w2c_L468;}
             w2c_j0 = w2c_p2;
             w2c_p1 = w2c_j0;
-            w2c_B534:;
+            w2c_B467:;
             w2c_j0 = w2c_p1;
             w2c_j1 = 3ull;
             w2c_j0 <<= (w2c_j1 & 63);
           }
           w2c_l3 = w2c_j0;
-          w2c_i0 = w2c_l42;
-          w2c_j1 = w2c_l10;
+          w2c_i0 = w2c_l43;
+          w2c_j1 = w2c_l9;
           w2c_j2 = 2ull;
           w2c_j1 += w2c_j2;
           w2c_i1 = (u32)(w2c_j1);
           w2c_i1 = i32_load16_u(&instance->w2c_memory, (u64)(w2c_i1));
           w2c_i1 = !(w2c_i1);
-          if (w2c_i1) {goto w2c_B530;}
+          if (w2c_i1) {goto w2c_B463;}
           w2c_j0 = w2c_l3;
-          w2c_j1 = w2c_l10;
+          w2c_j1 = w2c_l9;
           w2c_j0 += w2c_j1;
           w2c_j1 = 312ull;
           w2c_j0 += w2c_j1;
           w2c_i0 = (u32)(w2c_j0);
           w2c_j0 = i64_load(&instance->w2c_memory, (u64)(w2c_i0));
-          w2c_l10 = w2c_j0;
-          goto w2c_L531;
-          w2c_B532:;
-        w2c_j0 = w2c_l6;
+          w2c_l9 = w2c_j0;
+          goto w2c_L464;
+          w2c_B465:;
+        w2c_j0 = w2c_l8;
         w2c_i0 = (u32)(w2c_j0);
         w2c_i0 = i32_load(&instance->w2c_memory, (u64)(w2c_i0));
-        w2c_B530:;
+        w2c_B463:;
         w2c_l38 = w2c_i0;
         w2c_j0 = w2c_l4;
         w2c_j1 = 88ull;
         w2c_j0 += w2c_j1;
-        w2c_j1 = w2c_l12;
+        w2c_j1 = w2c_l13;
         w2c_j2 = 1ull;
-        w2c_f49(instance, w2c_j0, w2c_j1, w2c_j2);
+        w2c_f51(instance, w2c_j0, w2c_j1, w2c_j2);
         w2c_j0 = w2c_l4;
         w2c_i0 = (u32)(w2c_j0);
         w2c_j0 = i64_load(&instance->w2c_memory, (u64)(w2c_i0) + 96u);
-        w2c_l9 = w2c_j0;
+        w2c_l11 = w2c_j0;
         w2c_j0 = w2c_l4;
         w2c_i0 = (u32)(w2c_j0);
         w2c_j0 = i64_load(&instance->w2c_memory, (u64)(w2c_i0) + 88u);
-        w2c_l13 = w2c_j0;
-        w2c_j0 = w2c_l16;
         w2c_l10 = w2c_j0;
-        w2c_L537: 
-          w2c_j0 = w2c_l10;
+        w2c_j0 = w2c_l16;
+        w2c_l9 = w2c_j0;
+        w2c_L470: 
+          w2c_j0 = w2c_l9;
           w2c_i0 = (u32)(w2c_j0);
           w2c_j0 = i64_load16_u(&instance->w2c_memory, (u64)(w2c_i0));
           w2c_p2 = w2c_j0;
@@ -12461,17 +11292,17 @@ static void w2c_f0(Z_dine_ffi_instance_t* instance, u64 w2c_p0, u64 w2c_p1, u64 
           if (w2c_i0) {
             w2c_j0 = 0ull;
           } else {
-            w2c_j0 = w2c_l10;
+            w2c_j0 = w2c_l9;
             w2c_j1 = 16ull;
             w2c_j0 += w2c_j1;
             w2c_l3 = w2c_j0;
-            w2c_j0 = w2c_l10;
+            w2c_j0 = w2c_l9;
             w2c_j1 = 248ull;
             w2c_j0 += w2c_j1;
-            w2c_l6 = w2c_j0;
+            w2c_l8 = w2c_j0;
             w2c_j0 = 0ull;
             w2c_p1 = w2c_j0;
-            w2c_L541: 
+            w2c_L474: 
               w2c_j0 = w2c_l3;
               w2c_j1 = 8ull;
               w2c_j0 -= w2c_j1;
@@ -12481,28 +11312,28 @@ static void w2c_f0(Z_dine_ffi_instance_t* instance, u64 w2c_p0, u64 w2c_p1, u64 
               w2c_j0 = w2c_l3;
               w2c_i0 = (u32)(w2c_j0);
               w2c_j0 = i64_load(&instance->w2c_memory, (u64)(w2c_i0));
-              w2c_l7 = w2c_j0;
+              w2c_l6 = w2c_j0;
               w2c_j0 = w2c_l4;
               w2c_i0 = (u32)(w2c_j0);
-              w2c_j1 = w2c_l9;
-              i64_store(&instance->w2c_memory, (u64)(w2c_i0) + 424, w2c_j1);
+              w2c_j1 = w2c_l11;
+              i64_store(&instance->w2c_memory, (u64)(w2c_i0) + 504, w2c_j1);
               w2c_j0 = w2c_l4;
               w2c_i0 = (u32)(w2c_j0);
-              w2c_j1 = w2c_l13;
-              i64_store(&instance->w2c_memory, (u64)(w2c_i0) + 416, w2c_j1);
+              w2c_j1 = w2c_l10;
+              i64_store(&instance->w2c_memory, (u64)(w2c_i0) + 496, w2c_j1);
               w2c_j0 = w2c_l4;
               w2c_i0 = (u32)(w2c_j0);
-              w2c_j1 = w2c_l7;
-              i64_store(&instance->w2c_memory, (u64)(w2c_i0) + 560, w2c_j1);
+              w2c_j1 = w2c_l6;
+              i64_store(&instance->w2c_memory, (u64)(w2c_i0) + 672, w2c_j1);
               w2c_j0 = w2c_l4;
               w2c_i0 = (u32)(w2c_j0);
               w2c_j1 = w2c_l5;
-              i64_store(&instance->w2c_memory, (u64)(w2c_i0) + 552, w2c_j1);
+              i64_store(&instance->w2c_memory, (u64)(w2c_i0) + 664, w2c_j1);
               w2c_j0 = w2c_l4;
-              w2c_j1 = 416ull;
+              w2c_j1 = 496ull;
               w2c_j0 += w2c_j1;
               w2c_j1 = w2c_l4;
-              w2c_j2 = 552ull;
+              w2c_j2 = 664ull;
               w2c_j1 += w2c_j2;
               w2c_i0 = w2c_f15(instance, w2c_j0, w2c_j1);
               w2c_i1 = 255u;
@@ -12514,141 +11345,141 @@ static void w2c_f0(Z_dine_ffi_instance_t* instance, u64 w2c_p0, u64 w2c_p1, u64 
                 w2c_i0 = w2c_l37;
                 w2c_i1 = 1u;
                 w2c_i0 -= w2c_i1;
-                if (w2c_i0) {goto w2c_B540;}
-                goto w2c_B538;
+                if (w2c_i0) {goto w2c_B473;}
+                goto w2c_B471;
               }
               w2c_j0 = w2c_l3;
               w2c_j1 = 16ull;
               w2c_j0 += w2c_j1;
               w2c_l3 = w2c_j0;
-              w2c_j0 = w2c_l6;
+              w2c_j0 = w2c_l8;
               w2c_j1 = 4ull;
               w2c_j0 += w2c_j1;
-              w2c_l6 = w2c_j0;
+              w2c_l8 = w2c_j0;
               w2c_j0 = w2c_p2;
               w2c_j1 = w2c_p1;
               w2c_j2 = 1ull;
               w2c_j1 += w2c_j2;
               w2c_p1 = w2c_j1;
               w2c_i0 = w2c_j0 != w2c_j1;
-              if (w2c_i0) {goto w2c_L541;}
+              if (w2c_i0) {goto w2c_L474;}
             w2c_j0 = w2c_p2;
             w2c_p1 = w2c_j0;
-            w2c_B540:;
+            w2c_B473:;
             w2c_j0 = w2c_p1;
             w2c_j1 = 3ull;
             w2c_j0 <<= (w2c_j1 & 63);
           }
           w2c_l3 = w2c_j0;
-          w2c_i0 = w2c_l42;
-          w2c_j1 = w2c_l10;
+          w2c_i0 = w2c_l43;
+          w2c_j1 = w2c_l9;
           w2c_j2 = 2ull;
           w2c_j1 += w2c_j2;
           w2c_i1 = (u32)(w2c_j1);
           w2c_i1 = i32_load16_u(&instance->w2c_memory, (u64)(w2c_i1));
           w2c_i1 = !(w2c_i1);
-          if (w2c_i1) {goto w2c_B528;}
+          if (w2c_i1) {goto w2c_B461;}
           w2c_j0 = w2c_l3;
-          w2c_j1 = w2c_l10;
+          w2c_j1 = w2c_l9;
           w2c_j0 += w2c_j1;
           w2c_j1 = 312ull;
           w2c_j0 += w2c_j1;
           w2c_i0 = (u32)(w2c_j0);
           w2c_j0 = i64_load(&instance->w2c_memory, (u64)(w2c_i0));
-          w2c_l10 = w2c_j0;
-          goto w2c_L537;
-          w2c_B538:;
-        w2c_j0 = w2c_l6;
+          w2c_l9 = w2c_j0;
+          goto w2c_L470;
+          w2c_B471:;
+        w2c_j0 = w2c_l8;
         w2c_i0 = (u32)(w2c_j0);
         w2c_i0 = i32_load(&instance->w2c_memory, (u64)(w2c_i0));
-        goto w2c_B528;
+        goto w2c_B461;
       }
       w2c_j0 = w2c_l4;
       w2c_j1 = 72ull;
       w2c_j0 += w2c_j1;
-      w2c_j1 = w2c_l12;
+      w2c_j1 = w2c_l13;
       w2c_j2 = 1ull;
-      w2c_f49(instance, w2c_j0, w2c_j1, w2c_j2);
+      w2c_f51(instance, w2c_j0, w2c_j1, w2c_j2);
       w2c_i0 = 0u;
       w2c_l38 = w2c_i0;
       w2c_i0 = 0u;
-      w2c_B528:;
+      w2c_B461:;
       w2c_l39 = w2c_i0;
       w2c_j0 = 0ull;
-      w2c_l13 = w2c_j0;
-      w2c_j0 = w2c_l12;
+      w2c_l10 = w2c_j0;
+      w2c_j0 = w2c_l13;
       w2c_i0 = (u32)(w2c_j0);
       w2c_i0 = i32_load8_u(&instance->w2c_memory, (u64)(w2c_i0));
       w2c_i1 = 6u;
       w2c_i0 = w2c_i0 != w2c_i1;
-      if (w2c_i0) {goto w2c_B543;}
-      w2c_j0 = w2c_l12;
+      if (w2c_i0) {goto w2c_B476;}
+      w2c_j0 = w2c_l13;
       w2c_j1 = 8ull;
       w2c_j0 += w2c_j1;
       w2c_i0 = (u32)(w2c_j0);
       w2c_i0 = i32_load8_u(&instance->w2c_memory, (u64)(w2c_i0));
       w2c_i1 = 1u;
       w2c_i0 = w2c_i0 != w2c_i1;
-      if (w2c_i0) {goto w2c_B543;}
-      w2c_j0 = w2c_l12;
+      if (w2c_i0) {goto w2c_B476;}
+      w2c_j0 = w2c_l13;
       w2c_j1 = 16ull;
       w2c_j0 += w2c_j1;
       w2c_p1 = w2c_j0;
-      w2c_L544: 
+      w2c_L477: 
         w2c_j0 = 0ull;
         w2c_l3 = w2c_j0;
         w2c_j0 = w2c_p1;
         w2c_i0 = (u32)(w2c_j0);
         w2c_j0 = i64_load(&instance->w2c_memory, (u64)(w2c_i0));
-        w2c_l9 = w2c_j0;
+        w2c_l11 = w2c_j0;
         w2c_i0 = (u32)(w2c_j0);
         w2c_j0 = i64_load16_u(&instance->w2c_memory, (u64)(w2c_i0));
         w2c_p2 = w2c_j0;
         w2c_i0 = !(w2c_j0);
         w2c_i0 = !(w2c_i0);
         if (w2c_i0) {
-          w2c_j0 = w2c_l9;
+          w2c_j0 = w2c_l11;
           w2c_j1 = 16ull;
           w2c_j0 += w2c_j1;
           w2c_l3 = w2c_j0;
-          w2c_j0 = w2c_l9;
+          w2c_j0 = w2c_l11;
           w2c_j1 = 376ull;
           w2c_j0 += w2c_j1;
           w2c_l5 = w2c_j0;
           w2c_j0 = 0ull;
           w2c_p1 = w2c_j0;
-          w2c_L548: 
+          w2c_L481: 
             w2c_j0 = w2c_l3;
             w2c_j1 = 8ull;
             w2c_j0 -= w2c_j1;
             w2c_i0 = (u32)(w2c_j0);
             w2c_j0 = i64_load(&instance->w2c_memory, (u64)(w2c_i0));
-            w2c_l7 = w2c_j0;
+            w2c_l6 = w2c_j0;
             w2c_j0 = w2c_l3;
             w2c_i0 = (u32)(w2c_j0);
             w2c_j0 = i64_load(&instance->w2c_memory, (u64)(w2c_i0));
-            w2c_l6 = w2c_j0;
+            w2c_l8 = w2c_j0;
             w2c_j0 = w2c_l4;
             w2c_i0 = (u32)(w2c_j0);
             w2c_j1 = 5ull;
-            i64_store(&instance->w2c_memory, (u64)(w2c_i0) + 424, w2c_j1);
+            i64_store(&instance->w2c_memory, (u64)(w2c_i0) + 504, w2c_j1);
             w2c_j0 = w2c_l4;
             w2c_i0 = (u32)(w2c_j0);
-            w2c_j1 = 1060088ull;
-            i64_store(&instance->w2c_memory, (u64)(w2c_i0) + 416, w2c_j1);
+            w2c_j1 = 1060064ull;
+            i64_store(&instance->w2c_memory, (u64)(w2c_i0) + 496, w2c_j1);
+            w2c_j0 = w2c_l4;
+            w2c_i0 = (u32)(w2c_j0);
+            w2c_j1 = w2c_l8;
+            i64_store(&instance->w2c_memory, (u64)(w2c_i0) + 672, w2c_j1);
             w2c_j0 = w2c_l4;
             w2c_i0 = (u32)(w2c_j0);
             w2c_j1 = w2c_l6;
-            i64_store(&instance->w2c_memory, (u64)(w2c_i0) + 560, w2c_j1);
+            i64_store(&instance->w2c_memory, (u64)(w2c_i0) + 664, w2c_j1);
             w2c_j0 = w2c_l4;
-            w2c_i0 = (u32)(w2c_j0);
-            w2c_j1 = w2c_l7;
-            i64_store(&instance->w2c_memory, (u64)(w2c_i0) + 552, w2c_j1);
-            w2c_j0 = w2c_l4;
-            w2c_j1 = 416ull;
+            w2c_j1 = 496ull;
             w2c_j0 += w2c_j1;
             w2c_j1 = w2c_l4;
-            w2c_j2 = 552ull;
+            w2c_j2 = 664ull;
             w2c_j1 += w2c_j2;
             w2c_i0 = w2c_f15(instance, w2c_j0, w2c_j1);
             w2c_i1 = 255u;
@@ -12660,8 +11491,8 @@ static void w2c_f0(Z_dine_ffi_instance_t* instance, u64 w2c_p0, u64 w2c_p1, u64 
               w2c_i0 = w2c_l37;
               w2c_i1 = 1u;
               w2c_i0 -= w2c_i1;
-              if (w2c_i0) {goto w2c_B547;}
-              goto w2c_B545;
+              if (w2c_i0) {goto w2c_B480;}
+              goto w2c_B478;
             }
             w2c_j0 = w2c_l3;
             w2c_j1 = 24ull;
@@ -12677,30 +11508,30 @@ static void w2c_f0(Z_dine_ffi_instance_t* instance, u64 w2c_p0, u64 w2c_p1, u64 
             w2c_j1 += w2c_j2;
             w2c_p1 = w2c_j1;
             w2c_i0 = w2c_j0 != w2c_j1;
-            if (w2c_i0) {goto w2c_L548;}
+            if (w2c_i0) {goto w2c_L481;}
           w2c_j0 = w2c_p2;
           w2c_p1 = w2c_j0;
-          w2c_B547:;
+          w2c_B480:;
           w2c_j0 = w2c_p1;
           w2c_j1 = 3ull;
           w2c_j0 <<= (w2c_j1 & 63);
           w2c_l3 = w2c_j0;
         }
-        w2c_j0 = w2c_l9;
+        w2c_j0 = w2c_l11;
         w2c_j1 = 2ull;
         w2c_j0 += w2c_j1;
         w2c_i0 = (u32)(w2c_j0);
         w2c_i0 = i32_load16_u(&instance->w2c_memory, (u64)(w2c_i0));
         w2c_i0 = !(w2c_i0);
-        if (w2c_i0) {goto w2c_B543;}
+        if (w2c_i0) {goto w2c_B476;}
         w2c_j0 = w2c_l3;
-        w2c_j1 = w2c_l9;
+        w2c_j1 = w2c_l11;
         w2c_j0 += w2c_j1;
         w2c_j1 = 968ull;
         w2c_j0 += w2c_j1;
         w2c_p1 = w2c_j0;
-        goto w2c_L544;
-        w2c_B545:;
+        goto w2c_L477;
+        w2c_B478:;
       w2c_j0 = 0ull;
       w2c_l3 = w2c_j0;
       w2c_j0 = w2c_l5;
@@ -12728,37 +11559,37 @@ static void w2c_f0(Z_dine_ffi_instance_t* instance, u64 w2c_p0, u64 w2c_p1, u64 
       w2c_i3 = 1u;
       w2c_i2 = w2c_i2 == w2c_i3;
       w2c_j0 = w2c_i2 ? w2c_j0 : w2c_j1;
-      w2c_l13 = w2c_j0;
-      w2c_B543:;
-      w2c_j0 = w2c_l11;
+      w2c_l10 = w2c_j0;
+      w2c_B476:;
+      w2c_j0 = w2c_l12;
       w2c_j1 = w2c_l4;
       w2c_i1 = (u32)(w2c_j1);
-      w2c_j1 = i64_load(&instance->w2c_memory, (u64)(w2c_i1) + 856u);
+      w2c_j1 = i64_load(&instance->w2c_memory, (u64)(w2c_i1) + 752u);
       w2c_i0 = w2c_j0 == w2c_j1;
       if (w2c_i0) {
         w2c_j0 = w2c_l4;
-        w2c_j1 = 840ull;
+        w2c_j1 = 736ull;
         w2c_j0 += w2c_j1;
-        w2c_i0 = w2c_f50(instance, w2c_j0);
+        w2c_i0 = w2c_f52(instance, w2c_j0);
         w2c_i0 = !(w2c_i0);
-        if (w2c_i0) {goto w2c_B357;}
+        if (w2c_i0) {goto w2c_B458;}
         w2c_j0 = w2c_l4;
         w2c_i0 = (u32)(w2c_j0);
-        w2c_j0 = i64_load(&instance->w2c_memory, (u64)(w2c_i0) + 840u);
-        w2c_l15 = w2c_j0;
+        w2c_j0 = i64_load(&instance->w2c_memory, (u64)(w2c_i0) + 736u);
+        w2c_l17 = w2c_j0;
         w2c_j0 = w2c_l4;
         w2c_i0 = (u32)(w2c_j0);
-        w2c_j0 = i64_load(&instance->w2c_memory, (u64)(w2c_i0) + 848u);
-        w2c_l11 = w2c_j0;
+        w2c_j0 = i64_load(&instance->w2c_memory, (u64)(w2c_i0) + 744u);
+        w2c_l12 = w2c_j0;
       }
-      w2c_j0 = w2c_l15;
-      w2c_j1 = w2c_l11;
+      w2c_j0 = w2c_l17;
+      w2c_j1 = w2c_l12;
       w2c_j2 = 4ull;
       w2c_j1 <<= (w2c_j2 & 63);
       w2c_j0 += w2c_j1;
       w2c_l3 = w2c_j0;
       w2c_i0 = (u32)(w2c_j0);
-      w2c_j1 = w2c_l13;
+      w2c_j1 = w2c_l10;
       i64_store(&instance->w2c_memory, (u64)(w2c_i0) + 8, w2c_j1);
       w2c_j0 = w2c_l3;
       w2c_i0 = (u32)(w2c_j0);
@@ -12770,87 +11601,93 @@ static void w2c_f0(Z_dine_ffi_instance_t* instance, u64 w2c_p0, u64 w2c_p1, u64 
       i32_store(&instance->w2c_memory, (u64)(w2c_i0), w2c_i1);
       w2c_j0 = w2c_l4;
       w2c_i0 = (u32)(w2c_j0);
-      w2c_j1 = w2c_l11;
+      w2c_j1 = w2c_l12;
       w2c_j2 = 1ull;
       w2c_j1 += w2c_j2;
-      w2c_l11 = w2c_j1;
-      i64_store(&instance->w2c_memory, (u64)(w2c_i0) + 848, w2c_j1);
-      w2c_j0 = w2c_l19;
+      w2c_l12 = w2c_j1;
+      i64_store(&instance->w2c_memory, (u64)(w2c_i0) + 744, w2c_j1);
+      w2c_j0 = w2c_l15;
       w2c_j1 = 1ull;
       w2c_j0 += w2c_j1;
-      w2c_l19 = w2c_j0;
-      w2c_j1 = w2c_l27;
+      w2c_l15 = w2c_j0;
+      w2c_j1 = w2c_l22;
       w2c_i0 = w2c_j0 != w2c_j1;
-      if (w2c_i0) {goto w2c_L527;}
+      if (w2c_i0) {goto w2c_L460;}
   }
-  w2c_i0 = w2c_l40;
+  w2c_i0 = w2c_l41;
   w2c_i0 = !(w2c_i0);
   if (w2c_i0) {
     w2c_j0 = w2c_l16;
-    w2c_f51(instance, w2c_j0);
+    w2c_f50(instance, w2c_j0);
   }
   w2c_j0 = w2c_l4;
   w2c_i0 = (u32)(w2c_j0);
-  w2c_j1 = w2c_l4;
-  w2c_i1 = (u32)(w2c_j1);
-  w2c_j1 = i64_load(&instance->w2c_memory, (u64)(w2c_i1) + 856u);
-  i64_store(&instance->w2c_memory, (u64)(w2c_i0) + 679, w2c_j1);
+  w2c_j0 = i64_load(&instance->w2c_memory, (u64)(w2c_i0) + 752u);
+  w2c_l22 = w2c_j0;
   w2c_j0 = w2c_l4;
   w2c_i0 = (u32)(w2c_j0);
-  w2c_j1 = w2c_l4;
-  w2c_i1 = (u32)(w2c_j1);
-  w2c_j1 = i64_load(&instance->w2c_memory, (u64)(w2c_i1) + 848u);
-  i64_store(&instance->w2c_memory, (u64)(w2c_i0) + 671, w2c_j1);
-  w2c_j0 = w2c_l4;
-  w2c_i0 = (u32)(w2c_j0);
-  w2c_j1 = w2c_l4;
-  w2c_i1 = (u32)(w2c_j1);
-  w2c_j1 = i64_load(&instance->w2c_memory, (u64)(w2c_i1) + 840u);
-  i64_store(&instance->w2c_memory, (u64)(w2c_i0) + 663, w2c_j1);
-  w2c_j0 = w2c_l4;
-  w2c_j1 = 656ull;
-  w2c_j0 += w2c_j1;
-  w2c_j1 = 7ull;
-  w2c_j0 |= w2c_j1;
-  w2c_l19 = w2c_j0;
+  w2c_j0 = i64_load(&instance->w2c_memory, (u64)(w2c_i0) + 736u);
+  w2c_l17 = w2c_j0;
+  w2c_i0 = w2c_l42;
+  w2c_i0 = !(w2c_i0);
+  if (w2c_i0) {goto w2c_B457;}
   w2c_i0 = 0u;
-  w2c_l40 = w2c_i0;
+  w2c_l41 = w2c_i0;
   w2c_i0 = 0u;
   w2c_l39 = w2c_i0;
+  goto w2c_B456;
+  w2c_B458:;
+  w2c_j0 = w2c_l4;
+  w2c_i0 = (u32)(w2c_j0);
+  w2c_j0 = i64_load(&instance->w2c_memory, (u64)(w2c_i0) + 752u);
+  w2c_i0 = !(w2c_j0);
+  w2c_i0 = !(w2c_i0);
+  if (w2c_i0) {
+    w2c_j0 = w2c_l4;
+    w2c_i0 = (u32)(w2c_j0);
+    w2c_j0 = i64_load(&instance->w2c_memory, (u64)(w2c_i0) + 736u);
+    w2c_leave(instance, w2c_j0);
+  }
+  w2c_i0 = w2c_l41;
+  w2c_i0 = !(w2c_i0);
+  if (w2c_i0) {
+    w2c_j0 = w2c_l16;
+    w2c_f50(instance, w2c_j0);
+  }
+  w2c_j0 = w2c_l14;
+  w2c_l23 = w2c_j0;
+  goto w2c_B260;
+  w2c_B457:;
   w2c_i0 = 0u;
-  w2c_l38 = w2c_i0;
-  w2c_i0 = 0u;
-  w2c_j1 = w2c_l20;
-  w2c_i1 = !(w2c_j1);
-  if (w2c_i1) {goto w2c_B553;}
-  w2c_j0 = w2c_l18;
-  w2c_l13 = w2c_j0;
-  w2c_j0 = w2c_l20;
+  w2c_l39 = w2c_i0;
+  w2c_j0 = w2c_l21;
   w2c_l10 = w2c_j0;
-  w2c_L556: 
-    w2c_j0 = w2c_l13;
+  w2c_j0 = w2c_l20;
+  w2c_l9 = w2c_j0;
+  w2c_L490: 
+    w2c_j0 = w2c_l10;
     w2c_i0 = (u32)(w2c_j0);
     w2c_i0 = i32_load8_u(&instance->w2c_memory, (u64)(w2c_i0));
     w2c_i1 = 6u;
     w2c_i0 = w2c_i0 != w2c_i1;
-    if (w2c_i0) {goto w2c_B557;}
-    w2c_j0 = w2c_l13;
+    if (w2c_i0) {goto w2c_B491;}
+    w2c_j0 = w2c_l10;
     w2c_j1 = 8ull;
     w2c_j0 += w2c_j1;
     w2c_i0 = (u32)(w2c_j0);
     w2c_i0 = i32_load8_u(&instance->w2c_memory, (u64)(w2c_i0));
     w2c_i1 = 1u;
     w2c_i0 = w2c_i0 != w2c_i1;
-    if (w2c_i0) {goto w2c_B557;}
-    w2c_j0 = w2c_l13;
+    if (w2c_i0) {goto w2c_B491;}
+    w2c_j0 = w2c_l10;
     w2c_j1 = 16ull;
     w2c_j0 += w2c_j1;
     w2c_l3 = w2c_j0;
-    w2c_L558: 
+    w2c_L492: 
       w2c_j0 = w2c_l3;
       w2c_i0 = (u32)(w2c_j0);
       w2c_j0 = i64_load(&instance->w2c_memory, (u64)(w2c_i0));
-      w2c_l9 = w2c_j0;
+      w2c_l11 = w2c_j0;
       w2c_i0 = (u32)(w2c_j0);
       w2c_j0 = i64_load16_u(&instance->w2c_memory, (u64)(w2c_i0));
       w2c_p2 = w2c_j0;
@@ -12858,48 +11695,48 @@ static void w2c_f0(Z_dine_ffi_instance_t* instance, u64 w2c_p0, u64 w2c_p1, u64 
       if (w2c_i0) {
         w2c_j0 = 0ull;
       } else {
-        w2c_j0 = w2c_l9;
+        w2c_j0 = w2c_l11;
         w2c_j1 = 16ull;
         w2c_j0 += w2c_j1;
         w2c_l3 = w2c_j0;
-        w2c_j0 = w2c_l9;
+        w2c_j0 = w2c_l11;
         w2c_j1 = 368ull;
         w2c_j0 += w2c_j1;
         w2c_l5 = w2c_j0;
         w2c_j0 = 0ull;
         w2c_p1 = w2c_j0;
-        w2c_L562: 
+        w2c_L496: 
           w2c_j0 = w2c_l3;
           w2c_j1 = 8ull;
           w2c_j0 -= w2c_j1;
           w2c_i0 = (u32)(w2c_j0);
           w2c_j0 = i64_load(&instance->w2c_memory, (u64)(w2c_i0));
-          w2c_l7 = w2c_j0;
+          w2c_l6 = w2c_j0;
           w2c_j0 = w2c_l3;
           w2c_i0 = (u32)(w2c_j0);
           w2c_j0 = i64_load(&instance->w2c_memory, (u64)(w2c_i0));
-          w2c_l6 = w2c_j0;
+          w2c_l8 = w2c_j0;
           w2c_j0 = w2c_l4;
           w2c_i0 = (u32)(w2c_j0);
           w2c_j1 = 4ull;
-          i64_store(&instance->w2c_memory, (u64)(w2c_i0) + 424, w2c_j1);
+          i64_store(&instance->w2c_memory, (u64)(w2c_i0) + 504, w2c_j1);
           w2c_j0 = w2c_l4;
           w2c_i0 = (u32)(w2c_j0);
           w2c_j1 = 1059704ull;
-          i64_store(&instance->w2c_memory, (u64)(w2c_i0) + 416, w2c_j1);
+          i64_store(&instance->w2c_memory, (u64)(w2c_i0) + 496, w2c_j1);
+          w2c_j0 = w2c_l4;
+          w2c_i0 = (u32)(w2c_j0);
+          w2c_j1 = w2c_l8;
+          i64_store(&instance->w2c_memory, (u64)(w2c_i0) + 744, w2c_j1);
           w2c_j0 = w2c_l4;
           w2c_i0 = (u32)(w2c_j0);
           w2c_j1 = w2c_l6;
-          i64_store(&instance->w2c_memory, (u64)(w2c_i0) + 848, w2c_j1);
+          i64_store(&instance->w2c_memory, (u64)(w2c_i0) + 736, w2c_j1);
           w2c_j0 = w2c_l4;
-          w2c_i0 = (u32)(w2c_j0);
-          w2c_j1 = w2c_l7;
-          i64_store(&instance->w2c_memory, (u64)(w2c_i0) + 840, w2c_j1);
-          w2c_j0 = w2c_l4;
-          w2c_j1 = 416ull;
+          w2c_j1 = 496ull;
           w2c_j0 += w2c_j1;
           w2c_j1 = w2c_l4;
-          w2c_j2 = 840ull;
+          w2c_j2 = 736ull;
           w2c_j1 += w2c_j2;
           w2c_i0 = w2c_f15(instance, w2c_j0, w2c_j1);
           w2c_i1 = 255u;
@@ -12911,8 +11748,8 @@ static void w2c_f0(Z_dine_ffi_instance_t* instance, u64 w2c_p0, u64 w2c_p1, u64 
             w2c_i0 = w2c_l37;
             w2c_i1 = 1u;
             w2c_i0 -= w2c_i1;
-            if (w2c_i0) {goto w2c_B561;}
-            goto w2c_B559;
+            if (w2c_i0) {goto w2c_B495;}
+            goto w2c_B493;
           }
           w2c_j0 = w2c_l3;
           w2c_j1 = 24ull;
@@ -12928,57 +11765,57 @@ static void w2c_f0(Z_dine_ffi_instance_t* instance, u64 w2c_p0, u64 w2c_p1, u64 
           w2c_j1 += w2c_j2;
           w2c_p1 = w2c_j1;
           w2c_i0 = w2c_j0 != w2c_j1;
-          if (w2c_i0) {goto w2c_L562;}
+          if (w2c_i0) {goto w2c_L496;}
         w2c_j0 = w2c_p2;
         w2c_p1 = w2c_j0;
-        w2c_B561:;
+        w2c_B495:;
         w2c_j0 = w2c_p1;
         w2c_j1 = 3ull;
         w2c_j0 <<= (w2c_j1 & 63);
       }
       w2c_l3 = w2c_j0;
-      w2c_j0 = w2c_l9;
+      w2c_j0 = w2c_l11;
       w2c_j1 = 2ull;
       w2c_j0 += w2c_j1;
       w2c_i0 = (u32)(w2c_j0);
       w2c_i0 = i32_load16_u(&instance->w2c_memory, (u64)(w2c_i0));
       w2c_i0 = !(w2c_i0);
-      if (w2c_i0) {goto w2c_B557;}
+      if (w2c_i0) {goto w2c_B491;}
       w2c_j0 = w2c_l3;
-      w2c_j1 = w2c_l9;
+      w2c_j1 = w2c_l11;
       w2c_j0 += w2c_j1;
       w2c_j1 = 968ull;
       w2c_j0 += w2c_j1;
       w2c_l3 = w2c_j0;
-      goto w2c_L558;
-      w2c_B559:;
+      goto w2c_L492;
+      w2c_B493:;
     w2c_j0 = w2c_l5;
     w2c_i0 = (u32)(w2c_j0);
     w2c_i0 = i32_load8_u(&instance->w2c_memory, (u64)(w2c_i0));
     w2c_i1 = 5u;
     w2c_i0 = w2c_i0 != w2c_i1;
-    if (w2c_i0) {goto w2c_B557;}
+    if (w2c_i0) {goto w2c_B491;}
     w2c_j0 = w2c_l5;
     w2c_j1 = 16ull;
     w2c_j0 += w2c_j1;
     w2c_i0 = (u32)(w2c_j0);
     w2c_j0 = i64_load(&instance->w2c_memory, (u64)(w2c_i0));
-    w2c_l11 = w2c_j0;
+    w2c_l13 = w2c_j0;
     w2c_i0 = !(w2c_j0);
-    if (w2c_i0) {goto w2c_B557;}
+    if (w2c_i0) {goto w2c_B491;}
     w2c_j0 = w2c_l5;
     w2c_j1 = 8ull;
     w2c_j0 += w2c_j1;
     w2c_i0 = (u32)(w2c_j0);
     w2c_j0 = i64_load(&instance->w2c_memory, (u64)(w2c_i0));
     w2c_p2 = w2c_j0;
-    w2c_L564: 
+    w2c_L498: 
       w2c_j0 = w2c_p2;
       w2c_i0 = (u32)(w2c_j0);
       w2c_i0 = i32_load8_u(&instance->w2c_memory, (u64)(w2c_i0));
       w2c_i1 = 6u;
       w2c_i0 = w2c_i0 != w2c_i1;
-      if (w2c_i0) {goto w2c_B565;}
+      if (w2c_i0) {goto w2c_B499;}
       w2c_j0 = w2c_p2;
       w2c_j1 = 8ull;
       w2c_j0 += w2c_j1;
@@ -12986,31 +11823,31 @@ static void w2c_f0(Z_dine_ffi_instance_t* instance, u64 w2c_p0, u64 w2c_p1, u64 
       w2c_i0 = i32_load8_u(&instance->w2c_memory, (u64)(w2c_i0));
       w2c_i1 = 1u;
       w2c_i0 = w2c_i0 != w2c_i1;
-      if (w2c_i0) {goto w2c_B565;}
+      if (w2c_i0) {goto w2c_B499;}
       w2c_j0 = w2c_p2;
       w2c_j1 = 16ull;
       w2c_j0 += w2c_j1;
-      w2c_l12 = w2c_j0;
+      w2c_l15 = w2c_j0;
       w2c_l3 = w2c_j0;
-      w2c_L566: 
+      w2c_L500: 
         w2c_j0 = w2c_l3;
         w2c_i0 = (u32)(w2c_j0);
         w2c_j0 = i64_load(&instance->w2c_memory, (u64)(w2c_i0));
-        w2c_l9 = w2c_j0;
+        w2c_l11 = w2c_j0;
         w2c_i0 = (u32)(w2c_j0);
         w2c_j0 = i64_load16_u(&instance->w2c_memory, (u64)(w2c_i0));
-        w2c_l6 = w2c_j0;
+        w2c_l8 = w2c_j0;
         w2c_i0 = !(w2c_j0);
         if (w2c_i0) {
           w2c_j0 = 0ull;
         } else {
-          w2c_j0 = w2c_l9;
+          w2c_j0 = w2c_l11;
           w2c_j1 = 16ull;
           w2c_j0 += w2c_j1;
           w2c_l3 = w2c_j0;
           w2c_j0 = 0ull;
           w2c_p1 = w2c_j0;
-          w2c_L570: 
+          w2c_L504: 
             w2c_j0 = w2c_l3;
             w2c_j1 = 8ull;
             w2c_j0 -= w2c_j1;
@@ -13020,28 +11857,28 @@ static void w2c_f0(Z_dine_ffi_instance_t* instance, u64 w2c_p0, u64 w2c_p1, u64 
             w2c_j0 = w2c_l3;
             w2c_i0 = (u32)(w2c_j0);
             w2c_j0 = i64_load(&instance->w2c_memory, (u64)(w2c_i0));
-            w2c_l7 = w2c_j0;
+            w2c_l6 = w2c_j0;
             w2c_j0 = w2c_l4;
             w2c_i0 = (u32)(w2c_j0);
             w2c_j1 = 3ull;
-            i64_store(&instance->w2c_memory, (u64)(w2c_i0) + 424, w2c_j1);
+            i64_store(&instance->w2c_memory, (u64)(w2c_i0) + 504, w2c_j1);
             w2c_j0 = w2c_l4;
             w2c_i0 = (u32)(w2c_j0);
-            w2c_j1 = 1060077ull;
-            i64_store(&instance->w2c_memory, (u64)(w2c_i0) + 416, w2c_j1);
+            w2c_j1 = 1060087ull;
+            i64_store(&instance->w2c_memory, (u64)(w2c_i0) + 496, w2c_j1);
             w2c_j0 = w2c_l4;
             w2c_i0 = (u32)(w2c_j0);
-            w2c_j1 = w2c_l7;
-            i64_store(&instance->w2c_memory, (u64)(w2c_i0) + 848, w2c_j1);
+            w2c_j1 = w2c_l6;
+            i64_store(&instance->w2c_memory, (u64)(w2c_i0) + 744, w2c_j1);
             w2c_j0 = w2c_l4;
             w2c_i0 = (u32)(w2c_j0);
             w2c_j1 = w2c_l5;
-            i64_store(&instance->w2c_memory, (u64)(w2c_i0) + 840, w2c_j1);
+            i64_store(&instance->w2c_memory, (u64)(w2c_i0) + 736, w2c_j1);
             w2c_j0 = w2c_l4;
-            w2c_j1 = 416ull;
+            w2c_j1 = 496ull;
             w2c_j0 += w2c_j1;
             w2c_j1 = w2c_l4;
-            w2c_j2 = 840ull;
+            w2c_j2 = 736ull;
             w2c_j1 += w2c_j2;
             w2c_i0 = w2c_f15(instance, w2c_j0, w2c_j1);
             w2c_i1 = 255u;
@@ -13053,62 +11890,62 @@ static void w2c_f0(Z_dine_ffi_instance_t* instance, u64 w2c_p0, u64 w2c_p1, u64 
               w2c_i0 = w2c_l37;
               w2c_i1 = 1u;
               w2c_i0 -= w2c_i1;
-              if (w2c_i0) {goto w2c_B569;}
-              goto w2c_B567;
+              if (w2c_i0) {goto w2c_B503;}
+              goto w2c_B501;
             }
             w2c_j0 = w2c_l3;
             w2c_j1 = 24ull;
             w2c_j0 += w2c_j1;
             w2c_l3 = w2c_j0;
-            w2c_j0 = w2c_l6;
+            w2c_j0 = w2c_l8;
             w2c_j1 = w2c_p1;
             w2c_j2 = 1ull;
             w2c_j1 += w2c_j2;
             w2c_p1 = w2c_j1;
             w2c_i0 = w2c_j0 != w2c_j1;
-            if (w2c_i0) {goto w2c_L570;}
-          w2c_j0 = w2c_l6;
+            if (w2c_i0) {goto w2c_L504;}
+          w2c_j0 = w2c_l8;
           w2c_p1 = w2c_j0;
-          w2c_B569:;
+          w2c_B503:;
           w2c_j0 = w2c_p1;
           w2c_j1 = 3ull;
           w2c_j0 <<= (w2c_j1 & 63);
         }
         w2c_l3 = w2c_j0;
-        w2c_j0 = w2c_l9;
+        w2c_j0 = w2c_l11;
         w2c_j1 = 2ull;
         w2c_j0 += w2c_j1;
         w2c_i0 = (u32)(w2c_j0);
         w2c_i0 = i32_load16_u(&instance->w2c_memory, (u64)(w2c_i0));
         w2c_i0 = !(w2c_i0);
-        if (w2c_i0) {goto w2c_B565;}
+        if (w2c_i0) {goto w2c_B499;}
         w2c_j0 = w2c_l3;
-        w2c_j1 = w2c_l9;
+        w2c_j1 = w2c_l11;
         w2c_j0 += w2c_j1;
         w2c_j1 = 968ull;
         w2c_j0 += w2c_j1;
         w2c_l3 = w2c_j0;
-        goto w2c_L566;
-        w2c_B567:;
-      w2c_L572: 
-        w2c_j0 = w2c_l12;
+        goto w2c_L500;
+        w2c_B501:;
+      w2c_L506: 
+        w2c_j0 = w2c_l15;
         w2c_i0 = (u32)(w2c_j0);
         w2c_j0 = i64_load(&instance->w2c_memory, (u64)(w2c_i0));
-        w2c_l9 = w2c_j0;
+        w2c_l11 = w2c_j0;
         w2c_i0 = (u32)(w2c_j0);
         w2c_j0 = i64_load16_u(&instance->w2c_memory, (u64)(w2c_i0));
-        w2c_l6 = w2c_j0;
+        w2c_l8 = w2c_j0;
         w2c_i0 = !(w2c_j0);
         if (w2c_i0) {
           w2c_j0 = 0ull;
         } else {
-          w2c_j0 = w2c_l9;
+          w2c_j0 = w2c_l11;
           w2c_j1 = 16ull;
           w2c_j0 += w2c_j1;
           w2c_l3 = w2c_j0;
           w2c_j0 = 0ull;
           w2c_p1 = w2c_j0;
-          w2c_L575: 
+          w2c_L509: 
             w2c_j0 = w2c_l3;
             w2c_j1 = 8ull;
             w2c_j0 -= w2c_j1;
@@ -13118,28 +11955,28 @@ static void w2c_f0(Z_dine_ffi_instance_t* instance, u64 w2c_p0, u64 w2c_p1, u64 
             w2c_j0 = w2c_l3;
             w2c_i0 = (u32)(w2c_j0);
             w2c_j0 = i64_load(&instance->w2c_memory, (u64)(w2c_i0));
-            w2c_l7 = w2c_j0;
+            w2c_l6 = w2c_j0;
             w2c_j0 = w2c_l4;
             w2c_i0 = (u32)(w2c_j0);
             w2c_j1 = 3ull;
-            i64_store(&instance->w2c_memory, (u64)(w2c_i0) + 424, w2c_j1);
+            i64_store(&instance->w2c_memory, (u64)(w2c_i0) + 504, w2c_j1);
             w2c_j0 = w2c_l4;
             w2c_i0 = (u32)(w2c_j0);
-            w2c_j1 = 1060080ull;
-            i64_store(&instance->w2c_memory, (u64)(w2c_i0) + 416, w2c_j1);
+            w2c_j1 = 1060090ull;
+            i64_store(&instance->w2c_memory, (u64)(w2c_i0) + 496, w2c_j1);
             w2c_j0 = w2c_l4;
             w2c_i0 = (u32)(w2c_j0);
-            w2c_j1 = w2c_l7;
-            i64_store(&instance->w2c_memory, (u64)(w2c_i0) + 848, w2c_j1);
+            w2c_j1 = w2c_l6;
+            i64_store(&instance->w2c_memory, (u64)(w2c_i0) + 744, w2c_j1);
             w2c_j0 = w2c_l4;
             w2c_i0 = (u32)(w2c_j0);
             w2c_j1 = w2c_l5;
-            i64_store(&instance->w2c_memory, (u64)(w2c_i0) + 840, w2c_j1);
+            i64_store(&instance->w2c_memory, (u64)(w2c_i0) + 736, w2c_j1);
             w2c_j0 = w2c_l4;
-            w2c_j1 = 416ull;
+            w2c_j1 = 496ull;
             w2c_j0 += w2c_j1;
             w2c_j1 = w2c_l4;
-            w2c_j2 = 840ull;
+            w2c_j2 = 736ull;
             w2c_j1 += w2c_j2;
             w2c_i0 = w2c_f15(instance, w2c_j0, w2c_j1);
             w2c_i1 = 255u;
@@ -13151,172 +11988,174 @@ static void w2c_f0(Z_dine_ffi_instance_t* instance, u64 w2c_p0, u64 w2c_p1, u64 
               w2c_i0 = w2c_l37;
               w2c_i1 = 1u;
               w2c_i0 -= w2c_i1;
-              if (w2c_i0) {goto w2c_B574;}
-              goto w2c_B555;
+              if (w2c_i0) {goto w2c_B508;}
+              goto w2c_B489;
             }
             w2c_j0 = w2c_l3;
             w2c_j1 = 24ull;
             w2c_j0 += w2c_j1;
             w2c_l3 = w2c_j0;
-            w2c_j0 = w2c_l6;
+            w2c_j0 = w2c_l8;
             w2c_j1 = w2c_p1;
             w2c_j2 = 1ull;
             w2c_j1 += w2c_j2;
             w2c_p1 = w2c_j1;
             w2c_i0 = w2c_j0 != w2c_j1;
-            if (w2c_i0) {goto w2c_L575;}
-          w2c_j0 = w2c_l6;
+            if (w2c_i0) {goto w2c_L509;}
+          w2c_j0 = w2c_l8;
           w2c_p1 = w2c_j0;
-          w2c_B574:;
+          w2c_B508:;
           w2c_j0 = w2c_p1;
           w2c_j1 = 3ull;
           w2c_j0 <<= (w2c_j1 & 63);
         }
         w2c_l3 = w2c_j0;
-        w2c_j0 = w2c_l9;
+        w2c_j0 = w2c_l11;
         w2c_j1 = 2ull;
         w2c_j0 += w2c_j1;
         w2c_i0 = (u32)(w2c_j0);
         w2c_i0 = i32_load16_u(&instance->w2c_memory, (u64)(w2c_i0));
         w2c_i0 = !(w2c_i0);
-        if (w2c_i0) {goto w2c_B565;}
+        if (w2c_i0) {goto w2c_B499;}
         w2c_j0 = w2c_l3;
-        w2c_j1 = w2c_l9;
+        w2c_j1 = w2c_l11;
         w2c_j0 += w2c_j1;
         w2c_j1 = 968ull;
         w2c_j0 += w2c_j1;
-        w2c_l12 = w2c_j0;
-        goto w2c_L572;
+        w2c_l15 = w2c_j0;
+        goto w2c_L506;
       UNREACHABLE;
-      w2c_B565:;
+      w2c_B499:;
       w2c_j0 = w2c_p2;
       w2c_j1 = 40ull;
       w2c_j0 += w2c_j1;
       w2c_p2 = w2c_j0;
-      w2c_j0 = w2c_l11;
+      w2c_j0 = w2c_l13;
       w2c_j1 = 1ull;
       w2c_j0 -= w2c_j1;
-      w2c_l11 = w2c_j0;
+      w2c_l13 = w2c_j0;
       w2c_j1 = 0ull;
       w2c_i0 = w2c_j0 != w2c_j1;
-      if (w2c_i0) {goto w2c_L564;}
-    w2c_B557:;
-    w2c_j0 = w2c_l13;
+      if (w2c_i0) {goto w2c_L498;}
+    w2c_B491:;
+    w2c_j0 = w2c_l10;
     w2c_j1 = 40ull;
     w2c_j0 += w2c_j1;
-    w2c_l13 = w2c_j0;
+    w2c_l10 = w2c_j0;
     w2c_i0 = w2c_l39;
     w2c_i1 = 1u;
     w2c_i0 += w2c_i1;
     w2c_l39 = w2c_i0;
-    w2c_j0 = w2c_l10;
+    w2c_j0 = w2c_l9;
     w2c_j1 = 1ull;
     w2c_j0 -= w2c_j1;
-    w2c_l10 = w2c_j0;
+    w2c_l9 = w2c_j0;
     w2c_i0 = !(w2c_j0);
     w2c_i0 = !(w2c_i0);
-    if (w2c_i0) {goto w2c_L556;}
+    if (w2c_i0) {goto w2c_L490;}
   w2c_i0 = 0u;
   w2c_l39 = w2c_i0;
   w2c_i0 = 0u;
-  goto w2c_B554;
-  w2c_B555:;
+  goto w2c_B488;
+  w2c_B489:;
   w2c_i0 = 1u;
-  w2c_B554:;
-  w2c_l40 = w2c_i0;
-  w2c_L577: 
+  w2c_B488:;
+  w2c_l41 = w2c_i0;
+  w2c_i0 = 0u;
+  w2c_l38 = w2c_i0;
+  w2c_L511: 
     w2c_j0 = w2c_l4;
     w2c_i0 = (u32)(w2c_j0);
     w2c_j1 = 2ull;
-    i64_store(&instance->w2c_memory, (u64)(w2c_i0) + 400, w2c_j1);
+    i64_store(&instance->w2c_memory, (u64)(w2c_i0) + 640, w2c_j1);
     w2c_j0 = w2c_l4;
     w2c_i0 = (u32)(w2c_j0);
     w2c_j1 = 1060099ull;
-    i64_store(&instance->w2c_memory, (u64)(w2c_i0) + 392, w2c_j1);
+    i64_store(&instance->w2c_memory, (u64)(w2c_i0) + 632, w2c_j1);
     w2c_j0 = w2c_l4;
     w2c_i0 = (u32)(w2c_j0);
     w2c_j1 = 6ull;
-    i64_store(&instance->w2c_memory, (u64)(w2c_i0) + 376, w2c_j1);
+    i64_store(&instance->w2c_memory, (u64)(w2c_i0) + 480, w2c_j1);
     w2c_j0 = w2c_l4;
     w2c_i0 = (u32)(w2c_j0);
     w2c_j1 = 1060093ull;
-    i64_store(&instance->w2c_memory, (u64)(w2c_i0) + 368, w2c_j1);
-    w2c_j0 = w2c_l18;
+    i64_store(&instance->w2c_memory, (u64)(w2c_i0) + 472, w2c_j1);
+    w2c_j0 = w2c_l21;
     w2c_i0 = (u32)(w2c_j0);
     w2c_i0 = i32_load8_u(&instance->w2c_memory, (u64)(w2c_i0));
     w2c_i1 = 6u;
     w2c_i0 = w2c_i0 != w2c_i1;
-    if (w2c_i0) {goto w2c_B578;}
-    w2c_j0 = w2c_l18;
+    if (w2c_i0) {goto w2c_B512;}
+    w2c_j0 = w2c_l21;
     w2c_j1 = 8ull;
     w2c_j0 += w2c_j1;
     w2c_i0 = (u32)(w2c_j0);
     w2c_i0 = i32_load8_u(&instance->w2c_memory, (u64)(w2c_i0));
     w2c_i1 = 1u;
     w2c_i0 = w2c_i0 != w2c_i1;
-    if (w2c_i0) {goto w2c_B578;}
-    w2c_j0 = w2c_l18;
+    if (w2c_i0) {goto w2c_B512;}
+    w2c_j0 = w2c_l21;
     w2c_j1 = 16ull;
     w2c_j0 += w2c_j1;
-    w2c_l13 = w2c_j0;
+    w2c_l10 = w2c_j0;
     w2c_p1 = w2c_j0;
-    w2c_L580: 
+    w2c_L514: 
       w2c_j0 = 0ull;
-      w2c_l10 = w2c_j0;
+      w2c_l9 = w2c_j0;
       w2c_j0 = 0ull;
       w2c_l3 = w2c_j0;
       w2c_j0 = w2c_p1;
       w2c_i0 = (u32)(w2c_j0);
       w2c_j0 = i64_load(&instance->w2c_memory, (u64)(w2c_i0));
-      w2c_l9 = w2c_j0;
+      w2c_l11 = w2c_j0;
       w2c_i0 = (u32)(w2c_j0);
       w2c_j0 = i64_load16_u(&instance->w2c_memory, (u64)(w2c_i0));
       w2c_p2 = w2c_j0;
       w2c_i0 = !(w2c_j0);
       w2c_i0 = !(w2c_i0);
       if (w2c_i0) {
-        w2c_j0 = w2c_l9;
+        w2c_j0 = w2c_l11;
         w2c_j1 = 16ull;
         w2c_j0 += w2c_j1;
         w2c_l3 = w2c_j0;
-        w2c_j0 = w2c_l9;
+        w2c_j0 = w2c_l11;
         w2c_j1 = 384ull;
         w2c_j0 += w2c_j1;
         w2c_l5 = w2c_j0;
         w2c_j0 = 0ull;
         w2c_p1 = w2c_j0;
-        w2c_L584: 
+        w2c_L518: 
           w2c_j0 = w2c_l3;
           w2c_j1 = 8ull;
           w2c_j0 -= w2c_j1;
           w2c_i0 = (u32)(w2c_j0);
           w2c_j0 = i64_load(&instance->w2c_memory, (u64)(w2c_i0));
-          w2c_l7 = w2c_j0;
+          w2c_l6 = w2c_j0;
           w2c_j0 = w2c_l3;
           w2c_i0 = (u32)(w2c_j0);
           w2c_j0 = i64_load(&instance->w2c_memory, (u64)(w2c_i0));
-          w2c_l6 = w2c_j0;
+          w2c_l8 = w2c_j0;
           w2c_j0 = w2c_l4;
           w2c_i0 = (u32)(w2c_j0);
           w2c_j1 = 8ull;
-          i64_store(&instance->w2c_memory, (u64)(w2c_i0) + 424, w2c_j1);
+          i64_store(&instance->w2c_memory, (u64)(w2c_i0) + 504, w2c_j1);
           w2c_j0 = w2c_l4;
           w2c_i0 = (u32)(w2c_j0);
-          w2c_j1 = 1060064ull;
-          i64_store(&instance->w2c_memory, (u64)(w2c_i0) + 416, w2c_j1);
+          w2c_j1 = 1060069ull;
+          i64_store(&instance->w2c_memory, (u64)(w2c_i0) + 496, w2c_j1);
+          w2c_j0 = w2c_l4;
+          w2c_i0 = (u32)(w2c_j0);
+          w2c_j1 = w2c_l8;
+          i64_store(&instance->w2c_memory, (u64)(w2c_i0) + 744, w2c_j1);
           w2c_j0 = w2c_l4;
           w2c_i0 = (u32)(w2c_j0);
           w2c_j1 = w2c_l6;
-          i64_store(&instance->w2c_memory, (u64)(w2c_i0) + 848, w2c_j1);
+          i64_store(&instance->w2c_memory, (u64)(w2c_i0) + 736, w2c_j1);
           w2c_j0 = w2c_l4;
-          w2c_i0 = (u32)(w2c_j0);
-          w2c_j1 = w2c_l7;
-          i64_store(&instance->w2c_memory, (u64)(w2c_i0) + 840, w2c_j1);
-          w2c_j0 = w2c_l4;
-          w2c_j1 = 416ull;
+          w2c_j1 = 496ull;
           w2c_j0 += w2c_j1;
           w2c_j1 = w2c_l4;
-          w2c_j2 = 840ull;
+          w2c_j2 = 736ull;
           w2c_j1 += w2c_j2;
           w2c_i0 = w2c_f15(instance, w2c_j0, w2c_j1);
           w2c_i1 = 255u;
@@ -13328,8 +12167,8 @@ static void w2c_f0(Z_dine_ffi_instance_t* instance, u64 w2c_p0, u64 w2c_p1, u64 
             w2c_i0 = w2c_l37;
             w2c_i1 = 1u;
             w2c_i0 -= w2c_i1;
-            if (w2c_i0) {goto w2c_B583;}
-            goto w2c_B581;
+            if (w2c_i0) {goto w2c_B517;}
+            goto w2c_B515;
           }
           w2c_j0 = w2c_l3;
           w2c_j1 = 24ull;
@@ -13345,65 +12184,65 @@ static void w2c_f0(Z_dine_ffi_instance_t* instance, u64 w2c_p0, u64 w2c_p1, u64 
           w2c_j1 += w2c_j2;
           w2c_p1 = w2c_j1;
           w2c_i0 = w2c_j0 != w2c_j1;
-          if (w2c_i0) {goto w2c_L584;}
+          if (w2c_i0) {goto w2c_L518;}
         w2c_j0 = w2c_p2;
         w2c_p1 = w2c_j0;
-        w2c_B583:;
+        w2c_B517:;
         w2c_j0 = w2c_p1;
         w2c_j1 = 3ull;
         w2c_j0 <<= (w2c_j1 & 63);
         w2c_l3 = w2c_j0;
       }
       w2c_j0 = 1048585ull;
-      w2c_j1 = w2c_l9;
+      w2c_j1 = w2c_l11;
       w2c_j2 = 2ull;
       w2c_j1 += w2c_j2;
       w2c_i1 = (u32)(w2c_j1);
       w2c_i1 = i32_load16_u(&instance->w2c_memory, (u64)(w2c_i1));
       w2c_i1 = !(w2c_i1);
-      if (w2c_i1) {goto w2c_B579;}
+      if (w2c_i1) {goto w2c_B513;}
       w2c_j0 = w2c_l3;
-      w2c_j1 = w2c_l9;
+      w2c_j1 = w2c_l11;
       w2c_j0 += w2c_j1;
       w2c_j1 = 968ull;
       w2c_j0 += w2c_j1;
       w2c_p1 = w2c_j0;
-      goto w2c_L580;
-      w2c_B581:;
+      goto w2c_L514;
+      w2c_B515:;
     w2c_j0 = 1048585ull;
     w2c_j1 = w2c_l5;
     w2c_j2 = 16ull;
     w2c_j1 -= w2c_j2;
     w2c_i1 = (u32)(w2c_j1);
     w2c_i1 = i32_load8_u(&instance->w2c_memory, (u64)(w2c_i1));
-    if (w2c_i1) {goto w2c_B579;}
+    if (w2c_i1) {goto w2c_B513;}
     w2c_j0 = w2c_l5;
     w2c_i0 = (u32)(w2c_j0);
     w2c_j0 = i64_load(&instance->w2c_memory, (u64)(w2c_i0));
-    w2c_l10 = w2c_j0;
+    w2c_l9 = w2c_j0;
     w2c_j0 = w2c_l5;
     w2c_j1 = 8ull;
     w2c_j0 -= w2c_j1;
     w2c_i0 = (u32)(w2c_j0);
     w2c_j0 = i64_load(&instance->w2c_memory, (u64)(w2c_i0));
-    w2c_B579:;
+    w2c_B513:;
     w2c_l3 = w2c_j0;
     w2c_j0 = w2c_l4;
     w2c_i0 = (u32)(w2c_j0);
-    w2c_j1 = w2c_l10;
-    i64_store(&instance->w2c_memory, (u64)(w2c_i0) + 560, w2c_j1);
+    w2c_j1 = w2c_l9;
+    i64_store(&instance->w2c_memory, (u64)(w2c_i0) + 672, w2c_j1);
     w2c_j0 = w2c_l4;
     w2c_i0 = (u32)(w2c_j0);
     w2c_j1 = w2c_l3;
-    i64_store(&instance->w2c_memory, (u64)(w2c_i0) + 552, w2c_j1);
-    w2c_L586: 
-      w2c_j0 = w2c_l13;
+    i64_store(&instance->w2c_memory, (u64)(w2c_i0) + 664, w2c_j1);
+    w2c_L520: 
+      w2c_j0 = w2c_l10;
       w2c_i0 = (u32)(w2c_j0);
       w2c_j0 = i64_load(&instance->w2c_memory, (u64)(w2c_i0));
       w2c_p2 = w2c_j0;
       w2c_i0 = (u32)(w2c_j0);
       w2c_j0 = i64_load16_u(&instance->w2c_memory, (u64)(w2c_i0));
-      w2c_l6 = w2c_j0;
+      w2c_l8 = w2c_j0;
       w2c_i0 = !(w2c_j0);
       if (w2c_i0) {
         w2c_j0 = 0ull;
@@ -13414,7 +12253,7 @@ static void w2c_f0(Z_dine_ffi_instance_t* instance, u64 w2c_p0, u64 w2c_p1, u64 
         w2c_l3 = w2c_j0;
         w2c_j0 = 0ull;
         w2c_p1 = w2c_j0;
-        w2c_L590: 
+        w2c_L524: 
           w2c_j0 = w2c_l3;
           w2c_j1 = 8ull;
           w2c_j0 -= w2c_j1;
@@ -13424,28 +12263,28 @@ static void w2c_f0(Z_dine_ffi_instance_t* instance, u64 w2c_p0, u64 w2c_p1, u64 
           w2c_j0 = w2c_l3;
           w2c_i0 = (u32)(w2c_j0);
           w2c_j0 = i64_load(&instance->w2c_memory, (u64)(w2c_i0));
-          w2c_l7 = w2c_j0;
+          w2c_l6 = w2c_j0;
           w2c_j0 = w2c_l4;
           w2c_i0 = (u32)(w2c_j0);
           w2c_j1 = 8ull;
-          i64_store(&instance->w2c_memory, (u64)(w2c_i0) + 424, w2c_j1);
+          i64_store(&instance->w2c_memory, (u64)(w2c_i0) + 504, w2c_j1);
           w2c_j0 = w2c_l4;
           w2c_i0 = (u32)(w2c_j0);
-          w2c_j1 = 1060064ull;
-          i64_store(&instance->w2c_memory, (u64)(w2c_i0) + 416, w2c_j1);
+          w2c_j1 = 1060069ull;
+          i64_store(&instance->w2c_memory, (u64)(w2c_i0) + 496, w2c_j1);
           w2c_j0 = w2c_l4;
           w2c_i0 = (u32)(w2c_j0);
-          w2c_j1 = w2c_l7;
-          i64_store(&instance->w2c_memory, (u64)(w2c_i0) + 848, w2c_j1);
+          w2c_j1 = w2c_l6;
+          i64_store(&instance->w2c_memory, (u64)(w2c_i0) + 744, w2c_j1);
           w2c_j0 = w2c_l4;
           w2c_i0 = (u32)(w2c_j0);
           w2c_j1 = w2c_l5;
-          i64_store(&instance->w2c_memory, (u64)(w2c_i0) + 840, w2c_j1);
+          i64_store(&instance->w2c_memory, (u64)(w2c_i0) + 736, w2c_j1);
           w2c_j0 = w2c_l4;
-          w2c_j1 = 416ull;
+          w2c_j1 = 496ull;
           w2c_j0 += w2c_j1;
           w2c_j1 = w2c_l4;
-          w2c_j2 = 840ull;
+          w2c_j2 = 736ull;
           w2c_j1 += w2c_j2;
           w2c_i0 = w2c_f15(instance, w2c_j0, w2c_j1);
           w2c_i1 = 255u;
@@ -13457,23 +12296,23 @@ static void w2c_f0(Z_dine_ffi_instance_t* instance, u64 w2c_p0, u64 w2c_p1, u64 
             w2c_i0 = w2c_l37;
             w2c_i1 = 1u;
             w2c_i0 -= w2c_i1;
-            if (w2c_i0) {goto w2c_B589;}
-            goto w2c_B587;
+            if (w2c_i0) {goto w2c_B523;}
+            goto w2c_B521;
           }
           w2c_j0 = w2c_l3;
           w2c_j1 = 24ull;
           w2c_j0 += w2c_j1;
           w2c_l3 = w2c_j0;
-          w2c_j0 = w2c_l6;
+          w2c_j0 = w2c_l8;
           w2c_j1 = w2c_p1;
           w2c_j2 = 1ull;
           w2c_j1 += w2c_j2;
           w2c_p1 = w2c_j1;
           w2c_i0 = w2c_j0 != w2c_j1;
-          if (w2c_i0) {goto w2c_L590;}
-        w2c_j0 = w2c_l6;
+          if (w2c_i0) {goto w2c_L524;}
+        w2c_j0 = w2c_l8;
         w2c_p1 = w2c_j0;
-        w2c_B589:;
+        w2c_B523:;
         w2c_j0 = w2c_p1;
         w2c_j1 = 3ull;
         w2c_j0 <<= (w2c_j1 & 63);
@@ -13485,38 +12324,38 @@ static void w2c_f0(Z_dine_ffi_instance_t* instance, u64 w2c_p0, u64 w2c_p1, u64 
       w2c_i0 = (u32)(w2c_j0);
       w2c_i0 = i32_load16_u(&instance->w2c_memory, (u64)(w2c_i0));
       w2c_i0 = !(w2c_i0);
-      if (w2c_i0) {goto w2c_B578;}
+      if (w2c_i0) {goto w2c_B512;}
       w2c_j0 = w2c_p2;
       w2c_j1 = w2c_l3;
       w2c_j0 += w2c_j1;
       w2c_j1 = 968ull;
       w2c_j0 += w2c_j1;
-      w2c_l13 = w2c_j0;
-      goto w2c_L586;
-      w2c_B587:;
+      w2c_l10 = w2c_j0;
+      goto w2c_L520;
+      w2c_B521:;
     w2c_j0 = w2c_l4;
-    w2c_j1 = 552ull;
+    w2c_j1 = 664ull;
     w2c_j0 += w2c_j1;
     w2c_j1 = w2c_l4;
-    w2c_j2 = 392ull;
+    w2c_j2 = 632ull;
     w2c_j1 += w2c_j2;
     w2c_i0 = w2c_f32(instance, w2c_j0, w2c_j1);
-    if (w2c_i0) {goto w2c_B578;}
+    if (w2c_i0) {goto w2c_B512;}
     w2c_j0 = w2c_l4;
-    w2c_j1 = 552ull;
+    w2c_j1 = 664ull;
     w2c_j0 += w2c_j1;
     w2c_j1 = w2c_l4;
-    w2c_j2 = 368ull;
+    w2c_j2 = 472ull;
     w2c_j1 += w2c_j2;
     w2c_i0 = w2c_f32(instance, w2c_j0, w2c_j1);
-    if (w2c_i0) {goto w2c_B578;}
+    if (w2c_i0) {goto w2c_B512;}
     w2c_i0 = 1u;
-    goto w2c_B553;
-    w2c_B578:;
-    w2c_j0 = w2c_l18;
+    goto w2c_B455;
+    w2c_B512:;
+    w2c_j0 = w2c_l21;
     w2c_j1 = 40ull;
     w2c_j0 += w2c_j1;
-    w2c_l18 = w2c_j0;
+    w2c_l21 = w2c_j0;
     w2c_i0 = w2c_l38;
     w2c_i1 = 1u;
     w2c_i0 += w2c_i1;
@@ -13527,32 +12366,66 @@ static void w2c_f0(Z_dine_ffi_instance_t* instance, u64 w2c_p0, u64 w2c_p1, u64 
     w2c_l20 = w2c_j0;
     w2c_i0 = !(w2c_j0);
     w2c_i0 = !(w2c_i0);
-    if (w2c_i0) {goto w2c_L577;}
+    if (w2c_i0) {goto w2c_L511;}
+  w2c_B456:;
   w2c_i0 = 0u;
   w2c_l38 = w2c_i0;
   w2c_i0 = 0u;
-  w2c_B553:;
+  w2c_B455:;
   w2c_l37 = w2c_i0;
+  w2c_i0 = w2c_l40;
+  w2c_i1 = 1u;
+  w2c_i0 &= w2c_i1;
+  if (w2c_i0) {
+    w2c_j0 = w2c_l4;
+    w2c_i0 = (u32)(w2c_j0);
+    w2c_j1 = w2c_l18;
+    i64_store(&instance->w2c_memory, (u64)(w2c_i0) + 312, w2c_j1);
+    w2c_j0 = w2c_l4;
+    w2c_i0 = (u32)(w2c_j0);
+    w2c_j1 = w2c_l14;
+    i64_store(&instance->w2c_memory, (u64)(w2c_i0) + 304, w2c_j1);
+    w2c_j0 = w2c_l4;
+    w2c_i0 = (u32)(w2c_j0);
+    w2c_j1 = w2c_l19;
+    i64_store(&instance->w2c_memory, (u64)(w2c_i0) + 296, w2c_j1);
+    w2c_j0 = w2c_l4;
+    w2c_j1 = 296ull;
+    w2c_j0 += w2c_j1;
+    w2c_f13(instance, w2c_j0);
+    w2c_j0 = w2c_l22;
+    w2c_i0 = !(w2c_j0);
+    w2c_i0 = !(w2c_i0);
+    if (w2c_i0) {
+      w2c_j0 = w2c_l17;
+      w2c_leave(instance, w2c_j0);
+    }
+    w2c_j0 = w2c_l26;
+    w2c_i0 = (u32)(w2c_j0);
+    w2c_j1 = 17179869185ull;
+    i64_store(&instance->w2c_memory, (u64)(w2c_i0), w2c_j1);
+    w2c_j0 = w2c_l26;
+    w2c_j1 = 8ull;
+    w2c_j0 += w2c_j1;
+    w2c_i0 = (u32)(w2c_j0);
+    w2c_i1 = 0u;
+    i32_store(&instance->w2c_memory, (u64)(w2c_i0), w2c_i1);
+    w2c_j0 = w2c_l26;
+    w2c_j1 = 12ull;
+    w2c_j0 += w2c_j1;
+    w2c_i0 = (u32)(w2c_j0);
+    w2c_j1 = w2c_l4;
+    w2c_j2 = 324ull;
+    w2c_j1 += w2c_j2;
+    w2c_i1 = (u32)(w2c_j1);
+    w2c_i2 = 124u;
+    memory_copy(&instance->w2c_memory, &instance->w2c_memory, w2c_i0, w2c_i1, w2c_i2);
+    goto w2c_B139;
+  }
+  w2c_i0 = 0u;
+  w2c_l40 = w2c_i0;
   w2c_j0 = w2c_l4;
-  w2c_i0 = (u32)(w2c_j0);
-  w2c_j1 = w2c_l19;
-  w2c_i1 = (u32)(w2c_j1);
-  w2c_j1 = i64_load(&instance->w2c_memory, (u64)(w2c_i1) + 16u);
-  i64_store(&instance->w2c_memory, (u64)(w2c_i0) + 232, w2c_j1);
-  w2c_j0 = w2c_l4;
-  w2c_i0 = (u32)(w2c_j0);
-  w2c_j1 = w2c_l19;
-  w2c_i1 = (u32)(w2c_j1);
-  w2c_j1 = i64_load(&instance->w2c_memory, (u64)(w2c_i1) + 8u);
-  i64_store(&instance->w2c_memory, (u64)(w2c_i0) + 224, w2c_j1);
-  w2c_j0 = w2c_l4;
-  w2c_i0 = (u32)(w2c_j0);
-  w2c_j1 = w2c_l19;
-  w2c_i1 = (u32)(w2c_j1);
-  w2c_j1 = i64_load(&instance->w2c_memory, (u64)(w2c_i1));
-  i64_store(&instance->w2c_memory, (u64)(w2c_i0) + 216, w2c_j1);
-  w2c_j0 = w2c_l4;
-  w2c_j1 = 656ull;
+  w2c_j1 = 736ull;
   w2c_j0 += w2c_j1;
   w2c_i0 = (u32)(w2c_j0);
   w2c_i1 = 0u;
@@ -13561,21 +12434,21 @@ static void w2c_f0(Z_dine_ffi_instance_t* instance, u64 w2c_p0, u64 w2c_p1, u64 
   w2c_j0 = w2c_l4;
   w2c_i0 = (u32)(w2c_j0);
   w2c_j1 = 0ull;
-  i64_store(&instance->w2c_memory, (u64)(w2c_i0) + 576, w2c_j1);
+  i64_store(&instance->w2c_memory, (u64)(w2c_i0) + 656, w2c_j1);
   w2c_j0 = w2c_l4;
   w2c_i0 = (u32)(w2c_j0);
   w2c_j1 = 0ull;
-  i64_store(&instance->w2c_memory, (u64)(w2c_i0) + 568, w2c_j1);
+  i64_store(&instance->w2c_memory, (u64)(w2c_i0) + 648, w2c_j1);
   w2c_j0 = w2c_l4;
   w2c_i0 = (u32)(w2c_j0);
   w2c_j1 = 0ull;
-  i64_store(&instance->w2c_memory, (u64)(w2c_i0) + 560, w2c_j1);
+  i64_store(&instance->w2c_memory, (u64)(w2c_i0) + 640, w2c_j1);
   w2c_j0 = w2c_l4;
   w2c_i0 = (u32)(w2c_j0);
   w2c_j1 = 0ull;
-  i64_store(&instance->w2c_memory, (u64)(w2c_i0) + 552, w2c_j1);
+  i64_store(&instance->w2c_memory, (u64)(w2c_i0) + 632, w2c_j1);
   w2c_j0 = w2c_l4;
-  w2c_j1 = 416ull;
+  w2c_j1 = 496ull;
   w2c_j0 += w2c_j1;
   w2c_i0 = (u32)(w2c_j0);
   w2c_i1 = 0u;
@@ -13584,157 +12457,140 @@ static void w2c_f0(Z_dine_ffi_instance_t* instance, u64 w2c_p0, u64 w2c_p1, u64 
   w2c_j0 = w2c_l4;
   w2c_i0 = (u32)(w2c_j0);
   w2c_j1 = 0ull;
-  i64_store(&instance->w2c_memory, (u64)(w2c_i0) + 408, w2c_j1);
+  i64_store(&instance->w2c_memory, (u64)(w2c_i0) + 488, w2c_j1);
   w2c_j0 = w2c_l4;
   w2c_i0 = (u32)(w2c_j0);
   w2c_j1 = 0ull;
-  i64_store(&instance->w2c_memory, (u64)(w2c_i0) + 400, w2c_j1);
+  i64_store(&instance->w2c_memory, (u64)(w2c_i0) + 480, w2c_j1);
   w2c_j0 = w2c_l4;
   w2c_i0 = (u32)(w2c_j0);
   w2c_j1 = 0ull;
-  i64_store(&instance->w2c_memory, (u64)(w2c_i0) + 392, w2c_j1);
+  i64_store(&instance->w2c_memory, (u64)(w2c_i0) + 472, w2c_j1);
   w2c_j0 = w2c_l4;
   w2c_i0 = (u32)(w2c_j0);
   w2c_j1 = 0ull;
-  i64_store(&instance->w2c_memory, (u64)(w2c_i0) + 368, w2c_j1);
+  i64_store(&instance->w2c_memory, (u64)(w2c_i0) + 448, w2c_j1);
   w2c_j0 = w2c_l4;
   w2c_i0 = (u32)(w2c_j0);
   w2c_j1 = 0ull;
-  i64_store(&instance->w2c_memory, (u64)(w2c_i0) + 376, w2c_j1);
+  i64_store(&instance->w2c_memory, (u64)(w2c_i0) + 456, w2c_j1);
   w2c_j0 = w2c_l4;
   w2c_i0 = (u32)(w2c_j0);
   w2c_j1 = 0ull;
-  i64_store(&instance->w2c_memory, (u64)(w2c_i0) + 384, w2c_j1);
-  w2c_j0 = w2c_l4;
-  w2c_i0 = (u32)(w2c_j0);
-  w2c_j1 = w2c_l30;
-  i64_store(&instance->w2c_memory, (u64)(w2c_i0) + 608, w2c_j1);
-  w2c_j0 = w2c_l4;
-  w2c_i0 = (u32)(w2c_j0);
-  w2c_j1 = w2c_l17;
-  i64_store(&instance->w2c_memory, (u64)(w2c_i0) + 592, w2c_j1);
-  w2c_j0 = w2c_l4;
-  w2c_i0 = (u32)(w2c_j0);
-  w2c_i1 = 0u;
-  i32_store(&instance->w2c_memory, (u64)(w2c_i0) + 588, w2c_i1);
-  w2c_j0 = w2c_l4;
-  w2c_i0 = (u32)(w2c_j0);
-  w2c_i1 = w2c_l41;
-  i32_store(&instance->w2c_memory, (u64)(w2c_i0) + 584, w2c_i1);
-  w2c_j0 = w2c_l4;
-  w2c_i0 = (u32)(w2c_j0);
-  w2c_i1 = w2c_l40;
-  i32_store(&instance->w2c_memory, (u64)(w2c_i0) + 640, w2c_i1);
-  w2c_j0 = w2c_l4;
-  w2c_i0 = (u32)(w2c_j0);
-  w2c_i1 = w2c_l39;
-  i32_store(&instance->w2c_memory, (u64)(w2c_i0) + 644, w2c_i1);
-  w2c_j0 = w2c_l4;
-  w2c_i0 = (u32)(w2c_j0);
-  w2c_i1 = w2c_l37;
-  i32_store(&instance->w2c_memory, (u64)(w2c_i0) + 648, w2c_i1);
+  i64_store(&instance->w2c_memory, (u64)(w2c_i0) + 464, w2c_j1);
   w2c_j0 = w2c_l4;
   w2c_i0 = (u32)(w2c_j0);
   w2c_i1 = w2c_l38;
-  i32_store(&instance->w2c_memory, (u64)(w2c_i0) + 652, w2c_i1);
+  i32_store(&instance->w2c_memory, (u64)(w2c_i0) + 732, w2c_i1);
   w2c_j0 = w2c_l4;
   w2c_i0 = (u32)(w2c_j0);
-  w2c_j1 = w2c_l4;
-  w2c_i1 = (u32)(w2c_j1);
-  w2c_j1 = i64_load(&instance->w2c_memory, (u64)(w2c_i1) + 216u);
-  i64_store(&instance->w2c_memory, (u64)(w2c_i0) + 616, w2c_j1);
+  w2c_i1 = w2c_l37;
+  i32_store(&instance->w2c_memory, (u64)(w2c_i0) + 728, w2c_i1);
   w2c_j0 = w2c_l4;
   w2c_i0 = (u32)(w2c_j0);
-  w2c_j1 = w2c_l4;
-  w2c_i1 = (u32)(w2c_j1);
-  w2c_j1 = i64_load(&instance->w2c_memory, (u64)(w2c_i1) + 224u);
-  i64_store(&instance->w2c_memory, (u64)(w2c_i0) + 624, w2c_j1);
+  w2c_i1 = w2c_l39;
+  i32_store(&instance->w2c_memory, (u64)(w2c_i0) + 724, w2c_i1);
   w2c_j0 = w2c_l4;
   w2c_i0 = (u32)(w2c_j0);
-  w2c_j1 = w2c_l4;
-  w2c_i1 = (u32)(w2c_j1);
-  w2c_j1 = i64_load(&instance->w2c_memory, (u64)(w2c_i1) + 232u);
-  i64_store(&instance->w2c_memory, (u64)(w2c_i0) + 632, w2c_j1);
+  w2c_i1 = w2c_l41;
+  i32_store(&instance->w2c_memory, (u64)(w2c_i0) + 720, w2c_i1);
   w2c_j0 = w2c_l4;
   w2c_i0 = (u32)(w2c_j0);
-  w2c_j1 = w2c_l14;
-  i64_store(&instance->w2c_memory, (u64)(w2c_i0) + 600, w2c_j1);
-  w2c_j0 = w2c_l14;
-  w2c_j1 = 4294967295ull;
-  w2c_i0 = w2c_j0 <= w2c_j1;
-  if (w2c_i0) {
-    w2c_j0 = w2c_l4;
-    w2c_i0 = (u32)(w2c_j0);
-    w2c_j0 = i64_load(&instance->w2c_memory, (u64)(w2c_i0) + 624u);
-    w2c_j1 = 4294967296ull;
-    w2c_i0 = w2c_j0 < w2c_j1;
-    if (w2c_i0) {goto w2c_B592;}
-  }
-  w2c_j0 = w2c_l4;
-  w2c_i0 = (u32)(w2c_j0);
-  w2c_j1 = w2c_l30;
-  i64_store(&instance->w2c_memory, (u64)(w2c_i0) + 384, w2c_j1);
-  w2c_j0 = w2c_l4;
-  w2c_i0 = (u32)(w2c_j0);
-  w2c_j1 = w2c_l14;
-  i64_store(&instance->w2c_memory, (u64)(w2c_i0) + 376, w2c_j1);
+  w2c_j1 = w2c_l22;
+  i64_store(&instance->w2c_memory, (u64)(w2c_i0) + 712, w2c_j1);
   w2c_j0 = w2c_l4;
   w2c_i0 = (u32)(w2c_j0);
   w2c_j1 = w2c_l17;
-  i64_store(&instance->w2c_memory, (u64)(w2c_i0) + 368, w2c_j1);
-  w2c_j0 = w2c_l4;
-  w2c_j1 = 368ull;
-  w2c_j0 += w2c_j1;
-  w2c_f13(instance, w2c_j0);
+  i64_store(&instance->w2c_memory, (u64)(w2c_i0) + 696, w2c_j1);
   w2c_j0 = w2c_l4;
   w2c_i0 = (u32)(w2c_j0);
-  w2c_j0 = i64_load(&instance->w2c_memory, (u64)(w2c_i0) + 632u);
-  w2c_i0 = !(w2c_j0);
-  w2c_i0 = !(w2c_i0);
+  w2c_j1 = w2c_l18;
+  i64_store(&instance->w2c_memory, (u64)(w2c_i0) + 688, w2c_j1);
+  w2c_j0 = w2c_l4;
+  w2c_i0 = (u32)(w2c_j0);
+  w2c_j1 = w2c_l19;
+  i64_store(&instance->w2c_memory, (u64)(w2c_i0) + 672, w2c_j1);
+  w2c_j0 = w2c_l4;
+  w2c_i0 = (u32)(w2c_j0);
+  w2c_i1 = 0u;
+  i32_store(&instance->w2c_memory, (u64)(w2c_i0) + 668, w2c_i1);
+  w2c_j0 = w2c_l4;
+  w2c_i0 = (u32)(w2c_j0);
+  w2c_i1 = w2c_l44;
+  i32_store(&instance->w2c_memory, (u64)(w2c_i0) + 664, w2c_i1);
+  w2c_j0 = w2c_l4;
+  w2c_i0 = (u32)(w2c_j0);
+  w2c_j1 = w2c_l14;
+  i64_store(&instance->w2c_memory, (u64)(w2c_i0) + 680, w2c_j1);
+  w2c_j0 = w2c_l4;
+  w2c_i0 = (u32)(w2c_j0);
+  w2c_j1 = w2c_l12;
+  i64_store(&instance->w2c_memory, (u64)(w2c_i0) + 704, w2c_j1);
+  w2c_j0 = w2c_l12;
+  w2c_j1 = w2c_l14;
+  w2c_j0 |= w2c_j1;
+  w2c_j1 = 4294967296ull;
+  w2c_i0 = w2c_j0 >= w2c_j1;
   if (w2c_i0) {
     w2c_j0 = w2c_l4;
     w2c_i0 = (u32)(w2c_j0);
-    w2c_j0 = i64_load(&instance->w2c_memory, (u64)(w2c_i0) + 616u);
-    w2c_leave(instance, w2c_j0);
+    w2c_j1 = w2c_l18;
+    i64_store(&instance->w2c_memory, (u64)(w2c_i0) + 464, w2c_j1);
+    w2c_j0 = w2c_l4;
+    w2c_i0 = (u32)(w2c_j0);
+    w2c_j1 = w2c_l14;
+    i64_store(&instance->w2c_memory, (u64)(w2c_i0) + 456, w2c_j1);
+    w2c_j0 = w2c_l4;
+    w2c_i0 = (u32)(w2c_j0);
+    w2c_j1 = w2c_l19;
+    i64_store(&instance->w2c_memory, (u64)(w2c_i0) + 448, w2c_j1);
+    w2c_j0 = w2c_l4;
+    w2c_j1 = 448ull;
+    w2c_j0 += w2c_j1;
+    w2c_f13(instance, w2c_j0);
+    w2c_j0 = w2c_l22;
+    w2c_i0 = !(w2c_j0);
+    w2c_i0 = !(w2c_i0);
+    if (w2c_i0) {
+      w2c_j0 = w2c_l17;
+      w2c_leave(instance, w2c_j0);
+    }
+    w2c_j0 = w2c_l4;
+    w2c_j1 = 324ull;
+    w2c_j0 += w2c_j1;
+    w2c_i0 = (u32)(w2c_j0);
+    w2c_i1 = 0u;
+    w2c_i2 = 124u;
+    memory_fill(&instance->w2c_memory, w2c_i0, w2c_i1, w2c_i2);
+    w2c_i0 = 0u;
+    goto w2c_B263;
   }
   w2c_j0 = w2c_l4;
-  w2c_j1 = 244ull;
+  w2c_j1 = 672ull;
   w2c_j0 += w2c_j1;
-  w2c_i0 = (u32)(w2c_j0);
-  w2c_i1 = 0u;
-  w2c_i2 = 124u;
-  memory_fill(&instance->w2c_memory, w2c_i0, w2c_i1, w2c_i2);
-  w2c_i0 = 0u;
-  goto w2c_B360;
-  w2c_B592:;
-  w2c_j0 = w2c_l4;
-  w2c_j1 = 592ull;
-  w2c_j0 += w2c_j1;
-  w2c_l9 = w2c_j0;
-  w2c_i0 = 0u;
-  w2c_l38 = w2c_i0;
+  w2c_l11 = w2c_j0;
   w2c_j0 = w2c_l4;
   w2c_i0 = (u32)(w2c_j0);
   w2c_i1 = 0u;
-  i32_store(&instance->w2c_memory, (u64)(w2c_i0) + 792, w2c_i1);
+  i32_store(&instance->w2c_memory, (u64)(w2c_i0) + 872, w2c_i1);
   w2c_j0 = w2c_l4;
   w2c_i0 = (u32)(w2c_j0);
   w2c_j1 = 0ull;
-  i64_store(&instance->w2c_memory, (u64)(w2c_i0) + 784, w2c_j1);
+  i64_store(&instance->w2c_memory, (u64)(w2c_i0) + 864, w2c_j1);
   w2c_j0 = w2c_l14;
   w2c_i0 = !(w2c_j0);
   if (w2c_i0) {
     w2c_i0 = 7u;
-    w2c_l39 = w2c_i0;
-    goto w2c_B362;
+    w2c_l38 = w2c_i0;
+    goto w2c_B265;
   }
-  w2c_j0 = w2c_l17;
+  w2c_j0 = w2c_l19;
   w2c_l3 = w2c_j0;
   w2c_j0 = w2c_l14;
   w2c_p2 = w2c_j0;
-  w2c_L596: 
+  w2c_L531: 
     w2c_i0 = 5u;
-    w2c_l39 = w2c_i0;
+    w2c_l38 = w2c_i0;
     w2c_j0 = w2c_l3;
     w2c_j1 = 8ull;
     w2c_j0 += w2c_j1;
@@ -13745,7 +12601,7 @@ static void w2c_f0(Z_dine_ffi_instance_t* instance, u64 w2c_p0, u64 w2c_p1, u64 
     w2c_j0 -= w2c_j1;
     w2c_j1 = 31ull;
     w2c_i0 = w2c_j0 > w2c_j1;
-    if (w2c_i0) {goto w2c_B362;}
+    if (w2c_i0) {goto w2c_B265;}
     w2c_j0 = w2c_p2;
     w2c_j1 = 1ull;
     w2c_j0 -= w2c_j1;
@@ -13753,24 +12609,24 @@ static void w2c_f0(Z_dine_ffi_instance_t* instance, u64 w2c_p0, u64 w2c_p1, u64 
     w2c_j0 = w2c_l3;
     w2c_j1 = 56ull;
     w2c_j0 += w2c_j1;
-    w2c_l13 = w2c_j0;
+    w2c_l10 = w2c_j0;
     w2c_j0 = w2c_l3;
     w2c_j1 = 32ull;
     w2c_j0 += w2c_j1;
     w2c_i0 = (u32)(w2c_j0);
     w2c_j0 = i64_load(&instance->w2c_memory, (u64)(w2c_i0));
-    w2c_l6 = w2c_j0;
+    w2c_l8 = w2c_j0;
     w2c_j0 = w2c_l3;
     w2c_j1 = 24ull;
     w2c_j0 += w2c_j1;
     w2c_i0 = (u32)(w2c_j0);
     w2c_j0 = i64_load(&instance->w2c_memory, (u64)(w2c_i0));
-    w2c_l7 = w2c_j0;
+    w2c_l6 = w2c_j0;
     w2c_j0 = w2c_l3;
     w2c_i0 = (u32)(w2c_j0);
     w2c_j0 = i64_load(&instance->w2c_memory, (u64)(w2c_i0));
     w2c_l3 = w2c_j0;
-    w2c_L597: 
+    w2c_L532: 
       w2c_j0 = w2c_p1;
       w2c_i0 = !(w2c_j0);
       w2c_i0 = !(w2c_i0);
@@ -13791,13 +12647,13 @@ static void w2c_f0(Z_dine_ffi_instance_t* instance, u64 w2c_p0, u64 w2c_p1, u64 
         w2c_i0 = w2c_l37;
         w2c_i1 = 45u;
         w2c_i0 = w2c_i0 == w2c_i1;
-        if (w2c_i0) {goto w2c_L597;}
+        if (w2c_i0) {goto w2c_L532;}
         w2c_j0 = w2c_l5;
         w2c_l3 = w2c_j0;
         w2c_i0 = w2c_l37;
         w2c_i1 = 95u;
         w2c_i0 = w2c_i0 == w2c_i1;
-        if (w2c_i0) {goto w2c_L597;}
+        if (w2c_i0) {goto w2c_L532;}
         w2c_i0 = w2c_l37;
         w2c_i1 = 48u;
         w2c_i0 -= w2c_i1;
@@ -13805,7 +12661,7 @@ static void w2c_f0(Z_dine_ffi_instance_t* instance, u64 w2c_p0, u64 w2c_p1, u64 
         w2c_i0 &= w2c_i1;
         w2c_i1 = 10u;
         w2c_i0 = w2c_i0 < w2c_i1;
-        if (w2c_i0) {goto w2c_L597;}
+        if (w2c_i0) {goto w2c_L532;}
         w2c_i0 = w2c_l37;
         w2c_i1 = 223u;
         w2c_i0 &= w2c_i1;
@@ -13815,19 +12671,19 @@ static void w2c_f0(Z_dine_ffi_instance_t* instance, u64 w2c_p0, u64 w2c_p1, u64 
         w2c_i0 &= w2c_i1;
         w2c_i1 = 26u;
         w2c_i0 = w2c_i0 < w2c_i1;
-        if (w2c_i0) {goto w2c_L597;}
-        goto w2c_B362;
+        if (w2c_i0) {goto w2c_L532;}
+        goto w2c_B265;
       }
-    w2c_j0 = w2c_l6;
+    w2c_j0 = w2c_l8;
     w2c_i0 = !(w2c_j0);
     w2c_i0 = !(w2c_i0);
     if (w2c_i0) {
-      w2c_L600: 
-        w2c_j0 = w2c_l7;
+      w2c_L535: 
+        w2c_j0 = w2c_l6;
         w2c_i0 = (u32)(w2c_j0);
         w2c_i0 = i32_load8_u(&instance->w2c_memory, (u64)(w2c_i0));
-        if (w2c_i0) {goto w2c_B601;}
-        w2c_j0 = w2c_l7;
+        if (w2c_i0) {goto w2c_B536;}
+        w2c_j0 = w2c_l6;
         w2c_j1 = 16ull;
         w2c_j0 += w2c_j1;
         w2c_i0 = (u32)(w2c_j0);
@@ -13837,17 +12693,17 @@ static void w2c_f0(Z_dine_ffi_instance_t* instance, u64 w2c_p0, u64 w2c_p1, u64 
         w2c_j0 -= w2c_j1;
         w2c_j1 = 31ull;
         w2c_i0 = w2c_j0 > w2c_j1;
-        if (w2c_i0) {goto w2c_B362;}
-        w2c_j0 = w2c_l7;
+        if (w2c_i0) {goto w2c_B265;}
+        w2c_j0 = w2c_l6;
         w2c_j1 = 8ull;
         w2c_j0 += w2c_j1;
         w2c_i0 = (u32)(w2c_j0);
         w2c_j0 = i64_load(&instance->w2c_memory, (u64)(w2c_i0));
         w2c_l3 = w2c_j0;
-        w2c_L602: 
+        w2c_L537: 
           w2c_j0 = w2c_p1;
           w2c_i0 = !(w2c_j0);
-          if (w2c_i0) {goto w2c_B601;}
+          if (w2c_i0) {goto w2c_B536;}
           w2c_j0 = w2c_p1;
           w2c_j1 = 1ull;
           w2c_j0 -= w2c_j1;
@@ -13864,13 +12720,13 @@ static void w2c_f0(Z_dine_ffi_instance_t* instance, u64 w2c_p0, u64 w2c_p1, u64 
           w2c_i0 = w2c_l37;
           w2c_i1 = 45u;
           w2c_i0 = w2c_i0 == w2c_i1;
-          if (w2c_i0) {goto w2c_L602;}
+          if (w2c_i0) {goto w2c_L537;}
           w2c_j0 = w2c_l5;
           w2c_l3 = w2c_j0;
           w2c_i0 = w2c_l37;
           w2c_i1 = 95u;
           w2c_i0 = w2c_i0 == w2c_i1;
-          if (w2c_i0) {goto w2c_L602;}
+          if (w2c_i0) {goto w2c_L537;}
           w2c_i0 = w2c_l37;
           w2c_i1 = 48u;
           w2c_i0 -= w2c_i1;
@@ -13878,7 +12734,7 @@ static void w2c_f0(Z_dine_ffi_instance_t* instance, u64 w2c_p0, u64 w2c_p1, u64 
           w2c_i0 &= w2c_i1;
           w2c_i1 = 10u;
           w2c_i0 = w2c_i0 < w2c_i1;
-          if (w2c_i0) {goto w2c_L602;}
+          if (w2c_i0) {goto w2c_L537;}
           w2c_i0 = w2c_l37;
           w2c_i1 = 223u;
           w2c_i0 &= w2c_i1;
@@ -13888,53 +12744,53 @@ static void w2c_f0(Z_dine_ffi_instance_t* instance, u64 w2c_p0, u64 w2c_p1, u64 
           w2c_i0 &= w2c_i1;
           w2c_i1 = 26u;
           w2c_i0 = w2c_i0 < w2c_i1;
-          if (w2c_i0) {goto w2c_L602;}
-        goto w2c_B362;
-        w2c_B601:;
-        w2c_j0 = w2c_l7;
+          if (w2c_i0) {goto w2c_L537;}
+        goto w2c_B265;
+        w2c_B536:;
+        w2c_j0 = w2c_l6;
         w2c_j1 = 56ull;
         w2c_j0 += w2c_j1;
-        w2c_l7 = w2c_j0;
-        w2c_j0 = w2c_l6;
+        w2c_l6 = w2c_j0;
+        w2c_j0 = w2c_l8;
         w2c_j1 = 1ull;
         w2c_j0 -= w2c_j1;
-        w2c_l6 = w2c_j0;
+        w2c_l8 = w2c_j0;
         w2c_j1 = 0ull;
         w2c_i0 = w2c_j0 != w2c_j1;
-        if (w2c_i0) {goto w2c_L600;}
+        if (w2c_i0) {goto w2c_L535;}
     }
-    w2c_i0 = w2c_l38;
+    w2c_i0 = w2c_l40;
     w2c_i1 = 1u;
     w2c_i0 += w2c_i1;
-    w2c_l38 = w2c_i0;
-    w2c_j0 = w2c_l13;
+    w2c_l40 = w2c_i0;
+    w2c_j0 = w2c_l10;
     w2c_l3 = w2c_j0;
     w2c_j0 = w2c_p2;
     w2c_j1 = 0ull;
     w2c_i0 = w2c_j0 != w2c_j1;
-    if (w2c_i0) {goto w2c_L596;}
+    if (w2c_i0) {goto w2c_L531;}
   w2c_j0 = w2c_l4;
   w2c_i0 = (u32)(w2c_j0);
   w2c_j1 = 0ull;
-  i64_store(&instance->w2c_memory, (u64)(w2c_i0) + 800, w2c_j1);
+  i64_store(&instance->w2c_memory, (u64)(w2c_i0) + 880, w2c_j1);
   w2c_j0 = w2c_l4;
-  w2c_j1 = 820ull;
+  w2c_j1 = 900ull;
   w2c_j0 += w2c_j1;
-  w2c_l21 = w2c_j0;
+  w2c_l23 = w2c_j0;
   w2c_j0 = 0ull;
-  w2c_l19 = w2c_j0;
+  w2c_l21 = w2c_j0;
   w2c_i0 = 0u;
   w2c_l37 = w2c_i0;
-  w2c_L608: 
-    w2c_j0 = w2c_l17;
-    w2c_j1 = w2c_l19;
+  w2c_L543: 
+    w2c_j0 = w2c_l19;
+    w2c_j1 = w2c_l21;
     w2c_j2 = 56ull;
     w2c_j1 *= w2c_j2;
     w2c_j0 += w2c_j1;
     w2c_l3 = w2c_j0;
     w2c_i0 = (u32)(w2c_j0);
     w2c_j0 = i64_load(&instance->w2c_memory, (u64)(w2c_i0));
-    w2c_l15 = w2c_j0;
+    w2c_l20 = w2c_j0;
     w2c_j0 = w2c_l4;
     w2c_i0 = (u32)(w2c_j0);
     w2c_j1 = w2c_l3;
@@ -13942,12 +12798,12 @@ static void w2c_f0(Z_dine_ffi_instance_t* instance, u64 w2c_p0, u64 w2c_p1, u64 
     w2c_j1 += w2c_j2;
     w2c_i1 = (u32)(w2c_j1);
     w2c_j1 = i64_load(&instance->w2c_memory, (u64)(w2c_i1));
-    w2c_l23 = w2c_j1;
-    i64_store(&instance->w2c_memory, (u64)(w2c_i0) + 816, w2c_j1);
+    w2c_l27 = w2c_j1;
+    i64_store(&instance->w2c_memory, (u64)(w2c_i0) + 896, w2c_j1);
     w2c_j0 = w2c_l4;
     w2c_i0 = (u32)(w2c_j0);
-    w2c_j1 = w2c_l15;
-    i64_store(&instance->w2c_memory, (u64)(w2c_i0) + 808, w2c_j1);
+    w2c_j1 = w2c_l20;
+    i64_store(&instance->w2c_memory, (u64)(w2c_i0) + 888, w2c_j1);
     w2c_i0 = 0u;
     w2c_i1 = w2c_l37;
     w2c_i2 = 1u;
@@ -13955,19 +12811,19 @@ static void w2c_f0(Z_dine_ffi_instance_t* instance, u64 w2c_p0, u64 w2c_p1, u64 
     if (w2c_i1) {
       w2c_j1 = w2c_l4;
       w2c_i1 = (u32)(w2c_j1);
-      w2c_j1 = i64_load(&instance->w2c_memory, (u64)(w2c_i1) + 800u);
-      w2c_l12 = w2c_j1;
+      w2c_j1 = i64_load(&instance->w2c_memory, (u64)(w2c_i1) + 880u);
+      w2c_l15 = w2c_j1;
       w2c_j2 = 2ull;
       w2c_j1 += w2c_j2;
       w2c_i1 = (u32)(w2c_j1);
       w2c_i1 = i32_load16_u(&instance->w2c_memory, (u64)(w2c_i1));
-      goto w2c_B609;
+      goto w2c_B544;
     }
     w2c_j1 = w2c_l4;
     w2c_j2 = 56ull;
     w2c_j1 += w2c_j2;
     w2c_j2 = 248ull;
-    w2c_f113(instance, w2c_j1, w2c_j2);
+    w2c_f114(instance, w2c_j1, w2c_j2);
     w2c_j1 = w2c_l4;
     w2c_i1 = (u32)(w2c_j1);
     w2c_j1 = i64_load(&instance->w2c_memory, (u64)(w2c_i1) + 56u);
@@ -13975,58 +12831,58 @@ static void w2c_f0(Z_dine_ffi_instance_t* instance, u64 w2c_p0, u64 w2c_p1, u64 
     w2c_i2 = 1u;
     w2c_i1 &= w2c_i2;
     w2c_i1 = !(w2c_i1);
-    if (w2c_i1) {goto w2c_B361;}
+    if (w2c_i1) {goto w2c_B264;}
     w2c_j1 = w2c_l4;
     w2c_i1 = (u32)(w2c_j1);
     w2c_j1 = i64_load(&instance->w2c_memory, (u64)(w2c_i1) + 64u);
-    w2c_l12 = w2c_j1;
+    w2c_l15 = w2c_j1;
     w2c_i1 = (u32)(w2c_j1);
     w2c_i2 = 0u;
     i32_store(&instance->w2c_memory, (u64)(w2c_i1), w2c_i2);
     w2c_j1 = w2c_l4;
     w2c_i1 = (u32)(w2c_j1);
-    w2c_j2 = w2c_l12;
-    i64_store(&instance->w2c_memory, (u64)(w2c_i1) + 800, w2c_j2);
+    w2c_j2 = w2c_l15;
+    i64_store(&instance->w2c_memory, (u64)(w2c_i1) + 880, w2c_j2);
     w2c_i1 = 0u;
-    w2c_B609:;
+    w2c_B544:;
     w2c_l39 = w2c_i1;
     w2c_i0 -= w2c_i1;
     w2c_l38 = w2c_i0;
     w2c_j0 = 0ull;
-    w2c_l11 = w2c_j0;
-    w2c_j0 = 0ull;
     w2c_l13 = w2c_j0;
-    w2c_j0 = w2c_l12;
-    w2c_l3 = w2c_j0;
+    w2c_j0 = 0ull;
     w2c_l10 = w2c_j0;
+    w2c_j0 = w2c_l15;
+    w2c_l3 = w2c_j0;
+    w2c_l9 = w2c_j0;
     w2c_j0 = 15ull;
     w2c_i1 = w2c_l39;
     w2c_j1 = (u64)(w2c_i1);
     w2c_j2 = 65535ull;
     w2c_j1 &= w2c_j2;
-    w2c_l18 = w2c_j1;
+    w2c_l16 = w2c_j1;
     w2c_j0 -= w2c_j1;
-    w2c_l20 = w2c_j0;
+    w2c_l24 = w2c_j0;
     w2c_p2 = w2c_j0;
     w2c_j0 = 0ull;
-    w2c_l6 = w2c_j0;
-    w2c_L611: 
+    w2c_l8 = w2c_j0;
+    w2c_L546: 
       w2c_j0 = 0ull;
       w2c_p1 = w2c_j0;
       w2c_j0 = w2c_l3;
-      w2c_l7 = w2c_j0;
+      w2c_l6 = w2c_j0;
       w2c_i0 = (u32)(w2c_j0);
       w2c_j0 = i64_load16_u(&instance->w2c_memory, (u64)(w2c_i0));
       w2c_l5 = w2c_j0;
       w2c_i0 = !(w2c_j0);
-      if (w2c_i0) {goto w2c_B612;}
-      w2c_j0 = w2c_l7;
+      if (w2c_i0) {goto w2c_B547;}
+      w2c_j0 = w2c_l6;
       w2c_j1 = 8ull;
       w2c_j0 += w2c_j1;
       w2c_l3 = w2c_j0;
-      w2c_L613: 
+      w2c_L548: 
         w2c_j0 = w2c_l4;
-        w2c_j1 = 808ull;
+        w2c_j1 = 888ull;
         w2c_j0 += w2c_j1;
         w2c_j1 = w2c_l3;
         w2c_i0 = w2c_f15(instance, w2c_j0, w2c_j1);
@@ -14039,8 +12895,8 @@ static void w2c_f0(Z_dine_ffi_instance_t* instance, u64 w2c_p0, u64 w2c_p1, u64 
           w2c_i0 = w2c_l37;
           w2c_i1 = 1u;
           w2c_i0 -= w2c_i1;
-          if (w2c_i0) {goto w2c_B612;}
-          goto w2c_B604;
+          if (w2c_i0) {goto w2c_B547;}
+          goto w2c_B539;
         }
         w2c_j0 = w2c_l3;
         w2c_j1 = 16ull;
@@ -14052,21 +12908,21 @@ static void w2c_f0(Z_dine_ffi_instance_t* instance, u64 w2c_p0, u64 w2c_p1, u64 
         w2c_j1 += w2c_j2;
         w2c_p1 = w2c_j1;
         w2c_i0 = w2c_j0 != w2c_j1;
-        if (w2c_i0) {goto w2c_L613;}
+        if (w2c_i0) {goto w2c_L548;}
       w2c_j0 = w2c_l5;
       w2c_p1 = w2c_j0;
-      w2c_B612:;
+      w2c_B547:;
       w2c_j0 = w2c_p2;
       w2c_j1 = 1ull;
       w2c_j0 += w2c_j1;
       w2c_p2 = w2c_j0;
       w2c_j0 = w2c_p1;
-      w2c_j1 = w2c_l6;
+      w2c_j1 = w2c_l8;
       w2c_j2 = 4ull;
       w2c_j1 <<= (w2c_j2 & 63);
       w2c_j0 += w2c_j1;
-      w2c_l6 = w2c_j0;
-      w2c_j0 = w2c_l7;
+      w2c_l8 = w2c_j0;
+      w2c_j0 = w2c_l6;
       w2c_j1 = 2ull;
       w2c_j0 += w2c_j1;
       w2c_i0 = (u32)(w2c_j0);
@@ -14076,11 +12932,11 @@ static void w2c_f0(Z_dine_ffi_instance_t* instance, u64 w2c_p0, u64 w2c_p1, u64 
         w2c_i1 = 1u;
         w2c_i0 += w2c_i1;
         w2c_l38 = w2c_i0;
-        w2c_j0 = w2c_l13;
+        w2c_j0 = w2c_l10;
         w2c_j1 = 1ull;
         w2c_j0 += w2c_j1;
-        w2c_l13 = w2c_j0;
-        w2c_j0 = w2c_l7;
+        w2c_l10 = w2c_j0;
+        w2c_j0 = w2c_l6;
         w2c_j1 = w2c_p1;
         w2c_j2 = 3ull;
         w2c_j1 <<= (w2c_j2 & 63);
@@ -14091,16 +12947,16 @@ static void w2c_f0(Z_dine_ffi_instance_t* instance, u64 w2c_p0, u64 w2c_p1, u64 
         w2c_j0 = i64_load(&instance->w2c_memory, (u64)(w2c_i0));
         w2c_l3 = w2c_j0;
         w2c_j0 = w2c_p1;
-        w2c_l11 = w2c_j0;
-        w2c_j0 = w2c_l7;
-        w2c_l10 = w2c_j0;
-        goto w2c_L611;
+        w2c_l13 = w2c_j0;
+        w2c_j0 = w2c_l6;
+        w2c_l9 = w2c_j0;
+        goto w2c_L546;
       }
     w2c_j0 = w2c_l4;
-    w2c_j1 = 800ull;
+    w2c_j1 = 880ull;
     w2c_j0 += w2c_j1;
-    w2c_j1 = w2c_l10;
-    w2c_j2 = w2c_l11;
+    w2c_j1 = w2c_l9;
+    w2c_j2 = w2c_l13;
     w2c_j3 = 3ull;
     w2c_j2 <<= (w2c_j3 & 63);
     w2c_l3 = w2c_j2;
@@ -14108,7 +12964,7 @@ static void w2c_f0(Z_dine_ffi_instance_t* instance, u64 w2c_p0, u64 w2c_p1, u64 
     w2c_j2 = 248ull;
     w2c_j1 += w2c_j2;
     w2c_j2 = w2c_p2;
-    w2c_j3 = w2c_l20;
+    w2c_j3 = w2c_l24;
     w2c_j2 -= w2c_j3;
     w2c_p1 = w2c_j2;
     w2c_j3 = 1ull;
@@ -14121,16 +12977,16 @@ static void w2c_f0(Z_dine_ffi_instance_t* instance, u64 w2c_p0, u64 w2c_p1, u64 
     w2c_i1 = 14u;
     w2c_i0 = w2c_i0 > w2c_i1;
     if (w2c_i0) {
-      w2c_j0 = w2c_l12;
+      w2c_j0 = w2c_l15;
       w2c_i0 = (u32)(w2c_j0);
       w2c_i0 = i32_load16_u(&instance->w2c_memory, (u64)(w2c_i0));
       w2c_i1 = 15u;
       w2c_i0 = w2c_i0 < w2c_i1;
       if (w2c_i0) {
-        w2c_j0 = w2c_l12;
+        w2c_j0 = w2c_l15;
         w2c_l5 = w2c_j0;
-        w2c_j0 = w2c_l20;
-        goto w2c_B617;
+        w2c_j0 = w2c_l24;
+        goto w2c_B552;
       }
       w2c_i0 = w2c_l39;
       w2c_i1 = 65535u;
@@ -14138,15 +12994,15 @@ static void w2c_f0(Z_dine_ffi_instance_t* instance, u64 w2c_p0, u64 w2c_p1, u64 
       w2c_i1 = 10u;
       w2c_i0 = w2c_i0 > w2c_i1;
       if (w2c_i0) {
-        w2c_j0 = w2c_l12;
+        w2c_j0 = w2c_l15;
         w2c_l5 = w2c_j0;
-        goto w2c_B605;
+        goto w2c_B540;
       }
       w2c_j0 = w2c_l4;
       w2c_j1 = 40ull;
       w2c_j0 += w2c_j1;
       w2c_j1 = 376ull;
-      w2c_f113(instance, w2c_j0, w2c_j1);
+      w2c_f114(instance, w2c_j0, w2c_j1);
       w2c_j0 = w2c_l4;
       w2c_i0 = (u32)(w2c_j0);
       w2c_j0 = i64_load(&instance->w2c_memory, (u64)(w2c_i0) + 40u);
@@ -14155,9 +13011,9 @@ static void w2c_f0(Z_dine_ffi_instance_t* instance, u64 w2c_p0, u64 w2c_p1, u64 
       w2c_i0 &= w2c_i1;
       w2c_i0 = !(w2c_i0);
       if (w2c_i0) {
-        w2c_j0 = w2c_l12;
+        w2c_j0 = w2c_l15;
         w2c_l5 = w2c_j0;
-        goto w2c_B605;
+        goto w2c_B540;
       }
       w2c_j0 = w2c_l4;
       w2c_i0 = (u32)(w2c_j0);
@@ -14170,7 +13026,7 @@ static void w2c_f0(Z_dine_ffi_instance_t* instance, u64 w2c_p0, u64 w2c_p1, u64 
       w2c_j1 = 248ull;
       w2c_j0 += w2c_j1;
       w2c_i0 = (u32)(w2c_j0);
-      w2c_j1 = w2c_l12;
+      w2c_j1 = w2c_l15;
       i64_store(&instance->w2c_memory, (u64)(w2c_i0), w2c_j1);
       w2c_j0 = w2c_l5;
       w2c_j1 = 2ull;
@@ -14183,32 +13039,32 @@ static void w2c_f0(Z_dine_ffi_instance_t* instance, u64 w2c_p0, u64 w2c_p1, u64 
       w2c_j0 = w2c_l4;
       w2c_i0 = (u32)(w2c_j0);
       w2c_j1 = w2c_l5;
-      i64_store(&instance->w2c_memory, (u64)(w2c_i0) + 800, w2c_j1);
+      i64_store(&instance->w2c_memory, (u64)(w2c_i0) + 880, w2c_j1);
       w2c_j0 = 14ull;
-      w2c_j1 = w2c_l18;
+      w2c_j1 = w2c_l16;
       w2c_j0 -= w2c_j1;
-      w2c_B617:;
-      w2c_l24 = w2c_j0;
+      w2c_B552:;
+      w2c_l25 = w2c_j0;
       w2c_j0 = w2c_l4;
       w2c_i0 = (u32)(w2c_j0);
       w2c_j1 = 0ull;
-      i64_store(&instance->w2c_memory, (u64)(w2c_i0) + 832, w2c_j1);
+      i64_store(&instance->w2c_memory, (u64)(w2c_i0) + 912, w2c_j1);
       w2c_j0 = w2c_l4;
       w2c_i0 = (u32)(w2c_j0);
       w2c_j1 = 0ull;
-      i64_store(&instance->w2c_memory, (u64)(w2c_i0) + 824, w2c_j1);
+      i64_store(&instance->w2c_memory, (u64)(w2c_i0) + 904, w2c_j1);
       w2c_j0 = w2c_p2;
-      w2c_j1 = w2c_l24;
+      w2c_j1 = w2c_l25;
       w2c_i0 = w2c_j0 <= w2c_j1;
-      if (w2c_i0) {goto w2c_B621;}
-      w2c_j0 = w2c_l13;
-      w2c_j1 = w2c_l20;
+      if (w2c_i0) {goto w2c_B556;}
+      w2c_j0 = w2c_l10;
+      w2c_j1 = w2c_l24;
       w2c_j0 += w2c_j1;
-      w2c_j1 = w2c_l24;
+      w2c_j1 = w2c_l25;
       w2c_j0 -= w2c_j1;
-      w2c_l7 = w2c_j0;
+      w2c_l6 = w2c_j0;
       w2c_j0 = w2c_p2;
-      w2c_j1 = w2c_l24;
+      w2c_j1 = w2c_l25;
       w2c_j0 -= w2c_j1;
       w2c_j1 = 3ull;
       w2c_j0 &= w2c_j1;
@@ -14216,10 +13072,10 @@ static void w2c_f0(Z_dine_ffi_instance_t* instance, u64 w2c_p0, u64 w2c_p1, u64 
       if (w2c_i0) {
         w2c_j0 = w2c_p2;
         w2c_l3 = w2c_j0;
-        goto w2c_B622;
+        goto w2c_B557;
       }
       w2c_i0 = w2c_l38;
-      w2c_j1 = w2c_l24;
+      w2c_j1 = w2c_l25;
       w2c_i1 = (u32)(w2c_j1);
       w2c_i0 -= w2c_i1;
       w2c_j0 = (u64)(w2c_i0);
@@ -14228,46 +13084,46 @@ static void w2c_f0(Z_dine_ffi_instance_t* instance, u64 w2c_p0, u64 w2c_p1, u64 
       w2c_p1 = w2c_j0;
       w2c_j0 = w2c_p2;
       w2c_l3 = w2c_j0;
-      w2c_L624: 
+      w2c_L559: 
         w2c_j0 = w2c_l3;
         w2c_j1 = 1ull;
         w2c_j0 -= w2c_j1;
         w2c_l3 = w2c_j0;
         w2c_j1 = w2c_l4;
-        w2c_j2 = 824ull;
+        w2c_j2 = 904ull;
         w2c_j1 += w2c_j2;
         w2c_j0 += w2c_j1;
         w2c_i0 = (u32)(w2c_j0);
-        w2c_j1 = w2c_l6;
+        w2c_j1 = w2c_l8;
         w2c_i1 = (u32)(w2c_j1);
         w2c_i2 = 15u;
         w2c_i1 &= w2c_i2;
         i32_store8(&instance->w2c_memory, (u64)(w2c_i0), w2c_i1);
-        w2c_j0 = w2c_l6;
+        w2c_j0 = w2c_l8;
         w2c_j1 = 4ull;
         w2c_j0 >>= (w2c_j1 & 63);
-        w2c_l6 = w2c_j0;
+        w2c_l8 = w2c_j0;
         w2c_j0 = w2c_p1;
         w2c_j1 = 1ull;
         w2c_j0 -= w2c_j1;
         w2c_p1 = w2c_j0;
         w2c_j1 = 0ull;
         w2c_i0 = w2c_j0 != w2c_j1;
-        if (w2c_i0) {goto w2c_L624;}
-      w2c_B622:;
-      w2c_j0 = w2c_l7;
+        if (w2c_i0) {goto w2c_L559;}
+      w2c_B557:;
+      w2c_j0 = w2c_l6;
       w2c_j1 = 3ull;
       w2c_i0 = w2c_j0 < w2c_j1;
-      if (w2c_i0) {goto w2c_B621;}
-      w2c_L625: 
+      if (w2c_i0) {goto w2c_B556;}
+      w2c_L560: 
         w2c_j0 = w2c_l3;
-        w2c_j1 = w2c_l21;
+        w2c_j1 = w2c_l23;
         w2c_j0 += w2c_j1;
         w2c_p1 = w2c_j0;
         w2c_j1 = 3ull;
         w2c_j0 += w2c_j1;
         w2c_i0 = (u32)(w2c_j0);
-        w2c_j1 = w2c_l6;
+        w2c_j1 = w2c_l8;
         w2c_i1 = (u32)(w2c_j1);
         w2c_l37 = w2c_i1;
         w2c_i2 = 15u;
@@ -14301,50 +13157,50 @@ static void w2c_f0(Z_dine_ffi_instance_t* instance, u64 w2c_p0, u64 w2c_p1, u64 
         w2c_i2 = 15u;
         w2c_i1 &= w2c_i2;
         i32_store8(&instance->w2c_memory, (u64)(w2c_i0), w2c_i1);
-        w2c_j0 = w2c_l6;
+        w2c_j0 = w2c_l8;
         w2c_j1 = 16ull;
         w2c_j0 >>= (w2c_j1 & 63);
-        w2c_l6 = w2c_j0;
-        w2c_j0 = w2c_l24;
+        w2c_l8 = w2c_j0;
+        w2c_j0 = w2c_l25;
         w2c_j1 = w2c_l3;
         w2c_j2 = 4ull;
         w2c_j1 -= w2c_j2;
         w2c_l3 = w2c_j1;
         w2c_i0 = w2c_j0 < w2c_j1;
-        if (w2c_i0) {goto w2c_L625;}
-      w2c_B621:;
+        if (w2c_i0) {goto w2c_L560;}
+      w2c_B556:;
       w2c_j0 = 16ull;
-      w2c_j1 = w2c_l24;
+      w2c_j1 = w2c_l25;
       w2c_j0 -= w2c_j1;
       w2c_l3 = w2c_j0;
       w2c_j1 = 2ull;
       w2c_i0 = w2c_j0 >= w2c_j1;
       if (w2c_i0) {
         w2c_j0 = w2c_l4;
-        w2c_j1 = 824ull;
+        w2c_j1 = 904ull;
         w2c_j0 += w2c_j1;
-        w2c_j1 = w2c_l24;
+        w2c_j1 = w2c_l25;
         w2c_j0 += w2c_j1;
-        w2c_l12 = w2c_j0;
+        w2c_l15 = w2c_j0;
         w2c_j0 = w2c_l4;
-        w2c_j1 = 800ull;
+        w2c_j1 = 880ull;
         w2c_j0 += w2c_j1;
-        w2c_l18 = w2c_j0;
-        w2c_L627: 
+        w2c_l16 = w2c_j0;
+        w2c_L562: 
           w2c_j0 = w2c_l3;
-          w2c_l20 = w2c_j0;
-          w2c_j0 = w2c_l18;
+          w2c_l24 = w2c_j0;
+          w2c_j0 = w2c_l16;
           w2c_i0 = (u32)(w2c_j0);
           w2c_j0 = i64_load(&instance->w2c_memory, (u64)(w2c_i0));
-          w2c_l10 = w2c_j0;
-          w2c_j1 = w2c_l12;
+          w2c_l9 = w2c_j0;
+          w2c_j1 = w2c_l15;
           w2c_i1 = (u32)(w2c_j1);
           w2c_i1 = i32_load8_u(&instance->w2c_memory, (u64)(w2c_i1));
           w2c_l37 = w2c_i1;
           w2c_j1 = (u64)(w2c_i1);
           w2c_j2 = 255ull;
           w2c_j1 &= w2c_j2;
-          w2c_l22 = w2c_j1;
+          w2c_l31 = w2c_j1;
           w2c_j2 = 3ull;
           w2c_j1 <<= (w2c_j2 & 63);
           w2c_p1 = w2c_j1;
@@ -14357,8 +13213,8 @@ static void w2c_f0(Z_dine_ffi_instance_t* instance, u64 w2c_p0, u64 w2c_p1, u64 
           w2c_i0 = i32_load16_u(&instance->w2c_memory, (u64)(w2c_i0));
           w2c_i1 = 15u;
           w2c_i0 = w2c_i0 < w2c_i1;
-          if (w2c_i0) {goto w2c_B628;}
-          w2c_j0 = w2c_l10;
+          if (w2c_i0) {goto w2c_B563;}
+          w2c_j0 = w2c_l9;
           w2c_j1 = 2ull;
           w2c_j0 += w2c_j1;
           w2c_i0 = (u32)(w2c_j0);
@@ -14372,7 +13228,7 @@ static void w2c_f0(Z_dine_ffi_instance_t* instance, u64 w2c_p0, u64 w2c_p1, u64 
             w2c_j1 = 8ull;
             w2c_j0 += w2c_j1;
             w2c_j1 = 248ull;
-            w2c_f113(instance, w2c_j0, w2c_j1);
+            w2c_f114(instance, w2c_j0, w2c_j1);
             w2c_j0 = w2c_l4;
             w2c_i0 = (u32)(w2c_j0);
             w2c_j0 = i64_load(&instance->w2c_memory, (u64)(w2c_i0) + 8u);
@@ -14380,17 +13236,17 @@ static void w2c_f0(Z_dine_ffi_instance_t* instance, u64 w2c_p0, u64 w2c_p1, u64 
             w2c_i1 = 1u;
             w2c_i0 &= w2c_i1;
             w2c_i0 = !(w2c_i0);
-            if (w2c_i0) {goto w2c_B607;}
+            if (w2c_i0) {goto w2c_B542;}
             w2c_j0 = w2c_l4;
             w2c_i0 = (u32)(w2c_j0);
             w2c_j0 = i64_load(&instance->w2c_memory, (u64)(w2c_i0) + 16u);
-            goto w2c_B629;
+            goto w2c_B564;
           }
           w2c_j0 = w2c_l4;
           w2c_j1 = 24ull;
           w2c_j0 += w2c_j1;
           w2c_j1 = 376ull;
-          w2c_f113(instance, w2c_j0, w2c_j1);
+          w2c_f114(instance, w2c_j0, w2c_j1);
           w2c_j0 = w2c_l4;
           w2c_i0 = (u32)(w2c_j0);
           w2c_j0 = i64_load(&instance->w2c_memory, (u64)(w2c_i0) + 24u);
@@ -14398,12 +13254,12 @@ static void w2c_f0(Z_dine_ffi_instance_t* instance, u64 w2c_p0, u64 w2c_p1, u64 
           w2c_i1 = 1u;
           w2c_i0 &= w2c_i1;
           w2c_i0 = !(w2c_i0);
-          if (w2c_i0) {goto w2c_B607;}
+          if (w2c_i0) {goto w2c_B542;}
           w2c_j0 = w2c_l4;
           w2c_i0 = (u32)(w2c_j0);
           w2c_j0 = i64_load(&instance->w2c_memory, (u64)(w2c_i0) + 32u);
-          w2c_B629:;
-          w2c_l13 = w2c_j0;
+          w2c_B564:;
+          w2c_l10 = w2c_j0;
           w2c_j1 = 2ull;
           w2c_j0 += w2c_j1;
           w2c_i0 = (u32)(w2c_j0);
@@ -14411,47 +13267,47 @@ static void w2c_f0(Z_dine_ffi_instance_t* instance, u64 w2c_p0, u64 w2c_p1, u64 
           i64_store16(&instance->w2c_memory, (u64)(w2c_i0), w2c_j1);
           w2c_j0 = w2c_l4;
           w2c_i0 = (u32)(w2c_j0);
-          w2c_j1 = w2c_l18;
+          w2c_j1 = w2c_l16;
           w2c_i1 = (u32)(w2c_j1);
           w2c_j1 = i64_load(&instance->w2c_memory, (u64)(w2c_i1));
           w2c_l3 = w2c_j1;
-          i64_store(&instance->w2c_memory, (u64)(w2c_i0) + 912, w2c_j1);
+          i64_store(&instance->w2c_memory, (u64)(w2c_i0) + 992, w2c_j1);
           w2c_j0 = w2c_l4;
           w2c_i0 = (u32)(w2c_j0);
           w2c_j1 = w2c_l3;
           w2c_j2 = 248ull;
           w2c_j1 += w2c_j2;
           w2c_l5 = w2c_j1;
-          i64_store(&instance->w2c_memory, (u64)(w2c_i0) + 888, w2c_j1);
+          i64_store(&instance->w2c_memory, (u64)(w2c_i0) + 968, w2c_j1);
           w2c_j0 = w2c_l4;
           w2c_i0 = (u32)(w2c_j0);
           w2c_j1 = 15ull;
-          i64_store(&instance->w2c_memory, (u64)(w2c_i0) + 880, w2c_j1);
+          i64_store(&instance->w2c_memory, (u64)(w2c_i0) + 960, w2c_j1);
           w2c_j0 = w2c_l4;
           w2c_i0 = (u32)(w2c_j0);
           w2c_j1 = w2c_l5;
-          i64_store(&instance->w2c_memory, (u64)(w2c_i0) + 864, w2c_j1);
+          i64_store(&instance->w2c_memory, (u64)(w2c_i0) + 944, w2c_j1);
           w2c_j0 = w2c_l4;
           w2c_i0 = (u32)(w2c_j0);
           w2c_j1 = 15ull;
-          i64_store(&instance->w2c_memory, (u64)(w2c_i0) + 856, w2c_j1);
+          i64_store(&instance->w2c_memory, (u64)(w2c_i0) + 936, w2c_j1);
           w2c_j0 = w2c_l4;
           w2c_i0 = (u32)(w2c_j0);
           w2c_j1 = w2c_l3;
           w2c_j2 = 8ull;
           w2c_j1 += w2c_j2;
-          i64_store(&instance->w2c_memory, (u64)(w2c_i0) + 840, w2c_j1);
+          i64_store(&instance->w2c_memory, (u64)(w2c_i0) + 920, w2c_j1);
           w2c_j0 = w2c_l4;
           w2c_i0 = (u32)(w2c_j0);
           w2c_j1 = w2c_l3;
           w2c_i1 = (u32)(w2c_j1);
           w2c_j1 = i64_load16_u(&instance->w2c_memory, (u64)(w2c_i1));
-          w2c_l7 = w2c_j1;
-          i64_store(&instance->w2c_memory, (u64)(w2c_i0) + 872, w2c_j1);
+          w2c_l6 = w2c_j1;
+          i64_store(&instance->w2c_memory, (u64)(w2c_i0) + 952, w2c_j1);
           w2c_j0 = w2c_l4;
           w2c_i0 = (u32)(w2c_j0);
-          w2c_j1 = w2c_l7;
-          i64_store(&instance->w2c_memory, (u64)(w2c_i0) + 848, w2c_j1);
+          w2c_j1 = w2c_l6;
+          i64_store(&instance->w2c_memory, (u64)(w2c_i0) + 928, w2c_j1);
           w2c_j0 = w2c_l4;
           w2c_i0 = (u32)(w2c_j0);
           w2c_j1 = 16ull;
@@ -14463,29 +13319,29 @@ static void w2c_f0(Z_dine_ffi_instance_t* instance, u64 w2c_p0, u64 w2c_p1, u64 
           w2c_i3 = i32_load16_u(&instance->w2c_memory, (u64)(w2c_i3));
           w2c_l38 = w2c_i3;
           w2c_j1 = w2c_i3 ? w2c_j1 : w2c_j2;
-          i64_store(&instance->w2c_memory, (u64)(w2c_i0) + 904, w2c_j1);
+          i64_store(&instance->w2c_memory, (u64)(w2c_i0) + 984, w2c_j1);
           w2c_j0 = w2c_l4;
           w2c_i0 = (u32)(w2c_j0);
-          w2c_j1 = w2c_l7;
+          w2c_j1 = w2c_l6;
           w2c_j2 = 1ull;
           w2c_j1 += w2c_j2;
           w2c_j2 = 0ull;
           w2c_i3 = w2c_l38;
           w2c_j1 = w2c_i3 ? w2c_j1 : w2c_j2;
-          i64_store(&instance->w2c_memory, (u64)(w2c_i0) + 896, w2c_j1);
+          i64_store(&instance->w2c_memory, (u64)(w2c_i0) + 976, w2c_j1);
           w2c_j0 = w2c_p1;
           w2c_j1 = w2c_l5;
           w2c_j0 += w2c_j1;
           w2c_l28 = w2c_j0;
           w2c_i0 = (u32)(w2c_j0);
           w2c_j0 = i64_load(&instance->w2c_memory, (u64)(w2c_i0));
-          w2c_l6 = w2c_j0;
+          w2c_l8 = w2c_j0;
           w2c_j1 = 2ull;
           w2c_j0 += w2c_j1;
           w2c_i0 = (u32)(w2c_j0);
           w2c_i0 = i32_load16_u(&instance->w2c_memory, (u64)(w2c_i0));
           w2c_l38 = w2c_i0;
-          w2c_j0 = w2c_l6;
+          w2c_j0 = w2c_l8;
           w2c_i0 = (u32)(w2c_j0);
           w2c_i0 = i32_load16_u(&instance->w2c_memory, (u64)(w2c_i0));
           w2c_l39 = w2c_i0;
@@ -14495,30 +13351,30 @@ static void w2c_f0(Z_dine_ffi_instance_t* instance, u64 w2c_p0, u64 w2c_p1, u64 
           w2c_l30 = w2c_j0;
           w2c_j1 = 8ull;
           w2c_j0 -= w2c_j1;
-          w2c_l27 = w2c_j0;
+          w2c_l29 = w2c_j0;
           w2c_j1 = 4ull;
           w2c_j0 <<= (w2c_j1 & 63);
           w2c_l3 = w2c_j0;
-          w2c_j1 = w2c_l13;
+          w2c_j1 = w2c_l10;
           w2c_j2 = 8ull;
           w2c_j1 += w2c_j2;
           w2c_p1 = w2c_j1;
-          w2c_j2 = w2c_l6;
+          w2c_j2 = w2c_l8;
           w2c_j3 = 136ull;
           w2c_j2 += w2c_j3;
           w2c_l5 = w2c_j2;
           w2c_j1 -= w2c_j2;
           w2c_i0 = w2c_j0 > w2c_j1;
           if (w2c_i0) {
-            w2c_j0 = w2c_l27;
+            w2c_j0 = w2c_l29;
             w2c_i0 = !(w2c_j0);
-            if (w2c_i0) {goto w2c_B631;}
+            if (w2c_i0) {goto w2c_B566;}
             w2c_j0 = w2c_l30;
             w2c_j1 = 3ull;
             w2c_j0 &= w2c_j1;
-            w2c_l7 = w2c_j0;
+            w2c_l6 = w2c_j0;
             w2c_j0 = 0ull;
-            w2c_l10 = w2c_j0;
+            w2c_l9 = w2c_j0;
             w2c_i0 = w2c_l39;
             w2c_i1 = 9u;
             w2c_i0 -= w2c_i1;
@@ -14527,24 +13383,24 @@ static void w2c_f0(Z_dine_ffi_instance_t* instance, u64 w2c_p0, u64 w2c_p1, u64 
             w2c_i1 = 3u;
             w2c_i0 = w2c_i0 >= w2c_i1;
             if (w2c_i0) {
-              w2c_j0 = w2c_l27;
+              w2c_j0 = w2c_l29;
               w2c_j1 = 18446744073709551612ull;
               w2c_j0 &= w2c_j1;
-              w2c_l16 = w2c_j0;
+              w2c_l18 = w2c_j0;
               w2c_j0 = 0ull;
               w2c_l5 = w2c_j0;
-              w2c_L634: 
+              w2c_L569: 
                 w2c_j0 = w2c_l5;
-                w2c_j1 = w2c_l6;
+                w2c_j1 = w2c_l8;
                 w2c_j0 += w2c_j1;
                 w2c_l3 = w2c_j0;
                 w2c_j1 = 136ull;
                 w2c_j0 += w2c_j1;
                 w2c_i0 = (u32)(w2c_j0);
                 w2c_j0 = i64_load(&instance->w2c_memory, (u64)(w2c_i0));
-                w2c_l11 = w2c_j0;
+                w2c_l13 = w2c_j0;
                 w2c_j0 = w2c_l5;
-                w2c_j1 = w2c_l13;
+                w2c_j1 = w2c_l10;
                 w2c_j0 += w2c_j1;
                 w2c_p1 = w2c_j0;
                 w2c_j1 = 16ull;
@@ -14560,14 +13416,14 @@ static void w2c_f0(Z_dine_ffi_instance_t* instance, u64 w2c_p0, u64 w2c_p1, u64 
                 w2c_j1 = 8ull;
                 w2c_j0 += w2c_j1;
                 w2c_i0 = (u32)(w2c_j0);
-                w2c_j1 = w2c_l11;
+                w2c_j1 = w2c_l13;
                 i64_store(&instance->w2c_memory, (u64)(w2c_i0), w2c_j1);
                 w2c_j0 = w2c_l3;
                 w2c_j1 = 152ull;
                 w2c_j0 += w2c_j1;
                 w2c_i0 = (u32)(w2c_j0);
                 w2c_j0 = i64_load(&instance->w2c_memory, (u64)(w2c_i0));
-                w2c_l11 = w2c_j0;
+                w2c_l13 = w2c_j0;
                 w2c_j0 = w2c_p1;
                 w2c_j1 = 32ull;
                 w2c_j0 += w2c_j1;
@@ -14582,14 +13438,14 @@ static void w2c_f0(Z_dine_ffi_instance_t* instance, u64 w2c_p0, u64 w2c_p1, u64 
                 w2c_j1 = 24ull;
                 w2c_j0 += w2c_j1;
                 w2c_i0 = (u32)(w2c_j0);
-                w2c_j1 = w2c_l11;
+                w2c_j1 = w2c_l13;
                 i64_store(&instance->w2c_memory, (u64)(w2c_i0), w2c_j1);
                 w2c_j0 = w2c_l3;
                 w2c_j1 = 168ull;
                 w2c_j0 += w2c_j1;
                 w2c_i0 = (u32)(w2c_j0);
                 w2c_j0 = i64_load(&instance->w2c_memory, (u64)(w2c_i0));
-                w2c_l11 = w2c_j0;
+                w2c_l13 = w2c_j0;
                 w2c_j0 = w2c_p1;
                 w2c_j1 = 48ull;
                 w2c_j0 += w2c_j1;
@@ -14604,14 +13460,14 @@ static void w2c_f0(Z_dine_ffi_instance_t* instance, u64 w2c_p0, u64 w2c_p1, u64 
                 w2c_j1 = 40ull;
                 w2c_j0 += w2c_j1;
                 w2c_i0 = (u32)(w2c_j0);
-                w2c_j1 = w2c_l11;
+                w2c_j1 = w2c_l13;
                 i64_store(&instance->w2c_memory, (u64)(w2c_i0), w2c_j1);
                 w2c_j0 = w2c_l3;
                 w2c_j1 = 184ull;
                 w2c_j0 += w2c_j1;
                 w2c_i0 = (u32)(w2c_j0);
                 w2c_j0 = i64_load(&instance->w2c_memory, (u64)(w2c_i0));
-                w2c_l11 = w2c_j0;
+                w2c_l13 = w2c_j0;
                 w2c_j0 = w2c_p1;
                 w2c_j1 = 18446744073709551552ull;
                 w2c_j0 -= w2c_j1;
@@ -14626,25 +13482,25 @@ static void w2c_f0(Z_dine_ffi_instance_t* instance, u64 w2c_p0, u64 w2c_p1, u64 
                 w2c_j1 = 56ull;
                 w2c_j0 += w2c_j1;
                 w2c_i0 = (u32)(w2c_j0);
-                w2c_j1 = w2c_l11;
+                w2c_j1 = w2c_l13;
                 i64_store(&instance->w2c_memory, (u64)(w2c_i0), w2c_j1);
                 w2c_j0 = w2c_l5;
                 w2c_j1 = 18446744073709551552ull;
                 w2c_j0 -= w2c_j1;
                 w2c_l5 = w2c_j0;
-                w2c_j0 = w2c_l16;
-                w2c_j1 = w2c_l10;
+                w2c_j0 = w2c_l18;
+                w2c_j1 = w2c_l9;
                 w2c_j2 = 4ull;
                 w2c_j1 += w2c_j2;
-                w2c_l10 = w2c_j1;
+                w2c_l9 = w2c_j1;
                 w2c_i0 = w2c_j0 != w2c_j1;
-                if (w2c_i0) {goto w2c_L634;}
-              w2c_j0 = w2c_l7;
+                if (w2c_i0) {goto w2c_L569;}
+              w2c_j0 = w2c_l6;
               w2c_i0 = !(w2c_j0);
-              if (w2c_i0) {goto w2c_B631;}
+              if (w2c_i0) {goto w2c_B566;}
             }
-            w2c_j0 = w2c_l13;
-            w2c_j1 = w2c_l10;
+            w2c_j0 = w2c_l10;
+            w2c_j1 = w2c_l9;
             w2c_j2 = 4ull;
             w2c_j1 <<= (w2c_j2 & 63);
             w2c_p1 = w2c_j1;
@@ -14653,12 +13509,12 @@ static void w2c_f0(Z_dine_ffi_instance_t* instance, u64 w2c_p0, u64 w2c_p1, u64 
             w2c_j0 += w2c_j1;
             w2c_l3 = w2c_j0;
             w2c_j0 = w2c_p1;
-            w2c_j1 = w2c_l6;
+            w2c_j1 = w2c_l8;
             w2c_j0 += w2c_j1;
             w2c_j1 = 136ull;
             w2c_j0 += w2c_j1;
             w2c_p1 = w2c_j0;
-            w2c_L635: 
+            w2c_L570: 
               w2c_j0 = w2c_p1;
               w2c_i0 = (u32)(w2c_j0);
               w2c_j0 = i64_load(&instance->w2c_memory, (u64)(w2c_i0));
@@ -14681,18 +13537,18 @@ static void w2c_f0(Z_dine_ffi_instance_t* instance, u64 w2c_p0, u64 w2c_p1, u64 
               w2c_j1 = 16ull;
               w2c_j0 += w2c_j1;
               w2c_p1 = w2c_j0;
-              w2c_j0 = w2c_l7;
+              w2c_j0 = w2c_l6;
               w2c_j1 = 1ull;
               w2c_j0 -= w2c_j1;
-              w2c_l7 = w2c_j0;
+              w2c_l6 = w2c_j0;
               w2c_j1 = 0ull;
               w2c_i0 = w2c_j0 != w2c_j1;
-              if (w2c_i0) {goto w2c_L635;}
-            goto w2c_B631;
+              if (w2c_i0) {goto w2c_L570;}
+            goto w2c_B566;
           }
           w2c_j0 = w2c_l3;
           w2c_i0 = !(w2c_j0);
-          if (w2c_i0) {goto w2c_B631;}
+          if (w2c_i0) {goto w2c_B566;}
           w2c_j0 = w2c_p1;
           w2c_i0 = (u32)(w2c_j0);
           w2c_j1 = w2c_l5;
@@ -14700,24 +13556,24 @@ static void w2c_f0(Z_dine_ffi_instance_t* instance, u64 w2c_p0, u64 w2c_p1, u64 
           w2c_j2 = w2c_l3;
           w2c_i2 = (u32)(w2c_j2);
           memory_copy(&instance->w2c_memory, &instance->w2c_memory, w2c_i0, w2c_i1, w2c_i2);
-          w2c_B631:;
-          w2c_j0 = w2c_l6;
+          w2c_B566:;
+          w2c_j0 = w2c_l8;
           w2c_j1 = 128ull;
           w2c_j0 += w2c_j1;
           w2c_i0 = (u32)(w2c_j0);
           w2c_j0 = i64_load(&instance->w2c_memory, (u64)(w2c_i0));
-          w2c_l16 = w2c_j0;
-          w2c_j0 = w2c_l6;
+          w2c_l18 = w2c_j0;
+          w2c_j0 = w2c_l8;
           w2c_j1 = 120ull;
           w2c_j0 += w2c_j1;
           w2c_i0 = (u32)(w2c_j0);
           w2c_j0 = i64_load(&instance->w2c_memory, (u64)(w2c_i0));
-          w2c_l26 = w2c_j0;
+          w2c_l32 = w2c_j0;
           w2c_i0 = w2c_l38;
           w2c_i1 = 65535u;
           w2c_i0 &= w2c_i1;
           w2c_i0 = !(w2c_i0);
-          if (w2c_i0) {goto w2c_B636;}
+          if (w2c_i0) {goto w2c_B571;}
           w2c_j0 = w2c_l30;
           w2c_j1 = 7ull;
           w2c_j0 -= w2c_j1;
@@ -14725,46 +13581,46 @@ static void w2c_f0(Z_dine_ffi_instance_t* instance, u64 w2c_p0, u64 w2c_p1, u64 
           w2c_j1 = 3ull;
           w2c_j0 <<= (w2c_j1 & 63);
           w2c_p1 = w2c_j0;
-          w2c_j1 = w2c_l13;
+          w2c_j1 = w2c_l10;
           w2c_j2 = 248ull;
           w2c_j1 += w2c_j2;
           w2c_l5 = w2c_j1;
-          w2c_j2 = w2c_l6;
+          w2c_j2 = w2c_l8;
           w2c_j3 = 312ull;
           w2c_j2 += w2c_j3;
-          w2c_l7 = w2c_j2;
+          w2c_l6 = w2c_j2;
           w2c_j1 -= w2c_j2;
           w2c_i0 = w2c_j0 > w2c_j1;
           if (w2c_i0) {
             w2c_j0 = w2c_l3;
             w2c_i0 = !(w2c_j0);
-            if (w2c_i0) {goto w2c_B636;}
+            if (w2c_i0) {goto w2c_B571;}
             w2c_j0 = w2c_l3;
             w2c_j1 = 3ull;
             w2c_j0 &= w2c_j1;
-            w2c_l7 = w2c_j0;
+            w2c_l6 = w2c_j0;
             w2c_j0 = 0ull;
-            w2c_l10 = w2c_j0;
-            w2c_j0 = w2c_l27;
+            w2c_l9 = w2c_j0;
+            w2c_j0 = w2c_l29;
             w2c_j1 = 3ull;
             w2c_i0 = w2c_j0 >= w2c_j1;
             if (w2c_i0) {
               w2c_j0 = w2c_l3;
               w2c_j1 = 18446744073709551612ull;
               w2c_j0 &= w2c_j1;
-              w2c_l11 = w2c_j0;
+              w2c_l13 = w2c_j0;
               w2c_j0 = 0ull;
               w2c_l3 = w2c_j0;
-              w2c_L639: 
+              w2c_L574: 
                 w2c_j0 = w2c_l3;
-                w2c_j1 = w2c_l13;
+                w2c_j1 = w2c_l10;
                 w2c_j0 += w2c_j1;
                 w2c_p1 = w2c_j0;
                 w2c_j1 = 248ull;
                 w2c_j0 += w2c_j1;
                 w2c_i0 = (u32)(w2c_j0);
                 w2c_j1 = w2c_l3;
-                w2c_j2 = w2c_l6;
+                w2c_j2 = w2c_l8;
                 w2c_j1 += w2c_j2;
                 w2c_l5 = w2c_j1;
                 w2c_j2 = 312ull;
@@ -14806,19 +13662,19 @@ static void w2c_f0(Z_dine_ffi_instance_t* instance, u64 w2c_p0, u64 w2c_p1, u64 
                 w2c_j1 = 32ull;
                 w2c_j0 += w2c_j1;
                 w2c_l3 = w2c_j0;
-                w2c_j0 = w2c_l11;
-                w2c_j1 = w2c_l10;
+                w2c_j0 = w2c_l13;
+                w2c_j1 = w2c_l9;
                 w2c_j2 = 4ull;
                 w2c_j1 += w2c_j2;
-                w2c_l10 = w2c_j1;
+                w2c_l9 = w2c_j1;
                 w2c_i0 = w2c_j0 != w2c_j1;
-                if (w2c_i0) {goto w2c_L639;}
-              w2c_j0 = w2c_l7;
+                if (w2c_i0) {goto w2c_L574;}
+              w2c_j0 = w2c_l6;
               w2c_i0 = !(w2c_j0);
-              if (w2c_i0) {goto w2c_B636;}
+              if (w2c_i0) {goto w2c_B571;}
             }
-            w2c_j0 = w2c_l13;
-            w2c_j1 = w2c_l10;
+            w2c_j0 = w2c_l10;
+            w2c_j1 = w2c_l9;
             w2c_j2 = 3ull;
             w2c_j1 <<= (w2c_j2 & 63);
             w2c_p1 = w2c_j1;
@@ -14827,12 +13683,12 @@ static void w2c_f0(Z_dine_ffi_instance_t* instance, u64 w2c_p0, u64 w2c_p1, u64 
             w2c_j0 += w2c_j1;
             w2c_l3 = w2c_j0;
             w2c_j0 = w2c_p1;
-            w2c_j1 = w2c_l6;
+            w2c_j1 = w2c_l8;
             w2c_j0 += w2c_j1;
             w2c_j1 = 312ull;
             w2c_j0 += w2c_j1;
             w2c_p1 = w2c_j0;
-            w2c_L640: 
+            w2c_L575: 
               w2c_j0 = w2c_l3;
               w2c_i0 = (u32)(w2c_j0);
               w2c_j1 = w2c_p1;
@@ -14847,46 +13703,46 @@ static void w2c_f0(Z_dine_ffi_instance_t* instance, u64 w2c_p0, u64 w2c_p1, u64 
               w2c_j1 = 8ull;
               w2c_j0 += w2c_j1;
               w2c_p1 = w2c_j0;
-              w2c_j0 = w2c_l7;
+              w2c_j0 = w2c_l6;
               w2c_j1 = 1ull;
               w2c_j0 -= w2c_j1;
-              w2c_l7 = w2c_j0;
+              w2c_l6 = w2c_j0;
               w2c_j1 = 0ull;
               w2c_i0 = w2c_j0 != w2c_j1;
-              if (w2c_i0) {goto w2c_L640;}
-            goto w2c_B636;
+              if (w2c_i0) {goto w2c_L575;}
+            goto w2c_B571;
           }
           w2c_j0 = w2c_p1;
           w2c_i0 = !(w2c_j0);
-          if (w2c_i0) {goto w2c_B636;}
+          if (w2c_i0) {goto w2c_B571;}
           w2c_j0 = w2c_l5;
           w2c_i0 = (u32)(w2c_j0);
-          w2c_j1 = w2c_l7;
+          w2c_j1 = w2c_l6;
           w2c_i1 = (u32)(w2c_j1);
           w2c_j2 = w2c_p1;
           w2c_i2 = (u32)(w2c_j2);
           memory_copy(&instance->w2c_memory, &instance->w2c_memory, w2c_i0, w2c_i1, w2c_i2);
-          w2c_B636:;
-          w2c_j0 = w2c_l6;
+          w2c_B571:;
+          w2c_j0 = w2c_l8;
           w2c_i0 = (u32)(w2c_j0);
           w2c_i1 = 7u;
           i32_store16(&instance->w2c_memory, (u64)(w2c_i0), w2c_i1);
-          w2c_j0 = w2c_l13;
+          w2c_j0 = w2c_l10;
           w2c_i0 = (u32)(w2c_j0);
-          w2c_j1 = w2c_l27;
+          w2c_j1 = w2c_l29;
           i64_store16(&instance->w2c_memory, (u64)(w2c_i0), w2c_j1);
           w2c_j0 = w2c_l28;
           w2c_i0 = (u32)(w2c_j0);
-          w2c_j1 = w2c_l6;
+          w2c_j1 = w2c_l8;
           i64_store(&instance->w2c_memory, (u64)(w2c_i0), w2c_j1);
           w2c_j0 = w2c_l4;
-          w2c_j1 = 840ull;
+          w2c_j1 = 920ull;
           w2c_j0 += w2c_j1;
-          w2c_j1 = w2c_l22;
-          w2c_j2 = w2c_l26;
-          w2c_j3 = w2c_l16;
-          w2c_f47(instance, w2c_j0, w2c_j1, w2c_j2, w2c_j3);
-          w2c_j0 = w2c_l22;
+          w2c_j1 = w2c_l31;
+          w2c_j2 = w2c_l32;
+          w2c_j3 = w2c_l18;
+          w2c_f48(instance, w2c_j0, w2c_j1, w2c_j2, w2c_j3);
+          w2c_j0 = w2c_l31;
           w2c_j1 = 1ull;
           w2c_j0 += w2c_j1;
           w2c_l3 = w2c_j0;
@@ -14895,136 +13751,136 @@ static void w2c_f0(Z_dine_ffi_instance_t* instance, u64 w2c_p0, u64 w2c_p1, u64 
           w2c_p1 = w2c_j0;
           w2c_j0 = w2c_l4;
           w2c_i0 = (u32)(w2c_j0);
-          w2c_j0 = i64_load(&instance->w2c_memory, (u64)(w2c_i0) + 888u);
+          w2c_j0 = i64_load(&instance->w2c_memory, (u64)(w2c_i0) + 968u);
           w2c_l5 = w2c_j0;
           w2c_j0 = w2c_l4;
           w2c_i0 = (u32)(w2c_j0);
-          w2c_j0 = i64_load(&instance->w2c_memory, (u64)(w2c_i0) + 896u);
-          w2c_l7 = w2c_j0;
+          w2c_j0 = i64_load(&instance->w2c_memory, (u64)(w2c_i0) + 976u);
+          w2c_l6 = w2c_j0;
           w2c_j1 = w2c_l3;
           w2c_i0 = w2c_j0 == w2c_j1;
-          if (w2c_i0) {goto w2c_B641;}
-          w2c_j0 = w2c_l7;
+          if (w2c_i0) {goto w2c_B576;}
+          w2c_j0 = w2c_l6;
           w2c_j1 = w2c_l3;
           w2c_j0 -= w2c_j1;
           w2c_j1 = 3ull;
           w2c_j0 <<= (w2c_j1 & 63);
           w2c_l3 = w2c_j0;
           w2c_i0 = !(w2c_j0);
-          if (w2c_i0) {goto w2c_B641;}
+          if (w2c_i0) {goto w2c_B576;}
           w2c_j0 = w2c_p1;
           w2c_j1 = w2c_l5;
           w2c_j0 += w2c_j1;
-          w2c_l7 = w2c_j0;
+          w2c_l6 = w2c_j0;
           w2c_j1 = 8ull;
           w2c_j0 += w2c_j1;
           w2c_i0 = (u32)(w2c_j0);
-          w2c_j1 = w2c_l7;
+          w2c_j1 = w2c_l6;
           w2c_i1 = (u32)(w2c_j1);
           w2c_j2 = w2c_l3;
           w2c_i2 = (u32)(w2c_j2);
           memory_copy(&instance->w2c_memory, &instance->w2c_memory, w2c_i0, w2c_i1, w2c_i2);
-          w2c_B641:;
+          w2c_B576:;
           w2c_j0 = w2c_p1;
           w2c_j1 = w2c_l5;
           w2c_j0 += w2c_j1;
           w2c_i0 = (u32)(w2c_j0);
-          w2c_j1 = w2c_l13;
+          w2c_j1 = w2c_l10;
           i64_store(&instance->w2c_memory, (u64)(w2c_i0), w2c_j1);
           w2c_j0 = w2c_l4;
           w2c_i0 = (u32)(w2c_j0);
-          w2c_j0 = i64_load(&instance->w2c_memory, (u64)(w2c_i0) + 912u);
-          w2c_l10 = w2c_j0;
+          w2c_j0 = i64_load(&instance->w2c_memory, (u64)(w2c_i0) + 992u);
+          w2c_l9 = w2c_j0;
           w2c_i0 = (u32)(w2c_j0);
           w2c_j1 = w2c_l4;
           w2c_i1 = (u32)(w2c_j1);
-          w2c_j1 = i64_load(&instance->w2c_memory, (u64)(w2c_i1) + 848u);
+          w2c_j1 = i64_load(&instance->w2c_memory, (u64)(w2c_i1) + 928u);
           i64_store16(&instance->w2c_memory, (u64)(w2c_i0), w2c_j1);
-          w2c_j0 = w2c_l18;
+          w2c_j0 = w2c_l16;
           w2c_i0 = (u32)(w2c_j0);
-          w2c_j1 = w2c_l10;
+          w2c_j1 = w2c_l9;
           i64_store(&instance->w2c_memory, (u64)(w2c_i0), w2c_j1);
-          w2c_j0 = w2c_l12;
+          w2c_j0 = w2c_l15;
           w2c_i0 = (u32)(w2c_j0);
           w2c_i0 = i32_load8_u(&instance->w2c_memory, (u64)(w2c_i0) + 1u);
           w2c_l38 = w2c_i0;
           w2c_i1 = 7u;
           w2c_i0 = w2c_i0 <= w2c_i1;
           if (w2c_i0) {
-            w2c_j0 = w2c_l12;
+            w2c_j0 = w2c_l15;
             w2c_i0 = (u32)(w2c_j0);
             w2c_i0 = i32_load8_u(&instance->w2c_memory, (u64)(w2c_i0));
             w2c_l37 = w2c_i0;
-            goto w2c_B628;
+            goto w2c_B563;
           }
-          w2c_j0 = w2c_l12;
+          w2c_j0 = w2c_l15;
           w2c_i0 = (u32)(w2c_j0);
           w2c_i1 = w2c_l38;
           w2c_i2 = 8u;
           w2c_i1 -= w2c_i2;
           i32_store8(&instance->w2c_memory, (u64)(w2c_i0) + 1, w2c_i1);
-          w2c_j0 = w2c_l12;
+          w2c_j0 = w2c_l15;
           w2c_i0 = (u32)(w2c_j0);
           w2c_i1 = w2c_l37;
           w2c_i2 = 1u;
           w2c_i1 += w2c_i2;
           w2c_l37 = w2c_i1;
           i32_store8(&instance->w2c_memory, (u64)(w2c_i0), w2c_i1);
-          w2c_B628:;
-          w2c_j0 = w2c_l20;
+          w2c_B563:;
+          w2c_j0 = w2c_l24;
           w2c_j1 = 1ull;
           w2c_j0 -= w2c_j1;
           w2c_l3 = w2c_j0;
-          w2c_j0 = w2c_l12;
+          w2c_j0 = w2c_l15;
           w2c_j1 = 1ull;
           w2c_j0 += w2c_j1;
-          w2c_l12 = w2c_j0;
-          w2c_j0 = w2c_l10;
+          w2c_l15 = w2c_j0;
+          w2c_j0 = w2c_l9;
           w2c_i1 = w2c_l37;
           w2c_j1 = (u64)(w2c_i1);
           w2c_j2 = 255ull;
           w2c_j1 &= w2c_j2;
-          w2c_l11 = w2c_j1;
+          w2c_l13 = w2c_j1;
           w2c_j2 = 3ull;
           w2c_j1 <<= (w2c_j2 & 63);
           w2c_j0 += w2c_j1;
           w2c_j1 = 248ull;
           w2c_j0 += w2c_j1;
-          w2c_l18 = w2c_j0;
-          w2c_j0 = w2c_l20;
+          w2c_l16 = w2c_j0;
+          w2c_j0 = w2c_l24;
           w2c_j1 = 2ull;
           w2c_i0 = w2c_j0 > w2c_j1;
-          if (w2c_i0) {goto w2c_L627;}
+          if (w2c_i0) {goto w2c_L562;}
         w2c_j0 = w2c_l4;
         w2c_i0 = (u32)(w2c_j0);
-        w2c_j0 = i64_load(&instance->w2c_memory, (u64)(w2c_i0) + 800u);
+        w2c_j0 = i64_load(&instance->w2c_memory, (u64)(w2c_i0) + 880u);
         w2c_l5 = w2c_j0;
       }
       w2c_j0 = w2c_l5;
       w2c_i0 = (u32)(w2c_j0);
       w2c_i0 = i32_load16_u(&instance->w2c_memory, (u64)(w2c_i0));
       w2c_i0 = !(w2c_i0);
-      if (w2c_i0) {goto w2c_B606;}
-      w2c_j0 = w2c_l11;
+      if (w2c_i0) {goto w2c_B541;}
+      w2c_j0 = w2c_l13;
       w2c_j1 = 3ull;
       w2c_j0 <<= (w2c_j1 & 63);
       w2c_l3 = w2c_j0;
       w2c_j0 = w2c_l4;
       w2c_i0 = (u32)(w2c_j0);
-      w2c_j0 = i64_load8_u(&instance->w2c_memory, (u64)(w2c_i0) + 839u);
-      w2c_l6 = w2c_j0;
+      w2c_j0 = i64_load8_u(&instance->w2c_memory, (u64)(w2c_i0) + 919u);
+      w2c_l8 = w2c_j0;
       w2c_j0 = w2c_p2;
-      w2c_j1 = w2c_l24;
+      w2c_j1 = w2c_l25;
       w2c_j0 -= w2c_j1;
       w2c_p1 = w2c_j0;
     }
     w2c_j0 = w2c_l4;
     w2c_i0 = (u32)(w2c_j0);
     w2c_j1 = w2c_l4;
-    w2c_j2 = 800ull;
+    w2c_j2 = 880ull;
     w2c_j1 += w2c_j2;
     w2c_j2 = w2c_l3;
-    w2c_j3 = w2c_l10;
+    w2c_j3 = w2c_l9;
     w2c_j2 += w2c_j3;
     w2c_j3 = 248ull;
     w2c_j2 += w2c_j3;
@@ -15036,43 +13892,43 @@ static void w2c_f0(Z_dine_ffi_instance_t* instance, u64 w2c_p0, u64 w2c_p1, u64 
     w2c_i1 = (u32)(w2c_j1);
     w2c_j1 = i64_load(&instance->w2c_memory, (u64)(w2c_i1));
     w2c_l3 = w2c_j1;
-    i64_store(&instance->w2c_memory, (u64)(w2c_i0) + 912, w2c_j1);
+    i64_store(&instance->w2c_memory, (u64)(w2c_i0) + 992, w2c_j1);
     w2c_j0 = w2c_l4;
     w2c_i0 = (u32)(w2c_j0);
     w2c_j1 = w2c_l3;
     w2c_j2 = 248ull;
     w2c_j1 += w2c_j2;
     w2c_p1 = w2c_j1;
-    i64_store(&instance->w2c_memory, (u64)(w2c_i0) + 888, w2c_j1);
+    i64_store(&instance->w2c_memory, (u64)(w2c_i0) + 968, w2c_j1);
     w2c_j0 = w2c_l4;
     w2c_i0 = (u32)(w2c_j0);
     w2c_j1 = 15ull;
-    i64_store(&instance->w2c_memory, (u64)(w2c_i0) + 880, w2c_j1);
+    i64_store(&instance->w2c_memory, (u64)(w2c_i0) + 960, w2c_j1);
     w2c_j0 = w2c_l4;
     w2c_i0 = (u32)(w2c_j0);
     w2c_j1 = w2c_p1;
-    i64_store(&instance->w2c_memory, (u64)(w2c_i0) + 864, w2c_j1);
+    i64_store(&instance->w2c_memory, (u64)(w2c_i0) + 944, w2c_j1);
     w2c_j0 = w2c_l4;
     w2c_i0 = (u32)(w2c_j0);
     w2c_j1 = 15ull;
-    i64_store(&instance->w2c_memory, (u64)(w2c_i0) + 856, w2c_j1);
+    i64_store(&instance->w2c_memory, (u64)(w2c_i0) + 936, w2c_j1);
     w2c_j0 = w2c_l4;
     w2c_i0 = (u32)(w2c_j0);
     w2c_j1 = w2c_l3;
     w2c_j2 = 8ull;
     w2c_j1 += w2c_j2;
-    i64_store(&instance->w2c_memory, (u64)(w2c_i0) + 840, w2c_j1);
+    i64_store(&instance->w2c_memory, (u64)(w2c_i0) + 920, w2c_j1);
     w2c_j0 = w2c_l4;
     w2c_i0 = (u32)(w2c_j0);
     w2c_j1 = w2c_l3;
     w2c_i1 = (u32)(w2c_j1);
     w2c_j1 = i64_load16_u(&instance->w2c_memory, (u64)(w2c_i1));
     w2c_p1 = w2c_j1;
-    i64_store(&instance->w2c_memory, (u64)(w2c_i0) + 872, w2c_j1);
+    i64_store(&instance->w2c_memory, (u64)(w2c_i0) + 952, w2c_j1);
     w2c_j0 = w2c_l4;
     w2c_i0 = (u32)(w2c_j0);
     w2c_j1 = w2c_p1;
-    i64_store(&instance->w2c_memory, (u64)(w2c_i0) + 848, w2c_j1);
+    i64_store(&instance->w2c_memory, (u64)(w2c_i0) + 928, w2c_j1);
     w2c_j0 = w2c_l4;
     w2c_i0 = (u32)(w2c_j0);
     w2c_j1 = 16ull;
@@ -15084,7 +13940,7 @@ static void w2c_f0(Z_dine_ffi_instance_t* instance, u64 w2c_p0, u64 w2c_p1, u64 
     w2c_i3 = i32_load16_u(&instance->w2c_memory, (u64)(w2c_i3));
     w2c_l37 = w2c_i3;
     w2c_j1 = w2c_i3 ? w2c_j1 : w2c_j2;
-    i64_store(&instance->w2c_memory, (u64)(w2c_i0) + 904, w2c_j1);
+    i64_store(&instance->w2c_memory, (u64)(w2c_i0) + 984, w2c_j1);
     w2c_j0 = w2c_l4;
     w2c_i0 = (u32)(w2c_j0);
     w2c_j1 = w2c_p1;
@@ -15093,24 +13949,24 @@ static void w2c_f0(Z_dine_ffi_instance_t* instance, u64 w2c_p0, u64 w2c_p1, u64 
     w2c_j2 = 0ull;
     w2c_i3 = w2c_l37;
     w2c_j1 = w2c_i3 ? w2c_j1 : w2c_j2;
-    i64_store(&instance->w2c_memory, (u64)(w2c_i0) + 896, w2c_j1);
+    i64_store(&instance->w2c_memory, (u64)(w2c_i0) + 976, w2c_j1);
     w2c_j0 = w2c_l4;
-    w2c_j1 = 840ull;
+    w2c_j1 = 920ull;
     w2c_j0 += w2c_j1;
-    w2c_j1 = w2c_l6;
+    w2c_j1 = w2c_l8;
     w2c_j2 = 15ull;
     w2c_j1 &= w2c_j2;
-    w2c_j2 = w2c_l15;
-    w2c_j3 = w2c_l23;
-    w2c_f47(instance, w2c_j0, w2c_j1, w2c_j2, w2c_j3);
+    w2c_j2 = w2c_l20;
+    w2c_j3 = w2c_l27;
+    w2c_f48(instance, w2c_j0, w2c_j1, w2c_j2, w2c_j3);
     w2c_j0 = w2c_l4;
     w2c_i0 = (u32)(w2c_j0);
-    w2c_j0 = i64_load(&instance->w2c_memory, (u64)(w2c_i0) + 912u);
+    w2c_j0 = i64_load(&instance->w2c_memory, (u64)(w2c_i0) + 992u);
     w2c_l3 = w2c_j0;
     w2c_i0 = (u32)(w2c_j0);
     w2c_j1 = w2c_l4;
     w2c_i1 = (u32)(w2c_j1);
-    w2c_j1 = i64_load(&instance->w2c_memory, (u64)(w2c_i1) + 848u);
+    w2c_j1 = i64_load(&instance->w2c_memory, (u64)(w2c_i1) + 928u);
     i64_store16(&instance->w2c_memory, (u64)(w2c_i0), w2c_j1);
     w2c_j0 = w2c_l5;
     w2c_i0 = (u32)(w2c_j0);
@@ -15118,42 +13974,42 @@ static void w2c_f0(Z_dine_ffi_instance_t* instance, u64 w2c_p0, u64 w2c_p1, u64 
     i64_store(&instance->w2c_memory, (u64)(w2c_i0), w2c_j1);
     w2c_i0 = 1u;
     w2c_l37 = w2c_i0;
-    w2c_j0 = w2c_l19;
+    w2c_j0 = w2c_l21;
     w2c_j1 = 1ull;
     w2c_j0 += w2c_j1;
-    w2c_l19 = w2c_j0;
+    w2c_l21 = w2c_j0;
     w2c_j1 = w2c_l14;
     w2c_i0 = w2c_j0 != w2c_j1;
-    if (w2c_i0) {goto w2c_L608;}
+    if (w2c_i0) {goto w2c_L543;}
   w2c_j0 = w2c_l4;
   w2c_i0 = (u32)(w2c_j0);
-  w2c_j0 = i64_load(&instance->w2c_memory, (u64)(w2c_i0) + 800u);
-  w2c_f52(instance, w2c_j0);
+  w2c_j0 = i64_load(&instance->w2c_memory, (u64)(w2c_i0) + 880u);
+  w2c_f53(instance, w2c_j0);
   w2c_j0 = w2c_l14;
   w2c_j1 = 64ull;
   w2c_i0 = w2c_j0 <= w2c_j1;
-  if (w2c_i0) {goto w2c_B603;}
+  if (w2c_i0) {goto w2c_B538;}
   w2c_i0 = 0u;
-  w2c_l38 = w2c_i0;
+  w2c_l40 = w2c_i0;
   w2c_i0 = 8u;
-  w2c_l39 = w2c_i0;
-  goto w2c_B362;
-  w2c_B607:;
+  w2c_l38 = w2c_i0;
+  goto w2c_B265;
+  w2c_B542:;
   w2c_j0 = w2c_l4;
   w2c_i0 = (u32)(w2c_j0);
-  w2c_j0 = i64_load(&instance->w2c_memory, (u64)(w2c_i0) + 800u);
+  w2c_j0 = i64_load(&instance->w2c_memory, (u64)(w2c_i0) + 880u);
   w2c_l5 = w2c_j0;
   w2c_i0 = (u32)(w2c_j0);
   w2c_i0 = i32_load16_u(&instance->w2c_memory, (u64)(w2c_i0));
-  if (w2c_i0) {goto w2c_B605;}
-  w2c_B606:;
+  if (w2c_i0) {goto w2c_B540;}
+  w2c_B541:;
   w2c_j0 = w2c_l5;
   w2c_j1 = 2ull;
   w2c_j0 += w2c_j1;
   w2c_i0 = (u32)(w2c_j0);
   w2c_i0 = i32_load16_u(&instance->w2c_memory, (u64)(w2c_i0));
   w2c_i0 = !(w2c_i0);
-  if (w2c_i0) {goto w2c_B605;}
+  if (w2c_i0) {goto w2c_B540;}
   w2c_j0 = w2c_l5;
   w2c_j1 = 248ull;
   w2c_j0 += w2c_j1;
@@ -15164,23 +14020,23 @@ static void w2c_f0(Z_dine_ffi_instance_t* instance, u64 w2c_p0, u64 w2c_p1, u64 
   w2c_leave(instance, w2c_j0);
   w2c_j0 = w2c_l3;
   w2c_l5 = w2c_j0;
-  w2c_B605:;
+  w2c_B540:;
   w2c_j0 = w2c_l5;
-  w2c_f52(instance, w2c_j0);
-  goto w2c_B361;
-  w2c_B604:;
+  w2c_f53(instance, w2c_j0);
+  goto w2c_B264;
+  w2c_B539:;
   w2c_j0 = w2c_l4;
-  w2c_j1 = 800ull;
+  w2c_j1 = 880ull;
   w2c_j0 += w2c_j1;
-  w2c_j1 = w2c_l10;
-  w2c_j2 = w2c_l11;
+  w2c_j1 = w2c_l9;
+  w2c_j2 = w2c_l13;
   w2c_j3 = 3ull;
   w2c_j2 <<= (w2c_j3 & 63);
   w2c_j1 += w2c_j2;
   w2c_j2 = 248ull;
   w2c_j1 += w2c_j2;
   w2c_j2 = w2c_p2;
-  w2c_j3 = w2c_l18;
+  w2c_j3 = w2c_l16;
   w2c_j2 += w2c_j3;
   w2c_j3 = 15ull;
   w2c_i2 = w2c_j2 == w2c_j3;
@@ -15193,25 +14049,25 @@ static void w2c_f0(Z_dine_ffi_instance_t* instance, u64 w2c_p0, u64 w2c_p1, u64 
   w2c_j2 = 15ull;
   w2c_j1 &= w2c_j2;
   w2c_i0 = w2c_j0 <= w2c_j1;
-  if (w2c_i0) {goto w2c_B364;}
-  w2c_j0 = w2c_l12;
-  w2c_f52(instance, w2c_j0);
-  w2c_j0 = w2c_l19;
+  if (w2c_i0) {goto w2c_B267;}
+  w2c_j0 = w2c_l15;
+  w2c_f53(instance, w2c_j0);
+  w2c_j0 = w2c_l21;
   w2c_i0 = (u32)(w2c_j0);
-  w2c_l38 = w2c_i0;
+  w2c_l40 = w2c_i0;
   w2c_i0 = 6u;
-  w2c_l39 = w2c_i0;
-  goto w2c_B362;
-  w2c_B603:;
-  w2c_j0 = w2c_l17;
+  w2c_l38 = w2c_i0;
+  goto w2c_B265;
+  w2c_B538:;
+  w2c_j0 = w2c_l19;
   w2c_j1 = 32ull;
   w2c_j0 += w2c_j1;
   w2c_l3 = w2c_j0;
   w2c_i0 = 0u;
-  w2c_l38 = w2c_i0;
+  w2c_l40 = w2c_i0;
   w2c_j0 = w2c_l14;
   w2c_p1 = w2c_j0;
-  w2c_L643: 
+  w2c_L578: 
     w2c_j0 = w2c_l3;
     w2c_i0 = (u32)(w2c_j0);
     w2c_j0 = i64_load(&instance->w2c_memory, (u64)(w2c_i0));
@@ -15219,38 +14075,38 @@ static void w2c_f0(Z_dine_ffi_instance_t* instance, u64 w2c_p0, u64 w2c_p1, u64 
     w2c_i0 = w2c_j0 > w2c_j1;
     if (w2c_i0) {
       w2c_i0 = 9u;
-      w2c_l39 = w2c_i0;
-      goto w2c_B362;
+      w2c_l38 = w2c_i0;
+      goto w2c_B265;
     }
     w2c_j0 = w2c_l3;
     w2c_j1 = 56ull;
     w2c_j0 += w2c_j1;
     w2c_l3 = w2c_j0;
-    w2c_i0 = w2c_l38;
+    w2c_i0 = w2c_l40;
     w2c_i1 = 1u;
     w2c_i0 += w2c_i1;
-    w2c_l38 = w2c_i0;
+    w2c_l40 = w2c_i0;
     w2c_j0 = w2c_p1;
     w2c_j1 = 1ull;
     w2c_j0 -= w2c_j1;
     w2c_p1 = w2c_j0;
     w2c_j1 = 0ull;
     w2c_i0 = w2c_j0 != w2c_j1;
-    if (w2c_i0) {goto w2c_L643;}
+    if (w2c_i0) {goto w2c_L578;}
   w2c_i0 = 0u;
-  w2c_l38 = w2c_i0;
+  w2c_l40 = w2c_i0;
   w2c_j0 = w2c_l14;
   w2c_l5 = w2c_j0;
-  w2c_L645: 
+  w2c_L580: 
     w2c_j0 = w2c_l5;
     w2c_j1 = 1ull;
     w2c_j0 -= w2c_j1;
     w2c_l5 = w2c_j0;
-    w2c_j0 = w2c_l17;
+    w2c_j0 = w2c_l19;
     w2c_j1 = 56ull;
     w2c_j0 += w2c_j1;
-    w2c_l7 = w2c_j0;
-    w2c_j0 = w2c_l17;
+    w2c_l6 = w2c_j0;
+    w2c_j0 = w2c_l19;
     w2c_j1 = 32ull;
     w2c_j0 += w2c_j1;
     w2c_i0 = (u32)(w2c_j0);
@@ -15258,7 +14114,7 @@ static void w2c_f0(Z_dine_ffi_instance_t* instance, u64 w2c_p0, u64 w2c_p1, u64 
     w2c_j1 = 1ull;
     w2c_j0 += w2c_j1;
     w2c_p1 = w2c_j0;
-    w2c_j0 = w2c_l17;
+    w2c_j0 = w2c_l19;
     w2c_j1 = 24ull;
     w2c_j0 += w2c_j1;
     w2c_i0 = (u32)(w2c_j0);
@@ -15266,7 +14122,7 @@ static void w2c_f0(Z_dine_ffi_instance_t* instance, u64 w2c_p0, u64 w2c_p1, u64 
     w2c_j1 = 32ull;
     w2c_j0 += w2c_j1;
     w2c_l3 = w2c_j0;
-    w2c_L646: 
+    w2c_L581: 
       w2c_j0 = w2c_p1;
       w2c_j1 = 1ull;
       w2c_j0 -= w2c_j1;
@@ -15279,7 +14135,7 @@ static void w2c_f0(Z_dine_ffi_instance_t* instance, u64 w2c_p0, u64 w2c_p1, u64 
         w2c_i0 = i32_load(&instance->w2c_memory, (u64)(w2c_i0));
         w2c_l37 = w2c_i0;
         w2c_i0 = 10u;
-        w2c_l39 = w2c_i0;
+        w2c_l38 = w2c_i0;
         w2c_j0 = w2c_l3;
         w2c_j1 = 56ull;
         w2c_j0 += w2c_j1;
@@ -15287,47 +14143,42 @@ static void w2c_f0(Z_dine_ffi_instance_t* instance, u64 w2c_p0, u64 w2c_p1, u64 
         w2c_i0 = w2c_l37;
         w2c_i1 = 1000000u;
         w2c_i0 = w2c_i0 <= w2c_i1;
-        if (w2c_i0) {goto w2c_L646;}
-        goto w2c_B362;
+        if (w2c_i0) {goto w2c_L581;}
+        goto w2c_B265;
       }
-    w2c_i0 = w2c_l38;
+    w2c_i0 = w2c_l40;
     w2c_i1 = 1u;
     w2c_i0 += w2c_i1;
-    w2c_l38 = w2c_i0;
-    w2c_j0 = w2c_l7;
-    w2c_l17 = w2c_j0;
+    w2c_l40 = w2c_i0;
+    w2c_j0 = w2c_l6;
+    w2c_l19 = w2c_j0;
     w2c_j0 = w2c_l5;
     w2c_i0 = !(w2c_j0);
     w2c_i0 = !(w2c_i0);
-    if (w2c_i0) {goto w2c_L645;}
-  w2c_j0 = w2c_l4;
-  w2c_i0 = (u32)(w2c_j0);
-  w2c_j0 = i64_load(&instance->w2c_memory, (u64)(w2c_i0) + 624u);
-  w2c_l7 = w2c_j0;
+    if (w2c_i0) {goto w2c_L580;}
+  w2c_j0 = w2c_l12;
   w2c_i0 = !(w2c_j0);
+  w2c_l39 = w2c_i0;
   w2c_i0 = !(w2c_i0);
   if (w2c_i0) {
     w2c_j0 = w2c_l14;
     w2c_i0 = (u32)(w2c_j0);
     w2c_l37 = w2c_i0;
     w2c_i0 = 0u;
-    w2c_l38 = w2c_i0;
-    w2c_j0 = w2c_l4;
-    w2c_i0 = (u32)(w2c_j0);
-    w2c_j0 = i64_load(&instance->w2c_memory, (u64)(w2c_i0) + 616u);
-    w2c_l5 = w2c_j0;
+    w2c_l40 = w2c_i0;
+    w2c_j0 = w2c_l17;
     w2c_l3 = w2c_j0;
-    w2c_j0 = w2c_l7;
+    w2c_j0 = w2c_l12;
     w2c_p1 = w2c_j0;
-    w2c_L656: 
+    w2c_L591: 
       w2c_i0 = 11u;
-      w2c_l39 = w2c_i0;
+      w2c_l38 = w2c_i0;
       w2c_j0 = w2c_l3;
       w2c_i0 = (u32)(w2c_j0);
       w2c_i0 = i32_load(&instance->w2c_memory, (u64)(w2c_i0));
       w2c_i1 = w2c_l37;
       w2c_i0 = w2c_i0 >= w2c_i1;
-      if (w2c_i0) {goto w2c_B362;}
+      if (w2c_i0) {goto w2c_B265;}
       w2c_j0 = w2c_l3;
       w2c_j1 = 4ull;
       w2c_j0 += w2c_j1;
@@ -15335,59 +14186,59 @@ static void w2c_f0(Z_dine_ffi_instance_t* instance, u64 w2c_p0, u64 w2c_p1, u64 
       w2c_i0 = i32_load(&instance->w2c_memory, (u64)(w2c_i0));
       w2c_i1 = w2c_l37;
       w2c_i0 = w2c_i0 >= w2c_i1;
-      if (w2c_i0) {goto w2c_B362;}
+      if (w2c_i0) {goto w2c_B265;}
       w2c_j0 = w2c_l3;
       w2c_j1 = 16ull;
       w2c_j0 += w2c_j1;
       w2c_l3 = w2c_j0;
-      w2c_i0 = w2c_l38;
+      w2c_i0 = w2c_l40;
       w2c_i1 = 1u;
       w2c_i0 += w2c_i1;
-      w2c_l38 = w2c_i0;
+      w2c_l40 = w2c_i0;
       w2c_j0 = w2c_p1;
       w2c_j1 = 1ull;
       w2c_j0 -= w2c_j1;
       w2c_p1 = w2c_j0;
       w2c_j1 = 0ull;
       w2c_i0 = w2c_j0 != w2c_j1;
-      if (w2c_i0) {goto w2c_L656;}
+      if (w2c_i0) {goto w2c_L591;}
     w2c_i0 = 0u;
-    w2c_l38 = w2c_i0;
-    w2c_j0 = w2c_l5;
+    w2c_l40 = w2c_i0;
+    w2c_j0 = w2c_l17;
     w2c_l3 = w2c_j0;
-    w2c_j0 = w2c_l7;
+    w2c_j0 = w2c_l12;
     w2c_p1 = w2c_j0;
-    w2c_L657: 
+    w2c_L592: 
       w2c_j0 = w2c_l3;
       w2c_j1 = 4ull;
       w2c_j0 += w2c_j1;
       w2c_i0 = (u32)(w2c_j0);
       w2c_i0 = i32_load(&instance->w2c_memory, (u64)(w2c_i0));
-      w2c_l39 = w2c_i0;
+      w2c_l38 = w2c_i0;
       w2c_j1 = w2c_l3;
       w2c_i1 = (u32)(w2c_j1);
       w2c_i1 = i32_load(&instance->w2c_memory, (u64)(w2c_i1));
       w2c_l37 = w2c_i1;
       w2c_i0 = w2c_i0 != w2c_i1;
-      if (w2c_i0) {goto w2c_B658;}
+      if (w2c_i0) {goto w2c_B593;}
       w2c_j0 = w2c_l14;
       w2c_i1 = w2c_l37;
       w2c_j1 = (u64)(w2c_i1);
       w2c_i0 = w2c_j0 <= w2c_j1;
-      if (w2c_i0) {goto w2c_B658;}
+      if (w2c_i0) {goto w2c_B593;}
       w2c_j0 = w2c_l14;
-      w2c_i1 = w2c_l39;
+      w2c_i1 = w2c_l38;
       w2c_j1 = (u64)(w2c_i1);
       w2c_i0 = w2c_j0 <= w2c_j1;
-      if (w2c_i0) {goto w2c_B658;}
+      if (w2c_i0) {goto w2c_B593;}
       w2c_i0 = 12u;
-      w2c_l39 = w2c_i0;
-      goto w2c_B362;
-      w2c_B658:;
-      w2c_i0 = w2c_l38;
+      w2c_l38 = w2c_i0;
+      goto w2c_B265;
+      w2c_B593:;
+      w2c_i0 = w2c_l40;
       w2c_i1 = 1u;
       w2c_i0 += w2c_i1;
-      w2c_l38 = w2c_i0;
+      w2c_l40 = w2c_i0;
       w2c_j0 = w2c_l3;
       w2c_j1 = 16ull;
       w2c_j0 += w2c_j1;
@@ -15398,64 +14249,68 @@ static void w2c_f0(Z_dine_ffi_instance_t* instance, u64 w2c_p0, u64 w2c_p1, u64 
       w2c_p1 = w2c_j0;
       w2c_j1 = 0ull;
       w2c_i0 = w2c_j0 != w2c_j1;
-      if (w2c_i0) {goto w2c_L657;}
+      if (w2c_i0) {goto w2c_L592;}
     w2c_j0 = 0ull;
     w2c_p1 = w2c_j0;
     w2c_j0 = w2c_l4;
     w2c_i0 = (u32)(w2c_j0);
     w2c_j1 = 0ull;
-    i64_store(&instance->w2c_memory, (u64)(w2c_i0) + 788, w2c_j1);
+    i64_store(&instance->w2c_memory, (u64)(w2c_i0) + 868, w2c_j1);
     w2c_j0 = w2c_l4;
     w2c_i0 = (u32)(w2c_j0);
     w2c_j1 = 0ull;
-    i64_store(&instance->w2c_memory, (u64)(w2c_i0) + 848, w2c_j1);
+    i64_store(&instance->w2c_memory, (u64)(w2c_i0) + 928, w2c_j1);
     w2c_j0 = w2c_l4;
     w2c_i0 = (u32)(w2c_j0);
     w2c_j1 = 0ull;
-    i64_store(&instance->w2c_memory, (u64)(w2c_i0) + 856, w2c_j1);
+    i64_store(&instance->w2c_memory, (u64)(w2c_i0) + 936, w2c_j1);
     w2c_j0 = w2c_l4;
     w2c_i0 = (u32)(w2c_j0);
     w2c_j1 = w2c_l4;
-    w2c_j2 = 920ull;
+    w2c_j2 = 1000ull;
     w2c_j1 += w2c_j2;
-    i64_store(&instance->w2c_memory, (u64)(w2c_i0) + 840, w2c_j1);
+    i64_store(&instance->w2c_memory, (u64)(w2c_i0) + 920, w2c_j1);
     w2c_j0 = w2c_l4;
-    w2c_j1 = 920ull;
+    w2c_j1 = 1000ull;
     w2c_j0 += w2c_j1;
+    w2c_l8 = w2c_j0;
+    w2c_j0 = w2c_l17;
     w2c_l3 = w2c_j0;
-    w2c_L660: 
-      w2c_j0 = w2c_l5;
+    w2c_j0 = w2c_l12;
+    w2c_l5 = w2c_j0;
+    w2c_L595: 
+      w2c_j0 = w2c_l3;
       w2c_j1 = 4ull;
       w2c_j0 += w2c_j1;
       w2c_i0 = (u32)(w2c_j0);
       w2c_i0 = i32_load(&instance->w2c_memory, (u64)(w2c_i0));
       w2c_l37 = w2c_i0;
-      w2c_j0 = w2c_l5;
+      w2c_j0 = w2c_l3;
       w2c_i0 = (u32)(w2c_j0);
       w2c_i0 = i32_load(&instance->w2c_memory, (u64)(w2c_i0));
       w2c_l38 = w2c_i0;
       w2c_j0 = w2c_p1;
       w2c_j1 = w2c_l4;
       w2c_i1 = (u32)(w2c_j1);
-      w2c_j1 = i64_load(&instance->w2c_memory, (u64)(w2c_i1) + 856u);
+      w2c_j1 = i64_load(&instance->w2c_memory, (u64)(w2c_i1) + 936u);
       w2c_i0 = w2c_j0 == w2c_j1;
       if (w2c_i0) {
         w2c_j0 = w2c_l4;
-        w2c_j1 = 840ull;
+        w2c_j1 = 920ull;
         w2c_j0 += w2c_j1;
-        w2c_i0 = w2c_f53(instance, w2c_j0);
+        w2c_i0 = w2c_f54(instance, w2c_j0);
         w2c_i0 = !(w2c_i0);
-        if (w2c_i0) {goto w2c_B659;}
+        if (w2c_i0) {goto w2c_B594;}
         w2c_j0 = w2c_l4;
         w2c_i0 = (u32)(w2c_j0);
-        w2c_j0 = i64_load(&instance->w2c_memory, (u64)(w2c_i0) + 840u);
-        w2c_l3 = w2c_j0;
+        w2c_j0 = i64_load(&instance->w2c_memory, (u64)(w2c_i0) + 920u);
+        w2c_l8 = w2c_j0;
         w2c_j0 = w2c_l4;
         w2c_i0 = (u32)(w2c_j0);
-        w2c_j0 = i64_load(&instance->w2c_memory, (u64)(w2c_i0) + 848u);
+        w2c_j0 = i64_load(&instance->w2c_memory, (u64)(w2c_i0) + 928u);
         w2c_p1 = w2c_j0;
       }
-      w2c_j0 = w2c_l3;
+      w2c_j0 = w2c_l8;
       w2c_j1 = w2c_p1;
       w2c_l6 = w2c_j1;
       w2c_j2 = 3ull;
@@ -15486,42 +14341,42 @@ static void w2c_f0(Z_dine_ffi_instance_t* instance, u64 w2c_p0, u64 w2c_p1, u64 
       w2c_j2 = 1ull;
       w2c_j1 += w2c_j2;
       w2c_p1 = w2c_j1;
-      i64_store(&instance->w2c_memory, (u64)(w2c_i0) + 848, w2c_j1);
-      w2c_j0 = w2c_l5;
+      i64_store(&instance->w2c_memory, (u64)(w2c_i0) + 928, w2c_j1);
+      w2c_j0 = w2c_l3;
       w2c_j1 = 16ull;
       w2c_j0 += w2c_j1;
-      w2c_l5 = w2c_j0;
-      w2c_j0 = w2c_l7;
+      w2c_l3 = w2c_j0;
+      w2c_j0 = w2c_l5;
       w2c_j1 = 1ull;
       w2c_j0 -= w2c_j1;
-      w2c_l7 = w2c_j0;
+      w2c_l5 = w2c_j0;
       w2c_i0 = !(w2c_j0);
       w2c_i0 = !(w2c_i0);
-      if (w2c_i0) {goto w2c_L660;}
+      if (w2c_i0) {goto w2c_L595;}
     w2c_j0 = w2c_l4;
     w2c_i0 = (u32)(w2c_j0);
-    w2c_j0 = i64_load(&instance->w2c_memory, (u64)(w2c_i0) + 840u);
+    w2c_j0 = i64_load(&instance->w2c_memory, (u64)(w2c_i0) + 920u);
     w2c_p2 = w2c_j0;
     w2c_j0 = w2c_l4;
     w2c_i0 = (u32)(w2c_j0);
-    w2c_j0 = i64_load(&instance->w2c_memory, (u64)(w2c_i0) + 856u);
-    w2c_l10 = w2c_j0;
+    w2c_j0 = i64_load(&instance->w2c_memory, (u64)(w2c_i0) + 936u);
+    w2c_l9 = w2c_j0;
     w2c_i0 = !(w2c_j0);
-    w2c_l40 = w2c_i0;
+    w2c_l41 = w2c_i0;
     w2c_j0 = w2c_p1;
     w2c_i0 = !(w2c_j0);
-    if (w2c_i0) {goto w2c_B654;}
+    if (w2c_i0) {goto w2c_B589;}
     w2c_j0 = 0ull;
-    w2c_l13 = w2c_j0;
+    w2c_l10 = w2c_j0;
     w2c_j0 = 0ull;
-    w2c_l7 = w2c_j0;
-    w2c_L662: 
-      w2c_j0 = w2c_l7;
+    w2c_l8 = w2c_j0;
+    w2c_L597: 
+      w2c_j0 = w2c_l8;
       w2c_i0 = !(w2c_j0);
       w2c_i0 = !(w2c_i0);
       if (w2c_i0) {
         w2c_j0 = w2c_p2;
-        w2c_j1 = w2c_l7;
+        w2c_j1 = w2c_l8;
         w2c_j2 = 3ull;
         w2c_j1 <<= (w2c_j2 & 63);
         w2c_j0 += w2c_j1;
@@ -15533,11 +14388,11 @@ static void w2c_f0(Z_dine_ffi_instance_t* instance, u64 w2c_p0, u64 w2c_p1, u64 
         w2c_i0 = (u32)(w2c_j0);
         w2c_i0 = i32_load(&instance->w2c_memory, (u64)(w2c_i0));
         w2c_l37 = w2c_i0;
-        w2c_j0 = w2c_l13;
+        w2c_j0 = w2c_l10;
         w2c_l5 = w2c_j0;
         w2c_j0 = w2c_p2;
         w2c_l3 = w2c_j0;
-        w2c_L664: 
+        w2c_L599: 
           w2c_j0 = w2c_l3;
           w2c_i0 = (u32)(w2c_j0);
           w2c_i0 = i32_load(&instance->w2c_memory, (u64)(w2c_i0));
@@ -15551,7 +14406,7 @@ static void w2c_f0(Z_dine_ffi_instance_t* instance, u64 w2c_p0, u64 w2c_p1, u64 
             w2c_i1 = (u32)(w2c_j1);
             w2c_i1 = i32_load(&instance->w2c_memory, (u64)(w2c_i1));
             w2c_i0 = w2c_i0 == w2c_i1;
-            if (w2c_i0) {goto w2c_B653;}
+            if (w2c_i0) {goto w2c_B588;}
           }
           w2c_j0 = w2c_l3;
           w2c_j1 = 8ull;
@@ -15563,76 +14418,76 @@ static void w2c_f0(Z_dine_ffi_instance_t* instance, u64 w2c_p0, u64 w2c_p1, u64 
           w2c_l5 = w2c_j0;
           w2c_j1 = 0ull;
           w2c_i0 = w2c_j0 != w2c_j1;
-          if (w2c_i0) {goto w2c_L664;}
+          if (w2c_i0) {goto w2c_L599;}
       }
-      w2c_j0 = w2c_l13;
+      w2c_j0 = w2c_l10;
       w2c_j1 = 1ull;
       w2c_j0 -= w2c_j1;
-      w2c_l13 = w2c_j0;
+      w2c_l10 = w2c_j0;
       w2c_j0 = w2c_l6;
-      w2c_j1 = w2c_l7;
+      w2c_j1 = w2c_l8;
       w2c_i0 = w2c_j0 == w2c_j1;
       w2c_l37 = w2c_i0;
-      w2c_j0 = w2c_l7;
+      w2c_j0 = w2c_l8;
       w2c_j1 = 1ull;
       w2c_j0 += w2c_j1;
-      w2c_l7 = w2c_j0;
+      w2c_l8 = w2c_j0;
       w2c_i0 = w2c_l37;
       w2c_i0 = !(w2c_i0);
-      if (w2c_i0) {goto w2c_L662;}
+      if (w2c_i0) {goto w2c_L597;}
     w2c_j0 = w2c_p1;
     w2c_j1 = 512ull;
     w2c_i0 = w2c_j0 <= w2c_j1;
-    if (w2c_i0) {goto w2c_B654;}
+    if (w2c_i0) {goto w2c_B589;}
     w2c_i0 = 0u;
-    w2c_l38 = w2c_i0;
+    w2c_l40 = w2c_i0;
     w2c_i0 = 14u;
-    w2c_l39 = w2c_i0;
-    w2c_j0 = w2c_l10;
+    w2c_l38 = w2c_i0;
+    w2c_j0 = w2c_l9;
     w2c_i0 = !(w2c_j0);
-    if (w2c_i0) {goto w2c_B362;}
-    goto w2c_B363;
-    w2c_B659:;
+    if (w2c_i0) {goto w2c_B265;}
+    goto w2c_B266;
+    w2c_B594:;
     w2c_j0 = w2c_l4;
     w2c_i0 = (u32)(w2c_j0);
-    w2c_j0 = i64_load(&instance->w2c_memory, (u64)(w2c_i0) + 856u);
+    w2c_j0 = i64_load(&instance->w2c_memory, (u64)(w2c_i0) + 936u);
     w2c_i0 = !(w2c_j0);
-    if (w2c_i0) {goto w2c_B361;}
+    if (w2c_i0) {goto w2c_B264;}
     w2c_j0 = w2c_l4;
     w2c_i0 = (u32)(w2c_j0);
-    w2c_j0 = i64_load(&instance->w2c_memory, (u64)(w2c_i0) + 840u);
+    w2c_j0 = i64_load(&instance->w2c_memory, (u64)(w2c_i0) + 920u);
     w2c_leave(instance, w2c_j0);
-    goto w2c_B361;
+    goto w2c_B264;
   }
   w2c_i0 = 1u;
-  w2c_l40 = w2c_i0;
+  w2c_l41 = w2c_i0;
   w2c_j0 = w2c_l4;
-  w2c_j1 = 920ull;
+  w2c_j1 = 1000ull;
   w2c_j0 += w2c_j1;
   w2c_p2 = w2c_j0;
-  w2c_B654:;
+  w2c_B589:;
   w2c_j0 = w2c_l4;
   w2c_i0 = (u32)(w2c_j0);
   w2c_i1 = 0u;
-  i32_store(&instance->w2c_memory, (u64)(w2c_i0) + 792, w2c_i1);
+  i32_store(&instance->w2c_memory, (u64)(w2c_i0) + 872, w2c_i1);
   w2c_j0 = w2c_l4;
   w2c_i0 = (u32)(w2c_j0);
   w2c_j1 = 0ull;
-  i64_store(&instance->w2c_memory, (u64)(w2c_i0) + 784, w2c_j1);
+  i64_store(&instance->w2c_memory, (u64)(w2c_i0) + 864, w2c_j1);
   w2c_j0 = w2c_l4;
-  w2c_j1 = 784ull;
+  w2c_j1 = 864ull;
   w2c_j0 += w2c_j1;
-  w2c_l6 = w2c_j0;
+  w2c_l10 = w2c_j0;
   w2c_i0 = 0u;
   w2c_l37 = w2c_i0;
   w2c_i0 = 0u;
   w2c_l38 = w2c_i0;
   w2c_i0 = 1u;
-  w2c_l39 = w2c_i0;
+  w2c_l40 = w2c_i0;
   w2c_j0 = w2c_l4;
-  w2c_j1 = 584ull;
+  w2c_j1 = 664ull;
   w2c_j0 += w2c_j1;
-  w2c_l11 = w2c_j0;
+  w2c_l6 = w2c_j0;
   w2c_j1 = 56ull;
   w2c_j0 += w2c_j1;
   w2c_i0 = (u32)(w2c_j0);
@@ -15643,28 +14498,28 @@ static void w2c_f0(Z_dine_ffi_instance_t* instance, u64 w2c_p0, u64 w2c_p1, u64 
     w2c_i0 = 15u;
     w2c_l38 = w2c_i0;
     w2c_j0 = 60ull;
-    goto w2c_B667;
+    goto w2c_B602;
   }
-  w2c_j0 = w2c_l11;
+  w2c_j0 = w2c_l6;
   w2c_j1 = 16ull;
   w2c_j0 += w2c_j1;
   w2c_i0 = (u32)(w2c_j0);
   w2c_j0 = i64_load(&instance->w2c_memory, (u64)(w2c_i0));
-  w2c_l7 = w2c_j0;
+  w2c_l8 = w2c_j0;
   w2c_i0 = !(w2c_j0);
   w2c_i0 = !(w2c_i0);
   if (w2c_i0) {
-    w2c_j0 = w2c_l11;
+    w2c_j0 = w2c_l6;
     w2c_j1 = 8ull;
     w2c_j0 += w2c_j1;
     w2c_i0 = (u32)(w2c_j0);
     w2c_j0 = i64_load(&instance->w2c_memory, (u64)(w2c_i0));
     w2c_p1 = w2c_j0;
-    w2c_L670: 
-      w2c_j0 = w2c_l7;
+    w2c_L605: 
+      w2c_j0 = w2c_l8;
       w2c_j1 = 1ull;
       w2c_j0 -= w2c_j1;
-      w2c_l7 = w2c_j0;
+      w2c_l8 = w2c_j0;
       w2c_j0 = w2c_p1;
       w2c_j1 = 56ull;
       w2c_j0 += w2c_j1;
@@ -15685,41 +14540,41 @@ static void w2c_f0(Z_dine_ffi_instance_t* instance, u64 w2c_p0, u64 w2c_p1, u64 
       w2c_j1 = 48ull;
       w2c_j0 += w2c_j1;
       w2c_p1 = w2c_j0;
-      w2c_L672: 
+      w2c_L607: 
         w2c_j0 = w2c_l5;
         w2c_j1 = 1ull;
         w2c_j0 -= w2c_j1;
         w2c_l5 = w2c_j0;
         w2c_i0 = !(w2c_j0);
-        if (w2c_i0) {goto w2c_B671;}
+        if (w2c_i0) {goto w2c_B606;}
         w2c_j0 = w2c_p1;
         w2c_i0 = (u32)(w2c_j0);
         w2c_j0 = i64_load(&instance->w2c_memory, (u64)(w2c_i0));
-        w2c_l12 = w2c_j0;
+        w2c_l14 = w2c_j0;
         w2c_j0 = w2c_p1;
         w2c_j1 = 56ull;
         w2c_j0 += w2c_j1;
         w2c_p1 = w2c_j0;
-        w2c_j0 = w2c_l12;
+        w2c_j0 = w2c_l14;
         w2c_j1 = 1000000ull;
         w2c_i0 = w2c_j0 <= w2c_j1;
-        if (w2c_i0) {goto w2c_L672;}
+        if (w2c_i0) {goto w2c_L607;}
       w2c_i0 = 16u;
       w2c_l38 = w2c_i0;
-      goto w2c_B666;
-      w2c_B671:;
+      goto w2c_B601;
+      w2c_B606:;
       w2c_i0 = w2c_l37;
       w2c_i1 = 1u;
       w2c_i0 += w2c_i1;
       w2c_l37 = w2c_i0;
       w2c_j0 = w2c_l3;
       w2c_p1 = w2c_j0;
-      w2c_j0 = w2c_l7;
+      w2c_j0 = w2c_l8;
       w2c_j1 = 0ull;
       w2c_i0 = w2c_j0 != w2c_j1;
-      if (w2c_i0) {goto w2c_L670;}
+      if (w2c_i0) {goto w2c_L605;}
   }
-  w2c_j0 = w2c_l11;
+  w2c_j0 = w2c_l6;
   w2c_j1 = 40ull;
   w2c_j0 += w2c_j1;
   w2c_i0 = (u32)(w2c_j0);
@@ -15728,7 +14583,7 @@ static void w2c_f0(Z_dine_ffi_instance_t* instance, u64 w2c_p0, u64 w2c_p1, u64 
   w2c_i0 = !(w2c_j0);
   w2c_i0 = !(w2c_i0);
   if (w2c_i0) {
-    w2c_j0 = w2c_l11;
+    w2c_j0 = w2c_l6;
     w2c_j1 = 32ull;
     w2c_j0 += w2c_j1;
     w2c_i0 = (u32)(w2c_j0);
@@ -15738,7 +14593,7 @@ static void w2c_f0(Z_dine_ffi_instance_t* instance, u64 w2c_p0, u64 w2c_p1, u64 
     w2c_p1 = w2c_j0;
     w2c_i0 = 0u;
     w2c_l37 = w2c_i0;
-    w2c_L674: 
+    w2c_L609: 
       w2c_j0 = w2c_p1;
       w2c_i0 = (u32)(w2c_j0);
       w2c_j0 = i64_load(&instance->w2c_memory, (u64)(w2c_i0));
@@ -15747,7 +14602,7 @@ static void w2c_f0(Z_dine_ffi_instance_t* instance, u64 w2c_p0, u64 w2c_p1, u64 
       if (w2c_i0) {
         w2c_i0 = 17u;
         w2c_l38 = w2c_i0;
-        goto w2c_B666;
+        goto w2c_B601;
       }
       w2c_j0 = w2c_p1;
       w2c_j1 = 16ull;
@@ -15763,9 +14618,9 @@ static void w2c_f0(Z_dine_ffi_instance_t* instance, u64 w2c_p0, u64 w2c_p1, u64 
       w2c_l5 = w2c_j0;
       w2c_j1 = 0ull;
       w2c_i0 = w2c_j0 != w2c_j1;
-      if (w2c_i0) {goto w2c_L674;}
+      if (w2c_i0) {goto w2c_L609;}
   }
-  w2c_j0 = w2c_l11;
+  w2c_j0 = w2c_l6;
   w2c_j1 = 18446744073709551552ull;
   w2c_j0 -= w2c_j1;
   w2c_i0 = (u32)(w2c_j0);
@@ -15774,32 +14629,32 @@ static void w2c_f0(Z_dine_ffi_instance_t* instance, u64 w2c_p0, u64 w2c_p1, u64 
   w2c_i0 = w2c_i0 != w2c_i1;
   if (w2c_i0) {
     w2c_i0 = 0u;
-    w2c_l39 = w2c_i0;
+    w2c_l40 = w2c_i0;
     w2c_i0 = 0u;
     w2c_l37 = w2c_i0;
-    goto w2c_B666;
+    goto w2c_B601;
   }
   w2c_i0 = 18u;
   w2c_l38 = w2c_i0;
   w2c_j0 = 68ull;
-  w2c_B667:;
-  w2c_j1 = w2c_l11;
+  w2c_B602:;
+  w2c_j1 = w2c_l6;
   w2c_j0 += w2c_j1;
   w2c_i0 = (u32)(w2c_j0);
   w2c_i0 = i32_load(&instance->w2c_memory, (u64)(w2c_i0));
   w2c_l37 = w2c_i0;
-  w2c_B666:;
-  w2c_j0 = w2c_l6;
+  w2c_B601:;
+  w2c_j0 = w2c_l10;
   w2c_i0 = (u32)(w2c_j0);
-  w2c_i1 = w2c_l39;
+  w2c_i1 = w2c_l40;
   i32_store(&instance->w2c_memory, (u64)(w2c_i0), w2c_i1);
-  w2c_j0 = w2c_l6;
+  w2c_j0 = w2c_l10;
   w2c_j1 = 8ull;
   w2c_j0 += w2c_j1;
   w2c_i0 = (u32)(w2c_j0);
   w2c_i1 = w2c_l37;
   i32_store(&instance->w2c_memory, (u64)(w2c_i0), w2c_i1);
-  w2c_j0 = w2c_l6;
+  w2c_j0 = w2c_l10;
   w2c_j1 = 4ull;
   w2c_j0 += w2c_j1;
   w2c_i0 = (u32)(w2c_j0);
@@ -15807,17 +14662,17 @@ static void w2c_f0(Z_dine_ffi_instance_t* instance, u64 w2c_p0, u64 w2c_p1, u64 
   i32_store(&instance->w2c_memory, (u64)(w2c_i0), w2c_i1);
   w2c_j0 = w2c_l4;
   w2c_i0 = (u32)(w2c_j0);
-  w2c_i0 = i32_load(&instance->w2c_memory, (u64)(w2c_i0) + 792u);
+  w2c_i0 = i32_load(&instance->w2c_memory, (u64)(w2c_i0) + 872u);
+  w2c_l40 = w2c_i0;
+  w2c_j0 = w2c_l4;
+  w2c_i0 = (u32)(w2c_j0);
+  w2c_i0 = i32_load8_u(&instance->w2c_memory, (u64)(w2c_i0) + 868u);
   w2c_l38 = w2c_i0;
   w2c_j0 = w2c_l4;
   w2c_i0 = (u32)(w2c_j0);
-  w2c_i0 = i32_load8_u(&instance->w2c_memory, (u64)(w2c_i0) + 788u);
-  w2c_l39 = w2c_i0;
-  w2c_j0 = w2c_l4;
-  w2c_i0 = (u32)(w2c_j0);
-  w2c_i0 = i32_load8_u(&instance->w2c_memory, (u64)(w2c_i0) + 784u);
+  w2c_i0 = i32_load8_u(&instance->w2c_memory, (u64)(w2c_i0) + 864u);
   w2c_l37 = w2c_i0;
-  w2c_i0 = w2c_l40;
+  w2c_i0 = w2c_l41;
   w2c_i0 = !(w2c_i0);
   if (w2c_i0) {
     w2c_j0 = w2c_p2;
@@ -15828,95 +14683,88 @@ static void w2c_f0(Z_dine_ffi_instance_t* instance, u64 w2c_p0, u64 w2c_p1, u64 
   w2c_i0 &= w2c_i1;
   w2c_i1 = 1u;
   w2c_i0 = w2c_i0 == w2c_i1;
-  if (w2c_i0) {goto w2c_B362;}
-  w2c_j0 = w2c_l4;
-  w2c_i0 = (u32)(w2c_j0);
-  w2c_j0 = i64_load(&instance->w2c_memory, (u64)(w2c_i0) + 616u);
-  w2c_l3 = w2c_j0;
-  w2c_j0 = w2c_l4;
-  w2c_i0 = (u32)(w2c_j0);
-  w2c_j0 = i64_load(&instance->w2c_memory, (u64)(w2c_i0) + 624u);
-  w2c_l5 = w2c_j0;
+  if (w2c_i0) {goto w2c_B265;}
   w2c_j0 = 0ull;
-  w2c_l7 = w2c_j0;
+  w2c_p1 = w2c_j0;
   w2c_j0 = w2c_l4;
   w2c_i0 = (u32)(w2c_j0);
   w2c_j1 = 0ull;
-  i64_store(&instance->w2c_memory, (u64)(w2c_i0) + 848, w2c_j1);
+  i64_store(&instance->w2c_memory, (u64)(w2c_i0) + 928, w2c_j1);
   w2c_j0 = w2c_l4;
   w2c_i0 = (u32)(w2c_j0);
   w2c_j1 = 0ull;
-  i64_store(&instance->w2c_memory, (u64)(w2c_i0) + 856, w2c_j1);
+  i64_store(&instance->w2c_memory, (u64)(w2c_i0) + 936, w2c_j1);
   w2c_j0 = w2c_l4;
   w2c_i0 = (u32)(w2c_j0);
   w2c_j1 = w2c_l4;
-  w2c_j2 = 920ull;
+  w2c_j2 = 1000ull;
   w2c_j1 += w2c_j2;
-  i64_store(&instance->w2c_memory, (u64)(w2c_i0) + 840, w2c_j1);
-  w2c_j0 = w2c_l5;
+  i64_store(&instance->w2c_memory, (u64)(w2c_i0) + 920, w2c_j1);
+  w2c_i0 = w2c_l39;
+  w2c_i0 = !(w2c_i0);
+  if (w2c_i0) {goto w2c_B587;}
+  w2c_j0 = 0ull;
+  w2c_l3 = w2c_j0;
+  w2c_j0 = w2c_l4;
+  w2c_j1 = 1000ull;
+  w2c_j0 += w2c_j1;
+  goto w2c_B586;
+  w2c_B588:;
+  w2c_j0 = w2c_l8;
+  w2c_i0 = (u32)(w2c_j0);
+  w2c_l40 = w2c_i0;
+  w2c_i0 = 13u;
+  w2c_l38 = w2c_i0;
+  w2c_j0 = w2c_l9;
   w2c_i0 = !(w2c_j0);
   w2c_i0 = !(w2c_i0);
-  if (w2c_i0) {goto w2c_B652;}
+  if (w2c_i0) {goto w2c_B266;}
+  goto w2c_B265;
+  w2c_B587:;
+  w2c_j0 = 0ull;
+  w2c_l3 = w2c_j0;
   w2c_j0 = w2c_l4;
-  w2c_j1 = 920ull;
+  w2c_j1 = 1000ull;
   w2c_j0 += w2c_j1;
   w2c_l6 = w2c_j0;
-  w2c_j0 = 0ull;
+  w2c_j0 = w2c_l17;
   w2c_p1 = w2c_j0;
-  w2c_j0 = 0ull;
-  goto w2c_B651;
-  w2c_B653:;
-  w2c_j0 = w2c_l7;
-  w2c_i0 = (u32)(w2c_j0);
-  w2c_l38 = w2c_i0;
-  w2c_i0 = 13u;
-  w2c_l39 = w2c_i0;
-  w2c_j0 = w2c_l10;
-  w2c_i0 = !(w2c_j0);
-  w2c_i0 = !(w2c_i0);
-  if (w2c_i0) {goto w2c_B363;}
-  goto w2c_B362;
-  w2c_B652:;
-  w2c_j0 = 0ull;
-  w2c_p1 = w2c_j0;
-  w2c_j0 = w2c_l4;
-  w2c_j1 = 920ull;
-  w2c_j0 += w2c_j1;
-  w2c_l7 = w2c_j0;
-  w2c_L678: 
-    w2c_j0 = w2c_l3;
+  w2c_j0 = w2c_l12;
+  w2c_l5 = w2c_j0;
+  w2c_L613: 
+    w2c_j0 = w2c_p1;
     w2c_j1 = 4ull;
     w2c_j0 += w2c_j1;
     w2c_i0 = (u32)(w2c_j0);
     w2c_i0 = i32_load(&instance->w2c_memory, (u64)(w2c_i0));
     w2c_l37 = w2c_i0;
-    w2c_j0 = w2c_l3;
+    w2c_j0 = w2c_p1;
     w2c_i0 = (u32)(w2c_j0);
     w2c_i0 = i32_load(&instance->w2c_memory, (u64)(w2c_i0));
     w2c_l38 = w2c_i0;
-    w2c_j0 = w2c_p1;
+    w2c_j0 = w2c_l3;
     w2c_j1 = w2c_l4;
     w2c_i1 = (u32)(w2c_j1);
-    w2c_j1 = i64_load(&instance->w2c_memory, (u64)(w2c_i1) + 856u);
+    w2c_j1 = i64_load(&instance->w2c_memory, (u64)(w2c_i1) + 936u);
     w2c_i0 = w2c_j0 == w2c_j1;
     if (w2c_i0) {
       w2c_j0 = w2c_l4;
-      w2c_j1 = 840ull;
+      w2c_j1 = 920ull;
       w2c_j0 += w2c_j1;
-      w2c_i0 = w2c_f53(instance, w2c_j0);
+      w2c_i0 = w2c_f54(instance, w2c_j0);
       w2c_i0 = !(w2c_i0);
-      if (w2c_i0) {goto w2c_B650;}
+      if (w2c_i0) {goto w2c_B585;}
       w2c_j0 = w2c_l4;
       w2c_i0 = (u32)(w2c_j0);
-      w2c_j0 = i64_load(&instance->w2c_memory, (u64)(w2c_i0) + 840u);
-      w2c_l7 = w2c_j0;
+      w2c_j0 = i64_load(&instance->w2c_memory, (u64)(w2c_i0) + 920u);
+      w2c_l6 = w2c_j0;
       w2c_j0 = w2c_l4;
       w2c_i0 = (u32)(w2c_j0);
-      w2c_j0 = i64_load(&instance->w2c_memory, (u64)(w2c_i0) + 848u);
-      w2c_p1 = w2c_j0;
+      w2c_j0 = i64_load(&instance->w2c_memory, (u64)(w2c_i0) + 928u);
+      w2c_l3 = w2c_j0;
     }
-    w2c_j0 = w2c_l7;
-    w2c_j1 = w2c_p1;
+    w2c_j0 = w2c_l6;
+    w2c_j1 = w2c_l3;
     w2c_j2 = 3ull;
     w2c_j1 <<= (w2c_j2 & 63);
     w2c_j0 += w2c_j1;
@@ -15941,223 +14789,215 @@ static void w2c_f0(Z_dine_ffi_instance_t* instance, u64 w2c_p0, u64 w2c_p1, u64 
     i64_store(&instance->w2c_memory, (u64)(w2c_i0), w2c_j1);
     w2c_j0 = w2c_l4;
     w2c_i0 = (u32)(w2c_j0);
-    w2c_j1 = w2c_p1;
+    w2c_j1 = w2c_l3;
     w2c_j2 = 1ull;
     w2c_j1 += w2c_j2;
-    w2c_p1 = w2c_j1;
-    i64_store(&instance->w2c_memory, (u64)(w2c_i0) + 848, w2c_j1);
-    w2c_j0 = w2c_l3;
+    w2c_l3 = w2c_j1;
+    i64_store(&instance->w2c_memory, (u64)(w2c_i0) + 928, w2c_j1);
+    w2c_j0 = w2c_p1;
     w2c_j1 = 16ull;
     w2c_j0 += w2c_j1;
-    w2c_l3 = w2c_j0;
+    w2c_p1 = w2c_j0;
     w2c_j0 = w2c_l5;
     w2c_j1 = 1ull;
     w2c_j0 -= w2c_j1;
     w2c_l5 = w2c_j0;
     w2c_i0 = !(w2c_j0);
     w2c_i0 = !(w2c_i0);
-    if (w2c_i0) {goto w2c_L678;}
+    if (w2c_i0) {goto w2c_L613;}
   w2c_j0 = w2c_l4;
   w2c_i0 = (u32)(w2c_j0);
-  w2c_j0 = i64_load(&instance->w2c_memory, (u64)(w2c_i0) + 624u);
-  w2c_l7 = w2c_j0;
+  w2c_j0 = i64_load(&instance->w2c_memory, (u64)(w2c_i0) + 936u);
+  w2c_p1 = w2c_j0;
   w2c_j0 = w2c_l4;
   w2c_i0 = (u32)(w2c_j0);
-  w2c_j0 = i64_load(&instance->w2c_memory, (u64)(w2c_i0) + 616u);
-  w2c_l3 = w2c_j0;
-  w2c_j0 = w2c_l4;
-  w2c_i0 = (u32)(w2c_j0);
-  w2c_j0 = i64_load(&instance->w2c_memory, (u64)(w2c_i0) + 840u);
-  w2c_l6 = w2c_j0;
-  w2c_j0 = w2c_l4;
-  w2c_i0 = (u32)(w2c_j0);
-  w2c_j0 = i64_load(&instance->w2c_memory, (u64)(w2c_i0) + 856u);
-  w2c_B651:;
+  w2c_j0 = i64_load(&instance->w2c_memory, (u64)(w2c_i0) + 920u);
+  w2c_B586:;
   w2c_l5 = w2c_j0;
   w2c_j0 = w2c_l4;
-  w2c_j1 = 552ull;
+  w2c_j1 = 632ull;
   w2c_j0 += w2c_j1;
-  w2c_l12 = w2c_j0;
-  w2c_j0 = w2c_l3;
+  w2c_l8 = w2c_j0;
+  w2c_j0 = w2c_l17;
   w2c_p2 = w2c_j0;
   w2c_j0 = instance->w2c_g0;
   w2c_j1 = 32ull;
   w2c_j0 -= w2c_j1;
-  w2c_l11 = w2c_j0;
+  w2c_l6 = w2c_j0;
   instance->w2c_g0 = w2c_j0;
-  w2c_j0 = w2c_l11;
+  w2c_j0 = w2c_l6;
   w2c_i0 = (u32)(w2c_j0);
   w2c_j1 = 0ull;
   i64_store(&instance->w2c_memory, (u64)(w2c_i0) + 8, w2c_j1);
-  w2c_j0 = w2c_l11;
+  w2c_j0 = w2c_l6;
   w2c_i0 = (u32)(w2c_j0);
   w2c_j1 = 0ull;
   i64_store(&instance->w2c_memory, (u64)(w2c_i0) + 16, w2c_j1);
-  w2c_j0 = w2c_l11;
+  w2c_j0 = w2c_l6;
   w2c_i0 = (u32)(w2c_j0);
-  w2c_j1 = w2c_l11;
+  w2c_j1 = w2c_l6;
   w2c_j2 = 24ull;
   w2c_j1 += w2c_j2;
   i64_store(&instance->w2c_memory, (u64)(w2c_i0), w2c_j1);
-  w2c_j0 = w2c_l7;
+  w2c_j0 = w2c_l12;
   w2c_i0 = !(w2c_j0);
   w2c_i0 = !(w2c_i0);
   if (w2c_i0) {
     w2c_j0 = w2c_p2;
     w2c_j1 = 8ull;
     w2c_j0 += w2c_j1;
-    w2c_l14 = w2c_j0;
-    w2c_j0 = w2c_l11;
+    w2c_l10 = w2c_j0;
+    w2c_j0 = w2c_l6;
     w2c_j1 = 24ull;
     w2c_j0 += w2c_j1;
-    w2c_l10 = w2c_j0;
-    w2c_j0 = w2c_l11;
+    w2c_l14 = w2c_j0;
+    w2c_j0 = w2c_l6;
     w2c_i0 = (u32)(w2c_j0);
     w2c_j0 = i64_load(&instance->w2c_memory, (u64)(w2c_i0) + 8u);
     w2c_p2 = w2c_j0;
-    w2c_L683: 
-      w2c_j0 = w2c_l14;
+    w2c_L618: 
+      w2c_j0 = w2c_l10;
       w2c_i0 = (u32)(w2c_j0);
       w2c_j0 = i64_load(&instance->w2c_memory, (u64)(w2c_i0));
-      w2c_l13 = w2c_j0;
+      w2c_l9 = w2c_j0;
       w2c_j0 = w2c_p2;
-      w2c_j1 = w2c_l11;
+      w2c_j1 = w2c_l6;
       w2c_i1 = (u32)(w2c_j1);
       w2c_j1 = i64_load(&instance->w2c_memory, (u64)(w2c_i1) + 16u);
       w2c_i0 = w2c_j0 == w2c_j1;
       if (w2c_i0) {
-        w2c_j0 = w2c_l11;
-        w2c_i0 = w2c_f53(instance, w2c_j0);
+        w2c_j0 = w2c_l6;
+        w2c_i0 = w2c_f54(instance, w2c_j0);
         w2c_i0 = !(w2c_i0);
-        if (w2c_i0) {goto w2c_B681;}
-        w2c_j0 = w2c_l11;
+        if (w2c_i0) {goto w2c_B616;}
+        w2c_j0 = w2c_l6;
         w2c_i0 = (u32)(w2c_j0);
         w2c_j0 = i64_load(&instance->w2c_memory, (u64)(w2c_i0));
-        w2c_l10 = w2c_j0;
-        w2c_j0 = w2c_l11;
+        w2c_l14 = w2c_j0;
+        w2c_j0 = w2c_l6;
         w2c_i0 = (u32)(w2c_j0);
         w2c_j0 = i64_load(&instance->w2c_memory, (u64)(w2c_i0) + 8u);
         w2c_p2 = w2c_j0;
       }
-      w2c_j0 = w2c_l10;
+      w2c_j0 = w2c_l14;
       w2c_j1 = w2c_p2;
       w2c_j2 = 3ull;
       w2c_j1 <<= (w2c_j2 & 63);
       w2c_j0 += w2c_j1;
       w2c_i0 = (u32)(w2c_j0);
-      w2c_j1 = w2c_l13;
+      w2c_j1 = w2c_l9;
       i64_store(&instance->w2c_memory, (u64)(w2c_i0), w2c_j1);
-      w2c_j0 = w2c_l11;
+      w2c_j0 = w2c_l6;
       w2c_i0 = (u32)(w2c_j0);
       w2c_j1 = w2c_p2;
       w2c_j2 = 1ull;
       w2c_j1 += w2c_j2;
       w2c_p2 = w2c_j1;
       i64_store(&instance->w2c_memory, (u64)(w2c_i0) + 8, w2c_j1);
-      w2c_j0 = w2c_l14;
+      w2c_j0 = w2c_l10;
       w2c_j1 = 16ull;
       w2c_j0 += w2c_j1;
-      w2c_l14 = w2c_j0;
-      w2c_j0 = w2c_l7;
+      w2c_l10 = w2c_j0;
+      w2c_j0 = w2c_l12;
       w2c_j1 = 1ull;
       w2c_j0 -= w2c_j1;
-      w2c_l7 = w2c_j0;
+      w2c_l12 = w2c_j0;
       w2c_i0 = !(w2c_j0);
       w2c_i0 = !(w2c_i0);
-      if (w2c_i0) {goto w2c_L683;}
+      if (w2c_i0) {goto w2c_L618;}
   }
-  w2c_j0 = w2c_l12;
+  w2c_j0 = w2c_l8;
   w2c_i0 = (u32)(w2c_j0);
   w2c_i1 = 0u;
   i32_store8(&instance->w2c_memory, (u64)(w2c_i0), w2c_i1);
-  w2c_j0 = w2c_l12;
+  w2c_j0 = w2c_l8;
   w2c_j1 = 8ull;
   w2c_j0 += w2c_j1;
   w2c_i0 = (u32)(w2c_j0);
-  w2c_j1 = w2c_l11;
+  w2c_j1 = w2c_l6;
   w2c_i1 = (u32)(w2c_j1);
   w2c_j1 = i64_load(&instance->w2c_memory, (u64)(w2c_i1));
   i64_store(&instance->w2c_memory, (u64)(w2c_i0), w2c_j1);
-  w2c_j0 = w2c_l12;
+  w2c_j0 = w2c_l8;
   w2c_j1 = 16ull;
   w2c_j0 += w2c_j1;
   w2c_i0 = (u32)(w2c_j0);
-  w2c_j1 = w2c_l11;
+  w2c_j1 = w2c_l6;
   w2c_i1 = (u32)(w2c_j1);
   w2c_j1 = i64_load(&instance->w2c_memory, (u64)(w2c_i1) + 8u);
   i64_store(&instance->w2c_memory, (u64)(w2c_i0), w2c_j1);
-  w2c_j0 = w2c_l12;
+  w2c_j0 = w2c_l8;
   w2c_j1 = 24ull;
   w2c_j0 += w2c_j1;
   w2c_i0 = (u32)(w2c_j0);
-  w2c_j1 = w2c_l11;
+  w2c_j1 = w2c_l6;
   w2c_i1 = (u32)(w2c_j1);
   w2c_j1 = i64_load(&instance->w2c_memory, (u64)(w2c_i1) + 16u);
   i64_store(&instance->w2c_memory, (u64)(w2c_i0), w2c_j1);
-  goto w2c_B680;
-  w2c_B681:;
-  w2c_j0 = w2c_l11;
+  goto w2c_B615;
+  w2c_B616:;
+  w2c_j0 = w2c_l6;
   w2c_i0 = (u32)(w2c_j0);
   w2c_j0 = i64_load(&instance->w2c_memory, (u64)(w2c_i0) + 16u);
   w2c_i0 = !(w2c_j0);
   w2c_i0 = !(w2c_i0);
   if (w2c_i0) {
-    w2c_j0 = w2c_l11;
+    w2c_j0 = w2c_l6;
     w2c_i0 = (u32)(w2c_j0);
     w2c_j0 = i64_load(&instance->w2c_memory, (u64)(w2c_i0));
     w2c_leave(instance, w2c_j0);
   }
-  w2c_j0 = w2c_l12;
+  w2c_j0 = w2c_l8;
   w2c_i0 = (u32)(w2c_j0);
   w2c_i1 = 1u;
   i32_store8(&instance->w2c_memory, (u64)(w2c_i0), w2c_i1);
-  w2c_j0 = w2c_l12;
+  w2c_j0 = w2c_l8;
   w2c_j1 = 8ull;
   w2c_j0 += w2c_j1;
   w2c_i0 = (u32)(w2c_j0);
   w2c_j1 = 0ull;
   i64_store(&instance->w2c_memory, (u64)(w2c_i0), w2c_j1);
-  w2c_j0 = w2c_l12;
+  w2c_j0 = w2c_l8;
   w2c_j1 = 16ull;
   w2c_j0 += w2c_j1;
   w2c_i0 = (u32)(w2c_j0);
   w2c_j1 = 0ull;
   i64_store(&instance->w2c_memory, (u64)(w2c_i0), w2c_j1);
-  w2c_j0 = w2c_l12;
+  w2c_j0 = w2c_l8;
   w2c_j1 = 24ull;
   w2c_j0 += w2c_j1;
   w2c_i0 = (u32)(w2c_j0);
   w2c_j1 = 0ull;
   i64_store(&instance->w2c_memory, (u64)(w2c_i0), w2c_j1);
-  w2c_B680:;
-  w2c_j0 = w2c_l11;
+  w2c_B615:;
+  w2c_j0 = w2c_l6;
   w2c_j1 = 32ull;
   w2c_j0 += w2c_j1;
   instance->w2c_g0 = w2c_j0;
   w2c_j0 = w2c_l4;
   w2c_i0 = (u32)(w2c_j0);
-  w2c_i0 = i32_load8_u(&instance->w2c_memory, (u64)(w2c_i0) + 552u);
-  if (w2c_i0) {goto w2c_B649;}
-  w2c_j0 = w2c_l4;
-  w2c_i0 = (u32)(w2c_j0);
-  w2c_j1 = w2c_l5;
-  i64_store(&instance->w2c_memory, (u64)(w2c_i0) + 408, w2c_j1);
+  w2c_i0 = i32_load8_u(&instance->w2c_memory, (u64)(w2c_i0) + 632u);
+  if (w2c_i0) {goto w2c_B584;}
   w2c_j0 = w2c_l4;
   w2c_i0 = (u32)(w2c_j0);
   w2c_j1 = w2c_p1;
-  i64_store(&instance->w2c_memory, (u64)(w2c_i0) + 400, w2c_j1);
+  i64_store(&instance->w2c_memory, (u64)(w2c_i0) + 488, w2c_j1);
   w2c_j0 = w2c_l4;
   w2c_i0 = (u32)(w2c_j0);
-  w2c_j1 = w2c_l6;
-  i64_store(&instance->w2c_memory, (u64)(w2c_i0) + 392, w2c_j1);
+  w2c_j1 = w2c_l3;
+  i64_store(&instance->w2c_memory, (u64)(w2c_i0) + 480, w2c_j1);
   w2c_j0 = w2c_l4;
-  w2c_j1 = 416ull;
+  w2c_i0 = (u32)(w2c_j0);
+  w2c_j1 = w2c_l5;
+  i64_store(&instance->w2c_memory, (u64)(w2c_i0) + 472, w2c_j1);
+  w2c_j0 = w2c_l4;
+  w2c_j1 = 496ull;
   w2c_j0 += w2c_j1;
-  w2c_l14 = w2c_j0;
-  w2c_j0 = 0ull;
   w2c_l10 = w2c_j0;
   w2c_j0 = 0ull;
-  w2c_l13 = w2c_j0;
+  w2c_l14 = w2c_j0;
+  w2c_j0 = 0ull;
+  w2c_l9 = w2c_j0;
   w2c_j0 = instance->w2c_g0;
   w2c_j1 = 128ull;
   w2c_j0 -= w2c_j1;
@@ -16188,47 +15028,47 @@ static void w2c_f0(Z_dine_ffi_instance_t* instance, u64 w2c_p0, u64 w2c_p1, u64 
   w2c_j1 = 0ull;
   i64_store(&instance->w2c_memory, (u64)(w2c_i0) + 16, w2c_j1);
   w2c_j0 = w2c_l4;
-  w2c_j1 = 560ull;
+  w2c_j1 = 640ull;
   w2c_j0 += w2c_j1;
   w2c_p1 = w2c_j0;
   w2c_i0 = (u32)(w2c_j0);
   w2c_j0 = i64_load(&instance->w2c_memory, (u64)(w2c_i0) + 16u);
-  w2c_l20 = w2c_j0;
+  w2c_l18 = w2c_j0;
   w2c_j0 = w2c_p1;
   w2c_i0 = (u32)(w2c_j0);
   w2c_j0 = i64_load(&instance->w2c_memory, (u64)(w2c_i0) + 8u);
-  w2c_l24 = w2c_j0;
+  w2c_l27 = w2c_j0;
   w2c_j0 = w2c_p1;
-  w2c_i0 = (u32)(w2c_j0);
-  w2c_j0 = i64_load(&instance->w2c_memory, (u64)(w2c_i0));
-  w2c_l21 = w2c_j0;
-  w2c_j0 = w2c_l4;
-  w2c_j1 = 392ull;
-  w2c_j0 += w2c_j1;
-  w2c_l12 = w2c_j0;
-  w2c_i0 = (u32)(w2c_j0);
-  w2c_j0 = i64_load(&instance->w2c_memory, (u64)(w2c_i0) + 16u);
-  w2c_l22 = w2c_j0;
-  w2c_j0 = w2c_l12;
-  w2c_i0 = (u32)(w2c_j0);
-  w2c_j0 = i64_load(&instance->w2c_memory, (u64)(w2c_i0) + 8u);
-  w2c_l11 = w2c_j0;
-  w2c_j0 = w2c_l12;
-  w2c_i0 = (u32)(w2c_j0);
-  w2c_j0 = i64_load(&instance->w2c_memory, (u64)(w2c_i0));
-  w2c_l7 = w2c_j0;
-  w2c_j0 = w2c_l9;
-  w2c_i0 = (u32)(w2c_j0);
-  w2c_j0 = i64_load(&instance->w2c_memory, (u64)(w2c_i0) + 16u);
-  w2c_l19 = w2c_j0;
-  w2c_j0 = w2c_l9;
   w2c_i0 = (u32)(w2c_j0);
   w2c_j0 = i64_load(&instance->w2c_memory, (u64)(w2c_i0));
   w2c_l23 = w2c_j0;
-  w2c_j0 = w2c_l9;
+  w2c_j0 = w2c_l4;
+  w2c_j1 = 472ull;
+  w2c_j0 += w2c_j1;
+  w2c_l8 = w2c_j0;
+  w2c_i0 = (u32)(w2c_j0);
+  w2c_j0 = i64_load(&instance->w2c_memory, (u64)(w2c_i0) + 16u);
+  w2c_l20 = w2c_j0;
+  w2c_j0 = w2c_l8;
   w2c_i0 = (u32)(w2c_j0);
   w2c_j0 = i64_load(&instance->w2c_memory, (u64)(w2c_i0) + 8u);
-  w2c_l15 = w2c_j0;
+  w2c_l5 = w2c_j0;
+  w2c_j0 = w2c_l8;
+  w2c_i0 = (u32)(w2c_j0);
+  w2c_j0 = i64_load(&instance->w2c_memory, (u64)(w2c_i0));
+  w2c_l12 = w2c_j0;
+  w2c_j0 = w2c_l11;
+  w2c_i0 = (u32)(w2c_j0);
+  w2c_j0 = i64_load(&instance->w2c_memory, (u64)(w2c_i0) + 16u);
+  w2c_l21 = w2c_j0;
+  w2c_j0 = w2c_l11;
+  w2c_i0 = (u32)(w2c_j0);
+  w2c_j0 = i64_load(&instance->w2c_memory, (u64)(w2c_i0));
+  w2c_l24 = w2c_j0;
+  w2c_j0 = w2c_l11;
+  w2c_i0 = (u32)(w2c_j0);
+  w2c_j0 = i64_load(&instance->w2c_memory, (u64)(w2c_i0) + 8u);
+  w2c_l13 = w2c_j0;
   w2c_j0 = w2c_l6;
   w2c_i0 = (u32)(w2c_j0);
   w2c_j1 = 0ull;
@@ -16243,29 +15083,29 @@ static void w2c_f0(Z_dine_ffi_instance_t* instance, u64 w2c_p0, u64 w2c_p1, u64 
   w2c_j2 = 120ull;
   w2c_j1 += w2c_j2;
   i64_store(&instance->w2c_memory, (u64)(w2c_i0) + 72, w2c_j1);
-  w2c_j0 = w2c_l15;
+  w2c_j0 = w2c_l13;
   w2c_i0 = !(w2c_j0);
   if (w2c_i0) {
     w2c_j0 = w2c_l6;
     w2c_j1 = 120ull;
     w2c_j0 += w2c_j1;
-    w2c_l5 = w2c_j0;
+    w2c_l3 = w2c_j0;
     w2c_j0 = 0ull;
-    goto w2c_B693;
+    goto w2c_B628;
   }
   w2c_j0 = w2c_l6;
   w2c_j1 = 104ull;
   w2c_j0 += w2c_j1;
-  w2c_l18 = w2c_j0;
-  w2c_j0 = w2c_l11;
+  w2c_l15 = w2c_j0;
+  w2c_j0 = w2c_l5;
   w2c_i0 = !(w2c_j0);
   w2c_l39 = w2c_i0;
-  w2c_L695: 
-    w2c_j0 = w2c_l18;
+  w2c_L630: 
+    w2c_j0 = w2c_l15;
     w2c_i0 = (u32)(w2c_j0);
     w2c_j1 = 0ull;
     i64_store(&instance->w2c_memory, (u64)(w2c_i0), w2c_j1);
-    w2c_j0 = w2c_l18;
+    w2c_j0 = w2c_l15;
     w2c_i0 = (u32)(w2c_j0);
     w2c_j1 = 0ull;
     i64_store(&instance->w2c_memory, (u64)(w2c_i0) + 8, w2c_j1);
@@ -16282,26 +15122,26 @@ static void w2c_f0(Z_dine_ffi_instance_t* instance, u64 w2c_p0, u64 w2c_p1, u64 
       w2c_j0 += w2c_j1;
       w2c_l16 = w2c_j0;
       w2c_j0 = 0ull;
-      w2c_l12 = w2c_j0;
+      w2c_l8 = w2c_j0;
       w2c_j0 = 0ull;
-      goto w2c_B696;
+      goto w2c_B631;
     }
-    w2c_j0 = w2c_l13;
+    w2c_j0 = w2c_l9;
     w2c_i0 = (u32)(w2c_j0);
     w2c_l37 = w2c_i0;
     w2c_j0 = w2c_l6;
     w2c_j1 = 120ull;
     w2c_j0 += w2c_j1;
-    w2c_l10 = w2c_j0;
+    w2c_l14 = w2c_j0;
     w2c_j0 = 0ull;
-    w2c_l12 = w2c_j0;
+    w2c_l8 = w2c_j0;
     w2c_i0 = 0u;
     w2c_l38 = w2c_i0;
-    w2c_j0 = w2c_l7;
+    w2c_j0 = w2c_l12;
     w2c_p1 = w2c_j0;
-    w2c_j0 = w2c_l11;
+    w2c_j0 = w2c_l5;
     w2c_p2 = w2c_j0;
-    w2c_L698: 
+    w2c_L633: 
       w2c_i0 = w2c_l37;
       w2c_j1 = w2c_p1;
       w2c_i1 = (u32)(w2c_j1);
@@ -16315,9 +15155,9 @@ static void w2c_f0(Z_dine_ffi_instance_t* instance, u64 w2c_p0, u64 w2c_p1, u64 
         w2c_i0 = i32_load(&instance->w2c_memory, (u64)(w2c_i0));
         w2c_i1 = w2c_l37;
         w2c_i0 = w2c_i0 != w2c_i1;
-        if (w2c_i0) {goto w2c_B699;}
+        if (w2c_i0) {goto w2c_B634;}
       }
-      w2c_j0 = w2c_l12;
+      w2c_j0 = w2c_l8;
       w2c_j1 = w2c_l6;
       w2c_i1 = (u32)(w2c_j1);
       w2c_j1 = i64_load(&instance->w2c_memory, (u64)(w2c_i1) + 112u);
@@ -16326,20 +15166,20 @@ static void w2c_f0(Z_dine_ffi_instance_t* instance, u64 w2c_p0, u64 w2c_p1, u64 
         w2c_j0 = w2c_l6;
         w2c_j1 = 96ull;
         w2c_j0 += w2c_j1;
-        w2c_i0 = w2c_f55(instance, w2c_j0);
+        w2c_i0 = w2c_f56(instance, w2c_j0);
         w2c_i0 = !(w2c_i0);
-        if (w2c_i0) {goto w2c_B691;}
+        if (w2c_i0) {goto w2c_B626;}
         w2c_j0 = w2c_l6;
         w2c_i0 = (u32)(w2c_j0);
         w2c_j0 = i64_load(&instance->w2c_memory, (u64)(w2c_i0) + 96u);
-        w2c_l10 = w2c_j0;
+        w2c_l14 = w2c_j0;
         w2c_j0 = w2c_l6;
         w2c_i0 = (u32)(w2c_j0);
         w2c_j0 = i64_load(&instance->w2c_memory, (u64)(w2c_i0) + 104u);
-        w2c_l12 = w2c_j0;
+        w2c_l8 = w2c_j0;
       }
-      w2c_j0 = w2c_l10;
-      w2c_j1 = w2c_l12;
+      w2c_j0 = w2c_l14;
+      w2c_j1 = w2c_l8;
       w2c_j2 = 2ull;
       w2c_j1 <<= (w2c_j2 & 63);
       w2c_j0 += w2c_j1;
@@ -16348,12 +15188,12 @@ static void w2c_f0(Z_dine_ffi_instance_t* instance, u64 w2c_p0, u64 w2c_p1, u64 
       i32_store(&instance->w2c_memory, (u64)(w2c_i0), w2c_i1);
       w2c_j0 = w2c_l6;
       w2c_i0 = (u32)(w2c_j0);
-      w2c_j1 = w2c_l12;
+      w2c_j1 = w2c_l8;
       w2c_j2 = 1ull;
       w2c_j1 += w2c_j2;
-      w2c_l12 = w2c_j1;
+      w2c_l8 = w2c_j1;
       i64_store(&instance->w2c_memory, (u64)(w2c_i0) + 104, w2c_j1);
-      w2c_B699:;
+      w2c_B634:;
       w2c_j0 = w2c_p1;
       w2c_j1 = 8ull;
       w2c_j0 += w2c_j1;
@@ -16368,11 +15208,11 @@ static void w2c_f0(Z_dine_ffi_instance_t* instance, u64 w2c_p0, u64 w2c_p1, u64 
       w2c_p2 = w2c_j0;
       w2c_j1 = 0ull;
       w2c_i0 = w2c_j0 != w2c_j1;
-      if (w2c_i0) {goto w2c_L698;}
+      if (w2c_i0) {goto w2c_L633;}
     w2c_j0 = w2c_l6;
     w2c_i0 = (u32)(w2c_j0);
     w2c_j0 = i64_load(&instance->w2c_memory, (u64)(w2c_i0) + 80u);
-    w2c_l10 = w2c_j0;
+    w2c_l14 = w2c_j0;
     w2c_j0 = w2c_l6;
     w2c_i0 = (u32)(w2c_j0);
     w2c_j0 = i64_load(&instance->w2c_memory, (u64)(w2c_i0) + 96u);
@@ -16380,9 +15220,9 @@ static void w2c_f0(Z_dine_ffi_instance_t* instance, u64 w2c_p0, u64 w2c_p1, u64 
     w2c_j0 = w2c_l6;
     w2c_i0 = (u32)(w2c_j0);
     w2c_j0 = i64_load(&instance->w2c_memory, (u64)(w2c_i0) + 112u);
-    w2c_B696:;
+    w2c_B631:;
     w2c_p2 = w2c_j0;
-    w2c_j0 = w2c_l10;
+    w2c_j0 = w2c_l14;
     w2c_j1 = w2c_l6;
     w2c_i1 = (u32)(w2c_j1);
     w2c_j1 = i64_load(&instance->w2c_memory, (u64)(w2c_i1) + 88u);
@@ -16393,17 +15233,17 @@ static void w2c_f0(Z_dine_ffi_instance_t* instance, u64 w2c_p0, u64 w2c_p1, u64 
       w2c_j0 += w2c_j1;
       w2c_i0 = w2c_f9(instance, w2c_j0);
       w2c_i0 = !(w2c_i0);
-      if (w2c_i0) {goto w2c_B692;}
+      if (w2c_i0) {goto w2c_B627;}
       w2c_j0 = w2c_l6;
       w2c_i0 = (u32)(w2c_j0);
       w2c_j0 = i64_load(&instance->w2c_memory, (u64)(w2c_i0) + 80u);
-      w2c_l10 = w2c_j0;
+      w2c_l14 = w2c_j0;
     }
     w2c_j0 = w2c_l6;
     w2c_i0 = (u32)(w2c_j0);
     w2c_j0 = i64_load(&instance->w2c_memory, (u64)(w2c_i0) + 72u);
-    w2c_l5 = w2c_j0;
-    w2c_j1 = w2c_l10;
+    w2c_l3 = w2c_j0;
+    w2c_j1 = w2c_l14;
     w2c_j2 = 24ull;
     w2c_j1 *= w2c_j2;
     w2c_j0 += w2c_j1;
@@ -16413,7 +15253,7 @@ static void w2c_f0(Z_dine_ffi_instance_t* instance, u64 w2c_p0, u64 w2c_p1, u64 
     i64_store(&instance->w2c_memory, (u64)(w2c_i0) + 16, w2c_j1);
     w2c_j0 = w2c_p1;
     w2c_i0 = (u32)(w2c_j0);
-    w2c_j1 = w2c_l12;
+    w2c_j1 = w2c_l8;
     i64_store(&instance->w2c_memory, (u64)(w2c_i0) + 8, w2c_j1);
     w2c_j0 = w2c_p1;
     w2c_i0 = (u32)(w2c_j0);
@@ -16421,23 +15261,23 @@ static void w2c_f0(Z_dine_ffi_instance_t* instance, u64 w2c_p0, u64 w2c_p1, u64 
     i64_store(&instance->w2c_memory, (u64)(w2c_i0), w2c_j1);
     w2c_j0 = w2c_l6;
     w2c_i0 = (u32)(w2c_j0);
-    w2c_j1 = w2c_l10;
+    w2c_j1 = w2c_l14;
     w2c_j2 = 1ull;
     w2c_j1 += w2c_j2;
-    w2c_l10 = w2c_j1;
+    w2c_l14 = w2c_j1;
     i64_store(&instance->w2c_memory, (u64)(w2c_i0) + 80, w2c_j1);
-    w2c_j0 = w2c_l13;
+    w2c_j0 = w2c_l9;
     w2c_j1 = 1ull;
     w2c_j0 += w2c_j1;
-    w2c_l13 = w2c_j0;
-    w2c_j1 = w2c_l15;
+    w2c_l9 = w2c_j0;
+    w2c_j1 = w2c_l13;
     w2c_i0 = w2c_j0 != w2c_j1;
-    if (w2c_i0) {goto w2c_L695;}
+    if (w2c_i0) {goto w2c_L630;}
   w2c_j0 = w2c_l6;
   w2c_i0 = (u32)(w2c_j0);
   w2c_j0 = i64_load(&instance->w2c_memory, (u64)(w2c_i0) + 88u);
-  w2c_B693:;
-  w2c_l9 = w2c_j0;
+  w2c_B628:;
+  w2c_l11 = w2c_j0;
   w2c_j0 = w2c_l6;
   w2c_i0 = (u32)(w2c_j0);
   w2c_j1 = 0ull;
@@ -16452,22 +15292,22 @@ static void w2c_f0(Z_dine_ffi_instance_t* instance, u64 w2c_p0, u64 w2c_p1, u64 
   w2c_j2 = 120ull;
   w2c_j1 += w2c_j2;
   i64_store(&instance->w2c_memory, (u64)(w2c_i0) + 96, w2c_j1);
-  w2c_j0 = w2c_l11;
+  w2c_j0 = w2c_l5;
   w2c_i0 = !(w2c_j0);
   w2c_i0 = !(w2c_i0);
   if (w2c_i0) {
     w2c_j0 = w2c_l6;
     w2c_j1 = 120ull;
     w2c_j0 += w2c_j1;
-    w2c_l17 = w2c_j0;
+    w2c_l19 = w2c_j0;
     w2c_j0 = 0ull;
-    w2c_l13 = w2c_j0;
+    w2c_l9 = w2c_j0;
     w2c_j0 = 0ull;
-    w2c_l18 = w2c_j0;
-    w2c_L705: 
-      w2c_j0 = w2c_l5;
-      w2c_j1 = w2c_l7;
-      w2c_j2 = w2c_l18;
+    w2c_l15 = w2c_j0;
+    w2c_L640: 
+      w2c_j0 = w2c_l3;
+      w2c_j1 = w2c_l12;
+      w2c_j2 = w2c_l15;
       w2c_j3 = 3ull;
       w2c_j2 <<= (w2c_j3 & 63);
       w2c_j1 += w2c_j2;
@@ -16484,19 +15324,19 @@ static void w2c_f0(Z_dine_ffi_instance_t* instance, u64 w2c_p0, u64 w2c_p1, u64 
       w2c_j0 = i64_load(&instance->w2c_memory, (u64)(w2c_i0));
       w2c_p2 = w2c_j0;
       w2c_i0 = !(w2c_j0);
-      if (w2c_i0) {goto w2c_B687;}
+      if (w2c_i0) {goto w2c_B622;}
       w2c_j0 = w2c_p1;
       w2c_i0 = (u32)(w2c_j0);
       w2c_j0 = i64_load(&instance->w2c_memory, (u64)(w2c_i0));
       w2c_p1 = w2c_j0;
-      w2c_j0 = w2c_l18;
+      w2c_j0 = w2c_l15;
       w2c_i0 = (u32)(w2c_j0);
       w2c_l38 = w2c_i0;
       w2c_j0 = 0ull;
-      w2c_l12 = w2c_j0;
+      w2c_l8 = w2c_j0;
       w2c_i0 = 0u;
       w2c_l37 = w2c_i0;
-      w2c_L706: 
+      w2c_L641: 
         w2c_i0 = w2c_l38;
         w2c_j1 = w2c_p1;
         w2c_i1 = (u32)(w2c_j1);
@@ -16512,15 +15352,15 @@ static void w2c_f0(Z_dine_ffi_instance_t* instance, u64 w2c_p0, u64 w2c_p1, u64 
           w2c_j0 += w2c_j1;
           w2c_p1 = w2c_j0;
           w2c_j0 = w2c_p2;
-          w2c_j1 = w2c_l12;
+          w2c_j1 = w2c_l8;
           w2c_j2 = 1ull;
           w2c_j1 += w2c_j2;
-          w2c_l12 = w2c_j1;
+          w2c_l8 = w2c_j1;
           w2c_i0 = w2c_j0 != w2c_j1;
-          if (w2c_i0) {goto w2c_L706;}
-          goto w2c_B687;
+          if (w2c_i0) {goto w2c_L641;}
+          goto w2c_B622;
         }
-      w2c_j0 = w2c_l5;
+      w2c_j0 = w2c_l3;
       w2c_j1 = w2c_l16;
       w2c_j2 = 4ull;
       w2c_j1 += w2c_j2;
@@ -16536,15 +15376,15 @@ static void w2c_f0(Z_dine_ffi_instance_t* instance, u64 w2c_p0, u64 w2c_p1, u64 
       w2c_j0 = i64_load(&instance->w2c_memory, (u64)(w2c_i0));
       w2c_p2 = w2c_j0;
       w2c_i0 = !(w2c_j0);
-      if (w2c_i0) {goto w2c_B687;}
+      if (w2c_i0) {goto w2c_B622;}
       w2c_j0 = w2c_p1;
       w2c_i0 = (u32)(w2c_j0);
       w2c_j0 = i64_load(&instance->w2c_memory, (u64)(w2c_i0));
       w2c_p1 = w2c_j0;
       w2c_i0 = w2c_l37;
       w2c_j0 = (u64)(w2c_i0);
-      w2c_l12 = w2c_j0;
-      w2c_L708: 
+      w2c_l8 = w2c_j0;
+      w2c_L643: 
         w2c_i0 = w2c_l38;
         w2c_j1 = w2c_p1;
         w2c_i1 = (u32)(w2c_j1);
@@ -16555,20 +15395,20 @@ static void w2c_f0(Z_dine_ffi_instance_t* instance, u64 w2c_p0, u64 w2c_p1, u64 
           w2c_j1 = 4ull;
           w2c_j0 += w2c_j1;
           w2c_p1 = w2c_j0;
-          w2c_j0 = w2c_l12;
+          w2c_j0 = w2c_l8;
           w2c_j1 = 4294967296ull;
           w2c_j0 += w2c_j1;
-          w2c_l12 = w2c_j0;
+          w2c_l8 = w2c_j0;
           w2c_j0 = w2c_p2;
           w2c_j1 = 1ull;
           w2c_j0 -= w2c_j1;
           w2c_p2 = w2c_j0;
           w2c_i0 = !(w2c_j0);
           w2c_i0 = !(w2c_i0);
-          if (w2c_i0) {goto w2c_L708;}
-          goto w2c_B687;
+          if (w2c_i0) {goto w2c_L643;}
+          goto w2c_B622;
         }
-      w2c_j0 = w2c_l13;
+      w2c_j0 = w2c_l9;
       w2c_j1 = w2c_l6;
       w2c_i1 = (u32)(w2c_j1);
       w2c_j1 = i64_load(&instance->w2c_memory, (u64)(w2c_i1) + 112u);
@@ -16577,40 +15417,40 @@ static void w2c_f0(Z_dine_ffi_instance_t* instance, u64 w2c_p0, u64 w2c_p1, u64 
         w2c_j0 = w2c_l6;
         w2c_j1 = 96ull;
         w2c_j0 += w2c_j1;
-        w2c_i0 = w2c_f53(instance, w2c_j0);
+        w2c_i0 = w2c_f54(instance, w2c_j0);
         w2c_i0 = !(w2c_i0);
-        if (w2c_i0) {goto w2c_B703;}
+        if (w2c_i0) {goto w2c_B638;}
         w2c_j0 = w2c_l6;
         w2c_i0 = (u32)(w2c_j0);
         w2c_j0 = i64_load(&instance->w2c_memory, (u64)(w2c_i0) + 96u);
-        w2c_l17 = w2c_j0;
+        w2c_l19 = w2c_j0;
         w2c_j0 = w2c_l6;
         w2c_i0 = (u32)(w2c_j0);
         w2c_j0 = i64_load(&instance->w2c_memory, (u64)(w2c_i0) + 104u);
-        w2c_l13 = w2c_j0;
+        w2c_l9 = w2c_j0;
       }
-      w2c_j0 = w2c_l17;
-      w2c_j1 = w2c_l13;
+      w2c_j0 = w2c_l19;
+      w2c_j1 = w2c_l9;
       w2c_j2 = 3ull;
       w2c_j1 <<= (w2c_j2 & 63);
       w2c_j0 += w2c_j1;
       w2c_i0 = (u32)(w2c_j0);
-      w2c_j1 = w2c_l12;
+      w2c_j1 = w2c_l8;
       i64_store(&instance->w2c_memory, (u64)(w2c_i0), w2c_j1);
       w2c_j0 = w2c_l6;
       w2c_i0 = (u32)(w2c_j0);
-      w2c_j1 = w2c_l13;
+      w2c_j1 = w2c_l9;
       w2c_j2 = 1ull;
       w2c_j1 += w2c_j2;
-      w2c_l13 = w2c_j1;
+      w2c_l9 = w2c_j1;
       i64_store(&instance->w2c_memory, (u64)(w2c_i0) + 104, w2c_j1);
-      w2c_j0 = w2c_l18;
+      w2c_j0 = w2c_l15;
       w2c_j1 = 1ull;
       w2c_j0 += w2c_j1;
-      w2c_l18 = w2c_j0;
-      w2c_j1 = w2c_l11;
+      w2c_l15 = w2c_j0;
+      w2c_j1 = w2c_l5;
       w2c_i0 = w2c_j0 != w2c_j1;
-      if (w2c_i0) {goto w2c_L705;}
+      if (w2c_i0) {goto w2c_L640;}
   }
   w2c_j0 = w2c_l6;
   w2c_i0 = (u32)(w2c_j0);
@@ -16630,95 +15470,95 @@ static void w2c_f0(Z_dine_ffi_instance_t* instance, u64 w2c_p0, u64 w2c_p1, u64 
   w2c_i1 = (u32)(w2c_j1);
   w2c_j1 = i64_load(&instance->w2c_memory, (u64)(w2c_i1) + 96u);
   i64_store(&instance->w2c_memory, (u64)(w2c_i0) + 48, w2c_j1);
-  w2c_j0 = w2c_l14;
+  w2c_j0 = w2c_l10;
   w2c_j1 = 104ull;
-  w2c_j0 += w2c_j1;
-  w2c_i0 = (u32)(w2c_j0);
-  w2c_j1 = w2c_l9;
-  i64_store(&instance->w2c_memory, (u64)(w2c_i0), w2c_j1);
-  w2c_j0 = w2c_l14;
-  w2c_j1 = 96ull;
-  w2c_j0 += w2c_j1;
-  w2c_i0 = (u32)(w2c_j0);
-  w2c_j1 = w2c_l10;
-  i64_store(&instance->w2c_memory, (u64)(w2c_i0), w2c_j1);
-  w2c_j0 = w2c_l14;
-  w2c_j1 = 88ull;
-  w2c_j0 += w2c_j1;
-  w2c_i0 = (u32)(w2c_j0);
-  w2c_j1 = w2c_l5;
-  i64_store(&instance->w2c_memory, (u64)(w2c_i0), w2c_j1);
-  w2c_j0 = w2c_l14;
-  w2c_j1 = 80ull;
-  w2c_j0 += w2c_j1;
-  w2c_i0 = (u32)(w2c_j0);
-  w2c_j1 = w2c_l20;
-  i64_store(&instance->w2c_memory, (u64)(w2c_i0), w2c_j1);
-  w2c_j0 = w2c_l14;
-  w2c_j1 = 72ull;
-  w2c_j0 += w2c_j1;
-  w2c_i0 = (u32)(w2c_j0);
-  w2c_j1 = w2c_l24;
-  i64_store(&instance->w2c_memory, (u64)(w2c_i0), w2c_j1);
-  w2c_j0 = w2c_l14;
-  w2c_j1 = 18446744073709551552ull;
-  w2c_j0 -= w2c_j1;
-  w2c_i0 = (u32)(w2c_j0);
-  w2c_j1 = w2c_l21;
-  i64_store(&instance->w2c_memory, (u64)(w2c_i0), w2c_j1);
-  w2c_j0 = w2c_l14;
-  w2c_j1 = 56ull;
-  w2c_j0 += w2c_j1;
-  w2c_i0 = (u32)(w2c_j0);
-  w2c_j1 = w2c_l22;
-  i64_store(&instance->w2c_memory, (u64)(w2c_i0), w2c_j1);
-  w2c_j0 = w2c_l14;
-  w2c_j1 = 48ull;
   w2c_j0 += w2c_j1;
   w2c_i0 = (u32)(w2c_j0);
   w2c_j1 = w2c_l11;
   i64_store(&instance->w2c_memory, (u64)(w2c_i0), w2c_j1);
-  w2c_j0 = w2c_l14;
-  w2c_j1 = 40ull;
+  w2c_j0 = w2c_l10;
+  w2c_j1 = 96ull;
   w2c_j0 += w2c_j1;
   w2c_i0 = (u32)(w2c_j0);
-  w2c_j1 = w2c_l7;
+  w2c_j1 = w2c_l14;
   i64_store(&instance->w2c_memory, (u64)(w2c_i0), w2c_j1);
-  w2c_j0 = w2c_l14;
-  w2c_j1 = 32ull;
+  w2c_j0 = w2c_l10;
+  w2c_j1 = 88ull;
   w2c_j0 += w2c_j1;
   w2c_i0 = (u32)(w2c_j0);
-  w2c_j1 = w2c_l19;
+  w2c_j1 = w2c_l3;
   i64_store(&instance->w2c_memory, (u64)(w2c_i0), w2c_j1);
-  w2c_j0 = w2c_l14;
-  w2c_j1 = 24ull;
+  w2c_j0 = w2c_l10;
+  w2c_j1 = 80ull;
   w2c_j0 += w2c_j1;
   w2c_i0 = (u32)(w2c_j0);
-  w2c_j1 = w2c_l15;
+  w2c_j1 = w2c_l18;
   i64_store(&instance->w2c_memory, (u64)(w2c_i0), w2c_j1);
-  w2c_j0 = w2c_l14;
-  w2c_j1 = 16ull;
+  w2c_j0 = w2c_l10;
+  w2c_j1 = 72ull;
   w2c_j0 += w2c_j1;
+  w2c_i0 = (u32)(w2c_j0);
+  w2c_j1 = w2c_l27;
+  i64_store(&instance->w2c_memory, (u64)(w2c_i0), w2c_j1);
+  w2c_j0 = w2c_l10;
+  w2c_j1 = 18446744073709551552ull;
+  w2c_j0 -= w2c_j1;
   w2c_i0 = (u32)(w2c_j0);
   w2c_j1 = w2c_l23;
   i64_store(&instance->w2c_memory, (u64)(w2c_i0), w2c_j1);
-  w2c_j0 = w2c_l14;
+  w2c_j0 = w2c_l10;
+  w2c_j1 = 56ull;
+  w2c_j0 += w2c_j1;
+  w2c_i0 = (u32)(w2c_j0);
+  w2c_j1 = w2c_l20;
+  i64_store(&instance->w2c_memory, (u64)(w2c_i0), w2c_j1);
+  w2c_j0 = w2c_l10;
+  w2c_j1 = 48ull;
+  w2c_j0 += w2c_j1;
+  w2c_i0 = (u32)(w2c_j0);
+  w2c_j1 = w2c_l5;
+  i64_store(&instance->w2c_memory, (u64)(w2c_i0), w2c_j1);
+  w2c_j0 = w2c_l10;
+  w2c_j1 = 40ull;
+  w2c_j0 += w2c_j1;
+  w2c_i0 = (u32)(w2c_j0);
+  w2c_j1 = w2c_l12;
+  i64_store(&instance->w2c_memory, (u64)(w2c_i0), w2c_j1);
+  w2c_j0 = w2c_l10;
+  w2c_j1 = 32ull;
+  w2c_j0 += w2c_j1;
+  w2c_i0 = (u32)(w2c_j0);
+  w2c_j1 = w2c_l21;
+  i64_store(&instance->w2c_memory, (u64)(w2c_i0), w2c_j1);
+  w2c_j0 = w2c_l10;
+  w2c_j1 = 24ull;
+  w2c_j0 += w2c_j1;
+  w2c_i0 = (u32)(w2c_j0);
+  w2c_j1 = w2c_l13;
+  i64_store(&instance->w2c_memory, (u64)(w2c_i0), w2c_j1);
+  w2c_j0 = w2c_l10;
+  w2c_j1 = 16ull;
+  w2c_j0 += w2c_j1;
+  w2c_i0 = (u32)(w2c_j0);
+  w2c_j1 = w2c_l24;
+  i64_store(&instance->w2c_memory, (u64)(w2c_i0), w2c_j1);
+  w2c_j0 = w2c_l10;
   w2c_j1 = 12ull;
   w2c_j0 += w2c_j1;
   w2c_i0 = (u32)(w2c_j0);
   w2c_i1 = 0u;
   i32_store(&instance->w2c_memory, (u64)(w2c_i0), w2c_i1);
-  w2c_j0 = w2c_l14;
+  w2c_j0 = w2c_l10;
   w2c_j1 = 8ull;
   w2c_j0 += w2c_j1;
   w2c_i0 = (u32)(w2c_j0);
-  w2c_i1 = w2c_l41;
+  w2c_i1 = w2c_l44;
   i32_store(&instance->w2c_memory, (u64)(w2c_i0), w2c_i1);
-  w2c_j0 = w2c_l14;
+  w2c_j0 = w2c_l10;
   w2c_i0 = (u32)(w2c_j0);
   w2c_i1 = 0u;
   i32_store8(&instance->w2c_memory, (u64)(w2c_i0), w2c_i1);
-  w2c_j0 = w2c_l14;
+  w2c_j0 = w2c_l10;
   w2c_j1 = 112ull;
   w2c_j0 += w2c_j1;
   w2c_i0 = (u32)(w2c_j0);
@@ -16726,7 +15566,7 @@ static void w2c_f0(Z_dine_ffi_instance_t* instance, u64 w2c_p0, u64 w2c_p1, u64 
   w2c_i1 = (u32)(w2c_j1);
   w2c_j1 = i64_load(&instance->w2c_memory, (u64)(w2c_i1) + 48u);
   i64_store(&instance->w2c_memory, (u64)(w2c_i0), w2c_j1);
-  w2c_j0 = w2c_l14;
+  w2c_j0 = w2c_l10;
   w2c_j1 = 120ull;
   w2c_j0 += w2c_j1;
   w2c_i0 = (u32)(w2c_j0);
@@ -16734,7 +15574,7 @@ static void w2c_f0(Z_dine_ffi_instance_t* instance, u64 w2c_p0, u64 w2c_p1, u64 
   w2c_i1 = (u32)(w2c_j1);
   w2c_j1 = i64_load(&instance->w2c_memory, (u64)(w2c_i1) + 56u);
   i64_store(&instance->w2c_memory, (u64)(w2c_i0), w2c_j1);
-  w2c_j0 = w2c_l14;
+  w2c_j0 = w2c_l10;
   w2c_j1 = 128ull;
   w2c_j0 += w2c_j1;
   w2c_i0 = (u32)(w2c_j0);
@@ -16742,8 +15582,8 @@ static void w2c_f0(Z_dine_ffi_instance_t* instance, u64 w2c_p0, u64 w2c_p1, u64 
   w2c_i1 = (u32)(w2c_j1);
   w2c_j1 = i64_load(&instance->w2c_memory, (u64)(w2c_i1) + 64u);
   i64_store(&instance->w2c_memory, (u64)(w2c_i0), w2c_j1);
-  goto w2c_B688;
-  w2c_B703:;
+  goto w2c_B623;
+  w2c_B638:;
   w2c_j0 = w2c_l6;
   w2c_i0 = (u32)(w2c_j0);
   w2c_j0 = i64_load(&instance->w2c_memory, (u64)(w2c_i0) + 112u);
@@ -16755,13 +15595,13 @@ static void w2c_f0(Z_dine_ffi_instance_t* instance, u64 w2c_p0, u64 w2c_p1, u64 
     w2c_j0 = i64_load(&instance->w2c_memory, (u64)(w2c_i0) + 96u);
     w2c_leave(instance, w2c_j0);
   }
-  w2c_j0 = w2c_l10;
+  w2c_j0 = w2c_l14;
   w2c_i0 = !(w2c_j0);
   w2c_i0 = !(w2c_i0);
   if (w2c_i0) {
-    w2c_j0 = w2c_l5;
+    w2c_j0 = w2c_l3;
     w2c_p1 = w2c_j0;
-    w2c_L713: 
+    w2c_L648: 
       w2c_j0 = w2c_p1;
       w2c_j1 = 16ull;
       w2c_j0 += w2c_j1;
@@ -16779,62 +15619,62 @@ static void w2c_f0(Z_dine_ffi_instance_t* instance, u64 w2c_p0, u64 w2c_p1, u64 
       w2c_j1 = 24ull;
       w2c_j0 += w2c_j1;
       w2c_p1 = w2c_j0;
-      w2c_j0 = w2c_l10;
+      w2c_j0 = w2c_l14;
       w2c_j1 = 1ull;
       w2c_j0 -= w2c_j1;
-      w2c_l10 = w2c_j0;
+      w2c_l14 = w2c_j0;
       w2c_j1 = 0ull;
       w2c_i0 = w2c_j0 != w2c_j1;
-      if (w2c_i0) {goto w2c_L713;}
+      if (w2c_i0) {goto w2c_L648;}
   }
-  w2c_j0 = w2c_l9;
+  w2c_j0 = w2c_l11;
   w2c_i0 = !(w2c_j0);
   w2c_i0 = !(w2c_i0);
   if (w2c_i0) {
-    w2c_j0 = w2c_l5;
+    w2c_j0 = w2c_l3;
+    w2c_leave(instance, w2c_j0);
+  }
+  w2c_j0 = w2c_l18;
+  w2c_i0 = !(w2c_j0);
+  w2c_i0 = !(w2c_i0);
+  if (w2c_i0) {
+    w2c_j0 = w2c_l23;
     w2c_leave(instance, w2c_j0);
   }
   w2c_j0 = w2c_l20;
   w2c_i0 = !(w2c_j0);
   w2c_i0 = !(w2c_i0);
   if (w2c_i0) {
-    w2c_j0 = w2c_l21;
-    w2c_leave(instance, w2c_j0);
-  }
-  w2c_j0 = w2c_l22;
-  w2c_i0 = !(w2c_j0);
-  w2c_i0 = !(w2c_i0);
-  if (w2c_i0) {
-    w2c_j0 = w2c_l7;
+    w2c_j0 = w2c_l12;
     w2c_leave(instance, w2c_j0);
   }
   w2c_j0 = w2c_l6;
   w2c_i0 = (u32)(w2c_j0);
-  w2c_j1 = w2c_l19;
+  w2c_j1 = w2c_l21;
   i64_store(&instance->w2c_memory, (u64)(w2c_i0) + 16, w2c_j1);
   w2c_j0 = w2c_l6;
   w2c_i0 = (u32)(w2c_j0);
-  w2c_j1 = w2c_l15;
+  w2c_j1 = w2c_l13;
   i64_store(&instance->w2c_memory, (u64)(w2c_i0) + 8, w2c_j1);
   w2c_j0 = w2c_l6;
   w2c_i0 = (u32)(w2c_j0);
-  w2c_j1 = w2c_l23;
+  w2c_j1 = w2c_l24;
   i64_store(&instance->w2c_memory, (u64)(w2c_i0), w2c_j1);
   w2c_j0 = w2c_l6;
   w2c_f13(instance, w2c_j0);
-  w2c_j0 = w2c_l14;
+  w2c_j0 = w2c_l10;
   w2c_i0 = (u32)(w2c_j0);
   w2c_i1 = 1u;
   i32_store8(&instance->w2c_memory, (u64)(w2c_i0), w2c_i1);
-  w2c_j0 = w2c_l14;
+  w2c_j0 = w2c_l10;
   w2c_j1 = 8ull;
   w2c_j0 += w2c_j1;
   w2c_i0 = (u32)(w2c_j0);
   w2c_i1 = 0u;
   w2c_i2 = 128u;
   memory_fill(&instance->w2c_memory, w2c_i0, w2c_i1, w2c_i2);
-  goto w2c_B688;
-  w2c_B692:;
+  goto w2c_B623;
+  w2c_B627:;
   w2c_j0 = w2c_p2;
   w2c_i0 = !(w2c_j0);
   w2c_i0 = !(w2c_i0);
@@ -16845,7 +15685,7 @@ static void w2c_f0(Z_dine_ffi_instance_t* instance, u64 w2c_p0, u64 w2c_p1, u64 
   w2c_j0 = w2c_l6;
   w2c_i0 = (u32)(w2c_j0);
   w2c_j0 = i64_load(&instance->w2c_memory, (u64)(w2c_i0) + 88u);
-  w2c_l10 = w2c_j0;
+  w2c_l14 = w2c_j0;
   w2c_j0 = w2c_l6;
   w2c_i0 = (u32)(w2c_j0);
   w2c_j0 = i64_load(&instance->w2c_memory, (u64)(w2c_i0) + 72u);
@@ -16853,13 +15693,13 @@ static void w2c_f0(Z_dine_ffi_instance_t* instance, u64 w2c_p0, u64 w2c_p1, u64 
   w2c_j0 = w2c_l6;
   w2c_i0 = (u32)(w2c_j0);
   w2c_j0 = i64_load(&instance->w2c_memory, (u64)(w2c_i0) + 80u);
-  w2c_l12 = w2c_j0;
+  w2c_l8 = w2c_j0;
   w2c_i0 = !(w2c_j0);
   w2c_i0 = !(w2c_i0);
   if (w2c_i0) {
     w2c_j0 = w2c_p2;
     w2c_p1 = w2c_j0;
-    w2c_L720: 
+    w2c_L655: 
       w2c_j0 = w2c_p1;
       w2c_j1 = 16ull;
       w2c_j0 += w2c_j1;
@@ -16877,20 +15717,20 @@ static void w2c_f0(Z_dine_ffi_instance_t* instance, u64 w2c_p0, u64 w2c_p1, u64 
       w2c_j1 = 24ull;
       w2c_j0 += w2c_j1;
       w2c_p1 = w2c_j0;
-      w2c_j0 = w2c_l12;
+      w2c_j0 = w2c_l8;
       w2c_j1 = 1ull;
       w2c_j0 -= w2c_j1;
-      w2c_l12 = w2c_j0;
+      w2c_l8 = w2c_j0;
       w2c_j1 = 0ull;
       w2c_i0 = w2c_j0 != w2c_j1;
-      if (w2c_i0) {goto w2c_L720;}
+      if (w2c_i0) {goto w2c_L655;}
   }
-  w2c_j0 = w2c_l10;
+  w2c_j0 = w2c_l14;
   w2c_i0 = !(w2c_j0);
   w2c_i0 = !(w2c_i0);
-  if (w2c_i0) {goto w2c_B690;}
-  goto w2c_B689;
-  w2c_B691:;
+  if (w2c_i0) {goto w2c_B625;}
+  goto w2c_B624;
+  w2c_B626:;
   w2c_j0 = w2c_l6;
   w2c_i0 = (u32)(w2c_j0);
   w2c_j0 = i64_load(&instance->w2c_memory, (u64)(w2c_i0) + 112u);
@@ -16905,7 +15745,7 @@ static void w2c_f0(Z_dine_ffi_instance_t* instance, u64 w2c_p0, u64 w2c_p1, u64 
   w2c_j0 = w2c_l6;
   w2c_i0 = (u32)(w2c_j0);
   w2c_j0 = i64_load(&instance->w2c_memory, (u64)(w2c_i0) + 88u);
-  w2c_l10 = w2c_j0;
+  w2c_l14 = w2c_j0;
   w2c_j0 = w2c_l6;
   w2c_i0 = (u32)(w2c_j0);
   w2c_j0 = i64_load(&instance->w2c_memory, (u64)(w2c_i0) + 72u);
@@ -16913,13 +15753,13 @@ static void w2c_f0(Z_dine_ffi_instance_t* instance, u64 w2c_p0, u64 w2c_p1, u64 
   w2c_j0 = w2c_l6;
   w2c_i0 = (u32)(w2c_j0);
   w2c_j0 = i64_load(&instance->w2c_memory, (u64)(w2c_i0) + 80u);
-  w2c_l12 = w2c_j0;
+  w2c_l8 = w2c_j0;
   w2c_i0 = !(w2c_j0);
   w2c_i0 = !(w2c_i0);
   if (w2c_i0) {
     w2c_j0 = w2c_p2;
     w2c_p1 = w2c_j0;
-    w2c_L724: 
+    w2c_L659: 
       w2c_j0 = w2c_p1;
       w2c_j1 = 16ull;
       w2c_j0 += w2c_j1;
@@ -16937,334 +15777,280 @@ static void w2c_f0(Z_dine_ffi_instance_t* instance, u64 w2c_p0, u64 w2c_p1, u64 
       w2c_j1 = 24ull;
       w2c_j0 += w2c_j1;
       w2c_p1 = w2c_j0;
-      w2c_j0 = w2c_l12;
+      w2c_j0 = w2c_l8;
       w2c_j1 = 1ull;
       w2c_j0 -= w2c_j1;
-      w2c_l12 = w2c_j0;
+      w2c_l8 = w2c_j0;
       w2c_j1 = 0ull;
       w2c_i0 = w2c_j0 != w2c_j1;
-      if (w2c_i0) {goto w2c_L724;}
+      if (w2c_i0) {goto w2c_L659;}
   }
-  w2c_j0 = w2c_l10;
+  w2c_j0 = w2c_l14;
   w2c_i0 = !(w2c_j0);
-  if (w2c_i0) {goto w2c_B689;}
-  w2c_B690:;
+  if (w2c_i0) {goto w2c_B624;}
+  w2c_B625:;
   w2c_j0 = w2c_p2;
   w2c_leave(instance, w2c_j0);
-  w2c_B689:;
+  w2c_B624:;
+  w2c_j0 = w2c_l18;
+  w2c_i0 = !(w2c_j0);
+  w2c_i0 = !(w2c_i0);
+  if (w2c_i0) {
+    w2c_j0 = w2c_l23;
+    w2c_leave(instance, w2c_j0);
+  }
   w2c_j0 = w2c_l20;
   w2c_i0 = !(w2c_j0);
   w2c_i0 = !(w2c_i0);
   if (w2c_i0) {
-    w2c_j0 = w2c_l21;
-    w2c_leave(instance, w2c_j0);
-  }
-  w2c_j0 = w2c_l22;
-  w2c_i0 = !(w2c_j0);
-  w2c_i0 = !(w2c_i0);
-  if (w2c_i0) {
-    w2c_j0 = w2c_l7;
+    w2c_j0 = w2c_l12;
     w2c_leave(instance, w2c_j0);
   }
   w2c_j0 = w2c_l6;
   w2c_i0 = (u32)(w2c_j0);
-  w2c_j1 = w2c_l19;
+  w2c_j1 = w2c_l21;
   i64_store(&instance->w2c_memory, (u64)(w2c_i0) + 40, w2c_j1);
   w2c_j0 = w2c_l6;
   w2c_i0 = (u32)(w2c_j0);
-  w2c_j1 = w2c_l15;
+  w2c_j1 = w2c_l13;
   i64_store(&instance->w2c_memory, (u64)(w2c_i0) + 32, w2c_j1);
   w2c_j0 = w2c_l6;
   w2c_i0 = (u32)(w2c_j0);
-  w2c_j1 = w2c_l23;
+  w2c_j1 = w2c_l24;
   i64_store(&instance->w2c_memory, (u64)(w2c_i0) + 24, w2c_j1);
   w2c_j0 = w2c_l6;
   w2c_j1 = 24ull;
   w2c_j0 += w2c_j1;
   w2c_f13(instance, w2c_j0);
-  w2c_j0 = w2c_l14;
+  w2c_j0 = w2c_l10;
   w2c_i0 = (u32)(w2c_j0);
   w2c_i1 = 1u;
   i32_store8(&instance->w2c_memory, (u64)(w2c_i0), w2c_i1);
-  w2c_j0 = w2c_l14;
+  w2c_j0 = w2c_l10;
   w2c_j1 = 8ull;
   w2c_j0 += w2c_j1;
   w2c_i0 = (u32)(w2c_j0);
   w2c_i1 = 0u;
   w2c_i2 = 128u;
   memory_fill(&instance->w2c_memory, w2c_i0, w2c_i1, w2c_i2);
-  w2c_B688:;
+  w2c_B623:;
   w2c_j0 = w2c_l6;
   w2c_j1 = 128ull;
   w2c_j0 += w2c_j1;
   instance->w2c_g0 = w2c_j0;
-  goto w2c_B686;
-  w2c_B687:;
+  goto w2c_B621;
+  w2c_B622:;
   UNREACHABLE;
-  w2c_B686:;
+  w2c_B621:;
   w2c_j0 = w2c_l4;
   w2c_i0 = (u32)(w2c_j0);
-  w2c_i0 = i32_load8_u(&instance->w2c_memory, (u64)(w2c_i0) + 416u);
-  if (w2c_i0) {goto w2c_B648;}
+  w2c_i0 = i32_load8_u(&instance->w2c_memory, (u64)(w2c_i0) + 496u);
+  if (w2c_i0) {goto w2c_B583;}
   w2c_j0 = w2c_l4;
-  w2c_j1 = 428ull;
+  w2c_j1 = 508ull;
   w2c_j0 += w2c_j1;
-  w2c_p1 = w2c_j0;
+  w2c_l3 = w2c_j0;
   w2c_j0 = w2c_l4;
   w2c_i0 = (u32)(w2c_j0);
-  w2c_i0 = i32_load(&instance->w2c_memory, (u64)(w2c_i0) + 424u);
-  w2c_l38 = w2c_i0;
-  w2c_j0 = w2c_l4;
-  w2c_i0 = (u32)(w2c_j0);
-  w2c_j0 = i64_load(&instance->w2c_memory, (u64)(w2c_i0) + 632u);
+  w2c_i0 = i32_load(&instance->w2c_memory, (u64)(w2c_i0) + 504u);
+  w2c_l40 = w2c_i0;
+  w2c_j0 = w2c_l22;
   w2c_i0 = !(w2c_j0);
   w2c_i0 = !(w2c_i0);
   if (w2c_i0) {
-    w2c_j0 = w2c_l3;
+    w2c_j0 = w2c_l17;
     w2c_leave(instance, w2c_j0);
   }
   w2c_j0 = w2c_l4;
-  w2c_j1 = 244ull;
+  w2c_j1 = 324ull;
   w2c_j0 += w2c_j1;
   w2c_i0 = (u32)(w2c_j0);
-  w2c_j1 = w2c_p1;
+  w2c_j1 = w2c_l3;
   w2c_i1 = (u32)(w2c_j1);
   w2c_i2 = 124u;
   memory_copy(&instance->w2c_memory, &instance->w2c_memory, w2c_i0, w2c_i1, w2c_i2);
   w2c_i0 = 0u;
   w2c_l37 = w2c_i0;
   w2c_i0 = 0u;
-  goto w2c_B358;
-  w2c_B650:;
+  goto w2c_B261;
+  w2c_B585:;
   w2c_j0 = w2c_l4;
   w2c_i0 = (u32)(w2c_j0);
-  w2c_j0 = i64_load(&instance->w2c_memory, (u64)(w2c_i0) + 856u);
+  w2c_j0 = i64_load(&instance->w2c_memory, (u64)(w2c_i0) + 936u);
   w2c_i0 = !(w2c_j0);
   w2c_i0 = !(w2c_i0);
   if (w2c_i0) {
     w2c_j0 = w2c_l4;
     w2c_i0 = (u32)(w2c_j0);
-    w2c_j0 = i64_load(&instance->w2c_memory, (u64)(w2c_i0) + 840u);
+    w2c_j0 = i64_load(&instance->w2c_memory, (u64)(w2c_i0) + 920u);
     w2c_leave(instance, w2c_j0);
   }
-  w2c_j0 = w2c_l9;
+  w2c_j0 = w2c_l11;
   w2c_f13(instance, w2c_j0);
-  w2c_j0 = w2c_l4;
-  w2c_i0 = (u32)(w2c_j0);
-  w2c_j0 = i64_load(&instance->w2c_memory, (u64)(w2c_i0) + 632u);
+  w2c_j0 = w2c_l22;
   w2c_i0 = !(w2c_j0);
   w2c_i0 = !(w2c_i0);
   if (w2c_i0) {
-    w2c_j0 = w2c_l4;
-    w2c_i0 = (u32)(w2c_j0);
-    w2c_j0 = i64_load(&instance->w2c_memory, (u64)(w2c_i0) + 616u);
+    w2c_j0 = w2c_l17;
     w2c_leave(instance, w2c_j0);
   }
   w2c_j0 = w2c_l4;
-  w2c_j1 = 244ull;
+  w2c_j1 = 324ull;
   w2c_j0 += w2c_j1;
   w2c_i0 = (u32)(w2c_j0);
   w2c_i1 = 0u;
   w2c_i2 = 124u;
   memory_fill(&instance->w2c_memory, w2c_i0, w2c_i1, w2c_i2);
   w2c_i0 = 0u;
-  goto w2c_B360;
-  w2c_B649:;
-  w2c_j0 = w2c_l5;
+  goto w2c_B263;
+  w2c_B584:;
+  w2c_j0 = w2c_p1;
   w2c_i0 = !(w2c_j0);
   w2c_i0 = !(w2c_i0);
   if (w2c_i0) {
-    w2c_j0 = w2c_l6;
+    w2c_j0 = w2c_l5;
     w2c_leave(instance, w2c_j0);
   }
-  w2c_j0 = w2c_l9;
+  w2c_j0 = w2c_l11;
   w2c_f13(instance, w2c_j0);
-  w2c_j0 = w2c_l4;
-  w2c_i0 = (u32)(w2c_j0);
-  w2c_j0 = i64_load(&instance->w2c_memory, (u64)(w2c_i0) + 632u);
+  w2c_j0 = w2c_l22;
   w2c_i0 = !(w2c_j0);
   w2c_i0 = !(w2c_i0);
   if (w2c_i0) {
-    w2c_j0 = w2c_l3;
+    w2c_j0 = w2c_l17;
     w2c_leave(instance, w2c_j0);
   }
   w2c_j0 = w2c_l4;
-  w2c_j1 = 244ull;
+  w2c_j1 = 324ull;
   w2c_j0 += w2c_j1;
   w2c_i0 = (u32)(w2c_j0);
   w2c_i1 = 0u;
   w2c_i2 = 124u;
   memory_fill(&instance->w2c_memory, w2c_i0, w2c_i1, w2c_i2);
   w2c_i0 = 0u;
-  goto w2c_B360;
-  w2c_B648:;
-  w2c_j0 = w2c_l4;
-  w2c_i0 = (u32)(w2c_j0);
-  w2c_j0 = i64_load(&instance->w2c_memory, (u64)(w2c_i0) + 632u);
+  goto w2c_B263;
+  w2c_B583:;
+  w2c_j0 = w2c_l22;
   w2c_i0 = !(w2c_j0);
   w2c_i0 = !(w2c_i0);
   if (w2c_i0) {
-    w2c_j0 = w2c_l3;
+    w2c_j0 = w2c_l17;
     w2c_leave(instance, w2c_j0);
   }
   w2c_j0 = w2c_l4;
-  w2c_j1 = 244ull;
+  w2c_j1 = 324ull;
   w2c_j0 += w2c_j1;
   w2c_i0 = (u32)(w2c_j0);
   w2c_i1 = 0u;
   w2c_i2 = 124u;
   memory_fill(&instance->w2c_memory, w2c_i0, w2c_i1, w2c_i2);
   w2c_i0 = 0u;
-  goto w2c_B360;
-  w2c_B364:;
+  goto w2c_B263;
+  w2c_B267:;
   UNREACHABLE;
-  w2c_B363:;
+  w2c_B266:;
   w2c_j0 = w2c_p2;
   w2c_leave(instance, w2c_j0);
-  w2c_B362:;
-  w2c_j0 = w2c_l9;
+  w2c_B265:;
+  w2c_j0 = w2c_l11;
   w2c_f13(instance, w2c_j0);
-  w2c_j0 = w2c_l4;
-  w2c_i0 = (u32)(w2c_j0);
-  w2c_j0 = i64_load(&instance->w2c_memory, (u64)(w2c_i0) + 632u);
+  w2c_j0 = w2c_l22;
   w2c_i0 = !(w2c_j0);
   w2c_i0 = !(w2c_i0);
   if (w2c_i0) {
-    w2c_j0 = w2c_l4;
-    w2c_i0 = (u32)(w2c_j0);
-    w2c_j0 = i64_load(&instance->w2c_memory, (u64)(w2c_i0) + 616u);
+    w2c_j0 = w2c_l17;
     w2c_leave(instance, w2c_j0);
   }
   w2c_j0 = w2c_l4;
-  w2c_j1 = 244ull;
+  w2c_j1 = 324ull;
   w2c_j0 += w2c_j1;
   w2c_i0 = (u32)(w2c_j0);
   w2c_j1 = w2c_l4;
-  w2c_j2 = 656ull;
+  w2c_j2 = 736ull;
   w2c_j1 += w2c_j2;
   w2c_i1 = (u32)(w2c_j1);
   w2c_i2 = 124u;
   memory_copy(&instance->w2c_memory, &instance->w2c_memory, w2c_i0, w2c_i1, w2c_i2);
-  w2c_i0 = w2c_l39;
+  w2c_i0 = w2c_l38;
   w2c_i1 = 255u;
   w2c_i0 &= w2c_i1;
-  goto w2c_B359;
-  w2c_B361:;
-  w2c_j0 = w2c_l9;
+  goto w2c_B262;
+  w2c_B264:;
+  w2c_j0 = w2c_l11;
   w2c_f13(instance, w2c_j0);
-  w2c_j0 = w2c_l4;
-  w2c_i0 = (u32)(w2c_j0);
-  w2c_j0 = i64_load(&instance->w2c_memory, (u64)(w2c_i0) + 632u);
+  w2c_j0 = w2c_l22;
   w2c_i0 = !(w2c_j0);
   w2c_i0 = !(w2c_i0);
   if (w2c_i0) {
-    w2c_j0 = w2c_l4;
-    w2c_i0 = (u32)(w2c_j0);
-    w2c_j0 = i64_load(&instance->w2c_memory, (u64)(w2c_i0) + 616u);
+    w2c_j0 = w2c_l17;
     w2c_leave(instance, w2c_j0);
   }
   w2c_j0 = w2c_l4;
-  w2c_j1 = 244ull;
+  w2c_j1 = 324ull;
   w2c_j0 += w2c_j1;
   w2c_i0 = (u32)(w2c_j0);
   w2c_i1 = 0u;
   w2c_i2 = 124u;
   memory_fill(&instance->w2c_memory, w2c_i0, w2c_i1, w2c_i2);
   w2c_i0 = 0u;
-  w2c_B360:;
-  w2c_l38 = w2c_i0;
+  w2c_B263:;
+  w2c_l40 = w2c_i0;
   w2c_i0 = 19u;
-  w2c_B359:;
+  w2c_B262:;
   w2c_l37 = w2c_i0;
   w2c_i0 = 1u;
-  w2c_B358:;
-  w2c_l39 = w2c_i0;
-  w2c_j0 = w2c_l25;
+  w2c_B261:;
+  w2c_l38 = w2c_i0;
+  w2c_j0 = w2c_l26;
   w2c_j1 = 8ull;
   w2c_j0 += w2c_j1;
   w2c_i0 = (u32)(w2c_j0);
-  w2c_i1 = w2c_l38;
+  w2c_i1 = w2c_l40;
   i32_store(&instance->w2c_memory, (u64)(w2c_i0), w2c_i1);
-  w2c_j0 = w2c_l25;
+  w2c_j0 = w2c_l26;
   w2c_j1 = 4ull;
   w2c_j0 += w2c_j1;
   w2c_i0 = (u32)(w2c_j0);
   w2c_i1 = w2c_l37;
   i32_store(&instance->w2c_memory, (u64)(w2c_i0), w2c_i1);
-  w2c_j0 = w2c_l25;
+  w2c_j0 = w2c_l26;
   w2c_i0 = (u32)(w2c_j0);
-  w2c_i1 = w2c_l39;
+  w2c_i1 = w2c_l38;
   i32_store(&instance->w2c_memory, (u64)(w2c_i0), w2c_i1);
-  w2c_j0 = w2c_l25;
+  w2c_j0 = w2c_l26;
   w2c_j1 = 12ull;
   w2c_j0 += w2c_j1;
   w2c_i0 = (u32)(w2c_j0);
   w2c_j1 = w2c_l4;
-  w2c_j2 = 244ull;
+  w2c_j2 = 324ull;
   w2c_j1 += w2c_j2;
   w2c_i1 = (u32)(w2c_j1);
   w2c_i2 = 124u;
   memory_copy(&instance->w2c_memory, &instance->w2c_memory, w2c_i0, w2c_i1, w2c_i2);
   goto w2c_B139;
-  w2c_B357:;
+  w2c_B260:;
   w2c_j0 = w2c_l4;
   w2c_i0 = (u32)(w2c_j0);
-  w2c_j0 = i64_load(&instance->w2c_memory, (u64)(w2c_i0) + 856u);
-  w2c_i0 = !(w2c_j0);
-  w2c_i0 = !(w2c_i0);
-  if (w2c_i0) {
-    w2c_j0 = w2c_l4;
-    w2c_i0 = (u32)(w2c_j0);
-    w2c_j0 = i64_load(&instance->w2c_memory, (u64)(w2c_i0) + 840u);
-    w2c_leave(instance, w2c_j0);
-  }
-  w2c_i0 = w2c_l40;
-  w2c_i0 = !(w2c_i0);
-  if (w2c_i0) {
-    w2c_j0 = w2c_l16;
-    w2c_f51(instance, w2c_j0);
-  }
-  w2c_j0 = w2c_l14;
-  w2c_l21 = w2c_j0;
-  goto w2c_B354;
-  w2c_B356:;
-  w2c_j0 = w2c_l16;
-  w2c_l5 = w2c_j0;
-  w2c_B355:;
-  w2c_j0 = w2c_l5;
-  w2c_f51(instance, w2c_j0);
-  w2c_B354:;
+  w2c_j1 = w2c_l18;
+  i64_store(&instance->w2c_memory, (u64)(w2c_i0) + 936, w2c_j1);
   w2c_j0 = w2c_l4;
   w2c_i0 = (u32)(w2c_j0);
-  w2c_j1 = w2c_l30;
-  i64_store(&instance->w2c_memory, (u64)(w2c_i0) + 600, w2c_j1);
+  w2c_j1 = w2c_l23;
+  i64_store(&instance->w2c_memory, (u64)(w2c_i0) + 928, w2c_j1);
   w2c_j0 = w2c_l4;
   w2c_i0 = (u32)(w2c_j0);
-  w2c_j1 = w2c_l21;
-  i64_store(&instance->w2c_memory, (u64)(w2c_i0) + 592, w2c_j1);
+  w2c_j1 = w2c_l19;
+  i64_store(&instance->w2c_memory, (u64)(w2c_i0) + 920, w2c_j1);
   w2c_j0 = w2c_l4;
-  w2c_i0 = (u32)(w2c_j0);
-  w2c_j1 = w2c_l17;
-  i64_store(&instance->w2c_memory, (u64)(w2c_i0) + 584, w2c_j1);
-  w2c_j0 = w2c_l4;
-  w2c_j1 = 584ull;
+  w2c_j1 = 920ull;
   w2c_j0 += w2c_j1;
   w2c_f13(instance, w2c_j0);
-  goto w2c_B351;
-  w2c_B353:;
-  w2c_j0 = w2c_l15;
-  w2c_leave(instance, w2c_j0);
-  w2c_B352:;
-  w2c_j0 = w2c_l4;
-  w2c_j1 = 840ull;
-  w2c_j0 += w2c_j1;
-  w2c_f13(instance, w2c_j0);
-  w2c_B351:;
-  w2c_j0 = w2c_l25;
+  w2c_B259:;
+  w2c_j0 = w2c_l26;
   w2c_i0 = (u32)(w2c_j0);
   w2c_j1 = 81604378625ull;
   i64_store(&instance->w2c_memory, (u64)(w2c_i0), w2c_j1);
-  w2c_j0 = w2c_l25;
+  w2c_j0 = w2c_l26;
   w2c_j1 = 8ull;
   w2c_j0 += w2c_j1;
   w2c_i0 = (u32)(w2c_j0);
@@ -17274,80 +16060,80 @@ static void w2c_f0(Z_dine_ffi_instance_t* instance, u64 w2c_p0, u64 w2c_p1, u64 
   goto w2c_B139;
   w2c_B169:;
   w2c_B140:;
-  w2c_j0 = w2c_l25;
+  w2c_j0 = w2c_l26;
   w2c_i0 = (u32)(w2c_j0);
   w2c_i1 = 1u;
   i32_store(&instance->w2c_memory, (u64)(w2c_i0), w2c_i1);
-  w2c_j0 = w2c_l25;
+  w2c_j0 = w2c_l26;
   w2c_j1 = 8ull;
   w2c_j0 += w2c_j1;
   w2c_i0 = (u32)(w2c_j0);
   w2c_i1 = 0u;
   i32_store(&instance->w2c_memory, (u64)(w2c_i0), w2c_i1);
-  w2c_j0 = w2c_l25;
+  w2c_j0 = w2c_l26;
   w2c_j1 = 4ull;
   w2c_j0 += w2c_j1;
   w2c_i0 = (u32)(w2c_j0);
   w2c_i1 = w2c_l38;
   i32_store(&instance->w2c_memory, (u64)(w2c_i0), w2c_i1);
-  w2c_j0 = w2c_l25;
+  w2c_j0 = w2c_l26;
   w2c_j1 = 12ull;
   w2c_j0 += w2c_j1;
   w2c_i0 = (u32)(w2c_j0);
   w2c_j1 = w2c_l4;
-  w2c_j2 = 244ull;
+  w2c_j2 = 324ull;
   w2c_j1 += w2c_j2;
   w2c_i1 = (u32)(w2c_j1);
   w2c_i2 = 124u;
   memory_copy(&instance->w2c_memory, &instance->w2c_memory, w2c_i0, w2c_i1, w2c_i2);
   w2c_B139:;
   w2c_j0 = w2c_l4;
-  w2c_j1 = 928ull;
+  w2c_j1 = 1008ull;
   w2c_j0 += w2c_j1;
   instance->w2c_g0 = w2c_j0;
-  w2c_j0 = w2c_l8;
+  w2c_j0 = w2c_l7;
   w2c_i0 = (u32)(w2c_j0);
   w2c_j0 = i64_load8_u(&instance->w2c_memory, (u64)(w2c_i0) + 96u);
   w2c_i0 = (u32)(w2c_j0);
   w2c_i1 = 1u;
   w2c_i0 -= w2c_i1;
   switch (w2c_i0) {
-    case 0: goto w2c_B738;
-    case 1: goto w2c_B738;
-    case 2: goto w2c_B738;
-    case 3: goto w2c_B738;
-    case 4: goto w2c_B740;
-    case 5: goto w2c_B739;
-    default: goto w2c_B741;
+    case 0: goto w2c_B671;
+    case 1: goto w2c_B671;
+    case 2: goto w2c_B671;
+    case 3: goto w2c_B671;
+    case 4: goto w2c_B673;
+    case 5: goto w2c_B672;
+    default: goto w2c_B674;
   }
-  w2c_B741:;
-  w2c_j0 = w2c_l8;
+  w2c_B674:;
+  w2c_j0 = w2c_l7;
   w2c_i0 = (u32)(w2c_j0);
   w2c_j0 = i64_load(&instance->w2c_memory, (u64)(w2c_i0) + 120u);
   w2c_i0 = !(w2c_j0);
-  if (w2c_i0) {goto w2c_B738;}
-  w2c_j0 = w2c_l8;
+  if (w2c_i0) {goto w2c_B671;}
+  w2c_j0 = w2c_l7;
   w2c_i0 = (u32)(w2c_j0);
   w2c_j0 = i64_load(&instance->w2c_memory, (u64)(w2c_i0) + 104u);
   w2c_leave(instance, w2c_j0);
-  goto w2c_B738;
-  w2c_B740:;
-  w2c_j0 = w2c_l8;
+  goto w2c_B671;
+  w2c_B673:;
+  w2c_j0 = w2c_l7;
   w2c_i0 = (u32)(w2c_j0);
   w2c_j0 = i64_load(&instance->w2c_memory, (u64)(w2c_i0) + 120u);
-  w2c_l15 = w2c_j0;
-  w2c_j0 = w2c_l8;
+  w2c_l13 = w2c_j0;
+  w2c_j0 = w2c_l7;
   w2c_i0 = (u32)(w2c_j0);
   w2c_j0 = i64_load(&instance->w2c_memory, (u64)(w2c_i0) + 104u);
   w2c_l3 = w2c_j0;
-  w2c_j0 = w2c_l8;
+  w2c_j0 = w2c_l7;
   w2c_i0 = (u32)(w2c_j0);
   w2c_j0 = i64_load(&instance->w2c_memory, (u64)(w2c_i0) + 112u);
   w2c_p1 = w2c_j0;
   w2c_i0 = !(w2c_j0);
   w2c_i0 = !(w2c_i0);
   if (w2c_i0) {
-    w2c_j0 = w2c_l8;
+    w2c_j0 = w2c_l7;
     w2c_j1 = 272ull;
     w2c_j0 += w2c_j1;
     w2c_j1 = 4ull;
@@ -17355,28 +16141,28 @@ static void w2c_f0(Z_dine_ffi_instance_t* instance, u64 w2c_p0, u64 w2c_p1, u64 
     w2c_p2 = w2c_j0;
     w2c_j0 = w2c_l3;
     w2c_l5 = w2c_j0;
-    w2c_L743: 
+    w2c_L676: 
       w2c_j0 = w2c_l5;
       w2c_i0 = (u32)(w2c_j0);
       w2c_i0 = i32_load16_u(&instance->w2c_memory, (u64)(w2c_i0));
       w2c_l39 = w2c_i0;
-      w2c_j0 = w2c_l8;
+      w2c_j0 = w2c_l7;
       w2c_i0 = (u32)(w2c_j0);
       w2c_j1 = 0ull;
       i64_store(&instance->w2c_memory, (u64)(w2c_i0) + 304, w2c_j1);
-      w2c_j0 = w2c_l8;
+      w2c_j0 = w2c_l7;
       w2c_i0 = (u32)(w2c_j0);
       w2c_j1 = 0ull;
       i64_store(&instance->w2c_memory, (u64)(w2c_i0) + 296, w2c_j1);
-      w2c_j0 = w2c_l8;
+      w2c_j0 = w2c_l7;
       w2c_i0 = (u32)(w2c_j0);
       w2c_j1 = 0ull;
       i64_store(&instance->w2c_memory, (u64)(w2c_i0) + 288, w2c_j1);
-      w2c_j0 = w2c_l8;
+      w2c_j0 = w2c_l7;
       w2c_i0 = (u32)(w2c_j0);
       w2c_j1 = 0ull;
       i64_store(&instance->w2c_memory, (u64)(w2c_i0) + 280, w2c_j1);
-      w2c_j0 = w2c_l8;
+      w2c_j0 = w2c_l7;
       w2c_i0 = (u32)(w2c_j0);
       w2c_j1 = 0ull;
       i64_store(&instance->w2c_memory, (u64)(w2c_i0) + 272, w2c_j1);
@@ -17412,7 +16198,7 @@ static void w2c_f0(Z_dine_ffi_instance_t* instance, u64 w2c_p0, u64 w2c_p1, u64 
       w2c_i1 = (u32)(w2c_j1);
       w2c_j1 = i64_load(&instance->w2c_memory, (u64)(w2c_i1));
       i64_store(&instance->w2c_memory, (u64)(w2c_i0) + 24, w2c_j1);
-      w2c_j0 = w2c_l8;
+      w2c_j0 = w2c_l7;
       w2c_i0 = (u32)(w2c_j0);
       w2c_i1 = w2c_l39;
       i32_store16(&instance->w2c_memory, (u64)(w2c_i0) + 272, w2c_i1);
@@ -17420,7 +16206,7 @@ static void w2c_f0(Z_dine_ffi_instance_t* instance, u64 w2c_p0, u64 w2c_p1, u64 
       w2c_j1 = 40ull;
       w2c_j0 += w2c_j1;
       w2c_l5 = w2c_j0;
-      w2c_j0 = w2c_l8;
+      w2c_j0 = w2c_l7;
       w2c_j1 = 272ull;
       w2c_j0 += w2c_j1;
       w2c_f11(instance, w2c_j0);
@@ -17430,54 +16216,54 @@ static void w2c_f0(Z_dine_ffi_instance_t* instance, u64 w2c_p0, u64 w2c_p1, u64 
       w2c_p1 = w2c_j0;
       w2c_j1 = 0ull;
       w2c_i0 = w2c_j0 != w2c_j1;
-      if (w2c_i0) {goto w2c_L743;}
+      if (w2c_i0) {goto w2c_L676;}
   }
-  w2c_j0 = w2c_l15;
+  w2c_j0 = w2c_l13;
   w2c_i0 = !(w2c_j0);
-  if (w2c_i0) {goto w2c_B738;}
+  if (w2c_i0) {goto w2c_B671;}
   w2c_j0 = w2c_l3;
   w2c_leave(instance, w2c_j0);
-  goto w2c_B738;
-  w2c_B739:;
-  w2c_j0 = w2c_l8;
+  goto w2c_B671;
+  w2c_B672:;
+  w2c_j0 = w2c_l7;
   w2c_i0 = (u32)(w2c_j0);
   w2c_i0 = i32_load8_u(&instance->w2c_memory, (u64)(w2c_i0) + 104u);
   w2c_i1 = 1u;
   w2c_i0 = w2c_i0 != w2c_i1;
-  if (w2c_i0) {goto w2c_B738;}
-  w2c_j0 = w2c_l8;
+  if (w2c_i0) {goto w2c_B671;}
+  w2c_j0 = w2c_l7;
   w2c_i0 = (u32)(w2c_j0);
   w2c_j0 = i64_load(&instance->w2c_memory, (u64)(w2c_i0) + 112u);
   w2c_f12(instance, w2c_j0);
-  w2c_B738:;
-  w2c_j0 = w2c_l8;
+  w2c_B671:;
+  w2c_j0 = w2c_l7;
   w2c_i0 = (u32)(w2c_j0);
-  w2c_j1 = w2c_l8;
+  w2c_j1 = w2c_l7;
   w2c_i1 = (u32)(w2c_j1);
   w2c_j1 = i64_load(&instance->w2c_memory, (u64)(w2c_i1) + 152u);
   i64_store(&instance->w2c_memory, (u64)(w2c_i0) + 48, w2c_j1);
-  w2c_j0 = w2c_l8;
+  w2c_j0 = w2c_l7;
   w2c_i0 = (u32)(w2c_j0);
-  w2c_j1 = w2c_l8;
+  w2c_j1 = w2c_l7;
   w2c_i1 = (u32)(w2c_j1);
   w2c_j1 = i64_load(&instance->w2c_memory, (u64)(w2c_i1) + 160u);
   i64_store(&instance->w2c_memory, (u64)(w2c_i0) + 56, w2c_j1);
-  w2c_j0 = w2c_l8;
+  w2c_j0 = w2c_l7;
   w2c_i0 = (u32)(w2c_j0);
-  w2c_j1 = w2c_l8;
+  w2c_j1 = w2c_l7;
   w2c_i1 = (u32)(w2c_j1);
   w2c_j1 = i64_load(&instance->w2c_memory, (u64)(w2c_i1) + 168u);
   i64_store(&instance->w2c_memory, (u64)(w2c_i0) + 64, w2c_j1);
-  w2c_j0 = w2c_l8;
+  w2c_j0 = w2c_l7;
   w2c_i0 = (u32)(w2c_j0);
   w2c_j0 = i64_load(&instance->w2c_memory, (u64)(w2c_i0) + 144u);
   w2c_p1 = w2c_j0;
-  w2c_j0 = w2c_l8;
+  w2c_j0 = w2c_l7;
   w2c_i0 = (u32)(w2c_j0);
   w2c_i0 = i32_load8_u(&instance->w2c_memory, (u64)(w2c_i0) + 136u);
   w2c_i0 = !(w2c_i0);
   if (w2c_i0) {goto w2c_B25;}
-  w2c_j0 = w2c_l8;
+  w2c_j0 = w2c_l7;
   w2c_i0 = (u32)(w2c_j0);
   w2c_i0 = i32_load8_u(&instance->w2c_memory, (u64)(w2c_i0) + 140u);
   w2c_B26:;
@@ -17492,58 +16278,58 @@ static void w2c_f0(Z_dine_ffi_instance_t* instance, u64 w2c_p0, u64 w2c_p1, u64 
   w2c_l39 = w2c_i0;
   goto w2c_B24;
   w2c_B25:;
-  w2c_j0 = w2c_l8;
+  w2c_j0 = w2c_l7;
   w2c_i0 = (u32)(w2c_j0);
   w2c_j0 = i64_load(&instance->w2c_memory, (u64)(w2c_i0) + 176u);
-  w2c_l7 = w2c_j0;
-  w2c_j0 = w2c_l8;
+  w2c_l6 = w2c_j0;
+  w2c_j0 = w2c_l7;
   w2c_i0 = (u32)(w2c_j0);
   w2c_j0 = i64_load(&instance->w2c_memory, (u64)(w2c_i0) + 184u);
-  w2c_l20 = w2c_j0;
-  w2c_j0 = w2c_l8;
+  w2c_l18 = w2c_j0;
+  w2c_j0 = w2c_l7;
   w2c_i0 = (u32)(w2c_j0);
   w2c_j0 = i64_load(&instance->w2c_memory, (u64)(w2c_i0) + 192u);
-  w2c_l15 = w2c_j0;
-  w2c_j0 = w2c_l8;
+  w2c_l13 = w2c_j0;
+  w2c_j0 = w2c_l7;
   w2c_i0 = (u32)(w2c_j0);
   w2c_j0 = i64_load(&instance->w2c_memory, (u64)(w2c_i0) + 200u);
-  w2c_l22 = w2c_j0;
-  w2c_j0 = w2c_l8;
+  w2c_l20 = w2c_j0;
+  w2c_j0 = w2c_l7;
   w2c_i0 = (u32)(w2c_j0);
   w2c_j0 = i64_load(&instance->w2c_memory, (u64)(w2c_i0) + 208u);
-  w2c_l23 = w2c_j0;
-  w2c_j0 = w2c_l8;
+  w2c_l24 = w2c_j0;
+  w2c_j0 = w2c_l7;
   w2c_i0 = (u32)(w2c_j0);
   w2c_j0 = i64_load(&instance->w2c_memory, (u64)(w2c_i0) + 216u);
   w2c_l14 = w2c_j0;
-  w2c_j0 = w2c_l8;
+  w2c_j0 = w2c_l7;
   w2c_i0 = (u32)(w2c_j0);
   w2c_j0 = i64_load(&instance->w2c_memory, (u64)(w2c_i0) + 224u);
   w2c_l3 = w2c_j0;
-  w2c_j0 = w2c_l8;
+  w2c_j0 = w2c_l7;
   w2c_i0 = (u32)(w2c_j0);
   w2c_j0 = i64_load(&instance->w2c_memory, (u64)(w2c_i0) + 232u);
   w2c_p2 = w2c_j0;
-  w2c_j0 = w2c_l8;
+  w2c_j0 = w2c_l7;
   w2c_i0 = (u32)(w2c_j0);
   w2c_j0 = i64_load(&instance->w2c_memory, (u64)(w2c_i0) + 240u);
-  w2c_l10 = w2c_j0;
-  w2c_j0 = w2c_l8;
+  w2c_l9 = w2c_j0;
+  w2c_j0 = w2c_l7;
   w2c_i0 = (u32)(w2c_j0);
   w2c_j0 = i64_load(&instance->w2c_memory, (u64)(w2c_i0) + 248u);
-  w2c_l12 = w2c_j0;
-  w2c_j0 = w2c_l8;
+  w2c_l10 = w2c_j0;
+  w2c_j0 = w2c_l7;
   w2c_i0 = (u32)(w2c_j0);
   w2c_j0 = i64_load(&instance->w2c_memory, (u64)(w2c_i0) + 256u);
-  w2c_l11 = w2c_j0;
-  w2c_j0 = w2c_l8;
+  w2c_l12 = w2c_j0;
+  w2c_j0 = w2c_l7;
   w2c_i0 = (u32)(w2c_j0);
   w2c_j0 = i64_load(&instance->w2c_memory, (u64)(w2c_i0) + 264u);
   w2c_l16 = w2c_j0;
-  w2c_j0 = w2c_l8;
+  w2c_j0 = w2c_l7;
   w2c_j1 = 136ull;
-  w2c_f113(instance, w2c_j0, w2c_j1);
-  w2c_j0 = w2c_l8;
+  w2c_f114(instance, w2c_j0, w2c_j1);
+  w2c_j0 = w2c_l7;
   w2c_i0 = (u32)(w2c_j0);
   w2c_j0 = i64_load(&instance->w2c_memory, (u64)(w2c_i0));
   w2c_i0 = (u32)(w2c_j0);
@@ -17551,22 +16337,22 @@ static void w2c_f0(Z_dine_ffi_instance_t* instance, u64 w2c_p0, u64 w2c_p1, u64 
   w2c_i0 &= w2c_i1;
   w2c_i0 = !(w2c_i0);
   if (w2c_i0) {
-    w2c_j0 = w2c_l8;
+    w2c_j0 = w2c_l7;
     w2c_j1 = 48ull;
     w2c_j0 += w2c_j1;
     w2c_f13(instance, w2c_j0);
-    w2c_j0 = w2c_l15;
+    w2c_j0 = w2c_l13;
     w2c_i0 = !(w2c_j0);
     w2c_i0 = !(w2c_i0);
     if (w2c_i0) {
-      w2c_j0 = w2c_l7;
+      w2c_j0 = w2c_l6;
       w2c_leave(instance, w2c_j0);
     }
     w2c_j0 = w2c_l14;
     w2c_i0 = !(w2c_j0);
     w2c_i0 = !(w2c_i0);
     if (w2c_i0) {
-      w2c_j0 = w2c_l22;
+      w2c_j0 = w2c_l20;
       w2c_leave(instance, w2c_j0);
     }
     w2c_j0 = w2c_p2;
@@ -17575,7 +16361,7 @@ static void w2c_f0(Z_dine_ffi_instance_t* instance, u64 w2c_p0, u64 w2c_p1, u64 
     if (w2c_i0) {
       w2c_j0 = w2c_l3;
       w2c_l5 = w2c_j0;
-      w2c_L748: 
+      w2c_L681: 
         w2c_j0 = w2c_l5;
         w2c_j1 = 16ull;
         w2c_j0 += w2c_j1;
@@ -17599,9 +16385,9 @@ static void w2c_f0(Z_dine_ffi_instance_t* instance, u64 w2c_p0, u64 w2c_p1, u64 
         w2c_p2 = w2c_j0;
         w2c_j1 = 0ull;
         w2c_i0 = w2c_j0 != w2c_j1;
-        if (w2c_i0) {goto w2c_L748;}
+        if (w2c_i0) {goto w2c_L681;}
     }
-    w2c_j0 = w2c_l10;
+    w2c_j0 = w2c_l9;
     w2c_i0 = !(w2c_j0);
     w2c_i0 = !(w2c_i0);
     if (w2c_i0) {
@@ -17615,11 +16401,11 @@ static void w2c_f0(Z_dine_ffi_instance_t* instance, u64 w2c_p0, u64 w2c_p1, u64 
     w2c_j0 = w2c_l16;
     w2c_i0 = !(w2c_j0);
     if (w2c_i0) {goto w2c_B24;}
-    w2c_j0 = w2c_l12;
+    w2c_j0 = w2c_l10;
     w2c_leave(instance, w2c_j0);
     goto w2c_B24;
   }
-  w2c_j0 = w2c_l8;
+  w2c_j0 = w2c_l7;
   w2c_i0 = (u32)(w2c_j0);
   w2c_j0 = i64_load(&instance->w2c_memory, (u64)(w2c_i0) + 8u);
   w2c_l5 = w2c_j0;
@@ -17632,19 +16418,19 @@ static void w2c_f0(Z_dine_ffi_instance_t* instance, u64 w2c_p0, u64 w2c_p1, u64 
   i64_store(&instance->w2c_memory, (u64)(w2c_i0), w2c_j1);
   w2c_j0 = w2c_l5;
   w2c_i0 = (u32)(w2c_j0);
-  w2c_j1 = w2c_l8;
+  w2c_j1 = w2c_l7;
   w2c_i1 = (u32)(w2c_j1);
   w2c_j1 = i64_load(&instance->w2c_memory, (u64)(w2c_i1) + 48u);
   i64_store(&instance->w2c_memory, (u64)(w2c_i0) + 16, w2c_j1);
   w2c_j0 = w2c_l5;
   w2c_i0 = (u32)(w2c_j0);
-  w2c_j1 = w2c_l8;
+  w2c_j1 = w2c_l7;
   w2c_i1 = (u32)(w2c_j1);
   w2c_j1 = i64_load(&instance->w2c_memory, (u64)(w2c_i1) + 56u);
   i64_store(&instance->w2c_memory, (u64)(w2c_i0) + 24, w2c_j1);
   w2c_j0 = w2c_l5;
   w2c_i0 = (u32)(w2c_j0);
-  w2c_j1 = w2c_l8;
+  w2c_j1 = w2c_l7;
   w2c_i1 = (u32)(w2c_j1);
   w2c_j1 = i64_load(&instance->w2c_memory, (u64)(w2c_i1) + 64u);
   i64_store(&instance->w2c_memory, (u64)(w2c_i0) + 32, w2c_j1);
@@ -17654,15 +16440,15 @@ static void w2c_f0(Z_dine_ffi_instance_t* instance, u64 w2c_p0, u64 w2c_p1, u64 
   i64_store(&instance->w2c_memory, (u64)(w2c_i0) + 128, w2c_j1);
   w2c_j0 = w2c_l5;
   w2c_i0 = (u32)(w2c_j0);
-  w2c_j1 = w2c_l11;
+  w2c_j1 = w2c_l12;
   i64_store(&instance->w2c_memory, (u64)(w2c_i0) + 120, w2c_j1);
   w2c_j0 = w2c_l5;
   w2c_i0 = (u32)(w2c_j0);
-  w2c_j1 = w2c_l12;
+  w2c_j1 = w2c_l10;
   i64_store(&instance->w2c_memory, (u64)(w2c_i0) + 112, w2c_j1);
   w2c_j0 = w2c_l5;
   w2c_i0 = (u32)(w2c_j0);
-  w2c_j1 = w2c_l10;
+  w2c_j1 = w2c_l9;
   i64_store(&instance->w2c_memory, (u64)(w2c_i0) + 104, w2c_j1);
   w2c_j0 = w2c_l5;
   w2c_i0 = (u32)(w2c_j0);
@@ -17678,32 +16464,32 @@ static void w2c_f0(Z_dine_ffi_instance_t* instance, u64 w2c_p0, u64 w2c_p1, u64 
   i64_store(&instance->w2c_memory, (u64)(w2c_i0) + 80, w2c_j1);
   w2c_j0 = w2c_l5;
   w2c_i0 = (u32)(w2c_j0);
-  w2c_j1 = w2c_l23;
+  w2c_j1 = w2c_l24;
   i64_store(&instance->w2c_memory, (u64)(w2c_i0) + 72, w2c_j1);
   w2c_j0 = w2c_l5;
   w2c_i0 = (u32)(w2c_j0);
-  w2c_j1 = w2c_l22;
+  w2c_j1 = w2c_l20;
   i64_store(&instance->w2c_memory, (u64)(w2c_i0) + 64, w2c_j1);
   w2c_j0 = w2c_l5;
   w2c_i0 = (u32)(w2c_j0);
-  w2c_j1 = w2c_l15;
+  w2c_j1 = w2c_l13;
   i64_store(&instance->w2c_memory, (u64)(w2c_i0) + 56, w2c_j1);
   w2c_j0 = w2c_l5;
   w2c_i0 = (u32)(w2c_j0);
-  w2c_j1 = w2c_l20;
+  w2c_j1 = w2c_l18;
   i64_store(&instance->w2c_memory, (u64)(w2c_i0) + 48, w2c_j1);
   w2c_j0 = w2c_l5;
   w2c_i0 = (u32)(w2c_j0);
-  w2c_j1 = w2c_l7;
+  w2c_j1 = w2c_l6;
   i64_store(&instance->w2c_memory, (u64)(w2c_i0) + 40, w2c_j1);
   w2c_i0 = 0u;
-  w2c_l43 = w2c_i0;
+  w2c_l46 = w2c_i0;
   w2c_i0 = 0u;
   w2c_l39 = w2c_i0;
   w2c_B24:;
   w2c_j0 = w2c_p0;
   w2c_i0 = (u32)(w2c_j0);
-  w2c_i1 = w2c_l43;
+  w2c_i1 = w2c_l46;
   i32_store(&instance->w2c_memory, (u64)(w2c_i0), w2c_i1);
   w2c_j0 = w2c_p0;
   w2c_j1 = 8ull;
@@ -17717,7 +16503,7 @@ static void w2c_f0(Z_dine_ffi_instance_t* instance, u64 w2c_p0, u64 w2c_p1, u64 
   w2c_i0 = (u32)(w2c_j0);
   w2c_i1 = w2c_l39;
   i32_store(&instance->w2c_memory, (u64)(w2c_i0), w2c_i1);
-  w2c_j0 = w2c_l8;
+  w2c_j0 = w2c_l7;
   w2c_j1 = 928ull;
   w2c_j0 += w2c_j1;
   instance->w2c_g0 = w2c_j0;
@@ -19855,7 +18641,7 @@ static void w2c_f1(Z_dine_ffi_instance_t* instance, u64 w2c_p0, u64 w2c_p1) {
     w2c_j2 = 56ull;
     w2c_j1 += w2c_j2;
     w2c_j2 = 968ull;
-    w2c_f113(instance, w2c_j1, w2c_j2);
+    w2c_f114(instance, w2c_j1, w2c_j2);
     w2c_j1 = w2c_l2;
     w2c_i1 = (u32)(w2c_j1);
     w2c_j1 = i64_load(&instance->w2c_memory, (u64)(w2c_i1) + 56u);
@@ -20067,7 +18853,7 @@ static void w2c_f1(Z_dine_ffi_instance_t* instance, u64 w2c_p0, u64 w2c_p1) {
         w2c_j1 = 40ull;
         w2c_j0 += w2c_j1;
         w2c_j1 = 1096ull;
-        w2c_f113(instance, w2c_j0, w2c_j1);
+        w2c_f114(instance, w2c_j0, w2c_j1);
         w2c_j0 = w2c_l2;
         w2c_i0 = (u32)(w2c_j0);
         w2c_j0 = i64_load(&instance->w2c_memory, (u64)(w2c_i0) + 40u);
@@ -20303,7 +19089,7 @@ static void w2c_f1(Z_dine_ffi_instance_t* instance, u64 w2c_p0, u64 w2c_p1) {
             w2c_j1 = 8ull;
             w2c_j0 += w2c_j1;
             w2c_j1 = 968ull;
-            w2c_f113(instance, w2c_j0, w2c_j1);
+            w2c_f114(instance, w2c_j0, w2c_j1);
             w2c_j0 = w2c_l2;
             w2c_i0 = (u32)(w2c_j0);
             w2c_j0 = i64_load(&instance->w2c_memory, (u64)(w2c_i0) + 8u);
@@ -20321,7 +19107,7 @@ static void w2c_f1(Z_dine_ffi_instance_t* instance, u64 w2c_p0, u64 w2c_p1) {
           w2c_j1 = 24ull;
           w2c_j0 += w2c_j1;
           w2c_j1 = 1096ull;
-          w2c_f113(instance, w2c_j0, w2c_j1);
+          w2c_f114(instance, w2c_j0, w2c_j1);
           w2c_j0 = w2c_l2;
           w2c_i0 = (u32)(w2c_j0);
           w2c_j0 = i64_load(&instance->w2c_memory, (u64)(w2c_i0) + 24u);
@@ -29437,7 +28223,7 @@ static void w2c_f8(Z_dine_ffi_instance_t* instance, u64 w2c_p0, u64 w2c_p1, u64 
       w2c_j1 = 24ull;
       w2c_j0 += w2c_j1;
       w2c_j1 = w2c_l10;
-      w2c_f113(instance, w2c_j0, w2c_j1);
+      w2c_f114(instance, w2c_j0, w2c_j1);
       w2c_j0 = w2c_l8;
       w2c_i0 = (u32)(w2c_j0);
       w2c_j0 = i64_load(&instance->w2c_memory, (u64)(w2c_i0) + 24u);
@@ -29730,7 +28516,7 @@ static u32 w2c_f9(Z_dine_ffi_instance_t* instance, u64 w2c_p0) {
     w2c_j3 = w2c_l3;
     w2c_j4 = 24ull;
     w2c_j3 *= w2c_j4;
-    w2c_f115(instance, w2c_j0, w2c_j1, w2c_j2, w2c_j3);
+    w2c_f116(instance, w2c_j0, w2c_j1, w2c_j2, w2c_j3);
     w2c_j0 = w2c_l1;
     w2c_i0 = (u32)(w2c_j0);
     w2c_j0 = i64_load(&instance->w2c_memory, (u64)(w2c_i0) + 16u);
@@ -29748,7 +28534,7 @@ static u32 w2c_f9(Z_dine_ffi_instance_t* instance, u64 w2c_p0) {
   w2c_j1 = w2c_l4;
   w2c_j2 = 24ull;
   w2c_j1 *= w2c_j2;
-  w2c_f113(instance, w2c_j0, w2c_j1);
+  w2c_f114(instance, w2c_j0, w2c_j1);
   w2c_j0 = w2c_l1;
   w2c_i0 = (u32)(w2c_j0);
   w2c_j0 = i64_load(&instance->w2c_memory, (u64)(w2c_i0));
@@ -39872,7 +38658,7 @@ static u32 w2c_f25(Z_dine_ffi_instance_t* instance, u64 w2c_p0) {
     w2c_j3 = w2c_l3;
     w2c_j4 = 40ull;
     w2c_j3 *= w2c_j4;
-    w2c_f115(instance, w2c_j0, w2c_j1, w2c_j2, w2c_j3);
+    w2c_f116(instance, w2c_j0, w2c_j1, w2c_j2, w2c_j3);
     w2c_j0 = w2c_l1;
     w2c_i0 = (u32)(w2c_j0);
     w2c_j0 = i64_load(&instance->w2c_memory, (u64)(w2c_i0) + 16u);
@@ -39890,7 +38676,7 @@ static u32 w2c_f25(Z_dine_ffi_instance_t* instance, u64 w2c_p0) {
   w2c_j1 = w2c_l4;
   w2c_j2 = 40ull;
   w2c_j1 *= w2c_j2;
-  w2c_f113(instance, w2c_j0, w2c_j1);
+  w2c_f114(instance, w2c_j0, w2c_j1);
   w2c_j0 = w2c_l1;
   w2c_i0 = (u32)(w2c_j0);
   w2c_j0 = i64_load(&instance->w2c_memory, (u64)(w2c_i0));
@@ -41077,7 +39863,7 @@ static void w2c_f28(Z_dine_ffi_instance_t* instance, u64 w2c_p0, u64 w2c_p1, u64
       }
       w2c_j0 = w2c_l3;
       w2c_j1 = w2c_l9;
-      w2c_f113(instance, w2c_j0, w2c_j1);
+      w2c_f114(instance, w2c_j0, w2c_j1);
       w2c_j0 = 0ull;
       w2c_l7 = w2c_j0;
       w2c_i0 = 0u;
@@ -43830,7 +42616,7 @@ static u32 w2c_f30(Z_dine_ffi_instance_t* instance, u64 w2c_p0, u64 w2c_p1) {
     w2c_j1 = i64_load(&instance->w2c_memory, (u64)(w2c_i1));
     w2c_j2 = w2c_l3;
     w2c_j3 = w2c_p1;
-    w2c_f115(instance, w2c_j0, w2c_j1, w2c_j2, w2c_j3);
+    w2c_f116(instance, w2c_j0, w2c_j1, w2c_j2, w2c_j3);
     w2c_j0 = w2c_l2;
     w2c_i0 = (u32)(w2c_j0);
     w2c_j0 = i64_load(&instance->w2c_memory, (u64)(w2c_i0) + 16u);
@@ -43846,7 +42632,7 @@ static u32 w2c_f30(Z_dine_ffi_instance_t* instance, u64 w2c_p0, u64 w2c_p1) {
   }
   w2c_j0 = w2c_l2;
   w2c_j1 = w2c_l4;
-  w2c_f113(instance, w2c_j0, w2c_j1);
+  w2c_f114(instance, w2c_j0, w2c_j1);
   w2c_j0 = w2c_l2;
   w2c_i0 = (u32)(w2c_j0);
   w2c_j0 = i64_load(&instance->w2c_memory, (u64)(w2c_i0));
@@ -46983,7 +45769,7 @@ static void w2c_f34(Z_dine_ffi_instance_t* instance, u64 w2c_p0, u64 w2c_p1, u64
     w2c_j2 = 0ull;
     w2c_i3 = w2c_l7;
     w2c_j3 = (u64)(w2c_i3);
-    w2c_f118(instance, w2c_j0, w2c_j1, w2c_j2, w2c_j3);
+    w2c_f119(instance, w2c_j0, w2c_j1, w2c_j2, w2c_j3);
     w2c_i0 = 0u;
     w2c_j1 = w2c_l3;
     w2c_i1 = (u32)(w2c_j1);
@@ -49427,7 +48213,7 @@ static void w2c_f36(Z_dine_ffi_instance_t* instance, u64 w2c_p0, u64 w2c_p1, u64
       w2c_j1 = 24ull;
       w2c_j0 += w2c_j1;
       w2c_j1 = w2c_l9;
-      w2c_f113(instance, w2c_j0, w2c_j1);
+      w2c_f114(instance, w2c_j0, w2c_j1);
       w2c_j0 = w2c_l6;
       w2c_i0 = (u32)(w2c_j0);
       w2c_j0 = i64_load(&instance->w2c_memory, (u64)(w2c_i0) + 24u);
@@ -51134,7 +49920,7 @@ static void w2c_f37(Z_dine_ffi_instance_t* instance, u64 w2c_p0, u64 w2c_p1, u64
     w2c_j4 = I64_CLZ(w2c_j4);
     w2c_l9 = w2c_j4;
     w2c_j3 <<= (w2c_j4 & 63);
-    w2c_f118(instance, w2c_j0, w2c_j1, w2c_j2, w2c_j3);
+    w2c_f119(instance, w2c_j0, w2c_j1, w2c_j2, w2c_j3);
     w2c_j0 = w2c_l16;
     w2c_j1 = 19ull;
     w2c_i0 = w2c_j0 > w2c_j1;
@@ -51433,7 +50219,7 @@ static void w2c_f37(Z_dine_ffi_instance_t* instance, u64 w2c_p0, u64 w2c_p1, u64
               w2c_j1 = i64_load(&instance->w2c_memory, (u64)(w2c_i1));
               w2c_j2 = 0ull;
               w2c_j3 = w2c_l12;
-              w2c_f118(instance, w2c_j0, w2c_j1, w2c_j2, w2c_j3);
+              w2c_f119(instance, w2c_j0, w2c_j1, w2c_j2, w2c_j3);
               w2c_j0 = w2c_p1;
               w2c_i0 = (u32)(w2c_j0);
               w2c_j1 = w2c_l4;
@@ -51455,7 +50241,7 @@ static void w2c_f37(Z_dine_ffi_instance_t* instance, u64 w2c_p0, u64 w2c_p1, u64
               w2c_j1 = i64_load(&instance->w2c_memory, (u64)(w2c_i1));
               w2c_j2 = 0ull;
               w2c_j3 = w2c_l12;
-              w2c_f118(instance, w2c_j0, w2c_j1, w2c_j2, w2c_j3);
+              w2c_f119(instance, w2c_j0, w2c_j1, w2c_j2, w2c_j3);
               w2c_j0 = w2c_l17;
               w2c_i0 = (u32)(w2c_j0);
               w2c_j1 = w2c_l4;
@@ -51512,7 +50298,7 @@ static void w2c_f37(Z_dine_ffi_instance_t* instance, u64 w2c_p0, u64 w2c_p1, u64
           w2c_j1 = i64_load(&instance->w2c_memory, (u64)(w2c_i1));
           w2c_j2 = 0ull;
           w2c_j3 = w2c_l12;
-          w2c_f118(instance, w2c_j0, w2c_j1, w2c_j2, w2c_j3);
+          w2c_f119(instance, w2c_j0, w2c_j1, w2c_j2, w2c_j3);
           w2c_j0 = w2c_p1;
           w2c_i0 = (u32)(w2c_j0);
           w2c_j1 = w2c_l4;
@@ -51893,7 +50679,7 @@ static void w2c_f37(Z_dine_ffi_instance_t* instance, u64 w2c_p0, u64 w2c_p1, u64
             w2c_j1 = i64_load(&instance->w2c_memory, (u64)(w2c_i1));
             w2c_j2 = 0ull;
             w2c_j3 = w2c_l5;
-            w2c_f118(instance, w2c_j0, w2c_j1, w2c_j2, w2c_j3);
+            w2c_f119(instance, w2c_j0, w2c_j1, w2c_j2, w2c_j3);
             w2c_j0 = w2c_p1;
             w2c_i0 = (u32)(w2c_j0);
             w2c_j1 = w2c_l4;
@@ -51915,7 +50701,7 @@ static void w2c_f37(Z_dine_ffi_instance_t* instance, u64 w2c_p0, u64 w2c_p1, u64
             w2c_j1 = i64_load(&instance->w2c_memory, (u64)(w2c_i1));
             w2c_j2 = 0ull;
             w2c_j3 = w2c_l5;
-            w2c_f118(instance, w2c_j0, w2c_j1, w2c_j2, w2c_j3);
+            w2c_f119(instance, w2c_j0, w2c_j1, w2c_j2, w2c_j3);
             w2c_j0 = w2c_l8;
             w2c_i0 = (u32)(w2c_j0);
             w2c_j1 = w2c_l4;
@@ -51970,7 +50756,7 @@ static void w2c_f37(Z_dine_ffi_instance_t* instance, u64 w2c_p0, u64 w2c_p1, u64
         w2c_j1 = i64_load(&instance->w2c_memory, (u64)(w2c_i1));
         w2c_j2 = 0ull;
         w2c_j3 = w2c_l5;
-        w2c_f118(instance, w2c_j0, w2c_j1, w2c_j2, w2c_j3);
+        w2c_f119(instance, w2c_j0, w2c_j1, w2c_j2, w2c_j3);
         w2c_j0 = w2c_p1;
         w2c_i0 = (u32)(w2c_j0);
         w2c_j1 = w2c_l4;
@@ -52096,7 +50882,7 @@ static void w2c_f37(Z_dine_ffi_instance_t* instance, u64 w2c_p0, u64 w2c_p1, u64
     w2c_j4 = I64_CLZ(w2c_j4);
     w2c_l5 = w2c_j4;
     w2c_j3 <<= (w2c_j4 & 63);
-    w2c_f118(instance, w2c_j0, w2c_j1, w2c_j2, w2c_j3);
+    w2c_f119(instance, w2c_j0, w2c_j1, w2c_j2, w2c_j3);
     w2c_j0 = 512ull;
     w2c_j1 = w2c_l11;
     w2c_i1 = (u32)(w2c_j1);
@@ -52211,7 +50997,7 @@ static void w2c_f37(Z_dine_ffi_instance_t* instance, u64 w2c_p0, u64 w2c_p1, u64
   w2c_j4 = I64_CLZ(w2c_j4);
   w2c_l5 = w2c_j4;
   w2c_j3 <<= (w2c_j4 & 63);
-  w2c_f118(instance, w2c_j0, w2c_j1, w2c_j2, w2c_j3);
+  w2c_f119(instance, w2c_j0, w2c_j1, w2c_j2, w2c_j3);
   w2c_j0 = w2c_l11;
   w2c_i0 = (u32)(w2c_j0);
   w2c_j0 = i64_load(&instance->w2c_memory, (u64)(w2c_i0) + 8u);
@@ -52343,7 +51129,7 @@ static void w2c_f37(Z_dine_ffi_instance_t* instance, u64 w2c_p0, u64 w2c_p1, u64
     w2c_j1 = w2c_p2;
     w2c_j2 = w2c_l5;
     w2c_j3 = 10ull;
-    w2c_f118(instance, w2c_j0, w2c_j1, w2c_j2, w2c_j3);
+    w2c_f119(instance, w2c_j0, w2c_j1, w2c_j2, w2c_j3);
     w2c_j0 = w2c_l11;
     w2c_i0 = (u32)(w2c_j0);
     w2c_j0 = i64_load(&instance->w2c_memory, (u64)(w2c_i0) + 40u);
@@ -52657,7 +51443,7 @@ static void w2c_f38(Z_dine_ffi_instance_t* instance, u64 w2c_p0, u64 w2c_p1, u64
   w2c_l10 = w2c_j4;
   w2c_j3 <<= (w2c_j4 & 63);
   w2c_p1 = w2c_j3;
-  w2c_f118(instance, w2c_j0, w2c_j1, w2c_j2, w2c_j3);
+  w2c_f119(instance, w2c_j0, w2c_j1, w2c_j2, w2c_j3);
   w2c_j0 = w2c_l4;
   w2c_j1 = 48ull;
   w2c_j0 += w2c_j1;
@@ -52666,7 +51452,7 @@ static void w2c_f38(Z_dine_ffi_instance_t* instance, u64 w2c_p0, u64 w2c_p1, u64
   w2c_j1 = i64_load(&instance->w2c_memory, (u64)(w2c_i1) + 1048752u);
   w2c_j2 = 0ull;
   w2c_j3 = w2c_p1;
-  w2c_f118(instance, w2c_j0, w2c_j1, w2c_j2, w2c_j3);
+  w2c_f119(instance, w2c_j0, w2c_j1, w2c_j2, w2c_j3);
   w2c_j0 = 0ull;
   w2c_j1 = 0ull;
   w2c_j2 = w2c_l10;
@@ -52797,14 +51583,14 @@ static void w2c_f38(Z_dine_ffi_instance_t* instance, u64 w2c_p0, u64 w2c_p1, u64
   w2c_j1 = 18446744073709551615ull;
   w2c_j2 = 18446744073709551615ull;
   w2c_i3 = w2c_l13;
-  w2c_f119(instance, w2c_j0, w2c_j1, w2c_j2, w2c_i3);
+  w2c_f120(instance, w2c_j0, w2c_j1, w2c_j2, w2c_i3);
   w2c_j0 = w2c_l4;
   w2c_j1 = 1ull;
   w2c_j2 = 0ull;
   w2c_i3 = w2c_l13;
   w2c_i4 = 1u;
   w2c_i3 -= w2c_i4;
-  w2c_f119(instance, w2c_j0, w2c_j1, w2c_j2, w2c_i3);
+  w2c_f120(instance, w2c_j0, w2c_j1, w2c_j2, w2c_i3);
   w2c_j0 = w2c_l4;
   w2c_i0 = (u32)(w2c_j0);
   w2c_j0 = i64_load(&instance->w2c_memory, (u64)(w2c_i0) + 32u);
@@ -53133,7 +51919,7 @@ static u64 w2c_f39(Z_dine_ffi_instance_t* instance, u64 w2c_p0, u32 w2c_p1, u64 
       w2c_j1 = i64_load(&instance->w2c_memory, (u64)(w2c_i1));
       w2c_j2 = 0ull;
       w2c_i3 = w2c_l15;
-      w2c_f119(instance, w2c_j0, w2c_j1, w2c_j2, w2c_i3);
+      w2c_f120(instance, w2c_j0, w2c_j1, w2c_j2, w2c_i3);
       w2c_j0 = w2c_p0;
       w2c_i0 = (u32)(w2c_j0);
       w2c_j1 = w2c_l6;
@@ -53155,7 +51941,7 @@ static u64 w2c_f39(Z_dine_ffi_instance_t* instance, u64 w2c_p0, u32 w2c_p1, u64 
       w2c_j1 = i64_load(&instance->w2c_memory, (u64)(w2c_i1));
       w2c_j2 = 0ull;
       w2c_i3 = w2c_l15;
-      w2c_f119(instance, w2c_j0, w2c_j1, w2c_j2, w2c_i3);
+      w2c_f120(instance, w2c_j0, w2c_j1, w2c_j2, w2c_i3);
       w2c_j0 = w2c_l11;
       w2c_i0 = (u32)(w2c_j0);
       w2c_j1 = w2c_l6;
@@ -53213,7 +51999,7 @@ static u64 w2c_f39(Z_dine_ffi_instance_t* instance, u64 w2c_p0, u32 w2c_p1, u64 
   w2c_j2 = 0ull;
   w2c_j3 = w2c_l10;
   w2c_i3 = (u32)(w2c_j3);
-  w2c_f119(instance, w2c_j0, w2c_j1, w2c_j2, w2c_i3);
+  w2c_f120(instance, w2c_j0, w2c_j1, w2c_j2, w2c_i3);
   w2c_j0 = w2c_p0;
   w2c_i0 = (u32)(w2c_j0);
   w2c_j1 = w2c_l6;
@@ -53456,7 +52242,7 @@ static u64 w2c_f39(Z_dine_ffi_instance_t* instance, u64 w2c_p0, u32 w2c_p1, u64 
       w2c_j1 = i64_load(&instance->w2c_memory, (u64)(w2c_i1));
       w2c_j2 = 0ull;
       w2c_i3 = w2c_l15;
-      w2c_f119(instance, w2c_j0, w2c_j1, w2c_j2, w2c_i3);
+      w2c_f120(instance, w2c_j0, w2c_j1, w2c_j2, w2c_i3);
       w2c_j0 = w2c_p0;
       w2c_i0 = (u32)(w2c_j0);
       w2c_j1 = w2c_l6;
@@ -53478,7 +52264,7 @@ static u64 w2c_f39(Z_dine_ffi_instance_t* instance, u64 w2c_p0, u32 w2c_p1, u64 
       w2c_j1 = i64_load(&instance->w2c_memory, (u64)(w2c_i1));
       w2c_j2 = 0ull;
       w2c_i3 = w2c_l15;
-      w2c_f119(instance, w2c_j0, w2c_j1, w2c_j2, w2c_i3);
+      w2c_f120(instance, w2c_j0, w2c_j1, w2c_j2, w2c_i3);
       w2c_j0 = w2c_l11;
       w2c_i0 = (u32)(w2c_j0);
       w2c_j1 = w2c_l6;
@@ -53534,7 +52320,7 @@ static u64 w2c_f39(Z_dine_ffi_instance_t* instance, u64 w2c_p0, u32 w2c_p1, u64 
   w2c_j2 = 0ull;
   w2c_j3 = w2c_l10;
   w2c_i3 = (u32)(w2c_j3);
-  w2c_f119(instance, w2c_j0, w2c_j1, w2c_j2, w2c_i3);
+  w2c_f120(instance, w2c_j0, w2c_j1, w2c_j2, w2c_i3);
   w2c_j0 = w2c_p0;
   w2c_i0 = (u32)(w2c_j0);
   w2c_j1 = w2c_l6;
@@ -53744,7 +52530,7 @@ static void w2c_f40(Z_dine_ffi_instance_t* instance, u64 w2c_p0, u64 w2c_p1) {
           w2c_j1 = i64_load(&instance->w2c_memory, (u64)(w2c_i1));
           w2c_j2 = 0ull;
           w2c_j3 = 10000000000000000000ull;
-          w2c_f118(instance, w2c_j0, w2c_j1, w2c_j2, w2c_j3);
+          w2c_f119(instance, w2c_j0, w2c_j1, w2c_j2, w2c_j3);
           w2c_j0 = w2c_l4;
           w2c_i0 = (u32)(w2c_j0);
           w2c_j1 = w2c_l3;
@@ -53766,7 +52552,7 @@ static void w2c_f40(Z_dine_ffi_instance_t* instance, u64 w2c_p0, u64 w2c_p1) {
           w2c_j1 = i64_load(&instance->w2c_memory, (u64)(w2c_i1));
           w2c_j2 = 0ull;
           w2c_j3 = 10000000000000000000ull;
-          w2c_f118(instance, w2c_j0, w2c_j1, w2c_j2, w2c_j3);
+          w2c_f119(instance, w2c_j0, w2c_j1, w2c_j2, w2c_j3);
           w2c_j0 = w2c_l10;
           w2c_i0 = (u32)(w2c_j0);
           w2c_j1 = w2c_l3;
@@ -53821,7 +52607,7 @@ static void w2c_f40(Z_dine_ffi_instance_t* instance, u64 w2c_p0, u64 w2c_p1) {
       w2c_j1 = i64_load(&instance->w2c_memory, (u64)(w2c_i1));
       w2c_j2 = 0ull;
       w2c_j3 = 10000000000000000000ull;
-      w2c_f118(instance, w2c_j0, w2c_j1, w2c_j2, w2c_j3);
+      w2c_f119(instance, w2c_j0, w2c_j1, w2c_j2, w2c_j3);
       w2c_j0 = w2c_l4;
       w2c_i0 = (u32)(w2c_j0);
       w2c_j1 = w2c_l3;
@@ -53909,7 +52695,7 @@ static void w2c_f40(Z_dine_ffi_instance_t* instance, u64 w2c_p0, u64 w2c_p1) {
       w2c_j1 = i64_load(&instance->w2c_memory, (u64)(w2c_i1));
       w2c_j2 = 0ull;
       w2c_j3 = w2c_l8;
-      w2c_f118(instance, w2c_j0, w2c_j1, w2c_j2, w2c_j3);
+      w2c_f119(instance, w2c_j0, w2c_j1, w2c_j2, w2c_j3);
       w2c_j0 = w2c_l4;
       w2c_i0 = (u32)(w2c_j0);
       w2c_j1 = w2c_l3;
@@ -53931,7 +52717,7 @@ static void w2c_f40(Z_dine_ffi_instance_t* instance, u64 w2c_p0, u64 w2c_p1) {
       w2c_j1 = i64_load(&instance->w2c_memory, (u64)(w2c_i1));
       w2c_j2 = 0ull;
       w2c_j3 = w2c_l8;
-      w2c_f118(instance, w2c_j0, w2c_j1, w2c_j2, w2c_j3);
+      w2c_f119(instance, w2c_j0, w2c_j1, w2c_j2, w2c_j3);
       w2c_j0 = w2c_l11;
       w2c_i0 = (u32)(w2c_j0);
       w2c_j1 = w2c_l3;
@@ -53984,7 +52770,7 @@ static void w2c_f40(Z_dine_ffi_instance_t* instance, u64 w2c_p0, u64 w2c_p1) {
   w2c_j1 = i64_load(&instance->w2c_memory, (u64)(w2c_i1));
   w2c_j2 = 0ull;
   w2c_j3 = w2c_l8;
-  w2c_f118(instance, w2c_j0, w2c_j1, w2c_j2, w2c_j3);
+  w2c_f119(instance, w2c_j0, w2c_j1, w2c_j2, w2c_j3);
   w2c_j0 = w2c_l4;
   w2c_i0 = (u32)(w2c_j0);
   w2c_j1 = w2c_l3;
@@ -54346,7 +53132,7 @@ static u32 w2c_f42(Z_dine_ffi_instance_t* instance, u64 w2c_p0, u64 w2c_p1, u64 
   w2c_j1 = 48ull;
   w2c_j0 += w2c_j1;
   w2c_j1 = 1208ull;
-  w2c_f113(instance, w2c_j0, w2c_j1);
+  w2c_f114(instance, w2c_j0, w2c_j1);
   w2c_j0 = w2c_l3;
   w2c_i0 = (u32)(w2c_j0);
   w2c_j0 = i64_load(&instance->w2c_memory, (u64)(w2c_i0) + 48u);
@@ -54590,7 +53376,7 @@ static u32 w2c_f42(Z_dine_ffi_instance_t* instance, u64 w2c_p0, u64 w2c_p1, u64 
     w2c_j1 = 32ull;
     w2c_j0 += w2c_j1;
     w2c_j1 = 1336ull;
-    w2c_f113(instance, w2c_j0, w2c_j1);
+    w2c_f114(instance, w2c_j0, w2c_j1);
     w2c_j0 = w2c_l3;
     w2c_i0 = (u32)(w2c_j0);
     w2c_j0 = i64_load(&instance->w2c_memory, (u64)(w2c_i0) + 32u);
@@ -54864,7 +53650,7 @@ static u32 w2c_f42(Z_dine_ffi_instance_t* instance, u64 w2c_p0, u64 w2c_p1, u64 
       if (w2c_i0) {
         w2c_j0 = w2c_l3;
         w2c_j1 = 1208ull;
-        w2c_f113(instance, w2c_j0, w2c_j1);
+        w2c_f114(instance, w2c_j0, w2c_j1);
         w2c_j0 = w2c_l3;
         w2c_i0 = (u32)(w2c_j0);
         w2c_j0 = i64_load(&instance->w2c_memory, (u64)(w2c_i0));
@@ -54882,7 +53668,7 @@ static u32 w2c_f42(Z_dine_ffi_instance_t* instance, u64 w2c_p0, u64 w2c_p1, u64 
       w2c_j1 = 16ull;
       w2c_j0 += w2c_j1;
       w2c_j1 = 1336ull;
-      w2c_f113(instance, w2c_j0, w2c_j1);
+      w2c_f114(instance, w2c_j0, w2c_j1);
       w2c_j0 = w2c_l3;
       w2c_i0 = (u32)(w2c_j0);
       w2c_j0 = i64_load(&instance->w2c_memory, (u64)(w2c_i0) + 16u);
@@ -58772,7 +57558,189 @@ static u32 w2c_f45(Z_dine_ffi_instance_t* instance, u64 w2c_p0, u64 w2c_p1) {
   return w2c_i0;
 }
 
-static u32 w2c_f46(Z_dine_ffi_instance_t* instance, u64 w2c_p0) {
+static void w2c_f46(Z_dine_ffi_instance_t* instance, u64 w2c_p0, u64 w2c_p1, u64 w2c_p2, u64 w2c_p3) {
+  u32 w2c_l12 = 0, w2c_l13 = 0;
+  u64 w2c_l4 = 0, w2c_l5 = 0, w2c_l6 = 0, w2c_l7 = 0, w2c_l8 = 0, w2c_l9 = 0, w2c_l10 = 0, w2c_l11 = 0;
+  FUNC_PROLOGUE;
+  u32 w2c_i0, w2c_i1, w2c_i2;
+  u64 w2c_j0, w2c_j1, w2c_j2, w2c_j3;
+  w2c_j0 = instance->w2c_g0;
+  w2c_j1 = 32ull;
+  w2c_j0 -= w2c_j1;
+  w2c_l4 = w2c_j0;
+  instance->w2c_g0 = w2c_j0;
+  w2c_j0 = w2c_p1;
+  w2c_i0 = (u32)(w2c_j0);
+  w2c_i0 = i32_load8_u(&instance->w2c_memory, (u64)(w2c_i0));
+  w2c_i1 = 6u;
+  w2c_i0 = w2c_i0 != w2c_i1;
+  if (w2c_i0) {goto w2c_B0;}
+  w2c_j0 = w2c_p1;
+  w2c_j1 = 8ull;
+  w2c_j0 += w2c_j1;
+  w2c_i0 = (u32)(w2c_j0);
+  w2c_i0 = i32_load8_u(&instance->w2c_memory, (u64)(w2c_i0));
+  w2c_i1 = 1u;
+  w2c_i0 = w2c_i0 != w2c_i1;
+  if (w2c_i0) {goto w2c_B0;}
+  w2c_j0 = w2c_p1;
+  w2c_j1 = 16ull;
+  w2c_j0 += w2c_j1;
+  w2c_l5 = w2c_j0;
+  w2c_L1: 
+    w2c_j0 = 0ull;
+    w2c_p1 = w2c_j0;
+    w2c_j0 = w2c_l5;
+    w2c_i0 = (u32)(w2c_j0);
+    w2c_j0 = i64_load(&instance->w2c_memory, (u64)(w2c_i0));
+    w2c_l7 = w2c_j0;
+    w2c_i0 = (u32)(w2c_j0);
+    w2c_j0 = i64_load16_u(&instance->w2c_memory, (u64)(w2c_i0));
+    w2c_l9 = w2c_j0;
+    w2c_i0 = !(w2c_j0);
+    w2c_i0 = !(w2c_i0);
+    if (w2c_i0) {
+      w2c_j0 = w2c_l7;
+      w2c_j1 = 16ull;
+      w2c_j0 += w2c_j1;
+      w2c_p1 = w2c_j0;
+      w2c_j0 = w2c_l7;
+      w2c_j1 = 376ull;
+      w2c_j0 += w2c_j1;
+      w2c_l8 = w2c_j0;
+      w2c_j0 = 0ull;
+      w2c_l5 = w2c_j0;
+      w2c_L5: 
+        w2c_j0 = w2c_p1;
+        w2c_j1 = 8ull;
+        w2c_j0 -= w2c_j1;
+        w2c_i0 = (u32)(w2c_j0);
+        w2c_j0 = i64_load(&instance->w2c_memory, (u64)(w2c_i0));
+        w2c_l10 = w2c_j0;
+        w2c_j0 = w2c_p1;
+        w2c_i0 = (u32)(w2c_j0);
+        w2c_j0 = i64_load(&instance->w2c_memory, (u64)(w2c_i0));
+        w2c_l11 = w2c_j0;
+        w2c_j0 = w2c_l4;
+        w2c_i0 = (u32)(w2c_j0);
+        w2c_j1 = w2c_p3;
+        i64_store(&instance->w2c_memory, (u64)(w2c_i0) + 24, w2c_j1);
+        w2c_j0 = w2c_l4;
+        w2c_i0 = (u32)(w2c_j0);
+        w2c_j1 = w2c_p2;
+        i64_store(&instance->w2c_memory, (u64)(w2c_i0) + 16, w2c_j1);
+        w2c_j0 = w2c_l4;
+        w2c_i0 = (u32)(w2c_j0);
+        w2c_j1 = w2c_l11;
+        i64_store(&instance->w2c_memory, (u64)(w2c_i0) + 8, w2c_j1);
+        w2c_j0 = w2c_l4;
+        w2c_i0 = (u32)(w2c_j0);
+        w2c_j1 = w2c_l10;
+        i64_store(&instance->w2c_memory, (u64)(w2c_i0), w2c_j1);
+        w2c_j0 = w2c_l4;
+        w2c_j1 = 16ull;
+        w2c_j0 += w2c_j1;
+        w2c_j1 = w2c_l4;
+        w2c_i0 = w2c_f15(instance, w2c_j0, w2c_j1);
+        w2c_i1 = 255u;
+        w2c_i0 &= w2c_i1;
+        w2c_l13 = w2c_i0;
+        w2c_i1 = 2u;
+        w2c_i0 = w2c_i0 != w2c_i1;
+        if (w2c_i0) {
+          w2c_i0 = w2c_l13;
+          w2c_i1 = 1u;
+          w2c_i0 -= w2c_i1;
+          if (w2c_i0) {goto w2c_B4;}
+          goto w2c_B2;
+        }
+        w2c_j0 = w2c_p1;
+        w2c_j1 = 24ull;
+        w2c_j0 += w2c_j1;
+        w2c_p1 = w2c_j0;
+        w2c_j0 = w2c_l8;
+        w2c_j1 = 40ull;
+        w2c_j0 += w2c_j1;
+        w2c_l8 = w2c_j0;
+        w2c_j0 = w2c_l9;
+        w2c_j1 = w2c_l5;
+        w2c_j2 = 1ull;
+        w2c_j1 += w2c_j2;
+        w2c_l5 = w2c_j1;
+        w2c_i0 = w2c_j0 != w2c_j1;
+        if (w2c_i0) {goto w2c_L5;}
+      w2c_j0 = w2c_l9;
+      w2c_l5 = w2c_j0;
+      w2c_B4:;
+      w2c_j0 = w2c_l5;
+      w2c_j1 = 3ull;
+      w2c_j0 <<= (w2c_j1 & 63);
+      w2c_p1 = w2c_j0;
+    }
+    w2c_j0 = w2c_l7;
+    w2c_j1 = 2ull;
+    w2c_j0 += w2c_j1;
+    w2c_i0 = (u32)(w2c_j0);
+    w2c_i0 = i32_load16_u(&instance->w2c_memory, (u64)(w2c_i0));
+    w2c_i0 = !(w2c_i0);
+    if (w2c_i0) {goto w2c_B0;}
+    w2c_j0 = w2c_p1;
+    w2c_j1 = w2c_l7;
+    w2c_j0 += w2c_j1;
+    w2c_j1 = 968ull;
+    w2c_j0 += w2c_j1;
+    w2c_l5 = w2c_j0;
+    goto w2c_L1;
+    w2c_B2:;
+  w2c_i0 = 1u;
+  w2c_l13 = w2c_i0;
+  w2c_j0 = w2c_l8;
+  w2c_j1 = 8ull;
+  w2c_j0 -= w2c_j1;
+  w2c_i0 = (u32)(w2c_j0);
+  w2c_i0 = i32_load8_u(&instance->w2c_memory, (u64)(w2c_i0));
+  w2c_i1 = 1u;
+  w2c_i0 = w2c_i0 != w2c_i1;
+  w2c_l12 = w2c_i0;
+  if (w2c_i0) {
+    w2c_i0 = w2c_l13;
+  } else {
+    w2c_j0 = w2c_l8;
+    w2c_i0 = (u32)(w2c_j0);
+    w2c_j0 = i64_load(&instance->w2c_memory, (u64)(w2c_i0));
+    w2c_p1 = w2c_j0;
+    w2c_j1 = 0ull;
+    w2c_j2 = w2c_p1;
+    w2c_j3 = 0ull;
+    w2c_i2 = (u64)((s64)w2c_j2 > (s64)w2c_j3);
+    w2c_j0 = w2c_i2 ? w2c_j0 : w2c_j1;
+    w2c_l6 = w2c_j0;
+    w2c_j0 = w2c_p1;
+    w2c_j1 = 0ull;
+    w2c_i0 = (u64)((s64)w2c_j0 >= (s64)w2c_j1);
+  }
+  w2c_i1 = 1u;
+  w2c_i0 ^= w2c_i1;
+  w2c_i1 = w2c_l12;
+  w2c_i0 |= w2c_i1;
+  w2c_l12 = w2c_i0;
+  w2c_B0:;
+  w2c_j0 = w2c_p0;
+  w2c_i0 = (u32)(w2c_j0);
+  w2c_i1 = w2c_l12;
+  i32_store8(&instance->w2c_memory, (u64)(w2c_i0) + 8, w2c_i1);
+  w2c_j0 = w2c_p0;
+  w2c_i0 = (u32)(w2c_j0);
+  w2c_j1 = w2c_l6;
+  i64_store(&instance->w2c_memory, (u64)(w2c_i0), w2c_j1);
+  w2c_j0 = w2c_l4;
+  w2c_j1 = 32ull;
+  w2c_j0 += w2c_j1;
+  instance->w2c_g0 = w2c_j0;
+  FUNC_EPILOGUE;
+}
+
+static u32 w2c_f47(Z_dine_ffi_instance_t* instance, u64 w2c_p0) {
   u32 w2c_l6 = 0;
   u64 w2c_l1 = 0, w2c_l2 = 0, w2c_l3 = 0, w2c_l4 = 0, w2c_l5 = 0;
   FUNC_PROLOGUE;
@@ -58840,7 +57808,7 @@ static u32 w2c_f46(Z_dine_ffi_instance_t* instance, u64 w2c_p0) {
     w2c_j3 = w2c_l3;
     w2c_j4 = 56ull;
     w2c_j3 *= w2c_j4;
-    w2c_f115(instance, w2c_j0, w2c_j1, w2c_j2, w2c_j3);
+    w2c_f116(instance, w2c_j0, w2c_j1, w2c_j2, w2c_j3);
     w2c_j0 = w2c_l1;
     w2c_i0 = (u32)(w2c_j0);
     w2c_j0 = i64_load(&instance->w2c_memory, (u64)(w2c_i0) + 16u);
@@ -58858,7 +57826,7 @@ static u32 w2c_f46(Z_dine_ffi_instance_t* instance, u64 w2c_p0) {
   w2c_j1 = w2c_l4;
   w2c_j2 = 56ull;
   w2c_j1 *= w2c_j2;
-  w2c_f113(instance, w2c_j0, w2c_j1);
+  w2c_f114(instance, w2c_j0, w2c_j1);
   w2c_j0 = w2c_l1;
   w2c_i0 = (u32)(w2c_j0);
   w2c_j0 = i64_load(&instance->w2c_memory, (u64)(w2c_i0));
@@ -58894,7 +57862,7 @@ static u32 w2c_f46(Z_dine_ffi_instance_t* instance, u64 w2c_p0) {
   return w2c_i0;
 }
 
-static void w2c_f47(Z_dine_ffi_instance_t* instance, u64 w2c_p0, u64 w2c_p1, u64 w2c_p2, u64 w2c_p3) {
+static void w2c_f48(Z_dine_ffi_instance_t* instance, u64 w2c_p0, u64 w2c_p1, u64 w2c_p2, u64 w2c_p3) {
   u64 w2c_l4 = 0, w2c_l5 = 0, w2c_l6 = 0, w2c_l7 = 0, w2c_l8 = 0, w2c_l9 = 0, w2c_l10 = 0, w2c_l11 = 0, 
       w2c_l12 = 0, w2c_l13 = 0, w2c_l14 = 0, w2c_l15 = 0;
   FUNC_PROLOGUE;
@@ -59267,7 +58235,7 @@ static void w2c_f47(Z_dine_ffi_instance_t* instance, u64 w2c_p0, u64 w2c_p1, u64
   FUNC_EPILOGUE;
 }
 
-static void w2c_f48(Z_dine_ffi_instance_t* instance, u64 w2c_p0, u64 w2c_p1, u32 w2c_p2) {
+static void w2c_f49(Z_dine_ffi_instance_t* instance, u64 w2c_p0, u64 w2c_p1, u32 w2c_p2) {
   u32 w2c_l13 = 0;
   u64 w2c_l3 = 0, w2c_l4 = 0, w2c_l5 = 0, w2c_l6 = 0, w2c_l7 = 0, w2c_l8 = 0, w2c_l9 = 0, w2c_l10 = 0, 
       w2c_l11 = 0, w2c_l12 = 0;
@@ -59620,321 +58588,7 @@ static void w2c_f48(Z_dine_ffi_instance_t* instance, u64 w2c_p0, u64 w2c_p1, u32
   FUNC_EPILOGUE;
 }
 
-static void w2c_f49(Z_dine_ffi_instance_t* instance, u64 w2c_p0, u64 w2c_p1, u64 w2c_p2) {
-  u32 w2c_l12 = 0;
-  u64 w2c_l3 = 0, w2c_l4 = 0, w2c_l5 = 0, w2c_l6 = 0, w2c_l7 = 0, w2c_l8 = 0, w2c_l9 = 0, w2c_l10 = 0, 
-      w2c_l11 = 0;
-  FUNC_PROLOGUE;
-  u32 w2c_i0, w2c_i1;
-  u64 w2c_j0, w2c_j1, w2c_j2;
-  w2c_j0 = instance->w2c_g0;
-  w2c_j1 = 32ull;
-  w2c_j0 -= w2c_j1;
-  w2c_l3 = w2c_j0;
-  instance->w2c_g0 = w2c_j0;
-  w2c_j0 = 1048585ull;
-  w2c_l8 = w2c_j0;
-  w2c_j0 = w2c_p1;
-  w2c_i0 = (u32)(w2c_j0);
-  w2c_i0 = i32_load8_u(&instance->w2c_memory, (u64)(w2c_i0));
-  w2c_i1 = 6u;
-  w2c_i0 = w2c_i0 != w2c_i1;
-  if (w2c_i0) {goto w2c_B0;}
-  w2c_j0 = w2c_p1;
-  w2c_j1 = 8ull;
-  w2c_j0 += w2c_j1;
-  w2c_i0 = (u32)(w2c_j0);
-  w2c_i0 = i32_load8_u(&instance->w2c_memory, (u64)(w2c_i0));
-  w2c_i1 = 1u;
-  w2c_i0 = w2c_i0 != w2c_i1;
-  if (w2c_i0) {goto w2c_B0;}
-  w2c_j0 = w2c_p1;
-  w2c_j1 = 16ull;
-  w2c_j0 += w2c_j1;
-  w2c_l4 = w2c_j0;
-  w2c_L1: 
-    w2c_j0 = 0ull;
-    w2c_p1 = w2c_j0;
-    w2c_j0 = w2c_l4;
-    w2c_i0 = (u32)(w2c_j0);
-    w2c_j0 = i64_load(&instance->w2c_memory, (u64)(w2c_i0));
-    w2c_l7 = w2c_j0;
-    w2c_i0 = (u32)(w2c_j0);
-    w2c_j0 = i64_load16_u(&instance->w2c_memory, (u64)(w2c_i0));
-    w2c_l9 = w2c_j0;
-    w2c_i0 = !(w2c_j0);
-    w2c_i0 = !(w2c_i0);
-    if (w2c_i0) {
-      w2c_j0 = w2c_l7;
-      w2c_j1 = 16ull;
-      w2c_j0 += w2c_j1;
-      w2c_p1 = w2c_j0;
-      w2c_j0 = w2c_l7;
-      w2c_j1 = 368ull;
-      w2c_j0 += w2c_j1;
-      w2c_l5 = w2c_j0;
-      w2c_j0 = 0ull;
-      w2c_l4 = w2c_j0;
-      w2c_L5: 
-        w2c_j0 = w2c_p1;
-        w2c_j1 = 8ull;
-        w2c_j0 -= w2c_j1;
-        w2c_i0 = (u32)(w2c_j0);
-        w2c_j0 = i64_load(&instance->w2c_memory, (u64)(w2c_i0));
-        w2c_l10 = w2c_j0;
-        w2c_j0 = w2c_p1;
-        w2c_i0 = (u32)(w2c_j0);
-        w2c_j0 = i64_load(&instance->w2c_memory, (u64)(w2c_i0));
-        w2c_l11 = w2c_j0;
-        w2c_j0 = w2c_l3;
-        w2c_i0 = (u32)(w2c_j0);
-        w2c_j1 = 4ull;
-        i64_store(&instance->w2c_memory, (u64)(w2c_i0) + 24, w2c_j1);
-        w2c_j0 = w2c_l3;
-        w2c_i0 = (u32)(w2c_j0);
-        w2c_j1 = 1060060ull;
-        i64_store(&instance->w2c_memory, (u64)(w2c_i0) + 16, w2c_j1);
-        w2c_j0 = w2c_l3;
-        w2c_i0 = (u32)(w2c_j0);
-        w2c_j1 = w2c_l11;
-        i64_store(&instance->w2c_memory, (u64)(w2c_i0) + 8, w2c_j1);
-        w2c_j0 = w2c_l3;
-        w2c_i0 = (u32)(w2c_j0);
-        w2c_j1 = w2c_l10;
-        i64_store(&instance->w2c_memory, (u64)(w2c_i0), w2c_j1);
-        w2c_j0 = w2c_l3;
-        w2c_j1 = 16ull;
-        w2c_j0 += w2c_j1;
-        w2c_j1 = w2c_l3;
-        w2c_i0 = w2c_f15(instance, w2c_j0, w2c_j1);
-        w2c_i1 = 255u;
-        w2c_i0 &= w2c_i1;
-        w2c_l12 = w2c_i0;
-        w2c_i1 = 2u;
-        w2c_i0 = w2c_i0 != w2c_i1;
-        if (w2c_i0) {
-          w2c_i0 = w2c_l12;
-          w2c_i1 = 1u;
-          w2c_i0 -= w2c_i1;
-          if (w2c_i0) {goto w2c_B4;}
-          goto w2c_B2;
-        }
-        w2c_j0 = w2c_p1;
-        w2c_j1 = 24ull;
-        w2c_j0 += w2c_j1;
-        w2c_p1 = w2c_j0;
-        w2c_j0 = w2c_l5;
-        w2c_j1 = 40ull;
-        w2c_j0 += w2c_j1;
-        w2c_l5 = w2c_j0;
-        w2c_j0 = w2c_l9;
-        w2c_j1 = w2c_l4;
-        w2c_j2 = 1ull;
-        w2c_j1 += w2c_j2;
-        w2c_l4 = w2c_j1;
-        w2c_i0 = w2c_j0 != w2c_j1;
-        if (w2c_i0) {goto w2c_L5;}
-      w2c_j0 = w2c_l9;
-      w2c_l4 = w2c_j0;
-      w2c_B4:;
-      w2c_j0 = w2c_l4;
-      w2c_j1 = 3ull;
-      w2c_j0 <<= (w2c_j1 & 63);
-      w2c_p1 = w2c_j0;
-    }
-    w2c_j0 = w2c_l7;
-    w2c_j1 = 2ull;
-    w2c_j0 += w2c_j1;
-    w2c_i0 = (u32)(w2c_j0);
-    w2c_i0 = i32_load16_u(&instance->w2c_memory, (u64)(w2c_i0));
-    w2c_i0 = !(w2c_i0);
-    if (w2c_i0) {goto w2c_B0;}
-    w2c_j0 = w2c_p1;
-    w2c_j1 = w2c_l7;
-    w2c_j0 += w2c_j1;
-    w2c_j1 = 968ull;
-    w2c_j0 += w2c_j1;
-    w2c_l4 = w2c_j0;
-    goto w2c_L1;
-    w2c_B2:;
-  w2c_j0 = w2c_l5;
-  w2c_i0 = (u32)(w2c_j0);
-  w2c_i0 = i32_load8_u(&instance->w2c_memory, (u64)(w2c_i0));
-  w2c_i1 = 5u;
-  w2c_i0 = w2c_i0 != w2c_i1;
-  if (w2c_i0) {goto w2c_B0;}
-  w2c_j0 = w2c_p2;
-  w2c_j1 = w2c_l5;
-  w2c_j2 = 16ull;
-  w2c_j1 += w2c_j2;
-  w2c_i1 = (u32)(w2c_j1);
-  w2c_j1 = i64_load(&instance->w2c_memory, (u64)(w2c_i1));
-  w2c_i0 = w2c_j0 >= w2c_j1;
-  if (w2c_i0) {goto w2c_B0;}
-  w2c_j0 = w2c_l5;
-  w2c_j1 = 8ull;
-  w2c_j0 += w2c_j1;
-  w2c_i0 = (u32)(w2c_j0);
-  w2c_j0 = i64_load(&instance->w2c_memory, (u64)(w2c_i0));
-  w2c_j1 = w2c_p2;
-  w2c_j2 = 40ull;
-  w2c_j1 *= w2c_j2;
-  w2c_j0 += w2c_j1;
-  w2c_p1 = w2c_j0;
-  w2c_i0 = (u32)(w2c_j0);
-  w2c_i0 = i32_load8_u(&instance->w2c_memory, (u64)(w2c_i0));
-  if (w2c_i0) {goto w2c_B0;}
-  w2c_j0 = w2c_p1;
-  w2c_j1 = 16ull;
-  w2c_j0 += w2c_j1;
-  w2c_i0 = (u32)(w2c_j0);
-  w2c_j0 = i64_load(&instance->w2c_memory, (u64)(w2c_i0));
-  w2c_l6 = w2c_j0;
-  w2c_j0 = w2c_p1;
-  w2c_j1 = 8ull;
-  w2c_j0 += w2c_j1;
-  w2c_i0 = (u32)(w2c_j0);
-  w2c_j0 = i64_load(&instance->w2c_memory, (u64)(w2c_i0));
-  w2c_l8 = w2c_j0;
-  w2c_B0:;
-  w2c_j0 = w2c_p0;
-  w2c_i0 = (u32)(w2c_j0);
-  w2c_j1 = w2c_l6;
-  i64_store(&instance->w2c_memory, (u64)(w2c_i0) + 8, w2c_j1);
-  w2c_j0 = w2c_p0;
-  w2c_i0 = (u32)(w2c_j0);
-  w2c_j1 = w2c_l8;
-  i64_store(&instance->w2c_memory, (u64)(w2c_i0), w2c_j1);
-  w2c_j0 = w2c_l3;
-  w2c_j1 = 32ull;
-  w2c_j0 += w2c_j1;
-  instance->w2c_g0 = w2c_j0;
-  FUNC_EPILOGUE;
-}
-
-static u32 w2c_f50(Z_dine_ffi_instance_t* instance, u64 w2c_p0) {
-  u32 w2c_l6 = 0;
-  u64 w2c_l1 = 0, w2c_l2 = 0, w2c_l3 = 0, w2c_l4 = 0, w2c_l5 = 0;
-  FUNC_PROLOGUE;
-  u32 w2c_i0, w2c_i1, w2c_i2;
-  u64 w2c_j0, w2c_j1, w2c_j2, w2c_j3, w2c_j4;
-  w2c_j0 = instance->w2c_g0;
-  w2c_j1 = 32ull;
-  w2c_j0 -= w2c_j1;
-  w2c_l1 = w2c_j0;
-  instance->w2c_g0 = w2c_j0;
-  w2c_j0 = w2c_p0;
-  w2c_j1 = 8ull;
-  w2c_j0 += w2c_j1;
-  w2c_i0 = (u32)(w2c_j0);
-  w2c_j0 = i64_load(&instance->w2c_memory, (u64)(w2c_i0));
-  w2c_l2 = w2c_j0;
-  w2c_j1 = 18446744073709551615ull;
-  w2c_i0 = w2c_j0 == w2c_j1;
-  if (w2c_i0) {goto w2c_B0;}
-  w2c_j0 = w2c_l2;
-  w2c_j1 = 3ull;
-  w2c_j2 = w2c_l2;
-  w2c_j3 = 3ull;
-  w2c_i2 = w2c_j2 > w2c_j3;
-  w2c_j0 = w2c_i2 ? w2c_j0 : w2c_j1;
-  w2c_j1 = 1ull;
-  w2c_j0 += w2c_j1;
-  w2c_l3 = w2c_j0;
-  w2c_j1 = w2c_p0;
-  w2c_j2 = 16ull;
-  w2c_j1 += w2c_j2;
-  w2c_i1 = (u32)(w2c_j1);
-  w2c_j1 = i64_load(&instance->w2c_memory, (u64)(w2c_i1));
-  w2c_l5 = w2c_j1;
-  w2c_j2 = 1ull;
-  w2c_j1 <<= (w2c_j2 & 63);
-  w2c_l4 = w2c_j1;
-  w2c_j2 = w2c_l3;
-  w2c_j3 = w2c_l4;
-  w2c_i2 = w2c_j2 > w2c_j3;
-  w2c_j0 = w2c_i2 ? w2c_j0 : w2c_j1;
-  w2c_l4 = w2c_j0;
-  w2c_j1 = w2c_l3;
-  w2c_j2 = w2c_l5;
-  w2c_j3 = 4611686018427387904ull;
-  w2c_i2 = w2c_j2 < w2c_j3;
-  w2c_j0 = w2c_i2 ? w2c_j0 : w2c_j1;
-  w2c_l3 = w2c_j0;
-  w2c_j1 = 576460752303423487ull;
-  w2c_i0 = w2c_j0 > w2c_j1;
-  if (w2c_i0) {goto w2c_B0;}
-  w2c_j0 = w2c_l5;
-  w2c_i0 = !(w2c_j0);
-  w2c_i0 = !(w2c_i0);
-  if (w2c_i0) {
-    w2c_j0 = w2c_l1;
-    w2c_j1 = 16ull;
-    w2c_j0 += w2c_j1;
-    w2c_j1 = w2c_p0;
-    w2c_i1 = (u32)(w2c_j1);
-    w2c_j1 = i64_load(&instance->w2c_memory, (u64)(w2c_i1));
-    w2c_j2 = w2c_l2;
-    w2c_j3 = 4ull;
-    w2c_j2 <<= (w2c_j3 & 63);
-    w2c_j3 = w2c_l3;
-    w2c_j4 = 4ull;
-    w2c_j3 <<= (w2c_j4 & 63);
-    w2c_f115(instance, w2c_j0, w2c_j1, w2c_j2, w2c_j3);
-    w2c_j0 = w2c_l1;
-    w2c_i0 = (u32)(w2c_j0);
-    w2c_j0 = i64_load(&instance->w2c_memory, (u64)(w2c_i0) + 16u);
-    w2c_i0 = (u32)(w2c_j0);
-    w2c_i1 = 1u;
-    w2c_i0 &= w2c_i1;
-    w2c_i0 = !(w2c_i0);
-    if (w2c_i0) {goto w2c_B0;}
-    w2c_j0 = w2c_l1;
-    w2c_i0 = (u32)(w2c_j0);
-    w2c_j0 = i64_load(&instance->w2c_memory, (u64)(w2c_i0) + 24u);
-    goto w2c_B1;
-  }
-  w2c_j0 = w2c_l1;
-  w2c_j1 = w2c_l4;
-  w2c_j2 = 4ull;
-  w2c_j1 <<= (w2c_j2 & 63);
-  w2c_f113(instance, w2c_j0, w2c_j1);
-  w2c_j0 = w2c_l1;
-  w2c_i0 = (u32)(w2c_j0);
-  w2c_j0 = i64_load(&instance->w2c_memory, (u64)(w2c_i0));
-  w2c_i0 = (u32)(w2c_j0);
-  w2c_i1 = 1u;
-  w2c_i0 &= w2c_i1;
-  w2c_i0 = !(w2c_i0);
-  if (w2c_i0) {goto w2c_B0;}
-  w2c_j0 = w2c_l1;
-  w2c_i0 = (u32)(w2c_j0);
-  w2c_j0 = i64_load(&instance->w2c_memory, (u64)(w2c_i0) + 8u);
-  w2c_B1:;
-  w2c_l2 = w2c_j0;
-  w2c_j0 = w2c_p0;
-  w2c_j1 = 16ull;
-  w2c_j0 += w2c_j1;
-  w2c_i0 = (u32)(w2c_j0);
-  w2c_j1 = w2c_l3;
-  i64_store(&instance->w2c_memory, (u64)(w2c_i0), w2c_j1);
-  w2c_j0 = w2c_p0;
-  w2c_i0 = (u32)(w2c_j0);
-  w2c_j1 = w2c_l2;
-  i64_store(&instance->w2c_memory, (u64)(w2c_i0), w2c_j1);
-  w2c_i0 = 1u;
-  w2c_l6 = w2c_i0;
-  w2c_B0:;
-  w2c_j0 = w2c_l1;
-  w2c_j1 = 32ull;
-  w2c_j0 += w2c_j1;
-  instance->w2c_g0 = w2c_j0;
-  w2c_i0 = w2c_l6;
-  FUNC_EPILOGUE;
-  return w2c_i0;
-}
-
-static void w2c_f51(Z_dine_ffi_instance_t* instance, u64 w2c_p0) {
+static void w2c_f50(Z_dine_ffi_instance_t* instance, u64 w2c_p0) {
   u32 w2c_l18 = 0;
   u64 w2c_l1 = 0, w2c_l2 = 0, w2c_l3 = 0, w2c_l4 = 0, w2c_l5 = 0, w2c_l6 = 0, w2c_l7 = 0, w2c_l8 = 0, 
       w2c_l9 = 0, w2c_l10 = 0, w2c_l11 = 0, w2c_l12 = 0, w2c_l13 = 0, w2c_l14 = 0, w2c_l15 = 0, w2c_l16 = 0, 
@@ -60101,7 +58755,7 @@ static void w2c_f51(Z_dine_ffi_instance_t* instance, u64 w2c_p0) {
         memory_copy(&instance->w2c_memory, &instance->w2c_memory, w2c_i0, w2c_i1, w2c_i2);
         w2c_B7:;
         w2c_j0 = w2c_l12;
-        w2c_f51(instance, w2c_j0);
+        w2c_f50(instance, w2c_j0);
         w2c_j0 = 0ull;
         w2c_l11 = w2c_j0;
         w2c_j0 = w2c_l9;
@@ -60498,7 +59152,7 @@ static void w2c_f51(Z_dine_ffi_instance_t* instance, u64 w2c_p0) {
     w2c_j0 = w2c_l14;
     w2c_i0 = (u32)(w2c_j0);
     w2c_j0 = i64_load(&instance->w2c_memory, (u64)(w2c_i0));
-    w2c_f51(instance, w2c_j0);
+    w2c_f50(instance, w2c_j0);
     goto w2c_B0;
   }
   w2c_i0 = w2c_l18;
@@ -60969,7 +59623,7 @@ static void w2c_f51(Z_dine_ffi_instance_t* instance, u64 w2c_p0) {
   w2c_j2 <<= (w2c_j3 & 63);
   w2c_j1 += w2c_j2;
   w2c_j2 = w2c_l1;
-  w2c_f54(instance, w2c_j0, w2c_j1, w2c_j2);
+  w2c_f55(instance, w2c_j0, w2c_j1, w2c_j2);
   w2c_j0 = 0ull;
   w2c_l4 = w2c_j0;
   w2c_j0 = w2c_l1;
@@ -61078,7 +59732,321 @@ static void w2c_f51(Z_dine_ffi_instance_t* instance, u64 w2c_p0) {
   FUNC_EPILOGUE;
 }
 
-static void w2c_f52(Z_dine_ffi_instance_t* instance, u64 w2c_p0) {
+static void w2c_f51(Z_dine_ffi_instance_t* instance, u64 w2c_p0, u64 w2c_p1, u64 w2c_p2) {
+  u32 w2c_l12 = 0;
+  u64 w2c_l3 = 0, w2c_l4 = 0, w2c_l5 = 0, w2c_l6 = 0, w2c_l7 = 0, w2c_l8 = 0, w2c_l9 = 0, w2c_l10 = 0, 
+      w2c_l11 = 0;
+  FUNC_PROLOGUE;
+  u32 w2c_i0, w2c_i1;
+  u64 w2c_j0, w2c_j1, w2c_j2;
+  w2c_j0 = instance->w2c_g0;
+  w2c_j1 = 32ull;
+  w2c_j0 -= w2c_j1;
+  w2c_l3 = w2c_j0;
+  instance->w2c_g0 = w2c_j0;
+  w2c_j0 = 1048585ull;
+  w2c_l8 = w2c_j0;
+  w2c_j0 = w2c_p1;
+  w2c_i0 = (u32)(w2c_j0);
+  w2c_i0 = i32_load8_u(&instance->w2c_memory, (u64)(w2c_i0));
+  w2c_i1 = 6u;
+  w2c_i0 = w2c_i0 != w2c_i1;
+  if (w2c_i0) {goto w2c_B0;}
+  w2c_j0 = w2c_p1;
+  w2c_j1 = 8ull;
+  w2c_j0 += w2c_j1;
+  w2c_i0 = (u32)(w2c_j0);
+  w2c_i0 = i32_load8_u(&instance->w2c_memory, (u64)(w2c_i0));
+  w2c_i1 = 1u;
+  w2c_i0 = w2c_i0 != w2c_i1;
+  if (w2c_i0) {goto w2c_B0;}
+  w2c_j0 = w2c_p1;
+  w2c_j1 = 16ull;
+  w2c_j0 += w2c_j1;
+  w2c_l4 = w2c_j0;
+  w2c_L1: 
+    w2c_j0 = 0ull;
+    w2c_p1 = w2c_j0;
+    w2c_j0 = w2c_l4;
+    w2c_i0 = (u32)(w2c_j0);
+    w2c_j0 = i64_load(&instance->w2c_memory, (u64)(w2c_i0));
+    w2c_l7 = w2c_j0;
+    w2c_i0 = (u32)(w2c_j0);
+    w2c_j0 = i64_load16_u(&instance->w2c_memory, (u64)(w2c_i0));
+    w2c_l9 = w2c_j0;
+    w2c_i0 = !(w2c_j0);
+    w2c_i0 = !(w2c_i0);
+    if (w2c_i0) {
+      w2c_j0 = w2c_l7;
+      w2c_j1 = 16ull;
+      w2c_j0 += w2c_j1;
+      w2c_p1 = w2c_j0;
+      w2c_j0 = w2c_l7;
+      w2c_j1 = 368ull;
+      w2c_j0 += w2c_j1;
+      w2c_l5 = w2c_j0;
+      w2c_j0 = 0ull;
+      w2c_l4 = w2c_j0;
+      w2c_L5: 
+        w2c_j0 = w2c_p1;
+        w2c_j1 = 8ull;
+        w2c_j0 -= w2c_j1;
+        w2c_i0 = (u32)(w2c_j0);
+        w2c_j0 = i64_load(&instance->w2c_memory, (u64)(w2c_i0));
+        w2c_l10 = w2c_j0;
+        w2c_j0 = w2c_p1;
+        w2c_i0 = (u32)(w2c_j0);
+        w2c_j0 = i64_load(&instance->w2c_memory, (u64)(w2c_i0));
+        w2c_l11 = w2c_j0;
+        w2c_j0 = w2c_l3;
+        w2c_i0 = (u32)(w2c_j0);
+        w2c_j1 = 4ull;
+        i64_store(&instance->w2c_memory, (u64)(w2c_i0) + 24, w2c_j1);
+        w2c_j0 = w2c_l3;
+        w2c_i0 = (u32)(w2c_j0);
+        w2c_j1 = 1060060ull;
+        i64_store(&instance->w2c_memory, (u64)(w2c_i0) + 16, w2c_j1);
+        w2c_j0 = w2c_l3;
+        w2c_i0 = (u32)(w2c_j0);
+        w2c_j1 = w2c_l11;
+        i64_store(&instance->w2c_memory, (u64)(w2c_i0) + 8, w2c_j1);
+        w2c_j0 = w2c_l3;
+        w2c_i0 = (u32)(w2c_j0);
+        w2c_j1 = w2c_l10;
+        i64_store(&instance->w2c_memory, (u64)(w2c_i0), w2c_j1);
+        w2c_j0 = w2c_l3;
+        w2c_j1 = 16ull;
+        w2c_j0 += w2c_j1;
+        w2c_j1 = w2c_l3;
+        w2c_i0 = w2c_f15(instance, w2c_j0, w2c_j1);
+        w2c_i1 = 255u;
+        w2c_i0 &= w2c_i1;
+        w2c_l12 = w2c_i0;
+        w2c_i1 = 2u;
+        w2c_i0 = w2c_i0 != w2c_i1;
+        if (w2c_i0) {
+          w2c_i0 = w2c_l12;
+          w2c_i1 = 1u;
+          w2c_i0 -= w2c_i1;
+          if (w2c_i0) {goto w2c_B4;}
+          goto w2c_B2;
+        }
+        w2c_j0 = w2c_p1;
+        w2c_j1 = 24ull;
+        w2c_j0 += w2c_j1;
+        w2c_p1 = w2c_j0;
+        w2c_j0 = w2c_l5;
+        w2c_j1 = 40ull;
+        w2c_j0 += w2c_j1;
+        w2c_l5 = w2c_j0;
+        w2c_j0 = w2c_l9;
+        w2c_j1 = w2c_l4;
+        w2c_j2 = 1ull;
+        w2c_j1 += w2c_j2;
+        w2c_l4 = w2c_j1;
+        w2c_i0 = w2c_j0 != w2c_j1;
+        if (w2c_i0) {goto w2c_L5;}
+      w2c_j0 = w2c_l9;
+      w2c_l4 = w2c_j0;
+      w2c_B4:;
+      w2c_j0 = w2c_l4;
+      w2c_j1 = 3ull;
+      w2c_j0 <<= (w2c_j1 & 63);
+      w2c_p1 = w2c_j0;
+    }
+    w2c_j0 = w2c_l7;
+    w2c_j1 = 2ull;
+    w2c_j0 += w2c_j1;
+    w2c_i0 = (u32)(w2c_j0);
+    w2c_i0 = i32_load16_u(&instance->w2c_memory, (u64)(w2c_i0));
+    w2c_i0 = !(w2c_i0);
+    if (w2c_i0) {goto w2c_B0;}
+    w2c_j0 = w2c_p1;
+    w2c_j1 = w2c_l7;
+    w2c_j0 += w2c_j1;
+    w2c_j1 = 968ull;
+    w2c_j0 += w2c_j1;
+    w2c_l4 = w2c_j0;
+    goto w2c_L1;
+    w2c_B2:;
+  w2c_j0 = w2c_l5;
+  w2c_i0 = (u32)(w2c_j0);
+  w2c_i0 = i32_load8_u(&instance->w2c_memory, (u64)(w2c_i0));
+  w2c_i1 = 5u;
+  w2c_i0 = w2c_i0 != w2c_i1;
+  if (w2c_i0) {goto w2c_B0;}
+  w2c_j0 = w2c_p2;
+  w2c_j1 = w2c_l5;
+  w2c_j2 = 16ull;
+  w2c_j1 += w2c_j2;
+  w2c_i1 = (u32)(w2c_j1);
+  w2c_j1 = i64_load(&instance->w2c_memory, (u64)(w2c_i1));
+  w2c_i0 = w2c_j0 >= w2c_j1;
+  if (w2c_i0) {goto w2c_B0;}
+  w2c_j0 = w2c_l5;
+  w2c_j1 = 8ull;
+  w2c_j0 += w2c_j1;
+  w2c_i0 = (u32)(w2c_j0);
+  w2c_j0 = i64_load(&instance->w2c_memory, (u64)(w2c_i0));
+  w2c_j1 = w2c_p2;
+  w2c_j2 = 40ull;
+  w2c_j1 *= w2c_j2;
+  w2c_j0 += w2c_j1;
+  w2c_p1 = w2c_j0;
+  w2c_i0 = (u32)(w2c_j0);
+  w2c_i0 = i32_load8_u(&instance->w2c_memory, (u64)(w2c_i0));
+  if (w2c_i0) {goto w2c_B0;}
+  w2c_j0 = w2c_p1;
+  w2c_j1 = 16ull;
+  w2c_j0 += w2c_j1;
+  w2c_i0 = (u32)(w2c_j0);
+  w2c_j0 = i64_load(&instance->w2c_memory, (u64)(w2c_i0));
+  w2c_l6 = w2c_j0;
+  w2c_j0 = w2c_p1;
+  w2c_j1 = 8ull;
+  w2c_j0 += w2c_j1;
+  w2c_i0 = (u32)(w2c_j0);
+  w2c_j0 = i64_load(&instance->w2c_memory, (u64)(w2c_i0));
+  w2c_l8 = w2c_j0;
+  w2c_B0:;
+  w2c_j0 = w2c_p0;
+  w2c_i0 = (u32)(w2c_j0);
+  w2c_j1 = w2c_l6;
+  i64_store(&instance->w2c_memory, (u64)(w2c_i0) + 8, w2c_j1);
+  w2c_j0 = w2c_p0;
+  w2c_i0 = (u32)(w2c_j0);
+  w2c_j1 = w2c_l8;
+  i64_store(&instance->w2c_memory, (u64)(w2c_i0), w2c_j1);
+  w2c_j0 = w2c_l3;
+  w2c_j1 = 32ull;
+  w2c_j0 += w2c_j1;
+  instance->w2c_g0 = w2c_j0;
+  FUNC_EPILOGUE;
+}
+
+static u32 w2c_f52(Z_dine_ffi_instance_t* instance, u64 w2c_p0) {
+  u32 w2c_l6 = 0;
+  u64 w2c_l1 = 0, w2c_l2 = 0, w2c_l3 = 0, w2c_l4 = 0, w2c_l5 = 0;
+  FUNC_PROLOGUE;
+  u32 w2c_i0, w2c_i1, w2c_i2;
+  u64 w2c_j0, w2c_j1, w2c_j2, w2c_j3, w2c_j4;
+  w2c_j0 = instance->w2c_g0;
+  w2c_j1 = 32ull;
+  w2c_j0 -= w2c_j1;
+  w2c_l1 = w2c_j0;
+  instance->w2c_g0 = w2c_j0;
+  w2c_j0 = w2c_p0;
+  w2c_j1 = 8ull;
+  w2c_j0 += w2c_j1;
+  w2c_i0 = (u32)(w2c_j0);
+  w2c_j0 = i64_load(&instance->w2c_memory, (u64)(w2c_i0));
+  w2c_l2 = w2c_j0;
+  w2c_j1 = 18446744073709551615ull;
+  w2c_i0 = w2c_j0 == w2c_j1;
+  if (w2c_i0) {goto w2c_B0;}
+  w2c_j0 = w2c_l2;
+  w2c_j1 = 3ull;
+  w2c_j2 = w2c_l2;
+  w2c_j3 = 3ull;
+  w2c_i2 = w2c_j2 > w2c_j3;
+  w2c_j0 = w2c_i2 ? w2c_j0 : w2c_j1;
+  w2c_j1 = 1ull;
+  w2c_j0 += w2c_j1;
+  w2c_l3 = w2c_j0;
+  w2c_j1 = w2c_p0;
+  w2c_j2 = 16ull;
+  w2c_j1 += w2c_j2;
+  w2c_i1 = (u32)(w2c_j1);
+  w2c_j1 = i64_load(&instance->w2c_memory, (u64)(w2c_i1));
+  w2c_l5 = w2c_j1;
+  w2c_j2 = 1ull;
+  w2c_j1 <<= (w2c_j2 & 63);
+  w2c_l4 = w2c_j1;
+  w2c_j2 = w2c_l3;
+  w2c_j3 = w2c_l4;
+  w2c_i2 = w2c_j2 > w2c_j3;
+  w2c_j0 = w2c_i2 ? w2c_j0 : w2c_j1;
+  w2c_l4 = w2c_j0;
+  w2c_j1 = w2c_l3;
+  w2c_j2 = w2c_l5;
+  w2c_j3 = 4611686018427387904ull;
+  w2c_i2 = w2c_j2 < w2c_j3;
+  w2c_j0 = w2c_i2 ? w2c_j0 : w2c_j1;
+  w2c_l3 = w2c_j0;
+  w2c_j1 = 576460752303423487ull;
+  w2c_i0 = w2c_j0 > w2c_j1;
+  if (w2c_i0) {goto w2c_B0;}
+  w2c_j0 = w2c_l5;
+  w2c_i0 = !(w2c_j0);
+  w2c_i0 = !(w2c_i0);
+  if (w2c_i0) {
+    w2c_j0 = w2c_l1;
+    w2c_j1 = 16ull;
+    w2c_j0 += w2c_j1;
+    w2c_j1 = w2c_p0;
+    w2c_i1 = (u32)(w2c_j1);
+    w2c_j1 = i64_load(&instance->w2c_memory, (u64)(w2c_i1));
+    w2c_j2 = w2c_l2;
+    w2c_j3 = 4ull;
+    w2c_j2 <<= (w2c_j3 & 63);
+    w2c_j3 = w2c_l3;
+    w2c_j4 = 4ull;
+    w2c_j3 <<= (w2c_j4 & 63);
+    w2c_f116(instance, w2c_j0, w2c_j1, w2c_j2, w2c_j3);
+    w2c_j0 = w2c_l1;
+    w2c_i0 = (u32)(w2c_j0);
+    w2c_j0 = i64_load(&instance->w2c_memory, (u64)(w2c_i0) + 16u);
+    w2c_i0 = (u32)(w2c_j0);
+    w2c_i1 = 1u;
+    w2c_i0 &= w2c_i1;
+    w2c_i0 = !(w2c_i0);
+    if (w2c_i0) {goto w2c_B0;}
+    w2c_j0 = w2c_l1;
+    w2c_i0 = (u32)(w2c_j0);
+    w2c_j0 = i64_load(&instance->w2c_memory, (u64)(w2c_i0) + 24u);
+    goto w2c_B1;
+  }
+  w2c_j0 = w2c_l1;
+  w2c_j1 = w2c_l4;
+  w2c_j2 = 4ull;
+  w2c_j1 <<= (w2c_j2 & 63);
+  w2c_f114(instance, w2c_j0, w2c_j1);
+  w2c_j0 = w2c_l1;
+  w2c_i0 = (u32)(w2c_j0);
+  w2c_j0 = i64_load(&instance->w2c_memory, (u64)(w2c_i0));
+  w2c_i0 = (u32)(w2c_j0);
+  w2c_i1 = 1u;
+  w2c_i0 &= w2c_i1;
+  w2c_i0 = !(w2c_i0);
+  if (w2c_i0) {goto w2c_B0;}
+  w2c_j0 = w2c_l1;
+  w2c_i0 = (u32)(w2c_j0);
+  w2c_j0 = i64_load(&instance->w2c_memory, (u64)(w2c_i0) + 8u);
+  w2c_B1:;
+  w2c_l2 = w2c_j0;
+  w2c_j0 = w2c_p0;
+  w2c_j1 = 16ull;
+  w2c_j0 += w2c_j1;
+  w2c_i0 = (u32)(w2c_j0);
+  w2c_j1 = w2c_l3;
+  i64_store(&instance->w2c_memory, (u64)(w2c_i0), w2c_j1);
+  w2c_j0 = w2c_p0;
+  w2c_i0 = (u32)(w2c_j0);
+  w2c_j1 = w2c_l2;
+  i64_store(&instance->w2c_memory, (u64)(w2c_i0), w2c_j1);
+  w2c_i0 = 1u;
+  w2c_l6 = w2c_i0;
+  w2c_B0:;
+  w2c_j0 = w2c_l1;
+  w2c_j1 = 32ull;
+  w2c_j0 += w2c_j1;
+  instance->w2c_g0 = w2c_j0;
+  w2c_i0 = w2c_l6;
+  FUNC_EPILOGUE;
+  return w2c_i0;
+}
+
+static void w2c_f53(Z_dine_ffi_instance_t* instance, u64 w2c_p0) {
   u32 w2c_l16 = 0;
   u64 w2c_l1 = 0, w2c_l2 = 0, w2c_l3 = 0, w2c_l4 = 0, w2c_l5 = 0, w2c_l6 = 0, w2c_l7 = 0, w2c_l8 = 0, 
       w2c_l9 = 0, w2c_l10 = 0, w2c_l11 = 0, w2c_l12 = 0, w2c_l13 = 0, w2c_l14 = 0, w2c_l15 = 0;
@@ -61234,7 +60202,7 @@ static void w2c_f52(Z_dine_ffi_instance_t* instance, u64 w2c_p0) {
         memory_copy(&instance->w2c_memory, &instance->w2c_memory, w2c_i0, w2c_i1, w2c_i2);
         w2c_B7:;
         w2c_j0 = w2c_l13;
-        w2c_f52(instance, w2c_j0);
+        w2c_f53(instance, w2c_j0);
         w2c_j0 = 0ull;
         w2c_l7 = w2c_j0;
         w2c_j0 = w2c_l3;
@@ -61436,7 +60404,7 @@ static void w2c_f52(Z_dine_ffi_instance_t* instance, u64 w2c_p0) {
     w2c_j0 = w2c_l12;
     w2c_i0 = (u32)(w2c_j0);
     w2c_j0 = i64_load(&instance->w2c_memory, (u64)(w2c_i0));
-    w2c_f52(instance, w2c_j0);
+    w2c_f53(instance, w2c_j0);
     goto w2c_B0;
   }
   w2c_i0 = w2c_l16;
@@ -61572,7 +60540,7 @@ static void w2c_f52(Z_dine_ffi_instance_t* instance, u64 w2c_p0) {
   w2c_j2 <<= (w2c_j3 & 63);
   w2c_j1 += w2c_j2;
   w2c_j2 = w2c_l1;
-  w2c_f54(instance, w2c_j0, w2c_j1, w2c_j2);
+  w2c_f55(instance, w2c_j0, w2c_j1, w2c_j2);
   w2c_B0:;
   w2c_j0 = w2c_p0;
   w2c_leave(instance, w2c_j0);
@@ -61583,7 +60551,7 @@ static void w2c_f52(Z_dine_ffi_instance_t* instance, u64 w2c_p0) {
   FUNC_EPILOGUE;
 }
 
-static u32 w2c_f53(Z_dine_ffi_instance_t* instance, u64 w2c_p0) {
+static u32 w2c_f54(Z_dine_ffi_instance_t* instance, u64 w2c_p0) {
   u32 w2c_l6 = 0;
   u64 w2c_l1 = 0, w2c_l2 = 0, w2c_l3 = 0, w2c_l4 = 0, w2c_l5 = 0;
   FUNC_PROLOGUE;
@@ -61651,7 +60619,7 @@ static u32 w2c_f53(Z_dine_ffi_instance_t* instance, u64 w2c_p0) {
     w2c_j3 = w2c_l3;
     w2c_j4 = 3ull;
     w2c_j3 <<= (w2c_j4 & 63);
-    w2c_f115(instance, w2c_j0, w2c_j1, w2c_j2, w2c_j3);
+    w2c_f116(instance, w2c_j0, w2c_j1, w2c_j2, w2c_j3);
     w2c_j0 = w2c_l1;
     w2c_i0 = (u32)(w2c_j0);
     w2c_j0 = i64_load(&instance->w2c_memory, (u64)(w2c_i0) + 16u);
@@ -61669,7 +60637,7 @@ static u32 w2c_f53(Z_dine_ffi_instance_t* instance, u64 w2c_p0) {
   w2c_j1 = w2c_l4;
   w2c_j2 = 3ull;
   w2c_j1 <<= (w2c_j2 & 63);
-  w2c_f113(instance, w2c_j0, w2c_j1);
+  w2c_f114(instance, w2c_j0, w2c_j1);
   w2c_j0 = w2c_l1;
   w2c_i0 = (u32)(w2c_j0);
   w2c_j0 = i64_load(&instance->w2c_memory, (u64)(w2c_i0));
@@ -61705,7 +60673,7 @@ static u32 w2c_f53(Z_dine_ffi_instance_t* instance, u64 w2c_p0) {
   return w2c_i0;
 }
 
-static void w2c_f54(Z_dine_ffi_instance_t* instance, u64 w2c_p0, u64 w2c_p1, u64 w2c_p2) {
+static void w2c_f55(Z_dine_ffi_instance_t* instance, u64 w2c_p0, u64 w2c_p1, u64 w2c_p2) {
   u64 w2c_l3 = 0, w2c_l4 = 0, w2c_l5 = 0;
   FUNC_PROLOGUE;
   u32 w2c_i0, w2c_i1;
@@ -61767,7 +60735,7 @@ static void w2c_f54(Z_dine_ffi_instance_t* instance, u64 w2c_p0, u64 w2c_p1, u64
   FUNC_EPILOGUE;
 }
 
-static u32 w2c_f55(Z_dine_ffi_instance_t* instance, u64 w2c_p0) {
+static u32 w2c_f56(Z_dine_ffi_instance_t* instance, u64 w2c_p0) {
   u32 w2c_l6 = 0;
   u64 w2c_l1 = 0, w2c_l2 = 0, w2c_l3 = 0, w2c_l4 = 0, w2c_l5 = 0;
   FUNC_PROLOGUE;
@@ -61835,7 +60803,7 @@ static u32 w2c_f55(Z_dine_ffi_instance_t* instance, u64 w2c_p0) {
     w2c_j3 = w2c_l3;
     w2c_j4 = 2ull;
     w2c_j3 <<= (w2c_j4 & 63);
-    w2c_f115(instance, w2c_j0, w2c_j1, w2c_j2, w2c_j3);
+    w2c_f116(instance, w2c_j0, w2c_j1, w2c_j2, w2c_j3);
     w2c_j0 = w2c_l1;
     w2c_i0 = (u32)(w2c_j0);
     w2c_j0 = i64_load(&instance->w2c_memory, (u64)(w2c_i0) + 16u);
@@ -61853,7 +60821,7 @@ static u32 w2c_f55(Z_dine_ffi_instance_t* instance, u64 w2c_p0) {
   w2c_j1 = w2c_l4;
   w2c_j2 = 2ull;
   w2c_j1 <<= (w2c_j2 & 63);
-  w2c_f113(instance, w2c_j0, w2c_j1);
+  w2c_f114(instance, w2c_j0, w2c_j1);
   w2c_j0 = w2c_l1;
   w2c_i0 = (u32)(w2c_j0);
   w2c_j0 = i64_load(&instance->w2c_memory, (u64)(w2c_i0));
@@ -61889,7 +60857,7 @@ static u32 w2c_f55(Z_dine_ffi_instance_t* instance, u64 w2c_p0) {
   return w2c_i0;
 }
 
-static u64 w2c_f56(Z_dine_ffi_instance_t* instance, u64 w2c_p0, u64 w2c_p1) {
+static u64 w2c_f57(Z_dine_ffi_instance_t* instance, u64 w2c_p0, u64 w2c_p1) {
   u32 w2c_l4 = 0;
   u64 w2c_l2 = 0, w2c_l3 = 0;
   FUNC_PROLOGUE;
@@ -61924,7 +60892,7 @@ static u64 w2c_f56(Z_dine_ffi_instance_t* instance, u64 w2c_p0, u64 w2c_p1) {
   w2c_j1 = 8ull;
   w2c_j0 += w2c_j1;
   w2c_j1 = 272ull;
-  w2c_f113(instance, w2c_j0, w2c_j1);
+  w2c_f114(instance, w2c_j0, w2c_j1);
   w2c_j0 = w2c_l2;
   w2c_i0 = (u32)(w2c_j0);
   w2c_j0 = i64_load(&instance->w2c_memory, (u64)(w2c_i0) + 8u);
@@ -61987,7 +60955,7 @@ static u64 w2c_f56(Z_dine_ffi_instance_t* instance, u64 w2c_p0, u64 w2c_p1) {
   }
   w2c_B5:;
   w2c_j0 = w2c_l3;
-  w2c_f57(instance, w2c_j0);
+  w2c_f58(instance, w2c_j0);
   goto w2c_B2;
   w2c_B4:;
   w2c_j0 = w2c_l2;
@@ -62007,7 +60975,7 @@ static u64 w2c_f56(Z_dine_ffi_instance_t* instance, u64 w2c_p0, u64 w2c_p1) {
   w2c_j0 = w2c_l2;
   w2c_j1 = 288ull;
   w2c_j0 += w2c_j1;
-  w2c_f58(instance, w2c_j0);
+  w2c_f59(instance, w2c_j0);
   goto w2c_B2;
   w2c_B3:;
   w2c_j0 = w2c_l2;
@@ -62027,7 +60995,7 @@ static u64 w2c_f56(Z_dine_ffi_instance_t* instance, u64 w2c_p0, u64 w2c_p1) {
   w2c_j0 = w2c_l2;
   w2c_j1 = 24ull;
   w2c_j0 += w2c_j1;
-  w2c_f59(instance, w2c_j0);
+  w2c_f60(instance, w2c_j0);
   w2c_B2:;
   w2c_j0 = 18446744073709551611ull;
   w2c_B0:;
@@ -62041,7 +61009,7 @@ static u64 w2c_f56(Z_dine_ffi_instance_t* instance, u64 w2c_p0, u64 w2c_p1) {
   return w2c_j0;
 }
 
-static void w2c_f57(Z_dine_ffi_instance_t* instance, u64 w2c_p0) {
+static void w2c_f58(Z_dine_ffi_instance_t* instance, u64 w2c_p0) {
   u64 w2c_l1 = 0, w2c_l2 = 0, w2c_l3 = 0, w2c_l4 = 0, w2c_l5 = 0, w2c_l6 = 0, w2c_l7 = 0, w2c_l8 = 0, 
       w2c_l9 = 0, w2c_l10 = 0;
   FUNC_PROLOGUE;
@@ -62239,7 +61207,7 @@ static void w2c_f57(Z_dine_ffi_instance_t* instance, u64 w2c_p0) {
   FUNC_EPILOGUE;
 }
 
-static void w2c_f58(Z_dine_ffi_instance_t* instance, u64 w2c_p0) {
+static void w2c_f59(Z_dine_ffi_instance_t* instance, u64 w2c_p0) {
   u32 w2c_l30 = 0, w2c_l31 = 0, w2c_l32 = 0, w2c_l33 = 0;
   u64 w2c_l1 = 0, w2c_l2 = 0, w2c_l3 = 0, w2c_l4 = 0, w2c_l5 = 0, w2c_l6 = 0, w2c_l7 = 0, w2c_l8 = 0, 
       w2c_l9 = 0, w2c_l10 = 0, w2c_l11 = 0, w2c_l12 = 0, w2c_l13 = 0, w2c_l14 = 0, w2c_l15 = 0, w2c_l16 = 0, 
@@ -63674,7 +62642,7 @@ static void w2c_f58(Z_dine_ffi_instance_t* instance, u64 w2c_p0) {
   w2c_j0 = w2c_l1;
   w2c_j1 = 24ull;
   w2c_j0 += w2c_j1;
-  w2c_f60(instance, w2c_j0);
+  w2c_f61(instance, w2c_j0);
   w2c_j0 = w2c_l24;
   w2c_i0 = !(w2c_j0);
   w2c_i0 = !(w2c_i0);
@@ -63695,7 +62663,7 @@ static void w2c_f58(Z_dine_ffi_instance_t* instance, u64 w2c_p0) {
   w2c_j1 = w2c_l17;
   i64_store(&instance->w2c_memory, (u64)(w2c_i0), w2c_j1);
   w2c_j0 = w2c_l1;
-  w2c_f61(instance, w2c_j0);
+  w2c_f62(instance, w2c_j0);
   w2c_j0 = w2c_l12;
   w2c_i0 = !(w2c_j0);
   w2c_i0 = !(w2c_i0);
@@ -63749,7 +62717,7 @@ static void w2c_f58(Z_dine_ffi_instance_t* instance, u64 w2c_p0) {
   FUNC_EPILOGUE;
 }
 
-static void w2c_f59(Z_dine_ffi_instance_t* instance, u64 w2c_p0) {
+static void w2c_f60(Z_dine_ffi_instance_t* instance, u64 w2c_p0) {
   u32 w2c_l16 = 0, w2c_l17 = 0, w2c_l18 = 0;
   u64 w2c_l1 = 0, w2c_l2 = 0, w2c_l3 = 0, w2c_l4 = 0, w2c_l5 = 0, w2c_l6 = 0, w2c_l7 = 0, w2c_l8 = 0, 
       w2c_l9 = 0, w2c_l10 = 0, w2c_l11 = 0, w2c_l12 = 0, w2c_l13 = 0, w2c_l14 = 0, w2c_l15 = 0;
@@ -63909,7 +62877,7 @@ static void w2c_f59(Z_dine_ffi_instance_t* instance, u64 w2c_p0) {
   w2c_i2 = 192u;
   memory_copy(&instance->w2c_memory, &instance->w2c_memory, w2c_i0, w2c_i1, w2c_i2);
   w2c_j0 = w2c_l3;
-  w2c_f57(instance, w2c_j0);
+  w2c_f58(instance, w2c_j0);
   w2c_j0 = w2c_l2;
   w2c_i0 = !(w2c_j0);
   w2c_i0 = !(w2c_i0);
@@ -64564,7 +63532,7 @@ static void w2c_f59(Z_dine_ffi_instance_t* instance, u64 w2c_p0) {
   w2c_j1 = 192ull;
   w2c_j0 += w2c_j1;
   w2c_j1 = w2c_l1;
-  w2c_f63(instance, w2c_j0, w2c_j1);
+  w2c_f64(instance, w2c_j0, w2c_j1);
   w2c_j0 = w2c_l1;
   w2c_i0 = (u32)(w2c_j0);
   w2c_j0 = i64_load(&instance->w2c_memory, (u64)(w2c_i0) + 208u);
@@ -64640,7 +63608,7 @@ static void w2c_f59(Z_dine_ffi_instance_t* instance, u64 w2c_p0) {
   FUNC_EPILOGUE;
 }
 
-static void w2c_f60(Z_dine_ffi_instance_t* instance, u64 w2c_p0) {
+static void w2c_f61(Z_dine_ffi_instance_t* instance, u64 w2c_p0) {
   u64 w2c_l1 = 0, w2c_l2 = 0, w2c_l3 = 0, w2c_l4 = 0, w2c_l5 = 0, w2c_l6 = 0, w2c_l7 = 0, w2c_l8 = 0, 
       w2c_l9 = 0, w2c_l10 = 0, w2c_l11 = 0;
   FUNC_PROLOGUE;
@@ -64705,7 +63673,7 @@ static void w2c_f60(Z_dine_ffi_instance_t* instance, u64 w2c_p0) {
       w2c_j1 = 192ull;
       w2c_j0 += w2c_j1;
       w2c_j1 = w2c_l1;
-      w2c_f63(instance, w2c_j0, w2c_j1);
+      w2c_f64(instance, w2c_j0, w2c_j1);
       w2c_j0 = w2c_l1;
       w2c_i0 = (u32)(w2c_j0);
       w2c_j0 = i64_load(&instance->w2c_memory, (u64)(w2c_i0) + 208u);
@@ -64796,7 +63764,7 @@ static void w2c_f60(Z_dine_ffi_instance_t* instance, u64 w2c_p0) {
   FUNC_EPILOGUE;
 }
 
-static void w2c_f61(Z_dine_ffi_instance_t* instance, u64 w2c_p0) {
+static void w2c_f62(Z_dine_ffi_instance_t* instance, u64 w2c_p0) {
   u64 w2c_l1 = 0, w2c_l2 = 0, w2c_l3 = 0, w2c_l4 = 0, w2c_l5 = 0, w2c_l6 = 0, w2c_l7 = 0, w2c_l8 = 0, 
       w2c_l9 = 0, w2c_l10 = 0, w2c_l11 = 0;
   FUNC_PROLOGUE;
@@ -64964,7 +63932,7 @@ static void w2c_f61(Z_dine_ffi_instance_t* instance, u64 w2c_p0) {
   FUNC_EPILOGUE;
 }
 
-static void w2c_f62(Z_dine_ffi_instance_t* instance, u64 w2c_p0, u64 w2c_p1, u32 w2c_p2) {
+static void w2c_f63(Z_dine_ffi_instance_t* instance, u64 w2c_p0, u64 w2c_p1, u32 w2c_p2) {
   u32 w2c_l10 = 0;
   u64 w2c_l3 = 0, w2c_l4 = 0, w2c_l5 = 0, w2c_l6 = 0, w2c_l7 = 0, w2c_l8 = 0, w2c_l9 = 0;
   FUNC_PROLOGUE;
@@ -65172,7 +64140,7 @@ static void w2c_f62(Z_dine_ffi_instance_t* instance, u64 w2c_p0, u64 w2c_p1, u32
   FUNC_EPILOGUE;
 }
 
-static void w2c_f63(Z_dine_ffi_instance_t* instance, u64 w2c_p0, u64 w2c_p1) {
+static void w2c_f64(Z_dine_ffi_instance_t* instance, u64 w2c_p0, u64 w2c_p1) {
   u32 w2c_l14 = 0, w2c_l15 = 0;
   u64 w2c_l2 = 0, w2c_l3 = 0, w2c_l4 = 0, w2c_l5 = 0, w2c_l6 = 0, w2c_l7 = 0, w2c_l8 = 0, w2c_l9 = 0, 
       w2c_l10 = 0, w2c_l11 = 0, w2c_l12 = 0, w2c_l13 = 0;
@@ -65411,7 +64379,7 @@ static void w2c_f63(Z_dine_ffi_instance_t* instance, u64 w2c_p0, u64 w2c_p1) {
   FUNC_EPILOGUE;
 }
 
-static void w2c_f64(Z_dine_ffi_instance_t* instance, u64 w2c_p0, u64 w2c_p1) {
+static void w2c_f65(Z_dine_ffi_instance_t* instance, u64 w2c_p0, u64 w2c_p1) {
   u32 w2c_l11 = 0, w2c_l12 = 0, w2c_l13 = 0, w2c_l14 = 0;
   u64 w2c_l2 = 0, w2c_l3 = 0, w2c_l4 = 0, w2c_l5 = 0, w2c_l6 = 0, w2c_l7 = 0, w2c_l8 = 0, w2c_l9 = 0, 
       w2c_l10 = 0;
@@ -65764,7 +64732,7 @@ static void w2c_f64(Z_dine_ffi_instance_t* instance, u64 w2c_p0, u64 w2c_p1) {
   FUNC_EPILOGUE;
 }
 
-static void w2c_f65(Z_dine_ffi_instance_t* instance, u64 w2c_p0, u64 w2c_p1) {
+static void w2c_f66(Z_dine_ffi_instance_t* instance, u64 w2c_p0, u64 w2c_p1) {
   u32 w2c_l2 = 0, w2c_l3 = 0, w2c_l4 = 0, w2c_l5 = 0;
   u64 w2c_l6 = 0, w2c_l7 = 0, w2c_l8 = 0, w2c_l9 = 0;
   FUNC_PROLOGUE;
@@ -65981,7 +64949,7 @@ static void w2c_f65(Z_dine_ffi_instance_t* instance, u64 w2c_p0, u64 w2c_p1) {
   FUNC_EPILOGUE;
 }
 
-static void w2c_f66(Z_dine_ffi_instance_t* instance, u64 w2c_p0, u64 w2c_p1, u32 w2c_p2) {
+static void w2c_f67(Z_dine_ffi_instance_t* instance, u64 w2c_p0, u64 w2c_p1, u32 w2c_p2) {
   u32 w2c_l17 = 0;
   u64 w2c_l3 = 0, w2c_l4 = 0, w2c_l5 = 0, w2c_l6 = 0, w2c_l7 = 0, w2c_l8 = 0, w2c_l9 = 0, w2c_l10 = 0, 
       w2c_l11 = 0, w2c_l12 = 0, w2c_l13 = 0, w2c_l14 = 0, w2c_l15 = 0, w2c_l16 = 0;
@@ -66116,7 +65084,7 @@ static void w2c_f66(Z_dine_ffi_instance_t* instance, u64 w2c_p0, u64 w2c_p1, u32
         w2c_l16 = w2c_j1;
         w2c_j2 = 12ull;
         w2c_j1 *= w2c_j2;
-        w2c_f113(instance, w2c_j0, w2c_j1);
+        w2c_f114(instance, w2c_j0, w2c_j1);
         w2c_j0 = w2c_l3;
         w2c_i0 = (u32)(w2c_j0);
         w2c_i0 = i32_load(&instance->w2c_memory, (u64)(w2c_i0) + 24u);
@@ -66138,7 +65106,7 @@ static void w2c_f66(Z_dine_ffi_instance_t* instance, u64 w2c_p0, u64 w2c_p1, u32
           w2c_j1 = 8ull;
           w2c_j0 += w2c_j1;
           w2c_j1 = 72ull;
-          w2c_f113(instance, w2c_j0, w2c_j1);
+          w2c_f114(instance, w2c_j0, w2c_j1);
           w2c_j0 = w2c_l3;
           w2c_i0 = (u32)(w2c_j0);
           w2c_j0 = i64_load(&instance->w2c_memory, (u64)(w2c_i0) + 8u);
@@ -66309,7 +65277,7 @@ static void w2c_f66(Z_dine_ffi_instance_t* instance, u64 w2c_p0, u64 w2c_p1, u32
           w2c_j0 = w2c_l3;
           w2c_j1 = 40ull;
           w2c_j0 += w2c_j1;
-          w2c_i0 = w2c_f53(instance, w2c_j0);
+          w2c_i0 = w2c_f54(instance, w2c_j0);
           w2c_i0 = !(w2c_i0);
           if (w2c_i0) {goto w2c_B1;}
           w2c_j0 = w2c_l3;
@@ -66482,7 +65450,7 @@ static void w2c_f66(Z_dine_ffi_instance_t* instance, u64 w2c_p0, u64 w2c_p1, u32
   FUNC_EPILOGUE;
 }
 
-static void w2c_f67(Z_dine_ffi_instance_t* instance, u64 w2c_p0, u64 w2c_p1, u32 w2c_p2) {
+static void w2c_f68(Z_dine_ffi_instance_t* instance, u64 w2c_p0, u64 w2c_p1, u32 w2c_p2) {
   u32 w2c_l8 = 0;
   u64 w2c_l3 = 0, w2c_l4 = 0, w2c_l5 = 0, w2c_l6 = 0, w2c_l7 = 0;
   FUNC_PROLOGUE;
@@ -66566,7 +65534,7 @@ static void w2c_f67(Z_dine_ffi_instance_t* instance, u64 w2c_p0, u64 w2c_p1, u32
         w2c_i0 = w2c_j0 == w2c_j1;
         if (w2c_i0) {
           w2c_j0 = w2c_l3;
-          w2c_i0 = w2c_f55(instance, w2c_j0);
+          w2c_i0 = w2c_f56(instance, w2c_j0);
           w2c_i0 = !(w2c_i0);
           if (w2c_i0) {goto w2c_B1;}
           w2c_j0 = w2c_l3;
@@ -66676,7 +65644,7 @@ static void w2c_f67(Z_dine_ffi_instance_t* instance, u64 w2c_p0, u64 w2c_p1, u32
   FUNC_EPILOGUE;
 }
 
-static void w2c_f68(Z_dine_ffi_instance_t* instance, u64 w2c_p0, u64 w2c_p1, u32 w2c_p2, u64 w2c_p3, u64 w2c_p4) {
+static void w2c_f69(Z_dine_ffi_instance_t* instance, u64 w2c_p0, u64 w2c_p1, u32 w2c_p2, u64 w2c_p3, u64 w2c_p4) {
   u32 w2c_l25 = 0, w2c_l26 = 0, w2c_l27 = 0, w2c_l28 = 0, w2c_l29 = 0, w2c_l30 = 0, w2c_l31 = 0, w2c_l32 = 0, 
       w2c_l33 = 0, w2c_l34 = 0;
   u64 w2c_l5 = 0, w2c_l6 = 0, w2c_l7 = 0, w2c_l8 = 0, w2c_l9 = 0, w2c_l10 = 0, w2c_l11 = 0, w2c_l12 = 0, 
@@ -66819,7 +65787,7 @@ static void w2c_f68(Z_dine_ffi_instance_t* instance, u64 w2c_p0, u64 w2c_p1, u32
   w2c_j1 = w2c_l12;
   w2c_j2 = 56ull;
   w2c_j1 *= w2c_j2;
-  w2c_f113(instance, w2c_j0, w2c_j1);
+  w2c_f114(instance, w2c_j0, w2c_j1);
   w2c_j0 = w2c_l5;
   w2c_i0 = (u32)(w2c_j0);
   w2c_j0 = i64_load(&instance->w2c_memory, (u64)(w2c_i0) + 64u);
@@ -67070,7 +66038,7 @@ static void w2c_f68(Z_dine_ffi_instance_t* instance, u64 w2c_p0, u64 w2c_p1, u32
       w2c_j0 = w2c_l5;
       w2c_j1 = 216ull;
       w2c_j0 += w2c_j1;
-      w2c_i0 = w2c_f46(instance, w2c_j0);
+      w2c_i0 = w2c_f47(instance, w2c_j0);
       w2c_i0 = !(w2c_i0);
       if (w2c_i0) {goto w2c_B15;}
       w2c_j0 = w2c_l5;
@@ -67336,7 +66304,7 @@ static void w2c_f68(Z_dine_ffi_instance_t* instance, u64 w2c_p0, u64 w2c_p1, u32
   w2c_j0 = w2c_l5;
   w2c_j1 = 176ull;
   w2c_j0 += w2c_j1;
-  w2c_f69(instance, w2c_j0);
+  w2c_f70(instance, w2c_j0);
   w2c_j0 = w2c_l5;
   w2c_i0 = (u32)(w2c_j0);
   w2c_j0 = i64_load(&instance->w2c_memory, (u64)(w2c_i0) + 232u);
@@ -67498,7 +66466,7 @@ static void w2c_f68(Z_dine_ffi_instance_t* instance, u64 w2c_p0, u64 w2c_p1, u32
   w2c_j0 = w2c_l5;
   w2c_j1 = 136ull;
   w2c_j0 += w2c_j1;
-  w2c_f69(instance, w2c_j0);
+  w2c_f70(instance, w2c_j0);
   w2c_j0 = w2c_l5;
   w2c_i0 = (u32)(w2c_j0);
   w2c_j1 = w2c_l13;
@@ -67576,7 +66544,7 @@ static void w2c_f68(Z_dine_ffi_instance_t* instance, u64 w2c_p0, u64 w2c_p1, u32
   w2c_j1 = w2c_l10;
   w2c_j2 = 4ull;
   w2c_j1 <<= (w2c_j2 & 63);
-  w2c_f113(instance, w2c_j0, w2c_j1);
+  w2c_f114(instance, w2c_j0, w2c_j1);
   w2c_j0 = w2c_l5;
   w2c_i0 = (u32)(w2c_j0);
   w2c_j0 = i64_load(&instance->w2c_memory, (u64)(w2c_i0) + 48u);
@@ -67754,7 +66722,7 @@ static void w2c_f68(Z_dine_ffi_instance_t* instance, u64 w2c_p0, u64 w2c_p1, u32
   w2c_j2 = 3ull;
   w2c_j1 <<= (w2c_j2 & 63);
   w2c_l9 = w2c_j1;
-  w2c_f113(instance, w2c_j0, w2c_j1);
+  w2c_f114(instance, w2c_j0, w2c_j1);
   w2c_j0 = w2c_l5;
   w2c_i0 = (u32)(w2c_j0);
   w2c_j0 = i64_load(&instance->w2c_memory, (u64)(w2c_i0) + 32u);
@@ -67773,7 +66741,7 @@ static void w2c_f68(Z_dine_ffi_instance_t* instance, u64 w2c_p0, u64 w2c_p1, u32
   w2c_j1 = w2c_p4;
   w2c_j2 = 2ull;
   w2c_j1 <<= (w2c_j2 & 63);
-  w2c_f113(instance, w2c_j0, w2c_j1);
+  w2c_f114(instance, w2c_j0, w2c_j1);
   w2c_j0 = w2c_l5;
   w2c_i0 = (u32)(w2c_j0);
   w2c_j0 = i64_load(&instance->w2c_memory, (u64)(w2c_i0) + 16u);
@@ -67788,7 +66756,7 @@ static void w2c_f68(Z_dine_ffi_instance_t* instance, u64 w2c_p0, u64 w2c_p1, u32
   w2c_l8 = w2c_j0;
   w2c_j0 = w2c_l5;
   w2c_j1 = w2c_l9;
-  w2c_f113(instance, w2c_j0, w2c_j1);
+  w2c_f114(instance, w2c_j0, w2c_j1);
   w2c_j0 = w2c_l5;
   w2c_i0 = (u32)(w2c_j0);
   w2c_j0 = i64_load(&instance->w2c_memory, (u64)(w2c_i0));
@@ -68160,7 +67128,7 @@ static void w2c_f68(Z_dine_ffi_instance_t* instance, u64 w2c_p0, u64 w2c_p1, u32
   FUNC_EPILOGUE;
 }
 
-static void w2c_f69(Z_dine_ffi_instance_t* instance, u64 w2c_p0) {
+static void w2c_f70(Z_dine_ffi_instance_t* instance, u64 w2c_p0) {
   u64 w2c_l1 = 0, w2c_l2 = 0, w2c_l3 = 0, w2c_l4 = 0, w2c_l5 = 0, w2c_l6 = 0, w2c_l7 = 0;
   FUNC_PROLOGUE;
   u32 w2c_i0, w2c_i3;
@@ -68281,7 +67249,7 @@ static void w2c_f69(Z_dine_ffi_instance_t* instance, u64 w2c_p0) {
   FUNC_EPILOGUE;
 }
 
-static u32 w2c_f70(Z_dine_ffi_instance_t* instance, u64 w2c_p0, u32 w2c_p1) {
+static u32 w2c_f71(Z_dine_ffi_instance_t* instance, u64 w2c_p0, u32 w2c_p1) {
   u32 w2c_l8 = 0;
   u64 w2c_l2 = 0, w2c_l3 = 0, w2c_l4 = 0, w2c_l5 = 0, w2c_l6 = 0, w2c_l7 = 0;
   FUNC_PROLOGUE;
@@ -68489,7 +67457,7 @@ static u32 w2c_f70(Z_dine_ffi_instance_t* instance, u64 w2c_p0, u32 w2c_p1) {
   return w2c_i0;
 }
 
-static void w2c_f71(Z_dine_ffi_instance_t* instance, u64 w2c_p0, u64 w2c_p1, u32 w2c_p2) {
+static void w2c_f72(Z_dine_ffi_instance_t* instance, u64 w2c_p0, u64 w2c_p1, u32 w2c_p2) {
   u32 w2c_l10 = 0, w2c_l11 = 0, w2c_l12 = 0, w2c_l13 = 0, w2c_l14 = 0;
   u64 w2c_l3 = 0, w2c_l4 = 0, w2c_l5 = 0, w2c_l6 = 0, w2c_l7 = 0, w2c_l8 = 0, w2c_l9 = 0;
   FUNC_PROLOGUE;
@@ -68531,7 +67499,7 @@ static void w2c_f71(Z_dine_ffi_instance_t* instance, u64 w2c_p0, u64 w2c_p1, u32
       if (w2c_i0) {
         w2c_j0 = w2c_p1;
         w2c_i1 = w2c_l13;
-        w2c_i0 = w2c_f70(instance, w2c_j0, w2c_i1);
+        w2c_i0 = w2c_f71(instance, w2c_j0, w2c_i1);
         goto w2c_B9;
       }
       w2c_j0 = w2c_l9;
@@ -69048,7 +68016,7 @@ static void w2c_f71(Z_dine_ffi_instance_t* instance, u64 w2c_p0, u64 w2c_p1, u32
   FUNC_EPILOGUE;
 }
 
-static void w2c_f72(Z_dine_ffi_instance_t* instance, u64 w2c_p0, u64 w2c_p1) {
+static void w2c_f73(Z_dine_ffi_instance_t* instance, u64 w2c_p0, u64 w2c_p1) {
   u32 w2c_l12 = 0, w2c_l13 = 0, w2c_l14 = 0, w2c_l15 = 0, w2c_l16 = 0, w2c_l17 = 0;
   u64 w2c_l2 = 0, w2c_l3 = 0, w2c_l4 = 0, w2c_l5 = 0, w2c_l6 = 0, w2c_l7 = 0, w2c_l8 = 0, w2c_l9 = 0, 
       w2c_l10 = 0, w2c_l11 = 0;
@@ -69332,7 +68300,7 @@ static void w2c_f72(Z_dine_ffi_instance_t* instance, u64 w2c_p0, u64 w2c_p1) {
   w2c_j0 = w2c_l2;
   w2c_i1 = w2c_l13;
   w2c_j2 = w2c_l5;
-  w2c_f73(instance, w2c_j0, w2c_i1, w2c_j2);
+  w2c_f74(instance, w2c_j0, w2c_i1, w2c_j2);
   goto w2c_B4;
   w2c_B9:;
   w2c_i0 = 0u;
@@ -69447,7 +68415,7 @@ static void w2c_f72(Z_dine_ffi_instance_t* instance, u64 w2c_p0, u64 w2c_p1) {
   w2c_i2 = w2c_l12;
   w2c_i3 = 1u;
   w2c_i2 &= w2c_i3;
-  w2c_f62(instance, w2c_j0, w2c_j1, w2c_i2);
+  w2c_f63(instance, w2c_j0, w2c_j1, w2c_i2);
   w2c_i0 = w2c_l15;
   if (w2c_i0) {goto w2c_B4;}
   goto w2c_B3;
@@ -69470,7 +68438,7 @@ static void w2c_f72(Z_dine_ffi_instance_t* instance, u64 w2c_p0, u64 w2c_p1) {
   i64_store(&instance->w2c_memory, (u64)(w2c_i0), w2c_j1);
   w2c_j0 = w2c_l5;
   w2c_j1 = w2c_l2;
-  w2c_f64(instance, w2c_j0, w2c_j1);
+  w2c_f65(instance, w2c_j0, w2c_j1);
   w2c_j0 = w2c_l2;
   w2c_j1 = 200ull;
   w2c_j0 += w2c_j1;
@@ -70023,7 +68991,7 @@ static void w2c_f72(Z_dine_ffi_instance_t* instance, u64 w2c_p0, u64 w2c_p1) {
   FUNC_EPILOGUE;
 }
 
-static void w2c_f73(Z_dine_ffi_instance_t* instance, u64 w2c_p0, u32 w2c_p1, u64 w2c_p2) {
+static void w2c_f74(Z_dine_ffi_instance_t* instance, u64 w2c_p0, u32 w2c_p1, u64 w2c_p2) {
   u64 w2c_l3 = 0, w2c_l4 = 0, w2c_l5 = 0;
   FUNC_PROLOGUE;
   u32 w2c_i0, w2c_i1, w2c_i3;
@@ -70204,7 +69172,7 @@ static void w2c_f73(Z_dine_ffi_instance_t* instance, u64 w2c_p0, u32 w2c_p1, u64
   FUNC_EPILOGUE;
 }
 
-static void w2c_f74(Z_dine_ffi_instance_t* instance, u64 w2c_p0, u64 w2c_p1, u32 w2c_p2) {
+static void w2c_f75(Z_dine_ffi_instance_t* instance, u64 w2c_p0, u64 w2c_p1, u32 w2c_p2) {
   u32 w2c_l13 = 0, w2c_l14 = 0, w2c_l15 = 0;
   u64 w2c_l3 = 0, w2c_l4 = 0, w2c_l5 = 0, w2c_l6 = 0, w2c_l7 = 0, w2c_l8 = 0, w2c_l9 = 0, w2c_l10 = 0, 
       w2c_l11 = 0, w2c_l12 = 0;
@@ -70591,7 +69559,7 @@ static void w2c_f74(Z_dine_ffi_instance_t* instance, u64 w2c_p0, u64 w2c_p1, u32
   FUNC_EPILOGUE;
 }
 
-static void w2c_f75(Z_dine_ffi_instance_t* instance, u64 w2c_p0, u64 w2c_p1, u32 w2c_p2, u64 w2c_p3) {
+static void w2c_f76(Z_dine_ffi_instance_t* instance, u64 w2c_p0, u64 w2c_p1, u32 w2c_p2, u64 w2c_p3) {
   u32 w2c_l7 = 0, w2c_l8 = 0, w2c_l9 = 0, w2c_l10 = 0, w2c_l11 = 0, w2c_l12 = 0, w2c_l13 = 0, w2c_l14 = 0;
   u64 w2c_l4 = 0, w2c_l5 = 0, w2c_l6 = 0;
   FUNC_PROLOGUE;
@@ -71070,7 +70038,7 @@ static void w2c_f75(Z_dine_ffi_instance_t* instance, u64 w2c_p0, u64 w2c_p1, u32
   w2c_j0 = w2c_p1;
   w2c_i1 = w2c_p2;
   w2c_j2 = w2c_l6;
-  w2c_f73(instance, w2c_j0, w2c_i1, w2c_j2);
+  w2c_f74(instance, w2c_j0, w2c_i1, w2c_j2);
   w2c_j0 = 0ull;
   w2c_l5 = w2c_j0;
   w2c_i0 = 0u;
@@ -71121,7 +70089,7 @@ static void w2c_f75(Z_dine_ffi_instance_t* instance, u64 w2c_p0, u64 w2c_p1, u32
   FUNC_EPILOGUE;
 }
 
-static u32 w2c_f76(Z_dine_ffi_instance_t* instance, u64 w2c_p0, u64 w2c_p1, u64 w2c_p2) {
+static u32 w2c_f77(Z_dine_ffi_instance_t* instance, u64 w2c_p0, u64 w2c_p1, u64 w2c_p2) {
   u32 w2c_l12 = 0, w2c_l13 = 0, w2c_l14 = 0, w2c_l15 = 0, w2c_l16 = 0;
   u64 w2c_l3 = 0, w2c_l4 = 0, w2c_l5 = 0, w2c_l6 = 0, w2c_l7 = 0, w2c_l8 = 0, w2c_l9 = 0, w2c_l10 = 0, 
       w2c_l11 = 0;
@@ -71533,7 +70501,7 @@ static u64 w2c_dine_raw_plan_open(Z_dine_ffi_instance_t* instance, u64 w2c_p0, u
     i64_store(&instance->w2c_memory, (u64)(w2c_i0), w2c_j1);
     w2c_j0 = w2c_l3;
     w2c_j1 = w2c_p2;
-    w2c_j0 = w2c_f56(instance, w2c_j0, w2c_j1);
+    w2c_j0 = w2c_f57(instance, w2c_j0, w2c_j1);
     goto w2c_B0;
   }
   w2c_j0 = w2c_l3;
@@ -71619,7 +70587,7 @@ static u64 w2c_dine_raw_close(Z_dine_ffi_instance_t* instance, u64 w2c_p0) {
   }
   w2c_B3:;
   w2c_j0 = w2c_p0;
-  w2c_f57(instance, w2c_j0);
+  w2c_f58(instance, w2c_j0);
   goto w2c_B0;
   w2c_B2:;
   w2c_j0 = w2c_l1;
@@ -71639,7 +70607,7 @@ static u64 w2c_dine_raw_close(Z_dine_ffi_instance_t* instance, u64 w2c_p0) {
   w2c_j0 = w2c_l1;
   w2c_j1 = 264ull;
   w2c_j0 += w2c_j1;
-  w2c_f58(instance, w2c_j0);
+  w2c_f59(instance, w2c_j0);
   goto w2c_B0;
   w2c_B1:;
   w2c_j0 = w2c_l1;
@@ -71659,7 +70627,7 @@ static u64 w2c_dine_raw_close(Z_dine_ffi_instance_t* instance, u64 w2c_p0) {
   w2c_j0 = w2c_l1;
   w2c_j1 = 264ull;
   w2c_j0 += w2c_j1;
-  w2c_f59(instance, w2c_j0);
+  w2c_f60(instance, w2c_j0);
   w2c_B0:;
   w2c_j0 = w2c_l1;
   w2c_j1 = 528ull;
@@ -72560,7 +71528,7 @@ static u64 w2c_dine_raw_site_begin(Z_dine_ffi_instance_t* instance, u64 w2c_p0) 
     w2c_j1 = w2c_l1;
     w2c_j2 = 16ull;
     w2c_j1 += w2c_j2;
-    w2c_f64(instance, w2c_j0, w2c_j1);
+    w2c_f65(instance, w2c_j0, w2c_j1);
     w2c_j0 = w2c_l1;
     w2c_j1 = 208ull;
     w2c_j0 += w2c_j1;
@@ -73173,7 +72141,7 @@ static u64 w2c_dine_raw_site_end(Z_dine_ffi_instance_t* instance, u64 w2c_p0, u3
     w2c_i2 = w2c_p1;
     w2c_i3 = 1u;
     w2c_i2 &= w2c_i3;
-    w2c_f62(instance, w2c_j0, w2c_j1, w2c_i2);
+    w2c_f63(instance, w2c_j0, w2c_j1, w2c_i2);
     w2c_j0 = 0ull;
     w2c_B1:;
     w2c_l2 = w2c_j0;
@@ -73784,7 +72752,7 @@ static u64 w2c_dine_raw_site_next(Z_dine_ffi_instance_t* instance, u64 w2c_p0, u
     w2c_j2 = 16ull;
     w2c_j1 += w2c_j2;
     w2c_l6 = w2c_j1;
-    w2c_f65(instance, w2c_j0, w2c_j1);
+    w2c_f66(instance, w2c_j0, w2c_j1);
     w2c_j0 = 0ull;
     w2c_j1 = w2c_l5;
     w2c_i1 = (u32)(w2c_j1);
@@ -74229,7 +73197,7 @@ static u64 w2c_dine_raw_site_open(Z_dine_ffi_instance_t* instance, u64 w2c_p0, u
       w2c_l21 = w2c_j1;
       w2c_j2 = 12ull;
       w2c_j1 *= w2c_j2;
-      w2c_f113(instance, w2c_j0, w2c_j1);
+      w2c_f114(instance, w2c_j0, w2c_j1);
       w2c_j0 = w2c_l3;
       w2c_i0 = (u32)(w2c_j0);
       w2c_i0 = i32_load(&instance->w2c_memory, (u64)(w2c_i0) + 16u);
@@ -74249,7 +73217,7 @@ static u64 w2c_dine_raw_site_open(Z_dine_ffi_instance_t* instance, u64 w2c_p0, u
         i32_store(&instance->w2c_memory, (u64)(w2c_i0), w2c_i1);
         w2c_j0 = w2c_l3;
         w2c_j1 = 72ull;
-        w2c_f113(instance, w2c_j0, w2c_j1);
+        w2c_f114(instance, w2c_j0, w2c_j1);
         w2c_j0 = w2c_l3;
         w2c_i0 = (u32)(w2c_j0);
         w2c_j0 = i64_load(&instance->w2c_memory, (u64)(w2c_i0));
@@ -74382,7 +73350,7 @@ static u64 w2c_dine_raw_site_open(Z_dine_ffi_instance_t* instance, u64 w2c_p0, u
       w2c_j0 = w2c_l3;
       w2c_j1 = 848ull;
       w2c_j0 += w2c_j1;
-      w2c_i0 = w2c_f50(instance, w2c_j0);
+      w2c_i0 = w2c_f52(instance, w2c_j0);
       w2c_i0 = !(w2c_i0);
       if (w2c_i0) {goto w2c_B11;}
       w2c_j0 = w2c_l3;
@@ -74444,7 +73412,7 @@ static u64 w2c_dine_raw_site_open(Z_dine_ffi_instance_t* instance, u64 w2c_p0, u
   w2c_j1 += w2c_j2;
   w2c_l4 = w2c_j1;
   w2c_i2 = w2c_p1;
-  w2c_f66(instance, w2c_j0, w2c_j1, w2c_i2);
+  w2c_f67(instance, w2c_j0, w2c_j1, w2c_i2);
   w2c_j0 = w2c_l3;
   w2c_i0 = (u32)(w2c_j0);
   w2c_i0 = i32_load8_u(&instance->w2c_memory, (u64)(w2c_i0) + 816u);
@@ -74466,7 +73434,7 @@ static u64 w2c_dine_raw_site_open(Z_dine_ffi_instance_t* instance, u64 w2c_p0, u
   w2c_j0 += w2c_j1;
   w2c_j1 = w2c_l4;
   w2c_i2 = w2c_p1;
-  w2c_f67(instance, w2c_j0, w2c_j1, w2c_i2);
+  w2c_f68(instance, w2c_j0, w2c_j1, w2c_i2);
   w2c_j0 = w2c_l3;
   w2c_i0 = (u32)(w2c_j0);
   w2c_i0 = i32_load8_u(&instance->w2c_memory, (u64)(w2c_i0) + 784u);
@@ -74494,7 +73462,7 @@ static u64 w2c_dine_raw_site_open(Z_dine_ffi_instance_t* instance, u64 w2c_p0, u
   w2c_j4 = w2c_l3;
   w2c_j5 = 792ull;
   w2c_j4 += w2c_j5;
-  w2c_f68(instance, w2c_j0, w2c_j1, w2c_i2, w2c_j3, w2c_j4);
+  w2c_f69(instance, w2c_j0, w2c_j1, w2c_i2, w2c_j3, w2c_j4);
   w2c_j0 = w2c_l3;
   w2c_i0 = (u32)(w2c_j0);
   w2c_i0 = i32_load8_u(&instance->w2c_memory, (u64)(w2c_i0) + 584u);
@@ -74632,7 +73600,7 @@ static u64 w2c_dine_raw_site_open(Z_dine_ffi_instance_t* instance, u64 w2c_p0, u
   w2c_j0 = w2c_l10;
   w2c_leave(instance, w2c_j0);
   w2c_j0 = w2c_l9;
-  w2c_f57(instance, w2c_j0);
+  w2c_f58(instance, w2c_j0);
   goto w2c_B3;
   w2c_B9:;
   w2c_j0 = w2c_l5;
@@ -74785,7 +73753,7 @@ static u64 w2c_dine_raw_site_open(Z_dine_ffi_instance_t* instance, u64 w2c_p0, u
   w2c_leave(instance, w2c_j0);
   w2c_B6:;
   w2c_j0 = w2c_l9;
-  w2c_f57(instance, w2c_j0);
+  w2c_f58(instance, w2c_j0);
   goto w2c_B3;
   w2c_B5:;
   w2c_j0 = w2c_l3;
@@ -74884,7 +73852,7 @@ static u64 w2c_dine_raw_site_open(Z_dine_ffi_instance_t* instance, u64 w2c_p0, u
   w2c_j1 = 32ull;
   w2c_j0 += w2c_j1;
   w2c_j1 = w2c_p2;
-  w2c_j0 = w2c_f56(instance, w2c_j0, w2c_j1);
+  w2c_j0 = w2c_f57(instance, w2c_j0, w2c_j1);
   w2c_l13 = w2c_j0;
   w2c_B3:;
   w2c_j0 = w2c_p0;
@@ -75762,7 +74730,7 @@ static u64 w2c_dine_raw_world_count(Z_dine_ffi_instance_t* instance, u64 w2c_p0)
       if (w2c_i0) {
         w2c_j0 = w2c_l4;
         w2c_i1 = w2c_l8;
-        w2c_i0 = w2c_f70(instance, w2c_j0, w2c_i1);
+        w2c_i0 = w2c_f71(instance, w2c_j0, w2c_i1);
         goto w2c_B3;
       }
       w2c_j0 = w2c_l7;
@@ -75864,7 +74832,7 @@ static u64 w2c_dine_raw_world_enabled(Z_dine_ffi_instance_t* instance, u64 w2c_p
     w2c_j2 = 8ull;
     w2c_j1 += w2c_j2;
     w2c_i2 = w2c_p1;
-    w2c_f71(instance, w2c_j0, w2c_j1, w2c_i2);
+    w2c_f72(instance, w2c_j0, w2c_j1, w2c_i2);
     w2c_j0 = 18446744073709551612ull;
     w2c_j1 = w2c_l5;
     w2c_i1 = (u32)(w2c_j1);
@@ -76095,7 +75063,7 @@ static u64 w2c_dine_raw_world_finish(Z_dine_ffi_instance_t* instance, u64 w2c_p0
           w2c_j3 = 8ull;
           w2c_j2 <<= (w2c_j3 & 63);
           w2c_j1 += w2c_j2;
-          w2c_f65(instance, w2c_j0, w2c_j1);
+          w2c_f66(instance, w2c_j0, w2c_j1);
           w2c_j0 = w2c_l3;
           w2c_i0 = (u32)(w2c_j0);
           w2c_i0 = i32_load8_u(&instance->w2c_memory, (u64)(w2c_i0) + 20u);
@@ -76146,7 +75114,7 @@ static u64 w2c_dine_raw_world_finish(Z_dine_ffi_instance_t* instance, u64 w2c_p0
         w2c_j1 = w2c_l3;
         w2c_j2 = 8ull;
         w2c_j1 += w2c_j2;
-        w2c_f72(instance, w2c_j0, w2c_j1);
+        w2c_f73(instance, w2c_j0, w2c_j1);
         w2c_j0 = w2c_l4;
         w2c_j1 = 1ull;
         w2c_j0 -= w2c_j1;
@@ -76419,7 +75387,7 @@ static u64 w2c_dine_raw_world_open(Z_dine_ffi_instance_t* instance, u64 w2c_p0, 
   w2c_j1 = w2c_l28;
   w2c_j2 = 4ull;
   w2c_j1 <<= (w2c_j2 & 63);
-  w2c_f113(instance, w2c_j0, w2c_j1);
+  w2c_f114(instance, w2c_j0, w2c_j1);
   w2c_j0 = w2c_l2;
   w2c_i0 = (u32)(w2c_j0);
   w2c_j0 = i64_load(&instance->w2c_memory, (u64)(w2c_i0) + 136u);
@@ -76546,7 +75514,7 @@ static u64 w2c_dine_raw_world_open(Z_dine_ffi_instance_t* instance, u64 w2c_p0, 
     w2c_j1 = w2c_l7;
     w2c_j2 = 40ull;
     w2c_j1 *= w2c_j2;
-    w2c_f113(instance, w2c_j0, w2c_j1);
+    w2c_f114(instance, w2c_j0, w2c_j1);
     w2c_j0 = w2c_l2;
     w2c_i0 = (u32)(w2c_j0);
     w2c_j0 = i64_load(&instance->w2c_memory, (u64)(w2c_i0) + 120u);
@@ -76567,7 +75535,7 @@ static u64 w2c_dine_raw_world_open(Z_dine_ffi_instance_t* instance, u64 w2c_p0, 
       w2c_j1 = 104ull;
       w2c_j0 += w2c_j1;
       w2c_j1 = 64ull;
-      w2c_f113(instance, w2c_j0, w2c_j1);
+      w2c_f114(instance, w2c_j0, w2c_j1);
       w2c_j0 = w2c_l2;
       w2c_i0 = (u32)(w2c_j0);
       w2c_j0 = i64_load(&instance->w2c_memory, (u64)(w2c_i0) + 104u);
@@ -76655,7 +75623,7 @@ static u64 w2c_dine_raw_world_open(Z_dine_ffi_instance_t* instance, u64 w2c_p0, 
     w2c_j1 = w2c_l3;
     w2c_j2 = 3ull;
     w2c_j1 <<= (w2c_j2 & 63);
-    w2c_f113(instance, w2c_j0, w2c_j1);
+    w2c_f114(instance, w2c_j0, w2c_j1);
     w2c_j0 = w2c_l2;
     w2c_i0 = (u32)(w2c_j0);
     w2c_j0 = i64_load(&instance->w2c_memory, (u64)(w2c_i0) + 88u);
@@ -76730,7 +75698,7 @@ static u64 w2c_dine_raw_world_open(Z_dine_ffi_instance_t* instance, u64 w2c_p0, 
   w2c_j0 = w2c_l2;
   w2c_j1 = 960ull;
   w2c_j0 += w2c_j1;
-  w2c_f61(instance, w2c_j0);
+  w2c_f62(instance, w2c_j0);
   w2c_B19:;
   w2c_i0 = w2c_l37;
   if (w2c_i0) {goto w2c_B5;}
@@ -76739,7 +75707,7 @@ static u64 w2c_dine_raw_world_open(Z_dine_ffi_instance_t* instance, u64 w2c_p0, 
   w2c_j0 = w2c_l2;
   w2c_j1 = 688ull;
   w2c_j0 += w2c_j1;
-  w2c_f61(instance, w2c_j0);
+  w2c_f62(instance, w2c_j0);
   w2c_i0 = w2c_l37;
   w2c_i0 = !(w2c_i0);
   if (w2c_i0) {goto w2c_B4;}
@@ -76751,7 +75719,7 @@ static u64 w2c_dine_raw_world_open(Z_dine_ffi_instance_t* instance, u64 w2c_p0, 
   w2c_j1 = w2c_l5;
   w2c_j2 = 192ull;
   w2c_j1 *= w2c_j2;
-  w2c_f113(instance, w2c_j0, w2c_j1);
+  w2c_f114(instance, w2c_j0, w2c_j1);
   w2c_j0 = w2c_l2;
   w2c_i0 = (u32)(w2c_j0);
   w2c_j0 = i64_load(&instance->w2c_memory, (u64)(w2c_i0) + 72u);
@@ -76769,7 +75737,7 @@ static u64 w2c_dine_raw_world_open(Z_dine_ffi_instance_t* instance, u64 w2c_p0, 
     w2c_j0 = w2c_l2;
     w2c_j1 = 688ull;
     w2c_j0 += w2c_j1;
-    w2c_f61(instance, w2c_j0);
+    w2c_f62(instance, w2c_j0);
     w2c_i0 = w2c_l37;
     w2c_i0 = !(w2c_i0);
     if (w2c_i0) {goto w2c_B4;}
@@ -76816,7 +75784,7 @@ static u64 w2c_dine_raw_world_open(Z_dine_ffi_instance_t* instance, u64 w2c_p0, 
   w2c_j2 = 3ull;
   w2c_j1 <<= (w2c_j2 & 63);
   w2c_l6 = w2c_j1;
-  w2c_f113(instance, w2c_j0, w2c_j1);
+  w2c_f114(instance, w2c_j0, w2c_j1);
   w2c_j0 = w2c_l2;
   w2c_i0 = (u32)(w2c_j0);
   w2c_j0 = i64_load(&instance->w2c_memory, (u64)(w2c_i0) + 56u);
@@ -76894,7 +75862,7 @@ static u64 w2c_dine_raw_world_open(Z_dine_ffi_instance_t* instance, u64 w2c_p0, 
   w2c_j2 = 2ull;
   w2c_j1 <<= (w2c_j2 & 63);
   w2c_l6 = w2c_j1;
-  w2c_f113(instance, w2c_j0, w2c_j1);
+  w2c_f114(instance, w2c_j0, w2c_j1);
   w2c_j0 = w2c_l2;
   w2c_i0 = (u32)(w2c_j0);
   w2c_j0 = i64_load(&instance->w2c_memory, (u64)(w2c_i0) + 40u);
@@ -76974,7 +75942,7 @@ static u64 w2c_dine_raw_world_open(Z_dine_ffi_instance_t* instance, u64 w2c_p0, 
   w2c_j0 = w2c_l2;
   w2c_j1 = 640ull;
   w2c_j0 += w2c_j1;
-  w2c_f60(instance, w2c_j0);
+  w2c_f61(instance, w2c_j0);
   w2c_i0 = w2c_l36;
   w2c_i0 = !(w2c_i0);
   if (w2c_i0) {
@@ -76984,7 +75952,7 @@ static u64 w2c_dine_raw_world_open(Z_dine_ffi_instance_t* instance, u64 w2c_p0, 
   w2c_j0 = w2c_l2;
   w2c_j1 = 688ull;
   w2c_j0 += w2c_j1;
-  w2c_f61(instance, w2c_j0);
+  w2c_f62(instance, w2c_j0);
   w2c_i0 = w2c_l37;
   w2c_i0 = !(w2c_i0);
   if (w2c_i0) {goto w2c_B4;}
@@ -76996,7 +75964,7 @@ static u64 w2c_dine_raw_world_open(Z_dine_ffi_instance_t* instance, u64 w2c_p0, 
   w2c_j1 = w2c_l21;
   w2c_j2 = 8ull;
   w2c_j1 <<= (w2c_j2 & 63);
-  w2c_f113(instance, w2c_j0, w2c_j1);
+  w2c_f114(instance, w2c_j0, w2c_j1);
   w2c_j0 = w2c_l2;
   w2c_i0 = (u32)(w2c_j0);
   w2c_j0 = i64_load(&instance->w2c_memory, (u64)(w2c_i0) + 24u);
@@ -77086,7 +76054,7 @@ static u64 w2c_dine_raw_world_open(Z_dine_ffi_instance_t* instance, u64 w2c_p0, 
     w2c_j2 = w2c_l5;
     w2c_i2 = (u32)(w2c_j2);
     w2c_l36 = w2c_i2;
-    w2c_f66(instance, w2c_j0, w2c_j1, w2c_i2);
+    w2c_f67(instance, w2c_j0, w2c_j1, w2c_i2);
     w2c_j0 = w2c_l2;
     w2c_i0 = (u32)(w2c_j0);
     w2c_i0 = i32_load8_u(&instance->w2c_memory, (u64)(w2c_i0) + 1192u);
@@ -77108,7 +76076,7 @@ static u64 w2c_dine_raw_world_open(Z_dine_ffi_instance_t* instance, u64 w2c_p0, 
     w2c_j0 += w2c_j1;
     w2c_j1 = w2c_l26;
     w2c_i2 = w2c_l36;
-    w2c_f67(instance, w2c_j0, w2c_j1, w2c_i2);
+    w2c_f68(instance, w2c_j0, w2c_j1, w2c_i2);
     w2c_j0 = w2c_l2;
     w2c_i0 = (u32)(w2c_j0);
     w2c_i0 = i32_load8_u(&instance->w2c_memory, (u64)(w2c_i0) + 1160u);
@@ -77152,7 +76120,7 @@ static u64 w2c_dine_raw_world_open(Z_dine_ffi_instance_t* instance, u64 w2c_p0, 
       w2c_j1 = 8ull;
       w2c_j0 += w2c_j1;
       w2c_j1 = w2c_l18;
-      w2c_f113(instance, w2c_j0, w2c_j1);
+      w2c_f114(instance, w2c_j0, w2c_j1);
       w2c_j0 = w2c_l2;
       w2c_i0 = (u32)(w2c_j0);
       w2c_j0 = i64_load(&instance->w2c_memory, (u64)(w2c_i0) + 8u);
@@ -77294,7 +76262,7 @@ static u64 w2c_dine_raw_world_open(Z_dine_ffi_instance_t* instance, u64 w2c_p0, 
       w2c_j4 = w2c_l2;
       w2c_j5 = 912ull;
       w2c_j4 += w2c_j5;
-      w2c_f68(instance, w2c_j0, w2c_j1, w2c_i2, w2c_j3, w2c_j4);
+      w2c_f69(instance, w2c_j0, w2c_j1, w2c_i2, w2c_j3, w2c_j4);
       w2c_j0 = w2c_l2;
       w2c_i0 = (u32)(w2c_j0);
       w2c_i0 = i32_load8_u(&instance->w2c_memory, (u64)(w2c_i0) + 960u);
@@ -77487,7 +76455,7 @@ static u64 w2c_dine_raw_world_open(Z_dine_ffi_instance_t* instance, u64 w2c_p0, 
         w2c_j1 = w2c_l2;
         w2c_j2 = 960ull;
         w2c_j1 += w2c_j2;
-        w2c_f63(instance, w2c_j0, w2c_j1);
+        w2c_f64(instance, w2c_j0, w2c_j1);
         w2c_j0 = w2c_l2;
         w2c_i0 = (u32)(w2c_j0);
         w2c_j0 = i64_load(&instance->w2c_memory, (u64)(w2c_i0) + 1208u);
@@ -78102,7 +77070,7 @@ static u64 w2c_dine_raw_world_open(Z_dine_ffi_instance_t* instance, u64 w2c_p0, 
   w2c_j1 = 152ull;
   w2c_j0 += w2c_j1;
   w2c_j1 = w2c_p1;
-  w2c_j0 = w2c_f56(instance, w2c_j0, w2c_j1);
+  w2c_j0 = w2c_f57(instance, w2c_j0, w2c_j1);
   goto w2c_B3;
   w2c_B11:;
   UNREACHABLE;
@@ -78112,7 +77080,7 @@ static u64 w2c_dine_raw_world_open(Z_dine_ffi_instance_t* instance, u64 w2c_p0, 
   w2c_j0 = w2c_l2;
   w2c_j1 = 640ull;
   w2c_j0 += w2c_j1;
-  w2c_f60(instance, w2c_j0);
+  w2c_f61(instance, w2c_j0);
   w2c_i0 = w2c_l36;
   w2c_i0 = !(w2c_i0);
   if (w2c_i0) {
@@ -78122,7 +77090,7 @@ static u64 w2c_dine_raw_world_open(Z_dine_ffi_instance_t* instance, u64 w2c_p0, 
   w2c_j0 = w2c_l2;
   w2c_j1 = 688ull;
   w2c_j0 += w2c_j1;
-  w2c_f61(instance, w2c_j0);
+  w2c_f62(instance, w2c_j0);
   w2c_i0 = w2c_l37;
   w2c_i0 = !(w2c_i0);
   if (w2c_i0) {goto w2c_B4;}
@@ -78135,7 +77103,7 @@ static u64 w2c_dine_raw_world_open(Z_dine_ffi_instance_t* instance, u64 w2c_p0, 
   w2c_j0 = w2c_l2;
   w2c_j1 = 640ull;
   w2c_j0 += w2c_j1;
-  w2c_f60(instance, w2c_j0);
+  w2c_f61(instance, w2c_j0);
   w2c_j0 = w2c_l2;
   w2c_j1 = 664ull;
   w2c_j0 += w2c_j1;
@@ -78199,7 +77167,7 @@ static u64 w2c_dine_raw_world_open(Z_dine_ffi_instance_t* instance, u64 w2c_p0, 
   w2c_j0 = w2c_l2;
   w2c_j1 = 688ull;
   w2c_j0 += w2c_j1;
-  w2c_f61(instance, w2c_j0);
+  w2c_f62(instance, w2c_j0);
   w2c_i0 = w2c_l37;
   w2c_i0 = !(w2c_i0);
   if (w2c_i0) {goto w2c_B4;}
@@ -78436,7 +77404,7 @@ static u64 w2c_dine_raw_world_replay(Z_dine_ffi_instance_t* instance, u64 w2c_p0
           w2c_i1 = (u32)(w2c_j1);
           w2c_j2 = w2c_l7;
           w2c_i3 = w2c_l14;
-          w2c_i2 = w2c_f70(instance, w2c_j2, w2c_i3);
+          w2c_i2 = w2c_f71(instance, w2c_j2, w2c_i3);
           i32_store(&instance->w2c_memory, (u64)(w2c_i1), w2c_i2);
           w2c_j1 = 18446744073709551614ull;
           w2c_j2 = w2c_l4;
@@ -78469,7 +77437,7 @@ static u64 w2c_dine_raw_world_replay(Z_dine_ffi_instance_t* instance, u64 w2c_p0
       w2c_j2 += w2c_j3;
       w2c_i2 = (u32)(w2c_j2);
       w2c_i2 = i32_load(&instance->w2c_memory, (u64)(w2c_i2));
-      w2c_f71(instance, w2c_j0, w2c_j1, w2c_i2);
+      w2c_f72(instance, w2c_j0, w2c_j1, w2c_i2);
       w2c_j0 = w2c_l3;
       w2c_i0 = (u32)(w2c_j0);
       w2c_i0 = i32_load8_u(&instance->w2c_memory, (u64)(w2c_i0));
@@ -78498,7 +77466,7 @@ static u64 w2c_dine_raw_world_replay(Z_dine_ffi_instance_t* instance, u64 w2c_p0
         w2c_j1 = w2c_l3;
         w2c_j2 = 20ull;
         w2c_j1 += w2c_j2;
-        w2c_f72(instance, w2c_j0, w2c_j1);
+        w2c_f73(instance, w2c_j0, w2c_j1);
         w2c_j0 = w2c_l6;
         w2c_j1 = 1ull;
         w2c_j0 += w2c_j1;
@@ -79026,7 +77994,7 @@ static u64 w2c_dine_raw_world_step(Z_dine_ffi_instance_t* instance, u64 w2c_p0, 
     w2c_j1 = w2c_l6;
     w2c_j2 = 4ull;
     w2c_j1 += w2c_j2;
-    w2c_f72(instance, w2c_j0, w2c_j1);
+    w2c_f73(instance, w2c_j0, w2c_j1);
     w2c_j0 = 0ull;
     w2c_l7 = w2c_j0;
     w2c_B1:;
@@ -79188,7 +78156,7 @@ static u64 w2c_dine_raw_world_value(Z_dine_ffi_instance_t* instance, u64 w2c_p0,
     w2c_j2 = 8ull;
     w2c_j1 += w2c_j2;
     w2c_i2 = w2c_p1;
-    w2c_f74(instance, w2c_j0, w2c_j1, w2c_i2);
+    w2c_f75(instance, w2c_j0, w2c_j1, w2c_i2);
     w2c_j0 = 18446744073709551612ull;
     w2c_j1 = w2c_l2;
     w2c_i1 = (u32)(w2c_j1);
@@ -79926,7 +78894,7 @@ static u64 w2c_dine_raw_site_take(Z_dine_ffi_instance_t* instance, u64 w2c_p0, u
     if (w2c_i0) {goto w2c_B18;}
     w2c_j0 = w2c_l3;
     w2c_j1 = 8ull;
-    w2c_f113(instance, w2c_j0, w2c_j1);
+    w2c_f114(instance, w2c_j0, w2c_j1);
     w2c_j0 = w2c_l3;
     w2c_i0 = (u32)(w2c_j0);
     w2c_j0 = i64_load(&instance->w2c_memory, (u64)(w2c_i0));
@@ -80218,7 +79186,7 @@ static u64 w2c_dine_raw_site_take(Z_dine_ffi_instance_t* instance, u64 w2c_p0, u
     w2c_j3 = w2c_l3;
     w2c_j4 = 16ull;
     w2c_j3 += w2c_j4;
-    w2c_f75(instance, w2c_j0, w2c_j1, w2c_i2, w2c_j3);
+    w2c_f76(instance, w2c_j0, w2c_j1, w2c_i2, w2c_j3);
     w2c_j0 = w2c_l3;
     w2c_i0 = (u32)(w2c_j0);
     w2c_i0 = i32_load8_u(&instance->w2c_memory, (u64)(w2c_i0) + 32u);
@@ -80322,7 +79290,7 @@ static u64 w2c_dine_raw_site_take(Z_dine_ffi_instance_t* instance, u64 w2c_p0, u
     w2c_j3 = w2c_l3;
     w2c_j4 = 16ull;
     w2c_j3 += w2c_j4;
-    w2c_f75(instance, w2c_j0, w2c_j1, w2c_i2, w2c_j3);
+    w2c_f76(instance, w2c_j0, w2c_j1, w2c_i2, w2c_j3);
     w2c_j0 = w2c_l3;
     w2c_i0 = (u32)(w2c_j0);
     w2c_i0 = i32_load8_u(&instance->w2c_memory, (u64)(w2c_i0) + 32u);
@@ -80395,7 +79363,7 @@ static u64 w2c_dine_raw_site_take(Z_dine_ffi_instance_t* instance, u64 w2c_p0, u
     w2c_j3 = w2c_l3;
     w2c_j4 = 16ull;
     w2c_j3 += w2c_j4;
-    w2c_f75(instance, w2c_j0, w2c_j1, w2c_i2, w2c_j3);
+    w2c_f76(instance, w2c_j0, w2c_j1, w2c_i2, w2c_j3);
     w2c_j0 = w2c_l3;
     w2c_i0 = (u32)(w2c_j0);
     w2c_i0 = i32_load8_u(&instance->w2c_memory, (u64)(w2c_i0) + 32u);
@@ -80468,7 +79436,7 @@ static u64 w2c_dine_raw_site_take(Z_dine_ffi_instance_t* instance, u64 w2c_p0, u
     w2c_j3 = w2c_l3;
     w2c_j4 = 16ull;
     w2c_j3 += w2c_j4;
-    w2c_f75(instance, w2c_j0, w2c_j1, w2c_i2, w2c_j3);
+    w2c_f76(instance, w2c_j0, w2c_j1, w2c_i2, w2c_j3);
     w2c_j0 = w2c_l3;
     w2c_i0 = (u32)(w2c_j0);
     w2c_i0 = i32_load8_u(&instance->w2c_memory, (u64)(w2c_i0) + 32u);
@@ -80780,7 +79748,7 @@ static u64 w2c_dine_raw_world_fork(Z_dine_ffi_instance_t* instance, u64 w2c_p0, 
     w2c_j2 = 8ull;
     w2c_j1 += w2c_j2;
     w2c_i2 = w2c_p1;
-    w2c_f74(instance, w2c_j0, w2c_j1, w2c_i2);
+    w2c_f75(instance, w2c_j0, w2c_j1, w2c_i2);
     w2c_j0 = w2c_l6;
     w2c_i0 = (u32)(w2c_j0);
     w2c_i0 = i32_load8_u(&instance->w2c_memory, (u64)(w2c_i0));
@@ -80957,7 +79925,7 @@ static u64 w2c_dine_raw_plan_refusal(Z_dine_ffi_instance_t* instance, u64 w2c_p0
     w2c_j0 = w2c_l4;
     w2c_i0 = (u32)(w2c_j0);
     w2c_j0 = i64_load(&instance->w2c_memory, (u64)(w2c_i0) + 8u);
-    w2c_f57(instance, w2c_j0);
+    w2c_f58(instance, w2c_j0);
     w2c_j0 = 0ull;
     w2c_p0 = w2c_j0;
     goto w2c_B0;
@@ -81565,7 +80533,7 @@ static u64 w2c_dine_raw_plan_refusal(Z_dine_ffi_instance_t* instance, u64 w2c_p0
       w2c_j0 = w2c_l8;
       w2c_j1 = 1060428ull;
       w2c_j2 = 4ull;
-      w2c_i0 = w2c_f76(instance, w2c_j0, w2c_j1, w2c_j2);
+      w2c_i0 = w2c_f77(instance, w2c_j0, w2c_j1, w2c_j2);
       w2c_i1 = 255u;
       w2c_i0 &= w2c_i1;
       w2c_i0 = !(w2c_i0);
@@ -81599,7 +80567,7 @@ static u64 w2c_dine_raw_plan_refusal(Z_dine_ffi_instance_t* instance, u64 w2c_p0
     w2c_j3 = w2c_l6;
     w2c_j4 = w2c_l11;
     w2c_j3 -= w2c_j4;
-    w2c_i1 = w2c_f76(instance, w2c_j1, w2c_j2, w2c_j3);
+    w2c_i1 = w2c_f77(instance, w2c_j1, w2c_j2, w2c_j3);
     w2c_i2 = 255u;
     w2c_i1 &= w2c_i2;
     if (w2c_i1) {goto w2c_B36;}
@@ -81634,7 +80602,7 @@ static u64 w2c_dine_raw_plan_refusal(Z_dine_ffi_instance_t* instance, u64 w2c_p0
     w2c_j0 = w2c_l8;
     w2c_j1 = 1060428ull;
     w2c_j2 = 4ull;
-    w2c_i0 = w2c_f76(instance, w2c_j0, w2c_j1, w2c_j2);
+    w2c_i0 = w2c_f77(instance, w2c_j0, w2c_j1, w2c_j2);
     w2c_i1 = 255u;
     w2c_i0 &= w2c_i1;
     w2c_i0 = !(w2c_i0);
@@ -81673,7 +80641,7 @@ static u64 w2c_dine_raw_plan_refusal(Z_dine_ffi_instance_t* instance, u64 w2c_p0
   w2c_j5 = w2c_l6;
   w2c_i4 = w2c_j4 < w2c_j5;
   w2c_j2 = w2c_i4 ? w2c_j2 : w2c_j3;
-  w2c_i0 = w2c_f76(instance, w2c_j0, w2c_j1, w2c_j2);
+  w2c_i0 = w2c_f77(instance, w2c_j0, w2c_j1, w2c_j2);
   w2c_i1 = 255u;
   w2c_i0 &= w2c_i1;
   w2c_B36:;
@@ -81990,7 +80958,7 @@ static u64 w2c_dine_raw_plan_refusal(Z_dine_ffi_instance_t* instance, u64 w2c_p0
   return w2c_j0;
 }
 
-static void w2c_f113(Z_dine_ffi_instance_t* instance, u64 w2c_p0, u64 w2c_p1) {
+static void w2c_f114(Z_dine_ffi_instance_t* instance, u64 w2c_p0, u64 w2c_p1) {
   u64 w2c_l2 = 0, w2c_l3 = 0, w2c_l4 = 0, w2c_l5 = 0;
   FUNC_PROLOGUE;
   u32 w2c_i0, w2c_i1;
@@ -82139,7 +81107,7 @@ static void w2c_leave(Z_dine_ffi_instance_t* instance, u64 w2c_p0) {
   FUNC_EPILOGUE;
 }
 
-static void w2c_f115(Z_dine_ffi_instance_t* instance, u64 w2c_p0, u64 w2c_p1, u64 w2c_p2, u64 w2c_p3) {
+static void w2c_f116(Z_dine_ffi_instance_t* instance, u64 w2c_p0, u64 w2c_p1, u64 w2c_p2, u64 w2c_p3) {
   u64 w2c_l4 = 0, w2c_l5 = 0, w2c_l6 = 0, w2c_l7 = 0, w2c_l8 = 0;
   FUNC_PROLOGUE;
   u32 w2c_i0, w2c_i1, w2c_i2;
@@ -82526,7 +81494,7 @@ static void w2c_reset(Z_dine_ffi_instance_t* instance) {
   FUNC_EPILOGUE;
 }
 
-static void w2c_f118(Z_dine_ffi_instance_t* instance, u64 w2c_p0, u64 w2c_p1, u64 w2c_p2, u64 w2c_p3) {
+static void w2c_f119(Z_dine_ffi_instance_t* instance, u64 w2c_p0, u64 w2c_p1, u64 w2c_p2, u64 w2c_p3) {
   u64 w2c_l4 = 0, w2c_l5 = 0;
   FUNC_PROLOGUE;
   u32 w2c_i0;
@@ -82591,7 +81559,7 @@ static void w2c_f118(Z_dine_ffi_instance_t* instance, u64 w2c_p0, u64 w2c_p1, u6
   FUNC_EPILOGUE;
 }
 
-static void w2c_f119(Z_dine_ffi_instance_t* instance, u64 w2c_p0, u64 w2c_p1, u64 w2c_p2, u32 w2c_p3) {
+static void w2c_f120(Z_dine_ffi_instance_t* instance, u64 w2c_p0, u64 w2c_p1, u64 w2c_p2, u32 w2c_p3) {
   u64 w2c_l4 = 0, w2c_l5 = 0;
   FUNC_PROLOGUE;
   u32 w2c_i0, w2c_i1, w2c_i2, w2c_i3;

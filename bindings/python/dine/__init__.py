@@ -34,7 +34,7 @@ _WORDS = {
     -1: "the handle is closed",
     -2: "the handle is of another kind",
     -3: "the rules do not allow the event now",
-    -4: "there is no such site, edge, place or event",
+    -4: "there is no such site, edge, place or event, or its fork is elsewhere",
     -5: "an allocation failed",
     -6: "the buffer is too small",
     -7: "the site eats",
@@ -406,11 +406,11 @@ class Site(_Owner):
         _answer(_LIB.dine_site_end(byref(self._handle), failed))
 
     def log(self, place: int) -> list[Period]:
-        """The log of the fork in hand at the place."""
+        """The log of the fork in hand at the place. Raises ``DineError`` if the neighbour has it."""
         return self._periods(_LIB.dine_site_fork, place)
 
     def value(self, place: int) -> int:
-        """The value of the fork in hand at the place."""
+        """The value of the fork in hand at the place. Raises ``DineError`` if the neighbour has it."""
         return _answer(_LIB.dine_site_value(byref(self._handle), place))
 
     def __repr__(self) -> str:

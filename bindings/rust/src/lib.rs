@@ -27,7 +27,7 @@ pub use table::Values;
 pub enum Error {
     /// The rules do not allow the event now. Nothing changed.
     NotNow,
-    /// There is no such site, edge, place or event.
+    /// There is no such site, edge, place or event, or the site does not have the fork of the place.
     NoSuch,
     /// An allocation failed.
     Memory,
@@ -96,7 +96,7 @@ impl fmt::Display for Error {
     fn fmt(&self, f: &mut fmt::Formatter<'_>) -> fmt::Result {
         match self {
             Error::NotNow => f.write_str("the rules do not allow the event now"),
-            Error::NoSuch => f.write_str("there is no such site, edge, place or event"),
+            Error::NoSuch => f.write_str("there is no such site, edge, place or event, or its fork is elsewhere"),
             Error::Memory => f.write_str("an allocation failed"),
             Error::Eating => f.write_str("the site eats"),
             Error::NoLetter(n) => write!(f, "the bytes are no letter ({n})"),
@@ -530,12 +530,12 @@ impl Site {
         Ok(())
     }
 
-    /// The log of the fork in hand at a place.
+    /// The log of the fork in hand at a place; `NoSuch` if the neighbour has it.
     pub fn log(&self, place: u32) -> Result<Vec<Period>> {
         self.handle.periods(|h, out, room| unsafe { sys::dine_site_fork(h, place, out, room) })
     }
 
-    /// The value of the fork in hand at a place.
+    /// The value of the fork in hand at a place; `NoSuch` if the neighbour has it.
     pub fn value(&self, place: u32) -> Result<u64> {
         answer(unsafe { sys::dine_site_value(self.handle.get(), place) })
     }

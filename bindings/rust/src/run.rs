@@ -5,7 +5,7 @@
 
 use crate::table::{Seats, Values, Worker};
 use crate::{Error, Period, Plan, Result};
-use std::sync::atomic::{AtomicU64, Ordering};
+use std::sync::atomic::{AtomicBool, AtomicU64, Ordering};
 use std::time::{Duration, Instant};
 
 // What tells each worker and each edge of this process from all others, whatever their table.
@@ -110,17 +110,18 @@ impl<T: Send> Table<T> {
         id
     }
 
-    /// From now on a worker may eat again and again before a neighbour that waits: forks move less often, and a run
-    /// takes less time.
+    /// In the run a worker may eat again and again before a neighbour that waits: forks move less often, and a run takes
+    /// less time.
     pub fn eager(&mut self) {
         self.eager = true;
     }
 
+    // The plan. A worker may give up the meals that it has left, after one that is told as failed.
     fn plan(&self) -> Result<Plan> {
-        let mut text = String::from("version = 1\n");
+        let mut text = String::from("version = 2\n");
         for (name, meals) in &self.workers {
             let jobs = vec!["{ name = \"job\" }"; *meals as usize].join(", ");
-            text += &format!("[[site]]\nname = {name:?}\njobs = [{jobs}]\n");
+            text += &format!("[[site]]\nname = {name:?}\njobs = [{jobs}]\non_fault = \"resign\"\n");
         }
         for (one, other) in &self.edges {
             text += &format!("[[edge]]\nends = [{:?}, {:?}]\n", self.name(*one)?, self.name(*other)?);
@@ -147,16 +148,33 @@ impl<T: Send> Table<T> {
         watch: &dyn Watch,
         job: impl Fn(&mut Meal<'_, '_, T>) -> std::result::Result<R, E> + Sync,
     ) -> Result<Done<T, R, E>> {
+        self.run_until(&AtomicBool::new(false), watch, job)
+    }
+
+    /// The same until `stop` is set, by any thread: then no job is begun any more, and each worker gives up the meals
+    /// that it has left. A job that has begun is not interrupted.
+    ///
+    /// # Errors
+    ///
+    /// Those of [`Table::run`].
+    pub fn run_until<R: Send, E: Send>(
+        self,
+        stop: &AtomicBool,
+        watch: &dyn Watch,
+        job: impl Fn(&mut Meal<'_, '_, T>) -> std::result::Result<R, E> + Sync,
+    ) -> Result<Done<T, R, E>> {
         let plan = self.plan()?;
         let names = self.workers.iter().map(|it| it.0.clone()).collect();
         let seats = Seats::set(&plan, self.values)?;
-        let (job, meals, ids, eager) = (&job, &self.workers, &self.ids, self.eager);
+        let (job, meals, ids) = (&job, &self.workers, &self.ids);
+        let eager = self.eager;
         let ran = std::thread::scope(|scope| {
             let threads: Vec<_> = seats
                 .into_iter()
                 .map(|seat| {
                     let (name, count) = (&meals[seat.site() as usize].0, meals[seat.site() as usize].1);
-                    scope.spawn(move || run_one(seat.sit(), ids, name, count, eager, watch, job))
+                    let worker = if eager { seat.sit().eager() } else { seat.sit() };
+                    scope.spawn(move || run_one(worker, ids, name, count, stop, watch, job))
                 })
                 .collect();
             threads.into_iter().map(|it| it.join()).collect::<Vec<_>>()
@@ -191,32 +209,40 @@ fn run_one<T, R, E>(
     ids: &[WorkerId],
     name: &str,
     meals: u32,
-    eager: bool,
+    stop: &AtomicBool,
     watch: &dyn Watch,
     job: &(impl Fn(&mut Meal<'_, '_, T>) -> std::result::Result<R, E> + Sync),
 ) -> Ran<T, R, E> {
-    if eager {
-        worker = worker.eager();
-    }
     let id = ids[worker.site() as usize];
     let neighbours: Vec<_> = worker.neighbours().into_iter().map(|site| ids[site as usize]).collect();
     let mut results = Vec::with_capacity(meals as usize);
     for k in 1..=meals {
         let hungry = Instant::now();
-        results.push(worker.eat(|values| {
-            watch.begins(name, k, hungry.elapsed());
-            let begun = Instant::now();
-            let result = job(&mut Meal { name, worker: id, k, neighbours: &neighbours, values });
-            watch.ends(name, k, result.is_ok(), begun.elapsed());
-            result
-        })?);
+        let eaten = worker.eat_as(
+            |values| {
+                if stop.load(Ordering::Relaxed) {
+                    return None;
+                }
+                watch.begins(name, k, hungry.elapsed());
+                let begun = Instant::now();
+                let result = job(&mut Meal { name, worker: id, k, neighbours: &neighbours, values });
+                watch.ends(name, k, result.is_ok(), begun.elapsed());
+                Some(result)
+            },
+            Option::is_none,
+        )?;
+        match eaten {
+            Some(result) => results.push(result),
+            // Its site was told that the job failed, so it gives up the meals that are left.
+            None => break,
+        }
     }
     Ok((results, worker.leave()?))
 }
 
-impl<T> Meal<'_, '_, T> {
-    /// Returns the name of the worker.
-    pub fn name(&self) -> &str {
+impl<'a, T> Meal<'a, '_, T> {
+    /// Returns the name of the worker, which may be kept beside the values.
+    pub fn name(&self) -> &'a str {
         self.name
     }
 
@@ -272,7 +298,7 @@ impl<T, R, E> Done<T, R, E> {
         self.values
     }
 
-    /// Returns what the jobs of a worker returned, in order.
+    /// Returns what the jobs of a worker returned, in order, one for each job that was begun.
     ///
     /// # Panics
     ///

@@ -147,6 +147,15 @@ impl<T> Worker<T> {
         &mut self,
         job: impl FnOnce(&mut Values<'_, T>) -> std::result::Result<R, E>,
     ) -> Result<std::result::Result<R, E>> {
+        self.eat_as(job, std::result::Result::is_err)
+    }
+
+    // Eats once. `failed` says of what the job returned whether the job failed.
+    pub(crate) fn eat_as<R>(
+        &mut self,
+        job: impl FnOnce(&mut Values<'_, T>) -> R,
+        failed: impl FnOnce(&R) -> bool,
+    ) -> Result<R> {
         if self.polite {
             self.attend()?;
         }
@@ -162,7 +171,7 @@ impl<T> Worker<T> {
         }
         self.site.begin()?;
         let done = job(&mut Values { places: &mut self.places });
-        self.site.end(done.is_err())?;
+        self.site.end(failed(&done))?;
         Ok(done)
     }
 

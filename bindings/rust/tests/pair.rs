@@ -260,3 +260,26 @@ fn a_panic_of_a_job_goes_on_whoever_panicked() {
         assert_eq!(payload.downcast_ref::<&str>(), Some(&"it was me"));
     }
 }
+
+#[test]
+fn a_run_that_is_stopped_begins_no_job_any_more() {
+    let stop = std::sync::atomic::AtomicBool::new(false);
+    let mut table = Table::new();
+    let workers = ["ann", "bob", "cid"].map(|name| table.worker(name, 1_000));
+    let edges = [(0, 1), (1, 2), (2, 0)].map(|(i, j)| table.edge(workers[i], workers[j], 0u32));
+    let done = table
+        .run_until(&stop, &(), |meal| {
+            meal.values().for_each(|(_, value)| *value += 1);
+            if meal.k() == 10 {
+                stop.store(true, std::sync::atomic::Ordering::SeqCst);
+            }
+            if meal.k() % 2 == 0 { Err(meal.k()) } else { Ok(()) }
+        })
+        .unwrap();
+    let ate: Vec<_> = workers.iter().map(|it| done.results(*it).len()).collect();
+    assert!(ate.iter().all(|it| *it <= 12) && ate.iter().any(|it| *it >= 10), "{ate:?}");
+    // A job that fails stops nobody.
+    assert_eq!(done.failures().count(), ate.iter().map(|it| it / 2).sum::<usize>());
+    let all = edges.iter().map(|it| *done.value(*it) as usize).sum::<usize>();
+    assert_eq!(all, 2 * ate.iter().sum::<usize>());
+}
