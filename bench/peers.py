@@ -2,30 +2,27 @@
 import contextlib
 import os
 import re
-import resource
 import statistics
 import subprocess
 import sys
 
 HOME = os.path.dirname(os.path.dirname(os.path.realpath(__file__)))
 sys.path.append(f"{HOME}/tools")
-from trying import Words, program_of  # noqa: E402
+from trying import BOUND, Words, program_of  # noqa: E402
 
-# It ends when the one who started it has ended, whatever ended that.
-LOOP = """
-import os, sys
-while os.getppid() == int(sys.argv[1]):
-    for _ in range(1_000_000):
-        pass
-"""
+# The number in the middle, which is one of them.
+middle = statistics.median_high
 
 
-def numbers_of(text, **defaults):
-    """Returns the arguments of a measure: its text, and numbers that may be left out, each by its name."""
+def arguments_of(text, numbers, graphs=()):
+    """Returns the arguments of a measure: its text; numbers, by name, with what is taken if none is said, and what it
+    is; and graphs."""
     it = Words(text)
-    for name, default in defaults.items():
-        how = {"type": int, "nargs": "?", "default": default, "help": f"if none is said, {default}"}
-        it.add_argument(name, metavar=name.upper(), **how)
+    for name, (default, what) in numbers.items():
+        how = {"metavar": "N"} if name.startswith("--") else {"metavar": name.upper(), "nargs": "?"}
+        it.add_argument(name, type=int, default=default, help=f"{what}; {default}", **how)
+    if graphs:
+        it.add_argument("graphs", metavar="GRAPH", nargs="*", default=graphs, help=f"{' '.join(graphs)}, or others")
     return it
 
 
@@ -38,10 +35,7 @@ def built(crate, *words):
 
 def cargo(folder, *words):
     """Runs cargo on bench/peer, offline with the packages of Debian. It builds in the folder."""
-    listed = ["dpkg", "-L", "librust-crossbeam-channel-dev"]
-    files = subprocess.run(listed, stdout=subprocess.PIPE, text=True, check=True).stdout
-    sources = os.path.dirname(os.path.dirname(next(it for it in files.split("\n") if it.endswith("/Cargo.toml"))))
-    where = ['source.crates-io.replace-with="debian"', f'source.debian.directory="{sources}"']
+    where = ['source.crates-io.replace-with="debian"', 'source.debian.directory="/usr/share/cargo/registry"']
     command = ["cargo", *words, "--release", "--quiet", "--offline", "--target-dir", folder]
     command += [word for it in where for word in ("--config", it)]
     subprocess.run(command, cwd=f"{HOME}/bench/peer", check=True)
@@ -51,7 +45,7 @@ def cargo(folder, *words):
 @contextlib.contextmanager
 def loops(count):
     """Has this number of processes count while the body is done."""
-    started = [subprocess.Popen([sys.executable, "-c", LOOP, str(os.getpid())]) for _ in range(count)]
+    started = [subprocess.Popen([*BOUND, sys.executable, "-c", "while True: pass"]) for _ in range(count)]
     try:
         yield
     finally:
@@ -67,17 +61,22 @@ def counts_of(command, plan):
     return {name: float(count) if "." in count else int(count) for name, count in found}
 
 
-def measured(command, plan, runs):
-    """Returns the median time of the runs of a command in milliseconds, its counts, and the sleeps of a run."""
-    before = resource.getrusage(resource.RUSAGE_CHILDREN).ru_nvcsw
-    told = counts_of(command, plan)
-    slept = resource.getrusage(resource.RUSAGE_CHILDREN).ru_nvcsw - before
-    counts = {name: told.get(name) for name in ("letters", "wakes")}
-    return {"time": told["median"] / 1000, "sleeps": slept // runs, **counts}
+def times_of(commands, plan, rounds):
+    """Runs the commands in turn on a plan, and returns the milliseconds that each told in each round, by its name."""
+    times = {name: [] for name in commands}
+    for name in [*commands] * rounds:
+        times[name].append(counts_of(commands[name], plan)["median"] / 1000)
+    return times
 
 
-# The number in the middle, which is one of them.
-middle = statistics.median_high
+def ratio(times, one, other):
+    """Returns the ratio of two times of one round, of the round in the middle."""
+    return middle([a / b for a, b in zip(times[one], times[other])])
+
+
+def shown(number):
+    """Returns a number with three digits that count, and no fewer than those before the point."""
+    return f"{number:.2f}" if number < 10 else f"{number:.1f}" if number < 100 else f"{number:,.0f}"
 
 
 def line(*cells):
