@@ -6,6 +6,8 @@ import { element } from "./marks.js";
 const BOX = { letters: 18, wide: 8, high: 17 };
 // How far a box is from its thing, in the order in which places are tried, and in how many directions.
 const TRIED = { far: [14, 30, 55, 90], ways: 16 };
+// What it costs that the leader crosses another thing, and at which parts of its way that is looked for.
+const CROSSED = { cost: 400, parts: [0, 0.25, 0.5, 0.75] };
 
 function rowsOf(words) {
   const rows = [""];
@@ -23,6 +25,15 @@ function covered(one, other) {
   return Math.max(0, wide) * Math.max(0, high);
 }
 
+// How many things a leader crosses from its thing so far in a direction, besides those that the thing is on.
+function crossed(thing, right, down, far, others) {
+  const has = (it, x, y) => Math.abs(it.x - x) < it.wide && Math.abs(it.y - y) < it.high;
+  const points = CROSSED.parts.map((part) => thing.radius + part * far);
+  return others.filter((it) => {
+    return !has(it, thing.x, thing.y) && points.some((out) => has(it, thing.x + right * out, thing.y + down * out));
+  }).length;
+}
+
 // The best place for a box beside a thing: within the picture, off what is drawn there, and near.
 function bestBox(size, thing, { width, height }, others) {
   let best = null;
@@ -34,7 +45,8 @@ function bestBox(size, thing, { width, height }, others) {
       const box = { ...size, x: thing.x + right * out, y: thing.y + down * out };
       const left = Math.max(0, size.wide + 3 - box.x, box.x + size.wide + 3 - width);
       const over = Math.max(0, size.high + 3 - box.y, box.y + size.high + 3 - height);
-      const cost = others.reduce((sum, it) => sum + covered(box, it), 0) + 1000 * (left + over) + 2 * far;
+      const covers = others.reduce((sum, it) => sum + covered(box, it), 0) + 1000 * (left + over);
+      const cost = covers + CROSSED.cost * crossed(thing, right, down, out - thing.radius, others) + 2 * far;
       if (!best || cost < best.cost) best = { ...box, cost };
     }
   }

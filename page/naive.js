@@ -48,7 +48,7 @@ export class NaiveTable {
     this.holders = this.edges.map(() => null);
     this.turn = 0;
     this.events = 0;
-    this.words = "the start: all forks are on the table";
+    this.words = "The start: all forks are on the table";
   }
 
   wanted(site) {

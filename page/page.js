@@ -239,7 +239,7 @@ async function begin() {
   watchSize();
   listen();
   const { catalog } = page.program;
-  Object.assign(page, { first: catalog.first, lessons: catalog.lessons });
+  Object.assign(page, { first: catalog.first, made: catalog.lesson, lessons: catalog.lessons });
   for (const { path, text } of catalog.plans) page.plans.set(path, text);
   found("unproved").hidden = !catalog.unproved;
   for (const path of page.plans.keys()) found("plans").add(new Option(nameOf(path), path));
@@ -262,7 +262,10 @@ function openAddress(address = location.hash) {
     showRate();
     const path = said.plan === null ? said.path ?? page.first : pathOf(said.plan);
     if (said.plan === null && !page.plans.has(path)) throw new Error(`there is no plan ${path} here`);
-    const lesson = said.own ? lessonSent(said.own) : said.lesson ? lessonOf(said.lesson) : null;
+    // An address that names no schedule shows a moment of the lesson that the page was made for.
+    const hasSchedule = said.path !== null || said.plan !== null || said.list.length > 0;
+    const named = said.lesson ?? (hasSchedule ? null : page.made);
+    const lesson = said.own ? lessonSent(said.own) : named ? lessonOf(named) : null;
     const place = between(0, said.moment, Math.max(0, (lesson?.moments.length ?? 0) - 1));
     if (lesson?.moments.length && said.path === null && said.plan === null) {
       await openScheduleOf(lesson, place);
@@ -276,12 +279,7 @@ function openAddress(address = location.hash) {
 }
 
 // Opens the lesson or the plan that the page begins with.
-async function openFirst({ lesson, begin }) {
-  if (lesson && location.hash.length < 2) {
-    found("lessons").value = lesson;
-    await openLesson();
-    return;
-  }
+async function openFirst({ begin }) {
   await openAddress(location.hash.length < 2 ? begin : location.hash);
   // An address that shows nothing leaves the plan to be seen that the page was made for, and its fault.
   const plan = page.plans.get(page.first);

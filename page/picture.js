@@ -155,7 +155,7 @@ export class Picture {
   // The name of a small site, outside of the circle and along its radius.
   nameBeside(place, site, group) {
     const name = element("text", { class: "beside", "font-size": place.radius < 7 ? 10 : 11 }, group);
-    name.textContent = shortened(site.name, SHOWN, this.common);
+    name.textContent = shortened(site.name, place.letters, this.common);
     const angle = place.angle ?? -TURN / 4;
     const isLeft = Math.cos(angle) < -0.001;
     const far = 1.3 * place.radius + 5;

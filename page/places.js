@@ -6,9 +6,12 @@ export const TURN = 2 * Math.PI;
 // The radius of a site: the least, the largest, and from which on its name, its phase and its meals fit inside.
 export const SITE = { least: 5, most: 46, name: 21, phase: 26, meals: 37 };
 // How large a mark on an edge is, and from which size on forks are long.
-const MARK = { least: 6, wide: 8, most: 28 };
+const MARK = { least: 5, wide: 8, most: 28 };
 // How many letters of a name a picture shows.
 export const SHOWN = 14;
+// How wide a letter of a name beside its site is, the least number of letters there, and which part of the way from the
+// middle of a picture to its edge the longest name takes at most.
+const BESIDE = { wide: 6, least: 5, part: 0.35 };
 
 // The site in the middle of a star, or null if the edges are none.
 function hubOf(count, edges) {
@@ -78,7 +81,8 @@ function gridPlaces(cells, width, height) {
   const high = Math.max(...cells.map(({ y }) => y));
   const step = { x: width / (wide + 1), y: height / (high + 1) };
   const radius = between(SITE.least, Math.min(step.x * 0.2, high ? step.y * 0.22 : Infinity), SITE.most);
-  const places = cells.map(({ x, y }) => ({ x: (x + 0.5) * step.x, y: (y + 0.5) * step.y, radius, angle: -TURN / 4 }));
+  const drawn = { radius, angle: -TURN / 4, letters: SHOWN };
+  const places = cells.map(({ x, y }) => ({ x: (x + 0.5) * step.x, y: (y + 0.5) * step.y, ...drawn }));
   return { width, height, places };
 }
 
@@ -112,14 +116,17 @@ function radiiOf(count, wide, high) {
 function roundPlaces(sites, edges, width, height) {
   const hub = hubOf(sites.length, edges);
   const count = hub === null ? sites.length : sites.length - 1;
-  const longest = Math.min(SHOWN, Math.max(...sites.map((site) => site.name.length)));
+  // In a low picture names are short, so that there is space for the sites and their edges.
+  const most = Math.floor((BESIDE.part * Math.min(width, height)) / 2 / BESIDE.wide);
+  const letters = between(BESIDE.least, most, SHOWN);
+  const longest = Math.min(letters, Math.max(...sites.map((site) => site.name.length)));
   // An edge that passes by one site is to leave space for it.
   const isPassed = ({ ends: [low, high] }) => [2, count - 2].includes(high - low);
   const passes = hub === null && count > 4 && edges.some(isPassed);
   let radius = SITE.most;
   let far = { x: 0, y: 0 };
   for (let turn = 0; turn < 6; turn += 1) {
-    const edge = 1.26 * radius + 12 + (radius < SITE.name ? 4 + 6 * longest : 0);
+    const edge = 1.26 * radius + 12 + (radius < SITE.name ? 4 + BESIDE.wide * longest : 0);
     far = radiiOf(count, Math.max(20, width / 2 - edge), Math.max(20, height / 2 - edge));
     radius = radiusOf(count, far, hub, passes);
   }
@@ -129,11 +136,11 @@ function roundPlaces(sites, edges, width, height) {
       // Its name fits inside it where its edges can spare that.
       const near = Math.min(far.x, far.y);
       const most = Math.min(26, Math.max(0.3 * near, Math.min(SITE.name, 0.36 * near)));
-      return { x: width / 2, y: height / 2, radius: Math.max(radius, most), angle: null };
+      return { x: width / 2, y: height / 2, radius: Math.max(radius, most), angle: null, letters };
     }
     const at = seatAt(seat, count, far);
     seat += 1;
-    return { x: width / 2 + at.x, y: height / 2 + at.y, radius, angle: Math.atan2(at.y, at.x) };
+    return { x: width / 2 + at.x, y: height / 2 + at.y, radius, angle: Math.atan2(at.y, at.x), letters };
   });
   return { width, height, places: centred(places, height) };
 }
@@ -168,7 +175,7 @@ function anglesOf(places, edges) {
 // How long a fork is, how far from its end a token is held, and how far beside the line, in sizes of the marks. Where
 // the edges of a site are near one another, forks are small, and tokens are held behind them.
 const LAID = {
-  wide: { fork: 1.9, token: 0.5, beside: 0.86, across: 1.7 },
+  wide: { fork: 1.9, token: 0.4, beside: 1, across: 1.7 },
   narrow: { fork: 0.95, token: 1.36, beside: 0, across: 0.8 },
 };
 // How far from the middle of a line the marks of an end begin at most, in sizes of the marks.

@@ -1,26 +1,12 @@
 // Whom the page asks. The states come from the proved rules, compiled to WebAssembly, which work beside the page. A run
-// on threads comes from ./show, or was recorded if the page is one file.
+// on threads comes from ./show if that serves the page, and else it was recorded.
 
 import { unpacked, unpackedText } from "./packing.js";
 
-// A question that was refused, with the line that says why.
-class Refused extends Error {}
-
-async function asked(question, how = {}) {
-  let answer;
-  try {
-    answer = await fetch(question, how);
-  } catch {
-    throw new Error("no answer: is ./show still running?");
-  }
-  if (!answer.ok) throw new Refused((await answer.text()).trim());
-  return answer;
-}
-
 class Program {
   // `catalog` is what the page offers, `module` has the bytes of the rules, and `worker` is the address of the worker.
-  constructor({ catalog, module, worker, isServed }) {
-    Object.assign(this, { catalog, isServed, waiting: [] });
+  constructor({ catalog, module, worker }) {
+    Object.assign(this, { catalog, isServed: catalog.served === true, waiting: [] });
     this.worker = new Worker(worker);
     this.worker.addEventListener("message", ({ data }) => this.hear(data));
     // Only a worker that can't begin has an error, and then it answers nothing any more.
@@ -34,8 +20,8 @@ class Program {
   hear({ text, fault }) {
     const { resolve, reject } = this.waiting.shift();
     const answer = fault ? null : JSON.parse(text);
-    if (fault) reject(new Error(fault));
-    else if (answer.refused) reject(new Refused(answer.refused.line));
+    const line = fault ?? answer.refused?.line;
+    if (line) reject(new Error(line));
     else resolve(answer);
   }
 
@@ -66,32 +52,30 @@ class Program {
     return this.catalog.runs?.find(({ text }) => text === plan);
   }
 
-  // How far the build of the program is that runs threads, in a line, which is empty once it is built.
-  async build() {
-    return this.isServed ? (await (await asked("build", { method: "POST" })).text()).trim() : "";
-  }
-
-  // The list of a run on threads.
+  // The list of a run on threads. The server may have to build a program for it first.
   async run(plan) {
-    const text = this.isServed ? await (await asked("run", { method: "POST", body: `\n${plan}` })).text() : null;
-    return numbersOf(text ?? this.recorded(plan).choices);
+    const text = this.isServed ? await served(plan) : this.recorded(plan).choices;
+    return text.trim() === "" ? [] : text.split(",").map(Number);
   }
 }
 
-// The numbers of a list as a text.
-function numbersOf(text) {
-  return text.trim() === "" ? [] : text.split(",").map(Number);
+// What ./show answers when it is asked for a run of this plan.
+async function served(plan) {
+  let answer;
+  try {
+    answer = await fetch("/run", { method: "POST", body: plan });
+  } catch {
+    throw new Error("no answer: is ./show still running?");
+  }
+  const text = await answer.text();
+  if (!answer.ok) throw new Error(text.trim());
+  return text;
 }
 
-// Returns whom this page asks. A page in one file has all in itself.
+// Returns whom this page asks. The page has all but the runs in itself.
 export async function programOf() {
-  const held = (name) => document.getElementById(name)?.textContent;
-  if (!held("module")) {
-    const [catalog, module] = await Promise.all([asked("catalog"), asked("dine.wasm")]);
-    const worker = new URL("worker.js", document.baseURI);
-    return new Program({ catalog: await catalog.json(), module: await module.arrayBuffer(), worker, isServed: true });
-  }
+  const held = (name) => document.getElementById(name).textContent;
   const [catalog, module] = [JSON.parse(await unpackedText(held("catalog"))), await unpacked(held("module"))];
   const worker = URL.createObjectURL(new Blob([held("worker")], { type: "text/javascript" }));
-  return new Program({ catalog, module, worker, isServed: false });
+  return new Program({ catalog, module, worker });
 }

@@ -15,6 +15,7 @@ export const found = (name) => document.getElementById(name);
  * @property {Program | null} program the program that is asked
  * @property {Map<string, string>} plans the texts of the plans that it offers, by their paths
  * @property {string | null} first the path of the plan that the page begins with
+ * @property {string | null} made the path of the lesson that the page was made for
  * @property {Lesson[]} lessons the lessons that it offers
  * @property {Schedule | null} schedule the schedule that is shown
  * @property {(List & { other: List | null })[]} past what can be undone
@@ -37,7 +38,7 @@ export const found = (name) => document.getElementById(name);
 
 /** @type {Page} */
 export const page = {
-  program: null, plans: new Map(), first: null, lessons: [],
+  program: null, plans: new Map(), first: null, made: null, lessons: [],
   schedule: null, past: [], other: null, wanted: "",
   selected: null, focus: null, hub: 0,
   lesson: null, moment: 0, way: [], walk: null,

@@ -3,13 +3,13 @@
 import { between, setAttribute, setText } from "./marks.js";
 import { found, page, rate, seed } from "./state.js";
 import { NaiveTable } from "./naive.js";
-import { edgeTable, player, queue, siteTable, tell } from "./parts.js";
+import { edgeTable, player, queue, siteTable } from "./parts.js";
 import { Schedule, drawn } from "./schedule.js";
 import { wayFrom } from "./lessons.js";
 import { hubSite, isCrowded, noteAddress, openPicture, show, showKinds } from "./view.js";
 
-// How often the page asks how far a build is, in milliseconds.
-const BUILD = 1000;
+// How long the page waits for a run on threads before it says so, and can be stepped meanwhile, in milliseconds.
+const PATIENCE = 2000;
 // How many changes can be undone.
 const PAST = 50;
 // How long a letter flies along its edge, in milliseconds.
@@ -114,43 +114,36 @@ export function pause() {
   player.pause();
 }
 
-// Runs the plan on threads, and plays what they did. While the program for it is being built, it says how far that is.
+// Runs the plan on threads, and plays what they did.
 export function runOnThreads() {
   pause();
   return queue.do(async () => {
-    if (!page.program.hasRun(page.schedule.plan) || !await isBuilt()) return;
-    const list = await page.program.run(page.schedule.plan);
-    remember();
-    await restore({ list, at: 0, isOfThreads: true });
-    player.play();
+    const { plan } = page.schedule;
+    if (!page.program.hasRun(plan) || !found("building").hidden) return;
+    const run = page.program.run(plan);
+    const isLate = await Promise.race([run.then(() => false), new Promise((then) => setTimeout(then, PATIENCE, true))]);
+    if (isLate) playLater(run, plan);
+    else await playRun(await run);
   });
 }
 
-let asking = null;
-
-// Returns whether the program that runs threads is built. If it is not, its build begins, and the page says how far
-// that is.
-async function isBuilt() {
-  clearTimeout(asking);
-  let line = "";
-  try {
-    line = await page.program.build();
-  } finally {
-    found("building").hidden = line === "";
-  }
-  if (line) asking = setTimeout(watchBuild, BUILD);
-  setText(found("building"), `The program that runs threads is being built: ${line}`);
-  return line === "";
+async function playRun(list) {
+  remember();
+  await restore({ list, at: 0, isOfThreads: true });
+  player.play();
 }
 
-async function watchBuild() {
-  try {
-    if (!await isBuilt()) return;
-    setText(found("building"), "The program that runs threads is built.");
-    found("building").hidden = false;
-  } catch (fault) {
-    tell(fault.message);
-  }
+// Says that a run is waited for, and plays it once it is there, if its plan is still shown.
+async function playLater(run, plan) {
+  found("building").hidden = false;
+  await run.catch(() => {});
+  found("building").hidden = true;
+  queue.do(async () => {
+    const list = await run;
+    if (page.schedule.plan !== plan) return;
+    pause();
+    await playRun(list);
+  });
 }
 
 export function showRate() {
