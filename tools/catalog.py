@@ -2,25 +2,46 @@
 import json
 import os
 import re
+import sys
 import tomllib
 
 from trying import HOME, paths
 
 FIRST = "plans/ring_of_five.toml"
 CHOICES = re.compile("([0-9]{1,10}(,[0-9]{1,10})*)?")
-
-# The keys of a moment, as lessons/README.md has them, by what they have to be.
-TEXTS = {"plan", "text", "choices", "title", "note", "site", "point", "callout", "starve", "question", "because"}
-LISTS = {"show", "options", "hints"}
-KEYS = TEXTS | LISTS | {"at", "answer", "naive", "hide", "see"}
 # The kinds of marks that a moment may show, what it may point at, and how many words it may have there.
 MARKS = ("forks", "tokens", "arrows", "counts")
 POINT = re.compile("(site|count) [^ ]+|(fork|token|arrow) [^ ]+-[^ ]+")
 WORDS = 12
 
 
-class Unfit(Exception):
-    """A file cannot be offered, for the reason that it has."""
+# The keys of a lesson and of a moment, as lessons/README.md has them: what each has to be, and what is said if not.
+LESSON = (
+    ("title", str, "is no text"),
+    ("moment", lambda it: it and isinstance(it, list) and all(isinstance(one, dict) for one in it),
+     "is no array of tables"),
+)
+MOMENT = (
+    ("plan text choices title note site point callout starve question because", str, "is no text"),
+    ("show options hints", lambda it: isinstance(it, list) and all(isinstance(one, str) for one in it),
+     "is no list of texts"),
+    ("choices", CHOICES.fullmatch, "is no list of numbers with commas between them"),
+    ("at", lambda it: type(it) is int and it >= 0, "is no number of events"),
+    ("hide see", bool, "is neither true nor false"),
+    ("naive", lambda it: it in (True, False, "alone"), 'is none of true, false and "alone"'),
+    ("show", {*MARKS}.issuperset, f"has other words than {', '.join(MARKS)}"),
+    ("point", POINT.fullmatch, 'is neither like "site a" nor like "fork a-b"'),
+    ("callout", lambda it: len(it.split()) <= WORDS, f"has more than {WORDS} words"),
+    ("answer", int, "is not the number of an option"),
+)
+
+
+class Fault(Exception):
+    """What is asked for can't be had, for the reason that its line says. HTTP has a status for it."""
+
+    def __init__(self, line, status=500):
+        super().__init__(line)
+        self.status = status
 
 
 def text_of(path):
@@ -28,9 +49,9 @@ def text_of(path):
         with open(path, encoding="utf-8", newline="") as file:
             return file.read()
     except OSError as error:
-        raise Unfit(f"{path} can't be read: {error.strerror}") from None
+        raise Fault(f"{path} can't be read: {error.strerror}") from None
     except UnicodeDecodeError:
-        raise Unfit(f"{path} can't be read: it is no UTF-8") from None
+        raise Fault(f"{path} can't be read: it is no UTF-8") from None
 
 
 def own_path(path):
@@ -39,45 +60,41 @@ def own_path(path):
     return near if re.fullmatch(r"(plans|lessons)/[^/]+\.toml", near) else path
 
 
-def plan_in(moment, path):
-    """Returns the plan of a moment of the lesson at the path, by its path from here or None, and its text."""
+def faults_of(table, form):
+    """Yields what keeps a table of a lesson from having its form."""
+    known = [(key, what, fault) for keys, what, fault in form for key in keys.split()]
+    for key in sorted(table.keys() - {key for key, _, _ in known}):
+        yield f"there is no key {key}"
+    for key, what, fault in known:
+        if key in table and not (isinstance(table[key], what) if isinstance(what, type) else what(table[key])):
+            yield f"{key} {fault}"
+
+
+def faults_of_moment(it):
+    """Yields what keeps a table of a lesson from being a moment."""
+    yield from faults_of(it, MOMENT)
+    options = it.get("options", [])
+    faults = {
+        "it has not one of plan and text": ("plan" in it) == ("text" in it),
+        "it has only one of point and callout": ("point" in it) != ("callout" in it),
+        "it has only one of question and options": ("question" in it) != bool(options),
+        "answer is not the number of an option": options and it.get("answer") not in range(1, len(options) + 1),
+        "hints has not a text for each option": len(it.get("hints", options)) != len(options),
+    }
+    yield from (fault for fault, is_so in faults.items() if is_so)
+
+
+def whole(moment, path):
+    """Returns a moment of the lesson at this path with the text of its plan, and the plan's path from here or None."""
+    for fault in faults_of_moment(moment):
+        raise Fault(fault)
     if "text" in moment:
-        return None, moment["text"]
+        return {"choices": "", **moment, "plan": None}
     for folder in (HOME, os.path.dirname(path)):
         found = os.path.join(folder, moment["plan"])
         if os.path.isfile(found):
-            return own_path(found), text_of(found)
-    raise Unfit(f"there is no plan {moment['plan']}")
-
-
-def fault_of(moment):
-    """Returns what keeps a table of a lesson from being a moment, or None."""
-    if unknown := sorted(moment.keys() - KEYS):
-        return f"there is no key {unknown[0]}"
-    if ("plan" in moment) == ("text" in moment):
-        return "it has not one of plan and text"
-    for key in sorted(moment.keys() & TEXTS):
-        if not isinstance(moment[key], str):
-            return f"{key} is no text"
-    for key in sorted(moment.keys() & LISTS):
-        if not isinstance(moment[key], list) or not all(isinstance(it, str) for it in moment[key]):
-            return f"{key} is no list of texts"
-    options, at = moment.get("options", []), moment.get("at", 0)
-    faults = (
-        (not CHOICES.fullmatch(moment.get("choices", "")), "choices is no list of numbers with commas between them"),
-        (type(at) is not int or at < 0, "at is no number of events"),
-        (type(moment.get("hide", True)) is not bool, "hide is neither true nor false"),
-        (type(moment.get("see", True)) is not bool, "see is neither true nor false"),
-        (moment.get("naive", True) not in (True, False, "alone"), 'naive is none of true, false and "alone"'),
-        (set(moment.get("show", [])) - {*MARKS}, f"show has other words than {', '.join(MARKS)}"),
-        (not POINT.fullmatch(moment.get("point", "site a")), 'point is neither like "site a" nor like "fork a-b"'),
-        (len(moment.get("callout", "").split()) > WORDS, f"callout has more than {WORDS} words"),
-        (("point" in moment) != ("callout" in moment), "it has only one of point and callout"),
-        (("question" in moment) != bool(options), "it has only one of question and options"),
-        (options and moment.get("answer") not in range(1, len(options) + 1), "answer is not the number of an option"),
-        ("hints" in moment and len(moment["hints"]) != len(options), "hints has not a text for each option"),
-    )
-    return next((text for is_so, text in faults if is_so), None)
+            return {"choices": "", **moment, "plan": own_path(found), "text": text_of(found)}
+    raise Fault(f"there is no plan {moment['plan']}")
 
 
 def lesson_of(path, text):
@@ -86,46 +103,46 @@ def lesson_of(path, text):
         table = tomllib.loads(text)
     except (tomllib.TOMLDecodeError, RecursionError) as error:
         if re.search(r"^\s*\[\[\s*moment\s*\]\]", text, re.M):
-            raise Unfit(f"{path} is no lesson: {error}") from None
+            raise Fault(f"{path} is no lesson: {error}") from None
         return None
     if "moment" not in table:
         return None
-    moments, shown, fault = table.pop("moment"), [], ""
-    if unknown := sorted(table.keys() - {"title"}):
-        fault = f"there is no key {unknown[0]}"
-    elif not isinstance(table.get("title", ""), str):
-        fault = "title is no text"
-    elif not isinstance(moments, list) or not moments or not all(isinstance(it, dict) for it in moments):
-        fault = "moment is no array of tables"
-    if fault:
-        raise Unfit(f"{path} is no lesson: {fault}")
-    for number, moment in enumerate(moments, 1):
+    for fault in faults_of(table, LESSON):
+        raise Fault(f"{path} is no lesson: {fault}")
+    title, moments = table.get("title", os.path.basename(path).removesuffix(".toml")), []
+    for number, moment in enumerate(table["moment"], 1):
         try:
-            if fault := fault_of(moment):
-                raise Unfit(fault)
-            plan, plan_text = plan_in(moment, path)
-        except Unfit as fault:
-            raise Unfit(f"{path}: moment {number}: {fault}") from None
-        shown.append({"choices": "", **moment, "plan": plan, "text": plan_text})
-    return {"title": os.path.basename(path).removesuffix(".toml"), **table, "path": own_path(path), "moments": shown}
+            moments.append(whole(moment, path))
+        except Fault as fault:
+            raise Fault(f"{path}: moment {number}: {fault.args[0]}") from None
+    return {"title": title, "path": own_path(path), "moments": moments}
 
 
 def offer(given):
     """Returns the plans and lessons that the page offers, each with the path for a shell, and with which it begins."""
-    plans = {path: text_of(f"{HOME}/{path}") for path in paths("plans/*.toml")}
-    lessons = {it: lesson_of(f"{HOME}/{it}", text_of(f"{HOME}/{it}")) for it in paths("lessons/*.toml")}
-    first, lesson, runs = FIRST, None, json.loads(text_of(f"{HOME}/page/runs.json"))
-    if given is not None:
-        path, text = own_path(given), text_of(given)
-        found = lesson_of(given, text)
+    files = {it: f"{HOME}/{it}" for folder in ("plans", "lessons") for it in paths(f"{folder}/*.toml")}
+    begin, plans, lessons = given and own_path(given), {}, {}
+    if given:
+        files = {begin: given, **{path: file for path, file in files.items() if path != begin}}
+    for path, file in files.items():
+        try:
+            text = text_of(file)
+            found = lesson_of(file, text)
+        except Fault as fault:
+            if file == given:
+                raise
+            # The others can still be shown.
+            print(f"show: left out: {fault}", file=sys.stderr, flush=True)
+            continue
         if found:
-            lesson, lessons = path, {path: found, **lessons}
+            lessons[path] = found
         else:
-            first, plans = path, {path: text, **plans}
+            plans[path] = text
+    runs = json.loads(text_of(f"{HOME}/page/runs.json"))
     return {
-        "first": first,
+        "first": begin if begin in plans else FIRST,
         "plans": [{"path": path, "text": text} for path, text in plans.items()],
-        "lesson": lesson,
-        "lessons": [it for it in lessons.values() if it],
+        "lesson": begin if begin in lessons else None,
+        "lessons": list(lessons.values()),
         "runs": [{"text": plans[path], "choices": it} for path, it in runs.items()],
     }

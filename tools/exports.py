@@ -1,11 +1,16 @@
 """Files that show plans without a server: the page in one file, and a trace of a run for Perfetto."""
 import base64
+import functools
 import hashlib
+import itertools
 import json
 import os
 import re
 import zlib
 from pathlib import Path
+
+from catalog import Fault
+from trying import HOME, text_of
 
 IMPORT = re.compile(r'^import\s*\{[^}]*\}\s*from\s*"\./([\w-]+)\.js";\n', re.M)
 EXPORT = re.compile(r"^export (?=(?:async )?function|class|const|let)", re.M)
@@ -13,43 +18,25 @@ EXPORT = re.compile(r"^export (?=(?:async )?function|class|const|let)", re.M)
 PACKED = re.compile('<script type="text/plain" id="(?:catalog|module)">([^<]*)</script>')
 # How long an event is in a trace, in its microseconds: then a viewer counts events as milliseconds.
 LONG = 1000
-# The sites are lines of one process.
-PROCESS = 1
-
-
-class Fault(Exception):
-    """The file cannot be made, for the reason that it has."""
 
 
 # ---- The page in one file
 
 
-def modules_of(folder, name="page", above=()):
+def modules_of(name="page", found=()):
     """Returns the names of the page's modules, each once, with those that one imports before it."""
-    if name in above:
-        raise Fault(f"page/{name}.js imports itself")
-    found = []
-    for other in IMPORT.findall(text_of(f"{folder}/{name}.js")):
-        found += [it for it in modules_of(folder, other, (*above, name)) if it not in found]
+    if name in found:
+        return found
+    for other in IMPORT.findall(text_of(f"page/{name}.js")):
+        found = modules_of(other, found)
     return [*found, name]
-
-
-def text_of(path):
-    return Path(path).read_text("utf-8")
-
-
-def script_of(folder):
-    """Returns the modules of the page as one."""
-    script = "\n".join(EXPORT.sub("", IMPORT.sub("", text_of(f"{folder}/{it}.js"))) for it in modules_of(folder))
-    if re.search(r"^(import|export)\b", script, re.M) or "</script" in script:
-        raise Fault("the modules of the page can't be joined")
-    return script
 
 
 def hash_of(text):
     return "'sha256-" + base64.b64encode(hashlib.sha256(text.encode()).digest()).decode() + "'"
 
 
+@functools.lru_cache(4)
 def packed(content):
     """Returns bytes packed into letters, as page/packing.js unpacks them."""
     return base64.urlsafe_b64encode(zlib.compress(content, 9, -zlib.MAX_WBITS)).decode()
@@ -60,23 +47,28 @@ def unpacked(page):
     return PACKED.sub(lambda it: repr(zlib.decompress(base64.urlsafe_b64decode(it[1]), -zlib.MAX_WBITS)), page)
 
 
-def page_of(folder, catalog):
-    """Returns the page as one file, with the proved rules and this catalog of plans and lessons. It loads nothing."""
-    style, script = f"\n{text_of(f'{folder}/page.css')}", f"\n{script_of(folder)}"
-    held = {"catalog": packed(json.dumps(catalog, separators=(",", ":")).encode()),
-            "module": packed(Path(folder, "dine.wasm").read_bytes()), "worker": text_of(f"{folder}/worker.js")}
+def page_of(catalog):
+    """Returns the page as one file, with the proved rules and this catalog of plans and lessons. It loads nothing, and
+    asks nobody except ./show, if that serves it."""
+    style = f"\n{text_of('page/page.css')}"
+    script = "\n" + "\n".join(EXPORT.sub("", IMPORT.sub("", text_of(f"page/{it}.js"))) for it in modules_of())
+    if re.search(r"^(import|export)\b", script, re.M) or "</script" in script:
+        raise Fault("the modules of the page can't be joined")
+    held = {"catalog": packed(json.dumps(catalog, separators=(",", ":"), default=str).encode()),
+            "module": packed(Path(HOME, "page/dine.wasm").read_bytes()), "worker": text_of("page/worker.js")}
     texts = "".join(f'<script type="text/plain" id="{name}">{text}</script>\n' for name, text in held.items())
     policy = f"default-src 'none'; script-src {hash_of(script)} 'wasm-unsafe-eval'; worker-src blob:; "
+    policy += "connect-src 'self'; " if catalog.get("served") else ""
     policy += f"style-src {hash_of(style)}; img-src data:; base-uri 'none'; form-action 'none'"
-    charset, page = '<meta charset="utf-8">', text_of(f"{folder}/index.html")
+    charset, page = '<meta charset="utf-8">', text_of("page/index.html")
     for wanted, part in (
-        (r'<link rel="stylesheet" href="page\.css">', f"<style>{style}</style>"),
-        (r'<script type="module" src="page\.js"></script>', f'{texts}<script type="module">{script}</script>'),
+        ('<link rel="stylesheet" href="page.css">', f"<style>{style}</style>"),
+        ('<script type="module" src="page.js"></script>', f'{texts}<script type="module">{script}</script>'),
         (charset, f'{charset}\n<meta http-equiv="Content-Security-Policy" content="{policy}">'),
     ):
-        page, count = re.subn(wanted, lambda _, part=part: part, page)
-        if count != 1:
-            raise Fault(f"page/index.html has {wanted} {count} times")
+        if page.count(wanted) != 1:
+            raise Fault(f"page/index.html has {wanted} {page.count(wanted)} times")
+        page = page.replace(wanted, part)
     return page
 
 
@@ -92,8 +84,8 @@ WORDS = {
 
 
 def entry(phase, site, **details):
-    """Returns an entry in a site's line."""
-    return {"ph": phase, "pid": PROCESS, "tid": site + 1, **details}
+    """Returns an entry in a site's line. All sites are of one process."""
+    return {"ph": phase, "pid": 1, "tid": site + 1, **details}
 
 
 def slice_of(site, place, end, name, **details):
@@ -101,43 +93,30 @@ def slice_of(site, place, end, name, **details):
     return entry("X", site, ts=place * LONG, dur=round((end - place) * LONG), name=name, args=details)
 
 
-def names_of_lines(title, names):
-    """Yields what names the lines of a trace."""
-    yield {"ph": "M", "pid": PROCESS, "name": "process_name", "args": {"name": title}}
-    for site, name in enumerate(names):
-        yield entry("M", site, name="thread_name", args={"name": name})
-        yield entry("M", site, name="thread_sort_index", args={"sort_index": site})
-
-
-def phases_of(events):
+def phases_of(site, events):
     """Yields a slice for each time that a site is hungry, and for each meal. One that lasts to the end ends there."""
-    begun, meals, total = {}, {}, events["events"]
-    for place, (site, kind) in enumerate(zip(events["sites"], events["kinds"])):
+    found = enumerate(zip(events["sites"], events["kinds"]))
+    own, meals = [(place, kind) for place, (at, kind) in found if at == site and kind in "hbex"], itertools.count(1)
+    for (place, kind), (end, then) in zip(own, [*own[1:], (events["events"], None)]):
         if kind == "h":
-            begun[site] = place
+            yield slice_of(site, place, end, "hungry")
         elif kind == "b":
-            yield slice_of(site, begun[site], place, "hungry")
-            begun[site], meals[site] = place, meals.get(site, 0) + 1
-        elif kind in "ex":
-            yield slice_of(site, begun.pop(site), place + 1, f"meal {meals[site]}", failed=kind == "x")
-    for site, place in begun.items():
-        is_meal = events["kinds"][place] == "b"
-        yield slice_of(site, place, total, f"meal {meals[site]}" if is_meal else "hungry")
+            details = {"failed": then == "x"} if then else {}
+            yield slice_of(site, place, end + bool(then), f"meal {next(meals)}", **details)
 
 
 def steps_of(events, ends, names):
     """Yields a slice for each event, and an arrow for each way of a fork."""
     sent = {}
     for place, (site, edge, kind) in enumerate(zip(events["sites"], events["edges"], events["kinds"])):
-        other = None if edge is None else sum(ends[edge]) - site
-        details = {"event": place} if edge is None else {"event": place, "edge": edge}
-        yield slice_of(site, place, place + 0.9, WORDS[kind].format("" if other is None else names[other]), **details)
+        details, other = ({}, "") if edge is None else ({"edge": edge}, names[sum(ends[edge]) - site])
+        yield slice_of(site, place, place + 0.9, WORDS[kind].format(other), event=place, **details)
         if kind in "gG":
             # An arrow begins (s) or ends (f) in the middle of a slice.
+            phase, more = ("s", {}) if kind == "g" else ("f", {"bp": "e"})
             sent[edge] = place if kind == "g" else sent[edge]
-            details = {"id": sent[edge], "name": f"fork of edge {edge}", "cat": "fork"}
-            end = {"bp": "e"} if kind == "G" else {}
-            yield entry("s" if kind == "g" else "f", site, ts=place * LONG + LONG // 2, **details, **end)
+            more |= {"id": sent[edge], "name": f"fork of edge {edge}", "cat": "fork"}
+            yield entry(phase, site, ts=place * LONG + LONG // 2, **more)
 
 
 def trace_of(ask, run, is_unproved):
@@ -148,5 +127,9 @@ def trace_of(ask, run, is_unproved):
     start = json.loads(ask(["--states", "0", "-"], f"\n{text}".encode()))
     names, ends = [it["name"] for it in start["sites"]], [it["ends"] for it in start["edges"]]
     title = f"{os.path.basename(path)}{' (unproved)' if is_unproved else ''}"
-    slices = [*names_of_lines(title, names), *phases_of(events), *steps_of(events, ends, names)]
+    slices = [{"ph": "M", "pid": 1, "name": "process_name", "args": {"name": title}}]
+    for site, name in enumerate(names):
+        slices += [entry("M", site, name="thread_name", args={"name": name}),
+                   entry("M", site, name="thread_sort_index", args={"sort_index": site}), *phases_of(site, events)]
+    slices += steps_of(events, ends, names)
     return json.dumps({"displayTimeUnit": "ms", "traceEvents": slices}, separators=(",", ":"))

@@ -13,8 +13,6 @@ from pathlib import Path
 
 from trying import HOME, crates, with_those_below
 
-PARTS = ("src", "specs", "proofs")
-
 
 def programs():
     """Returns the names of the crates that are programs."""
@@ -29,20 +27,16 @@ def sum_of(path):
         return "none"
 
 
-def files_in(folder):
-    """Yields the files in a folder, always in the same order."""
-    for at, folders, names in os.walk(folder):
-        folders.sort()
-        yield from (f"{at}/{name}" for name in sorted(names))
-
-
 def sum_of_sources(name):
     """Returns a sum of the sources of a crate and of all crates below it, with their lines in crates.txt."""
     whole, known = hashlib.sha256(), crates()
-    for it in sorted(with_those_below(name, known)):
-        whole.update(f"{known[it].strip()}\n".encode())
-        for path in (path for part in PARTS for path in files_in(f"{HOME}/crates/{it}/{part}")):
-            whole.update(f"{path[len(HOME) :]} {sum_of(path)}\n".encode())
+    for crate in sorted(with_those_below(name, known)):
+        whole.update(f"{known[crate].strip()}\n".encode())
+        for part in ("src", "specs", "proofs"):
+            for at, folders, names in os.walk(f"{HOME}/crates/{crate}/{part}"):
+                folders.sort()
+                for path in (f"{at}/{it}" for it in sorted(names)):
+                    whole.update(f"{path[len(HOME):]} {sum_of(path)}\n".encode())
     return whole.hexdigest()
 
 
@@ -63,15 +57,12 @@ def lock(folder):
 
 def is_current(name, program):
     """Returns whether a program is there and was built from the sources as they are. Notes that for ./dine."""
-    try:
-        noted = Path(f"{program}.made").read_text("utf-8")
-    except OSError:
+    noted, words = Path(f"{program}.made"), [f"{HOME}/tools/seen", os.path.relpath(program, HOME)]
+    if not noted.is_file() or not os.access(program, os.R_OK if program.endswith(".a") else os.X_OK):
         return False
-    words = [f"{HOME}/tools/seen", os.path.relpath(program, HOME)]
+    # What tools/seen prints is from before the sources are read, so a change that is made meanwhile is seen.
     seen = subprocess.run(words, capture_output=True, text=True, check=False).stdout
-    # A static library need not run.
-    is_there = os.access(program, os.R_OK if program.endswith(".a") else os.X_OK)
-    if not is_there or noted != f"{sum_of_sources(name)} {sum_of(program)}\n":
+    if noted.read_text("utf-8") != f"{sum_of_sources(name)} {sum_of(program)}\n":
         return False
     replace(f"{program}.seen", seen)
     return True

@@ -1,23 +1,15 @@
-"""Changes of the sources: the bugs that tools/schedules plants, and the mutants of misuse/ and must-fail/."""
+"""Changes of the sources: the bugs that tools/schedules plants, and the mutants of misuse/ and must-fail/. A change has
+a file, a text that is in it once, and what is put in its place."""
 import re
 import tomllib
-from typing import NamedTuple
 
 from trying import text_of
 
 # What the compiler's error must contain, in misuse/ alone, and then the pairs for each file.
 PAIRS = r"file: *(\S+) *\n((?:old: .+\nnew:.*\n)+)"
 MUTANT = re.compile(rf"(?:refused: *(\S.*?) *\n)?((?:{PAIRS})+)")
-
-
-class Change(NamedTuple):
-    """A file, a text that is in it once, and what is put in its place."""
-    file: str
-    old: str
-    new: str
-
-
-BUGS = {name: [Change(**it) for it in bug] for name, bug in tomllib.loads(text_of("tools/planted.toml")).items()}
+BUGS = {name: [(it["file"], it["old"], it["new"]) for it in bug]
+        for name, bug in tomllib.loads(text_of("tools/planted.toml")).items()}
 POLITE = BUGS.pop("polite")
 
 
@@ -26,7 +18,7 @@ def mutant(text):
     found = MUTANT.fullmatch(text.rstrip("\n") + "\n")
     if not found:
         raise ValueError("it is not a text of the error, in misuse/ alone, and then for each file pairs of texts")
-    return found[1], [Change(file, *pair) for file, pairs in re.findall(PAIRS, found[2])
+    return found[1], [(file, *pair) for file, pairs in re.findall(PAIRS, found[2])
                       for pair in re.findall(r"old: (.+)\nnew: ?(.*)\n", pairs)]
 
 

@@ -1,139 +1,156 @@
-"""The definitions in crates/*/specs: their names, comments and texts, and what each of them uses.
+"""The definitions in crates/*/specs, the types that code declares and the contracts of its functions: their names,
+comments and texts, and what each of them uses.
 
-A definition begins on a line of its own, at the margin or in a `module _` block, with its name after `abbrev`,
-`unfoldable`, `record`, `data` or `pub`, or with a name and a colon. It goes on to the next one, or to a comment that
-does not belong to its fields."""
+A definition begins at the margin, or at that of a `module _` block, with its name after `abbrev`, `unfoldable`,
+`record`, `data` or `pub`, or with a name and a colon. It has the lines below it that are further from the margin, and
+the equations that follow it."""
 import re
 import sys
+import textwrap
 from dataclasses import dataclass
+from functools import cache
 
 from trying import paths, text_of
 
-STARTS = re.compile(r"((?:(?:abbrev|unfoldable|pub|record|data) )*)(\S+)( :)?")
-# A small name before `=` is that of a field, or of a value that `let` names.
-WORD = re.compile(r"(?<![\w.])(?:[A-Z]\w*|[a-z_]\w*\b(?! = ))")
-FIELD = re.compile(r"^\s+(?:pub )?(\w+) :", re.M)
+# Comments, and the line below them with all lines that belong to it.
+ITEM = re.compile(r"((?:^--.*\n)*)(^(?!--)\S.*(?:\n+(?:[ })].*))*)", re.M)
+START = re.compile(r"((?:(?:abbrev|unfoldable|pub|record|data) )*)(\S+)( :)?")
+HIDDEN = re.compile(r"^( *)(?:(?:abbrev|unfoldable|pub) )*")
+USE = re.compile(r"^(?:pub |ghost )?use (\S+?)(?:\.\{(.*?)\}| as (\w+))", re.M | re.S)
+CASE = re.compile(r"^\s+(\w+)", re.M)
+# A name, with what is behind its dot if it has one. A small name before `=` is that of a field, or of a value that
+# `let` names.
+NAME = re.compile(r"(?<![\w.])([A-Z]\w*|[a-z_]\w*\b(?! = ))(?:\.(\w+))?")
+# What begins a line and names nothing that is used: a comment, or the name of a field or a case.
+NO_USE = re.compile(r"\s*(?:--|//).*|\s+(?:ghost )?\w+(?= ?:)")
 
 
-@dataclass
+@dataclass(eq=False)
 class Definition:
-    """A definition, with the comment above it, its block, its lines, and its lines with the comments between them."""
-    place: str
-    module: str
+    """A definition, a type of the code, or the contract of a function: its lines are as a page shows them, and `uses`
+    has for each name in them the module and the name there, or None if it stands for the module."""
+    file: str
     name: str
     comment: list
-    block: str
     lines: list
-    text: list
+    uses: dict
+    is_code: bool = True
+    number: int = 0
+
+    def names(self):
+        """Yields each line with the names in it, without those of fields."""
+        for line in self.lines:
+            begins = NO_USE.match(line)
+            yield line, [*NAME.finditer(line, begins.end() if begins else 0)]
 
 
 class Module:
-    """A file of specs: its definitions by name, and for each name that it uses the module and the name there."""
+    """A file of specs: its definitions by name, what each name in it means to others, and what it uses."""
 
-    def __init__(self, path):
-        crate, rest = re.fullmatch(r"crates/(\w+)/specs/(.*)\.antt", path).groups()
-        self.path, self.name = path, f"Rattle.{crate}.specs.{rest.replace('/', '.')}"
-        self.definitions, self.uses, self.strange = {}, {}, []
-        self.read(text_of(path).split("\n"))
+    def __init__(self, file):
+        crate, rest = re.fullmatch(r"crates/(\w+)/specs/(.*)\.antt", file).groups()
+        self.file, self.name, text = file, f"Rattle.{crate}.specs.{rest.replace('/', '.')}", text_of(file)
+        self.definitions, self.meanings, self.uses, self.strange = {}, {}, uses_of(text), []
+        self.read(text)
+        for one in self.definitions.values():
+            cases = CASE.findall("\n".join(one.lines[1:])) if any("data " in it for it in one.lines[:2]) else []
+            self.meanings |= {it: one for it in cases}
+        self.meanings |= self.definitions
+        self.uses |= {name: (self.name, name) for name in self.definitions}
 
-    def read(self, lines):
-        """Reads the file: `level` is the margin of definitions, `now` the one at hand, `last` the last that began."""
-        level, block, now, last, comment = 0, "", None, None, []
-        for number, line in enumerate(lines, 1):
-            text, margin = line.strip(), len(line) - len(line.lstrip())
-            if text.startswith("--"):
-                now = now if margin > level else None
-                comment.append(text[2:].strip())
-                if now:
-                    now.text.append(line[level:])
-                continue
-            above, comment = comment, []
-            level = level if margin or not text else 0
-            if text.startswith(("use ", "pub use ", "pub mod ")):
-                self.use(text.removeprefix("pub "))
+    def read(self, text, first=1, block=()):
+        """Reads a text that begins at this line: that of the file, or of a block."""
+        now = None
+        for found in ITEM.finditer(text):
+            above, (begin, *more) = found[1].splitlines(), [line for line in found[2].split("\n") if line]
+            number, name = first + text.count("\n", 0, found.start(2)), START.match(begin)
+            if begin.startswith(("module ", "use ", "pub use ", "pub mod ")):
                 now = None
-            elif text.startswith("module "):
-                level, block, now = 2, text, None
-            elif margin == level and (name := name_begun(text)):
-                place, own = f"{self.path}:{number}", line[level:]
-                now = Definition(place, self.name, name, above, block if level else "", [own], [own])
-                self.definitions[name] = last = now
-            elif not now and last and margin == level and text.startswith(f"{last.name} "):
-                # An equation with a comment of its own.
-                now = last
-                now.text += [f"-- {it}".rstrip() for it in above] + [line[level:]]
-                now.lines.append(line[level:])
-            elif now and text and (margin > level or text.startswith((now.name + " ", "unfolding ", "}", ")"))):
-                now.lines.append(line[level:])
-                now.text.append(line[level:])
-            elif text:
-                self.strange.append(f"{self.path}:{number}: no definition and no part of one: {text}")
-
-    def use(self, text):
-        """Notes what a line uses."""
-        if names := re.fullmatch(r"use (\S+?)\.\{(.*)\}", text):
-            for name, _, alias in (one.partition(" as ") for one in names[2].split(", ")):
-                self.uses[alias or name] = (names[1], name)
-        elif alias := re.fullmatch(r"use (\S+) as (\S+)", text):
-            self.uses[alias[2]] = (alias[1], None)
+                if begin.startswith("module "):
+                    self.read(textwrap.dedent(found[2].partition("\n")[2]), number + 1, (begin,))
+            elif name[1] or name[3]:
+                comment, above = [it[2:].strip() for it in above], []
+                now = Definition(self.file, name[2], comment, [*block], self.uses, False, number)
+                self.definitions[now.name] = now
+            elif not now or not begin.startswith((f"{now.name} ", "unfolding ")):
+                self.strange.append(f"{self.file}:{number}: no definition and no part of one: {begin}")
+            if now:
+                now.lines += ["  " * len(block) + HIDDEN.sub(r"\1", line) for line in (*above, begin, *more)]
 
 
-def name_begun(text):
-    """Returns the name of the definition that begins with this text, if one does."""
-    found = STARTS.match(text)
-    return found[2] if found and (found[1] or found[3]) else None
+def uses_of(text):
+    """What a file uses: for each name the module and the name there, or None if it stands for the module."""
+    uses = {}
+    for module, names, alias in USE.findall(text):
+        pairs = (one.strip().partition(" as ") for one in names.split(","))
+        uses |= {alias: (module, None)} if alias else {other or name: (module, name) for name, _, other in pairs}
+    return uses
+
+
+def comment_of(lines):
+    return [line.strip().removeprefix("///").strip() for line in lines.splitlines()]
+
+
+@cache
+def declared(module):
+    """The type of a crate's code that a module of specs stands for, as its file declares it, without attributes of
+    fields. Of a trait only the ghost members count."""
+    crate, path, name = re.fullmatch(r"Rattle\.(\w+)\.specs\.declared\.(.*)\.(\w+)", module).groups()
+    file = f"crates/{crate}/src/{path.replace('.', '/')}.rt"
+    above, it = r"((?:^///[^\n]*\n)*)(?:^#\[[^\n]*\n)*", rf"((?:enum|struct|trait) {name}\b.*?^\}}|type {name}\b[^;]*;)"
+    found = re.search(f"{above}^pub {it}", text_of(file), re.S | re.M)
+    if not found:
+        sys.exit(f"the type {module} is not found in {file}")
+    lines = found[2].split("\n")
+    if lines[0].startswith("trait "):
+        ghosts = re.findall(r"(?:^ +// .*\n)*^ +ghost \w+:.*\n", found[2], re.M)
+        lines = [lines[0], *"".join(ghosts).splitlines(), "}"]
+    lines = [HIDDEN.sub(r"\1", line) for line in lines if not line.strip().startswith("#[")]
+    return Definition(file, name, comment_of(found[1]), lines, uses_of(text_of(file)))
+
+
+def contract_of(file, name):
+    """The contract of a function, with the breaks that its file has, or None if the file has no such function. Only a
+    call of a trait, which has a margin, is shown with its signature."""
+    above, begin = r"((?:^ *///[^\n]*\n)*)(?:^ *#\[[^\n]*\n)*", rf"^( *)(?:pub )?(fn {name}[<(].*?)"
+    found = re.search(rf"{above}{begin}(?:;\n|\n\2\{{)", text_of(file), re.S | re.M)
+    if not found:
+        return None
+    margin = found[2]
+    signature, *clauses = re.split(rf"\n{margin}    (?=(?:requires|ensures)\b)", found[3])
+    lines = "\n".join(clauses).replace(f"\n{margin}    ", "\n").split("\n")
+    if margin:
+        signature = re.sub(r"\( (.*?),? \)", r"(\1)", re.sub(r"\s*\n\s*", " ", signature))
+        lines = [signature, *("  " + line for line in lines)]
+    return Definition(file, name, comment_of(found[1]), lines, uses_of(text_of(file)))
 
 
 def all_modules():
     return {module.name: module for module in map(Module, paths("crates/*/specs/**/*.antt"))}
 
 
-def words_of(definition):
-    """The names in a definition, in order, without the names of its fields."""
-    return WORD.findall(definition.block + "\n" + FIELD.sub(" :", "\n".join(definition.lines)))
-
-
-def defined(modules, source, name):
-    """The definition of that name in the module, or the data type there of which it is a constructor, or None."""
-    there = modules[source].definitions if source in modules else {}
-    if name in there:
-        return there[name]
-    case = re.compile(rf"\s+(?:pub )?{name}\b")
-    of = [one for one in there.values() if "data " in one.lines[0] and any(map(case.match, one.lines))]
-    return of[0] if of else None
-
-
-def meant(modules, uses, own, word, text):
-    """What a word of a text means, by what its file `uses` and its `own` definitions: definitions of the repository,
-    None for one that is not there, and the module of a type that a crate's code declares."""
-    source, name = uses.get(word, ("", None))
-    if word in own:
-        return [own[word]]
-    if not source.startswith("Rattle.dine"):
-        return []
+def meant(modules, one, word, behind):
+    """The definition that a name in a definition means, or None. `behind` is what is behind its dot."""
+    source, name = one.uses.get(word, ("", ""))
     if ".declared." in source:
-        return [source.removesuffix(".TheVariants")]
-    names = [name] if name else re.findall(rf"(?<![\w.]){word}\.(\w+)", text)
-    return [defined(modules, source, it) for it in names]
+        return declared(source.removesuffix(".TheVariants")) if source.startswith("Rattle.dine") else None
+    meanings = modules[source].meanings if source in modules else {}
+    return meanings.get(behind if name is None else name)
 
 
-def used_by(modules, definition):
-    """What a definition uses, in order: as `meant` has it."""
-    module, found = modules[definition.module], []
-    for word in (it for it in words_of(definition) if it != definition.name):
-        ones = meant(modules, module.uses, module.definitions, word, "\n".join(definition.lines))
-        if None in ones:
-            sys.exit(f"{definition.place}: {definition.name} uses {word}, which {module.uses[word][0]} does not define")
-        found += [one for one in ones if one not in found]
-    return found
+def used_by(modules, one):
+    """What a definition uses, in order."""
+    names = [found.groups() for _, names in one.names() for found in names]
+    found = dict.fromkeys(meant(modules, one, *it) for it in names if it[0] != one.name)
+    return [it for it in found if it]
 
 
 def needed_by(modules, roots):
-    """The roots and all that they need, in order of use."""
+    """The roots and all that they need, in order of use. A type of the code needs nothing more."""
     found, left = [], list(roots)
     while left:
         one = left.pop(0)
         if one not in found:
             found.append(one)
-            left[:0] = used_by(modules, one) if isinstance(one, Definition) else []
+            left[:0] = [] if one.is_code else used_by(modules, one)
     return found
