@@ -1,4 +1,4 @@
-"""Random plans, for tests/test_random_plans.py and tests/test_wasm_answers.py."""
+"""Random plans, for tests/test_plans.py and tests/test_wasm_answers.py."""
 import random
 
 

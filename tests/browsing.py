@@ -106,7 +106,10 @@ class Page:
     """The page at an address. Its parts are named by selectors of CSS."""
 
     def __init__(self, driver, address):
-        self.driver, self.address, self.cdp = driver, address, lambda name, **it: driver.execute_cdp_cmd(name, it)
+        self.driver, self.address = driver, address
+
+    def cdp(self, name, **given):
+        return self.driver.execute_cdp_cmd(name, given)
 
     def open(self, said=""):
         self.driver.get("about:blank")
@@ -163,7 +166,8 @@ class Page:
 
     def do(self, *what):
         """Clicks parts of the page, which begin with #, presses keys, by their names in JavaScript, and types texts. A
-        key behind ^ is pressed with Control. A click fails if its part is hidden, or if another thing covers it."""
+        key behind ^ is pressed with Control. A click fails if its part is hidden, or if another thing covers it.
+        Returns how many events are done then."""
         for it in what:
             if re.match("#.", it):
                 self.one(it).click()
@@ -172,35 +176,21 @@ class Page:
                 name = re.sub("(?<=[a-z])(?=[A-Z])", "_", it).upper()
                 chain.send_keys(getattr(Keys, name, it.lstrip("^"))).key_up(Keys.CONTROL).perform()
             self.wait()
+        return self.event()
 
     def fill(self, where, text):
         """Types a text in the place of another."""
         self.do(where, "^a", "Backspace", text)
 
-    def choose(self, menu, value):
-        """Chooses from a menu by its keys, as the browser has them: it is opened, and the entry's letters are typed."""
-        self.do(menu, self.text(f'{menu} option[value="{value}"]'), "Enter")
-        assert self.value(menu) == value
-
     def step_by_chance(self, chance):
         """Does an event by one of the buttons. Returns whether there was one."""
-        many = self.count("#enabled button")
-        if many:
-            listed = [f"#enabled li:nth-child({it + 1}) button" for it in range(many)]
-            self.do(chance.choice(["#first", "#random", "#step", *listed]))
-        return many > 0
-
-    def go_to_end(self):
-        while self.count("#enabled button"):
-            self.do("ArrowRight")
+        listed = [f"#enabled li:nth-child({it + 1}) button" for it in range(self.count("#enabled button"))]
+        return bool(listed and self.do(chance.choice(["#first", "#random", "#step", *listed])))
 
     def write_plan(self, plan):
-        """Writes a plan of one's own and asks for it. A long text is put there, since to type it takes seconds."""
-        self.do("#own")
-        if len(plan) < 300:
-            self.fill("#text", plan)
-        else:
-            self.js("one('#text').value = arguments[0]", plan)
+        """Puts in a plan of one's own and asks for it."""
+        self.do("#own", "#text", "^a")
+        self.cdp("Input.insertText", text=plan)
         self.do("#use")
 
     def is_said_by_shell(self):

@@ -1,18 +1,29 @@
 """How the tests call the programs, what the heads of plans and the pages show, and programs that call the crates."""
+import functools
 import json
 import os
 import re
+import subprocess
 import time
 from pathlib import Path
 
-from trying import Answer, answer_of, paths, program_of, text_of, write
+import fresh
+from trying import HOME, Answer, answer_of, paths, program_of, text_of, write
 
 TWO_SITES = 'version = 1\n[[site]]\nname = "a"\n[[site]]\nname = "b"\n'
 REFUSED = "dine: plan refused: "
-# A line of a plan's head: a command, and a line that it prints.
-EXPECTED = re.compile(r"^# ((?:no words|check|replay|run)[\w ,=-]*)> (.*)$", re.M)
 # How the programs are built: pytest --unproved sets it.
 HOW = {"is_unproved": False}
+
+
+@functools.cache
+def fault_of_build(crate, is_unproved=False):
+    """Has tools/build build what is missing or older than a source. Returns its output if it can't."""
+    # The processes of pytest -n take turns.
+    held = fresh.lock(os.path.dirname(__file__))
+    built = answer_of([*["--unproved"] * is_unproved, crate], f"{HOME}/tools/build", None, stdin=subprocess.DEVNULL)
+    os.close(held)
+    return built.error if built.status else ""
 
 
 def dine(*words, **how):
@@ -56,14 +67,6 @@ def answer_with(*lines):
     """Returns the status and output that lines of a plan's head ask for: a refusal, or lines on standard output."""
     text = "".join(f"{line}\n" for line in lines)
     return Answer(3, "", text) if text.startswith(REFUSED) else Answer(0, text, "")
-
-
-def lines_by_command(head):
-    """Returns the lines that the head of a plan has for each command."""
-    lines = {}
-    for command, line in EXPECTED.findall(head):
-        lines.setdefault(command, []).append(line)
-    return lines
 
 
 def stored_texts():

@@ -1,14 +1,11 @@
 """What all tests share: the programs that they call are built first, and at the end the results are counted by file."""
 import collections
-import functools
 import os
-import subprocess
 
 import pytest
 
 import calls
-import fresh
-from trying import HOME, answer_of
+from trying import text_of, write
 
 # Its fixtures are for all tests, and its assertions say what differs.
 pytest_plugins = ["browsing"]
@@ -17,7 +14,7 @@ KINDS = ("passed", "failed", "skipped")
 
 def pytest_addoption(parser):
     parser.addoption("--unproved", action="store_true", help="call programs that are built without any proof")
-    parser.addoption("--write", action="store_true", help="write tests/explained.txt anew")
+    parser.addoption("--write", action="store_true", help="write tests/explained.txt and tests/states.txt anew")
     parser.addoption("--rounds", type=int, default=5, help="how often tests/test_many_runs.py runs each plan; 5")
 
 
@@ -30,23 +27,23 @@ def pytest_configure(config):
         config.option.loadgroup = True
 
 
-@functools.cache
-def fault_of_build(crate):
-    """Has tools/build build a program, if it is missing or older than a source. Returns its output if it can't."""
-    words = [*["--unproved"] * calls.HOW["is_unproved"], crate]
-    # The processes of pytest -n take turns.
-    held = fresh.lock(os.path.dirname(__file__))
-    built = answer_of(words, f"{HOME}/tools/build", None, stdin=subprocess.DEVNULL)
-    os.close(held)
-    return built.error if built.status else ""
-
-
 @pytest.fixture(autouse=True)
 def programs(request):
     """Builds the programs that the mark `built` names."""
     for crate in [it for mark in request.node.iter_markers("built") for it in mark.args]:
-        if fault := fault_of_build(crate):
+        if fault := calls.fault_of_build(crate, **calls.HOW):
             pytest.fail(fault, pytrace=False)
+
+
+@pytest.fixture
+def is_as_written(request):
+    """Returns a call that tries that a file has a text, or writes the file anew with --write."""
+    def tries(path, text):
+        if request.config.getoption("write"):
+            write(path, text)
+        assert text == text_of(path)
+
+    return tries
 
 
 def pytest_terminal_summary(terminalreporter):

@@ -9,16 +9,14 @@ import functools
 import os
 import random
 import shutil
-import subprocess
 import sys
 import tempfile
 from concurrent.futures import ThreadPoolExecutor
 from pathlib import Path
 
 import exports_c
-import fresh
 import pytest
-from calls import blocks, dine
+from calls import blocks, dine, fault_of_build
 from trying import HOME, Answer, answer_of, text_of
 
 pytestmark = pytest.mark.timeout(900)
@@ -39,21 +37,10 @@ MPI = {"OMPI_ALLOW_RUN_AS_ROOT": "1", "OMPI_ALLOW_RUN_AS_ROOT_CONFIRM": "1", "OM
 
 
 @pytest.mark.early
-@pytest.mark.parametrize("path", exports_c.WRITTEN)
-def test_written_file(path):
-    """It is up to date: if not, run tools/bindings --write."""
-    assert text_of(path) == exports_c.WRITTEN[path]()
-
-
-@pytest.mark.early
-def test_header():
-    assert exports_c.faults_of_header() == []
-
-
-@pytest.mark.early
-def test_lock_file():
-    """The cargo of rustc 1.63 reads no newer form."""
-    assert "\nversion = 3\n" in text_of("bindings/rust/Cargo.lock")
+def test_written_files():
+    """They are up to date: if not, run tools/bindings --write. The cargo of rustc 1.63 reads no newer lock file."""
+    assert [path for path in exports_c.PARTS if text_of(path) != exports_c.written(path)] == []
+    assert exports_c.faults_of_header() == [] and "\nversion = 3\n" in text_of("bindings/rust/Cargo.lock")
 
 
 @pytest.mark.early
@@ -125,16 +112,6 @@ class Place:
         return self.output("cargo", words[0], "-q", "--offline", *words[1:], **how)
 
 
-def proved_library():
-    """Has tools/build make the library of dine_ffi, if it is missing or older than a source, and returns it."""
-    # The tests that build a program take turns with it.
-    held = fresh.lock(os.path.dirname(__file__))
-    made = answer_of(["dine_ffi"], f"{HOME}/tools/build", None, stdin=subprocess.DEVNULL)
-    os.close(held)
-    assert made.status == 0, made.error
-    return f"{HOME}/crates/dine_ffi/out/libdine_ffi.a"
-
-
 WAYS = [pytest.param(it, marks=[pytest.mark.slow, pytest.mark.xdist_group(it)]) for it in ("with kit", "without kit")]
 
 
@@ -148,7 +125,8 @@ def place(request):
         it = Place(folder, is_hidden)
         if not is_hidden:
             os.makedirs(f"{folder}/crates/dine_ffi/out")
-            os.symlink(proved_library(), f"{folder}/crates/dine_ffi/out/libdine_ffi.a")
+            assert fault_of_build("dine_ffi") == ""
+            os.symlink(f"{HOME}/crates/dine_ffi/out/libdine_ffi.a", f"{folder}/crates/dine_ffi/out/libdine_ffi.a")
         assert it.output("bindings/build") == f"libdine is made of {'c/nokit' if is_hidden else 'crates/dine_ffi'}\n"
         yield it
 
@@ -179,14 +157,30 @@ def test_python(place):
 
 def test_page(place):
     """What docs/BINDINGS.md shows is so."""
-    rust, c, *_ = blocks("docs/BINDINGS.md")
+    rust, watch, c, *_ = blocks("docs/BINDINGS.md")
     program = text_of("bindings/rust/examples/bank.rs").partition("\n")[2]
     assert rust == f"{program}\n{place.rust('run', '--example', 'bank')}"
+    assert watch in text_of("bindings/rust/examples/progress.rs")
+    assert " meals ended\n" in place.rust("run", "--example", "progress")
     plan = 'version = 1\\n[[site]]\\nname = \\"a\\"\\njobs = []\\n'
     main = f'#include "dine.h"\n#include <string.h>\nint main(void) {{ const char *PLAN = "{plan}";\n{c}return 0; }}\n'
     Path(place.folder, "shown.c").write_text(main, "utf-8")
     place.output(place.program("shown.c"))
     assert place.output(sys.executable, "-m", "doctest", f"{HOME}/docs/BINDINGS.md") == ""
+
+
+def test_sites_of_the_page(place):
+    """The loop of docs/BINDINGS.md runs two sites in two threads, and that of sites.rs over a pair of sockets."""
+    loop = next(it for it in blocks("docs/BINDINGS.md") if it.startswith("from dine import Kind, Site"))
+    Path(place.folder, "loop.py").write_text(loop, "utf-8")
+    ran = "import queue, runpy, sys, threading; from dine import PAIR; inboxes = [queue.Queue(), queue.Queue()]\n"
+    ran += "def run(n): runpy.run_path('loop.py', {'text': PAIR, 'number': n, 'receive': inboxes[n].get, "
+    ran += "'send': lambda to, letter: inboxes[to].put(letter), 'work': lambda: print('ate', n)})\n"
+    ran += "threads = [threading.Thread(target=run, args=[n]) for n in (0, 1)]\n"
+    ran += "[it.start() for it in threads]; [it.join(60) for it in threads]\n"
+    lines = place.output(sys.executable, "-c", ran, env={"PYTHONPATH": "bindings/python"}).splitlines()
+    assert sorted(lines) == ["ate 0", "ate 1"]
+    assert place.rust("run", "--example", "sites").startswith("site 0 ate 2 times")
 
 
 # ---- Replays
@@ -206,13 +200,12 @@ def replays(plan):
 @pytest.mark.parametrize("language", ["C", "Rust", "Python"])
 def test_replays(place, language):
     """Each language prints what the proved program prints."""
+    words = [sys.executable, "bindings/python/replay.py"]
     if language == "C":
         words = [place.program("bindings/c/replay.c")]
-    elif language == "Rust":
+    if language == "Rust":
         place.rust("build", "--release", "--example", "replay")
         words = [f"{place.folder}/target/release/examples/replay"]
-    else:
-        words = [sys.executable, "bindings/python/replay.py"]
     for plan in PLANS:
         lists, wanted = replays(plan)
         assert place.ran(*words, f"{HOME}/{plan}", input=lists) == Answer(0, wanted, "")

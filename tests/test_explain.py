@@ -6,7 +6,7 @@ from pathlib import Path
 
 import pytest
 from calls import REFUSED, stored_texts
-from trying import HOME, answer_of, paths, text_of
+from trying import HOME, answer_of, paths
 
 pytestmark = pytest.mark.built("dine_cli")
 explained = runpy.run_path(f"{HOME}/tools/explain")["explained"]
@@ -14,15 +14,13 @@ TEXTS = [pytest.param(text, line, id=f"{name}: {line}") for name, line, text in 
          if line.startswith(REFUSED) and "NoSite" not in line]
 
 
-def test_explanations(request):
+def test_explanations(is_as_written):
     found = ""
     for path in paths("tests/refused/*.toml"):
         name, source = Path(path).stem, Path(HOME, path).read_bytes()
         line = re.search(rb"^# check> (.*\n)", source, re.M)[1].decode()
         found += f"# {name}\n{explained(name, source, line)}\n"
-    if request.config.getoption("write"):
-        Path(HOME, "tests/explained.txt").write_text(found, "utf-8")
-    assert found == text_of("tests/explained.txt")
+    is_as_written("tests/explained.txt", found)
 
 
 @pytest.mark.parametrize("text, line", TEXTS)
@@ -39,11 +37,7 @@ def test_program_and_place(tmp_path):
     assert answer.output.startswith(f"{plan}:5:14: An end of this edge is not the name of a site.\n")
 
 
-def test_accepted_plan():
+def test_other_files():
     assert answer_of(["explain", f"{HOME}/plans/pair.toml"]) == (0, "ok: 2 sites, 1 edges, 2 jobs\n", "")
-
-
-def test_no_such_file():
-    answer = answer_of(["explain", "no/such/plan.toml"])
-    assert (answer.status, answer.output) == (2, "")
-    assert "no/such/plan.toml: No such file or directory" in answer.error
+    status, output, error = answer_of(["explain", "no/such/plan.toml"])
+    assert (status, output) == (2, "") and "no/such/plan.toml: No such file or directory" in error

@@ -21,17 +21,7 @@ def test_one_window(page, width, height):
     small = page.js(HEIGHT)
     page.do("v")
     assert page.js(HEIGHT) >= max(0.7 * height, 1.2 * small) and page.unseen("#step") == []
-    page.do("ArrowRight", "Escape")
-    assert (page.event(), page.js(HEIGHT)) == (11, small)
-
-
-@pytest.mark.parametrize(("width", "name", "choices"), [
-    (1280, "ring_of_five", ""), (1280, "ring_of_five", ASKED), (1920, "grid", ""), (390, "grid", "")])
-def test_names_that_are_cut_differ(page, width, name, choices):
-    page.look(width, 1080 if width == 1920 else 844)
-    page.open(f"plan=plans/{name}.toml&choices={choices}")
-    names = page.texts("#picture .site .name")
-    assert names and len(set(names)) == len(names), names
+    assert (page.do("ArrowRight", "Escape"), page.js(HEIGHT)) == (11, small)
 
 
 @pytest.mark.built("dine_trace")
@@ -59,21 +49,6 @@ def test_many_sites(page):
     assert page.count("#picture .site") == 20
 
 
-def test_values(page):
-    page.open("plan=plans/balances.toml")
-    assert page.texts("#picture .edge text") == ["=100", "=0", "=0", "=100"]
-
-
-@pytest.mark.parametrize(("name", "words", "kinds"), [
-    ("failing_job", "had a failed meal", ("failed",)), ("resigning_site", " quit", ("failed", "quit"))])
-def test_failures_and_ends(page, name, words, kinds):
-    """Failed meals, quitting, done and closed are drawn."""
-    page.open(f"plan=plans/{name}.toml&by=first")
-    page.go_to_end()
-    assert [it for it in (*kinds, "done") if not page.count(f"#picture .site.{it}")] == []
-    assert page.count("#picture .edge.closed") and words in page.text("#last")
-
-
 def test_plan_that_is_refused(page):
     """A plan that is refused is reported in a sentence, its line is marked, and nothing that was typed is lost."""
     page.open("plan=plans/pair.toml&choices=1,1")
@@ -90,35 +65,26 @@ def test_plan_that_is_refused(page):
     assert page.value("#text") == re.sub("# [a-z][^>\n]*> .*\n", "", text_of("plans/pair.toml"))
 
 
-@pytest.mark.parametrize(("said", "fault"), [
-    ("text=version%20%3D%201", "The plan is refused. The plan has no site."),
-    ('own={"title":"t","moments":[{"text":"","options":"abc"}]}', "the lesson of the address is none")])
-def test_address_that_is_refused(page, said, fault):
-    page.open(said)
-    assert page.text("#fault") == fault
-
-
-@pytest.mark.parametrize("width", [1280, 390])
-@pytest.mark.parametrize(("name", "scheme"), [
-    ("pair", "light"), ("ring_of_five", "light"), ("ring_of_five", "dark"), ("grid", "light"), ("star_of_64", "light")])
-def test_width(page, name, scheme, width):
-    """All fits into a window, at the letter size of most readers and at twice that."""
-    page.look(width, 844, scheme)
+@pytest.mark.parametrize(("name", "width"), [
+    ("pair", 1280), ("ring_of_five", 1280), ("grid", 1280), ("grid", 1920), ("star_of_64", 1280), ("pair", 390),
+    ("ring_of_five", 390), ("grid", 390), ("star_of_64", 390)])
+def test_width(page, name, width):
+    """All fits into a window, at the letter size of most readers and at twice that, and names that are cut differ."""
+    page.look(width, 844)
     page.open(f"plan=plans/{name}.toml&choices=0,0,0")
-    for letters in (16, 32) if scheme == "light" else (16,):
+    names = page.texts("#picture .site .name")
+    assert names and len(set(names)) == len(names), names
+    for letters in (16, 32):
         page.js(f"document.documentElement.style.fontSize = '{letters}px'")
         assert page.js("document.documentElement.scrollWidth") <= width
+
+
+@pytest.mark.parametrize(("scheme", "is_dark"), [("light", False), ("dark", True)])
+def test_scheme(page, scheme, is_dark):
+    page.look(scheme=scheme)
+    page.open()
     back = page.js("getComputedStyle(document.body).backgroundColor")
-    assert (int(re.search(r"\d+", back)[0]) < 128) == (scheme == "dark")
-
-
-def test_telephone(page):
-    """On a telephone all that is clicked is in its place, and nothing covers it."""
-    page.look(390, 844)
-    page.open(f"{RING}&choices={ASKED}")
-    page.do("#naive", "#enabled li:last-child button", "#picture .site[data-site='3']", "#unselect", "#step",
-            "#zoom-in", "#sites tr:last-child button")
-    assert page.event() == 12 and page.text("#why-name").startswith("e: ")
+    assert (int(re.search(r"\d+", back)[0]) < 128) == is_dark
 
 
 def test_names_for_screen_readers(page):
@@ -131,29 +97,3 @@ def test_names_for_screen_readers(page):
         if not node.get("ignored") and role not in ("RootWebArea", "document") and (has_focus or role in NAMED):
             unnamed += [role] * (not name)
     assert unnamed == [] and "e hungry, 0 of 2 meals" in page.one("#picture").get_attribute("aria-label")
-
-
-def test_letters_turned_off(page):
-    """Keys of one letter can be turned off, and stay so."""
-    page.open(RING)
-    page.do("?", "#letters", "#keys button", "r", "3", "f")
-    assert page.event() == 0
-    page.do("ArrowRight")
-    page.open(f"{RING}&choices=4,4")
-    page.do("r")
-    assert page.event() == 2
-    page.do("ArrowLeft")
-    assert page.event() == 1
-
-
-def test_timeline_by_keys(page):
-    page.open(f"{RING}&choices={ASKED}")
-    page.focus("#timeline-scroll")
-    page.do("PageUp", "PageUp", "ArrowLeft")
-    assert (page.event(), page.count("#timeline-scroll[aria-valuenow='7']")) == (7, 1)
-
-
-def test_focus_of_a_button_out_of_use(page):
-    page.open(f"{RING}&choices=4")
-    page.do("#back")
-    assert page.count("#back:focus") == 1

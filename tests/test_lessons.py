@@ -1,12 +1,12 @@
 """Tries the lessons, the questions, the challenge and the plain forks of the page."""
 import itertools
 import re
-import time
 import tomllib
 
 import catalog
 import pytest
 from browsing import ASKED, RING
+from calls import until
 from trying import paths, text_of
 
 STORY = "lessons/dining_without_a_waiter.toml"
@@ -20,7 +20,7 @@ for it in itertools.chain(*LESSONS.values()):
 def is_shown(page, moment):
     """A moment shows what it says, and no more."""
     note, kinds, seen = " ".join(moment["note"].split()), moment["show"], page.kinds()
-    assert (page.text("#moment-title"), page.event()) == (moment["title"], moment["at"])
+    assert page.moment()[1:] == [moment["title"], moment["at"]]
     assert len(note.split()) <= 45 and " ".join(page.texts("#moment-note p")) == note.replace("*", "")
     assert ",".join(map(str, page.choices())) == moment.get("choices", "")
     assert set(seen) <= set(kinds) if moment.get("naive") == "alone" else seen == kinds
@@ -30,15 +30,20 @@ def is_shown(page, moment):
 
 
 @pytest.mark.slow
+@pytest.mark.parametrize(("width", "height"), [(1280, 800), (1366, 650), (390, 844)])
 @pytest.mark.parametrize("path", LESSONS)
-def test_lesson(page, path):
-    """A lesson is a story of short moments, gone through by button and keys."""
-    page.look(motion="reduce")
+def test_lesson(page, path, width, height):
+    """A lesson is a story of short moments, gone through by button and keys. The picture is in view together with the
+    note, its question and the way on."""
+    page.look(width, height, motion="reduce")
     page.open()
-    page.choose("#lessons", path)
+    page.do("#lessons", page.text(f'#lessons option[value="{path}"]'), "Enter")
     assert 18 <= len(LESSONS[path]) < 24
     for place, moment in enumerate(LESSONS[path]):
         is_shown(page, moment)
+        picture = "#naive-picture" if moment.get("naive") == "alone" else "#picture"
+        parts = [picture, "#legend", "#moment-note", "#next"] + ["#question button"] * ("question" in moment)
+        assert page.unseen(*parts) == [], moment["title"]
         page.do("PageDown" if place % 2 else "#next")
     page.do("PageUp")
     assert page.text("#moment-title") == LESSONS[path][-2]["title"]
@@ -63,44 +68,12 @@ def test_question(page, path, place):
     assert (page.unseen("#question .main") == []) == goes_on
     if goes_on:
         page.do("#question .main")
-        assert (page.event(), page.text("#moment-title")) == (following["at"], moment["title"])
+        assert page.moment()[1:] == [moment["title"], following["at"]]
         page.do("#return")
     page.do("#step", "#back")
     assert page.each(*answers) == ["right"]
     page.do("#next")
     is_shown(page, following)
-
-
-def test_step_in_a_lesson(page):
-    """Step does the lesson's next event, and behind the last one the reader chooses, as is said. Next finds back."""
-    page.open(f"lesson={STORY}&moment=16")
-    page.do("#step")
-    assert page.text("#last b") == "e begins meal 1" and page.unseen("#enabled")
-    page.do(*["ArrowRight"] * (LESSONS[STORY][19]["at"] - page.event()))
-    assert page.text("#moment-count") == "From here on you choose" and not page.unseen("#enabled")
-    page.do("#return")
-    assert (page.event(), page.text("#moment-count")) == (9, "Moment 16 of 21")
-    page.open(page.hash("moment=16"))
-    assert (page.event(), page.text("#moment-count"), page.kinds()) == (9, "Moment 16 of 21", ["forks", "arrows"])
-    page.do("#step")
-    assert page.text("#last b") == "e begins meal 1"
-    page.do("Home", "r", "PageDown")
-    assert (page.event(), page.text("#last b")) == (10, "e begins meal 1")
-    page.open(f"lesson={STORY}&moment=1.5")
-    assert page.text("#moment-count") == "Moment 1 of 21" and page.unseen("#fault")
-
-
-@pytest.mark.parametrize(("width", "height"), [(1280, 800), (1366, 650), (390, 844)])
-def test_lesson_is_in_view(page, width, height):
-    """The picture is in view together with the note, its question and the way on."""
-    page.look(width, height, motion="reduce")
-    page.open(f"lesson={STORY}&moment=1")
-    for moment in LESSONS[STORY]:
-        assert page.text("#moment-title") == moment["title"]
-        picture = "#naive-picture" if moment.get("naive") == "alone" else "#picture"
-        parts = [picture, "#legend", "#moment-note", "#next"] + ["#question button"] * ("question" in moment)
-        assert page.unseen(*parts) == [], moment["title"]
-        page.do("PageDown")
 
 
 def test_lesson_on_a_telephone(page):
@@ -111,7 +84,7 @@ def test_lesson_on_a_telephone(page):
     assert page.js("document.documentElement.scrollWidth") <= 390
     page.js("document.documentElement.style.fontSize = ''")
     for where, far in (("#picture", 120), ("#moment-note", 120), ("#picture", -120)):
-        box = page.js("one(arguments[0]).getBoundingClientRect().toJSON()", where)
+        box = page.one(where).rect
         x, y = box["x"] + box["width"] / 2, box["y"] + box["height"] / 2
         for kind, points in (("Start", [{"x": x, "y": y}]), ("Move", [{"x": x + far, "y": y + 4}]), ("End", [])):
             page.cdp("Input.dispatchTouchEvent", type=f"touch{kind}", touchPoints=points)
@@ -127,38 +100,22 @@ def test_motion_between_moments(page):
     between = [it for it in places if min(places) + 10 < it < max(places) - 10]
     assert len({round(it) for it in between}) >= 5 and {*events} >= {5, 6} and page.event() == 6
     page.one("#next").click()
-    page.until("one('#moment-title').textContent === 'A clean fork says: wait'")
+    page.until("text('#moment-title') === 'A clean fork says: wait'")
     page.one("#next").click()
     assert {event for event, _ in page.wait("flight")} <= {8}
-    assert (page.event(), page.text("#moment-title")) == (8, "A clean fork says: wait")
-
-
-def test_site_to_starve(page):
-    """The reader tries to starve e, and the page counts what the others eat. Node tries what it says."""
-    page.open(f"lesson={STORY}&moment=21")
-    for it in ("a begins meal 1", "a ends meal 1", "a grows hungry"):
-        page.do(f"#enabled li:nth-child({page.texts('#enabled .words').index(it) + 1}) button")
-    lines = page.texts("#starving li")
-    assert lines[0] == "Your events: 3. Meals since e asked: d 0, a 1, b 0, c 0." and "no other meal" in lines[2]
-    page.do("PageUp")
-    assert page.count("#starving li") == 0
+    assert page.moment()[1:] == ["A clean fork says: wait", 8]
 
 
 @pytest.mark.early
-@pytest.mark.parametrize("part", text_of("tests/unfit_moments.txt").split("\n# ")[1:])
-def test_unfit_moment(part):
+@pytest.mark.parametrize(("fault", "text"), [
+    *((f"it: moment 1: {re.escape(fault)}$", f'title = "t"\n[[moment]]\nplan = "plans/pair.toml"\n{lines}')
+      for fault, lines in (it.split("\n", 1) for it in text_of("tests/unfit_moments.txt").split("\n# ")[1:])),
+    ("it is no lesson: there is no key titel", "titel = 't'\n[[moment]]\ntext = ''\n"),
+    pytest.param("it is no lesson: ", f"x = {'[' * 5000}\n[[moment]]\ntext = ''\n", id="deep")])
+def test_unfit_lesson(fault, text):
     """A key that has what it can't have is reported with its moment."""
-    fault, _, lines = part.partition("\n")
-    with pytest.raises(catalog.Unfit, match=f"^it: moment 1: {re.escape(fault)}$"):
-        catalog.lesson_of("it", f'title = "t"\n[[moment]]\nplan = "plans/pair.toml"\n{lines}')
-
-
-@pytest.mark.early
-@pytest.mark.parametrize(("line", "fault"), [
-    ("titel = 't'", "there is no key titel"), pytest.param(f"x = {'[' * 5000}", "", id="deep")])
-def test_unfit_lesson(line, fault):
-    with pytest.raises(catalog.Unfit, match=f"^it is no lesson: {fault}"):
-        catalog.lesson_of("it", f"{line}\n[[moment]]\ntext = ''\n")
+    with pytest.raises(catalog.Fault, match=f"^{fault}"):
+        catalog.lesson_of("it", text)
 
 
 def test_keeping(page, tmp_path):
@@ -169,12 +126,10 @@ def test_keeping(page, tmp_path):
     page.fill("#keep-title", 'One "moment"')
     page.fill("#keep-note", "It is hungry.\n\nIt waits.")
     page.do("#keep-it", "#save")
-    saved, end = tmp_path / "lesson.toml", time.monotonic() + 5
-    while not saved.exists() and time.monotonic() < end:
-        time.sleep(0.05)
+    assert until((tmp_path / "lesson.toml").exists)
     wanted = {"title": 'One "moment"', "note": "It is hungry.\n\nIt waits."}
     wanted |= {"plan": "plans/ring_of_five.toml", "choices": "4,4,4", "at": 3}
-    assert tomllib.loads(saved.read_text("utf-8"))["moment"] == [wanted]
+    assert tomllib.loads((tmp_path / "lesson.toml").read_text("utf-8"))["moment"] == [wanted]
     page.do("#remove")
     assert page.text("#moment-count") == "No moment yet"
 
@@ -192,23 +147,3 @@ def test_questions(page):
     page.do(*(f"#quiz label:nth-of-type({it})" for it in ticked), "#quiz button")
     assert page.text("#quiz output") == f"{len(words) - 1} of {len(words)} right so far"
     assert page.count("#quiz .wrong") == 1 and page.count("#enabled button") and not page.unseen("#why")
-
-
-def test_plain_forks(page):
-    """Beside the rules plain forks end in a deadlock, drawn as a cycle, and labelled as no work of the program."""
-    page.open(RING)
-    page.do("n", *["ArrowRight"] * 12)
-    assert "Deadlock: a waits for e, e for d, d for c, c for b, b for a." in page.text("#naive-note")
-    assert "nothing is proved of it" in page.text("#naive-side")
-    marks = ("edge.caught", "fork:is(.clean, .dirty)")
-    assert [page.count(f"#naive-picture .{it}") for it in marks] == [5, 0]
-    page.do("Home")
-    assert page.count("#naive-picture .site.hungry") == 0
-    page.open("plan=plans/star_of_locks.toml")
-    page.do("n", *["ArrowRight"] * 5)
-    assert "Without a ring" in page.text("#naive-note")
-    page.choose("#plans", "plans/pair.toml")
-    assert page.unseen("#naive-picture") == []
-    page.open(f"lesson={STORY}&moment=3")
-    page.do("n")
-    assert page.unseen("#picture", "#naive-picture", "#timeline-scroll") == []

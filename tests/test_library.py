@@ -2,6 +2,7 @@
 prints what the page says. A program is run by 'rt try', which proves nothing: ./verify proves the crates below. With
 DINE_PROVE=1 each is proved and built by the tools/build of the new repository."""
 import os
+from pathlib import Path
 
 import pytest
 from calls import add_program, blocks
@@ -9,9 +10,6 @@ from trying import HOME, Answer, answer_of
 
 pytestmark = pytest.mark.early
 VENDOR = f"{HOME}/tools/vendor"
-USAGE = "usage: vendor [-h] DEST [CRATE]"
-
-
 BLOCKS = blocks("docs/LIBRARY.md")
 # The programs of the page, each with what it prints, which is the next block.
 PROGRAMS = [two for two in zip(BLOCKS, BLOCKS[1:]) if two[0].startswith("#![")]
@@ -43,9 +41,9 @@ def test_build_of_a_new_repository(repository):
 
 @pytest.mark.slow
 @pytest.mark.timeout(7200 if IS_PROVED else 1000)
-@pytest.mark.parametrize("number", range(1, len(PROGRAMS) + 1))
+@pytest.mark.parametrize("number", range(len(PROGRAMS)))
 def test_program(repository, number):
-    (source, prints), name = PROGRAMS[number - 1], f"program_{number}"
+    (source, prints), name = PROGRAMS[number], f"program_{number + 1}"
     mine = add_program(name, "may_wait=1: dine_run anyhow", source, repository)
     if IS_PROVED:
         made = answer_of([name], f"{repository}/tools/build", seconds=7000)
@@ -56,14 +54,24 @@ def test_program(repository, number):
     assert (ran.status, ran.output.partition("checked: ")[0]) == (0, prints), ran.error
 
 
+def test_repository_of_a_lower_crate(tmp_path):
+    """It gets the crate that is named and those below it, with their lines of crates.txt, and no others."""
+    made = answer_of([f"{tmp_path}/mine", "dine_graph"], VENDOR)
+    assert (made.status, made.error) == (0, "")
+    assert made.output.startswith(f"2 crates are in {tmp_path}/mine.") and ": dine_graph anyhow'" in made.output
+    assert sorted(os.listdir(f"{tmp_path}/mine/crates")) == ["dine_graph", "dine_token"]
+    lines = Path(tmp_path, "mine/crates.txt").read_text("utf-8").splitlines()
+    assert [it.partition(":")[0] for it in lines if ":" in it] == ["dine_token", "dine_graph"]
+
+
 @pytest.mark.parametrize(("words", "line"), [
-    ([], f"the following arguments are required: DEST; {USAGE}"),
-    (["DEST", "dine_run", "more"], f"unrecognized arguments: more; {USAGE}"),
-    ([f"{HOME}/docs"], f"{HOME}/docs is not empty"),
-    (["DEST", "cups"], "there is no crate cups"),
-    ([VENDOR], f"{VENDOR} is no folder"),
+    ("DEST dine_run more", "unrecognized arguments: more; usage: vendor [-h] DEST [CRATE]"),
+    (f"{HOME}/docs", f"{HOME}/docs is not empty"),
+    ("DEST cups", "there is no crate cups"),
+    (VENDOR, f"{VENDOR} is no folder"),
+    (f"{VENDOR}/mine", f"{VENDOR}/mine can't be written: Not a directory"),
 ])
 def test_refused_arguments(tmp_path, words, line):
     dest = f"{tmp_path}/other"
-    assert answer_of([it.replace("DEST", dest) for it in words], VENDOR) == Answer(2, "", f"vendor: {line}\n")
+    assert answer_of(words.replace("DEST", dest).split(), VENDOR) == Answer(2, "", f"vendor: {line}\n")
     assert not os.path.exists(dest)

@@ -2,6 +2,7 @@
 
 Half of the runs have polite sites, and half have four threads beside them that only count. tests/many_runs.rt.in, built
 by 'rt try', says what a run has to leave. After a change to threads, links or bells pytest --rounds 100 does 4,000."""
+import collections
 import itertools
 import random
 import re
@@ -33,37 +34,26 @@ PLANS |= {f"random {seed}": chance(seed) for seed in range(10)}
 NAMED = list(itertools.product(("channel", "ring"), PLANS))
 
 
-def shares(rounds, number):
-    """Yields how many runs of a plan have each kind and manner, so that half of all are busy, and half polite."""
-    busy = (rounds + number % 2) // 2
-    for kind, runs in (("quiet", rounds - busy), ("busy", busy)):
-        polite = (runs + number // 2 % 2) // 2
-        yield kind, "eager", runs - polite
-        yield kind, "polite", polite
-
-
 @pytest.fixture(scope="module")
-def reports(tmp_path_factory, request):
-    """Does all runs. Returns of each kind of links and plan whether each run was wrong, its meals and its letters."""
+def wrong(tmp_path_factory, request):
+    """Runs each plan over each kind of links once in each round. Returns how many of these runs were wrong."""
     rounds, folder = request.config.getoption("rounds"), tmp_path_factory.mktemp("runs")
     copy_crates("dine_plan dine_run", folder)
     crate = add_program("many_runs", "may_wait=6: dine_plan dine_run anyhow", text_of("tests/many_runs.rt.in"), folder)
-    parts = [(kind, manner, count, links, name) for number, (links, name) in enumerate(NAMED)
-             for kind, manner, count in shares(rounds, number)]
-    parts.sort(key=lambda it: it[0] == "busy")
-    given = b"---\n".join(f"{links} {count} {kind} {manner}\n".encode() + PLANS[name]
-                          for kind, manner, count, links, name in parts)
-    asked = [(links, name) for _, _, count, links, name in parts for _ in range(count)]
-    assert len(asked) == rounds * len(NAMED)
+    runs = [(("quiet", "busy")[turn % 2], ("eager", "polite")[turn // 2 % 2], *named)
+            for first in range(rounds) for turn, named in enumerate(NAMED, first)]
+    # The threads that count begin before the first busy run, and stay.
+    runs.sort(key=lambda it: it[0] == "busy")
+    given = b"---\n".join(f"{links} 1 {kind} {manner}\n".encode() + PLANS[name] for kind, manner, links, name in runs)
     answer = answer_of(["try", "--seconds", str(300 + 8 * rounds)], "rt", None, input=given, cwd=crate)
-    lines = [tuple(map(int, it)) for it in re.findall(r"^(\d+) (\d+) (\d+)$", answer.output, re.M)]
-    assert (answer.status, len(lines)) == (0, len(asked)), answer.error
-    return {named: [line for it, line in zip(asked, lines) if it == named] for named in NAMED}
+    found = re.findall(r"^(\d+) \d+ \d+$", answer.output, re.M)
+    assert (answer.status, len(found)) == (0, len(runs)), answer.error
+    counts = collections.Counter()
+    for (*_, links, name), is_wrong in zip(runs, found):
+        counts[links, name] += int(is_wrong)
+    return counts
 
 
-@pytest.mark.parametrize(("links", "name"), NAMED)
-def test_runs(reports, links, name):
-    lines = reports[links, name]
-    wrong, meals, letters = map(sum, zip(*lines))
-    print(f"{len(lines)} runs, {wrong} wrong, {meals} meals, {letters} letters")
-    assert wrong == 0
+@pytest.mark.parametrize("named", NAMED, ids=" ".join)
+def test_runs(wrong, named):
+    assert wrong[named] == 0

@@ -3,6 +3,7 @@ and keys in a headless Chromium. What they say is compared with what dine_trace 
 import random
 import re
 import time
+import tomllib
 import urllib.parse
 
 import pytest
@@ -12,56 +13,43 @@ from graphs import graph_of, plan_of
 from trying import Answer, text_of
 
 pytestmark = pytest.mark.built("dine_cli", "dine_trace")
-# The plans that are played to their end, each so many times.
-PLAYED = {"pair": 3, "pair_asked_first": 1, "pair_one_sided": 1, "failing_job": 2, "resigning_site": 2, "balances": 1,
-          "ring_of_five": 1}
-# The plans whose logs are compared with those of dine replay, after choices some of which name no event.
-PLANS = [f"plans/{it}.toml" for it in (*PLAYED, "grid", "star_of_64")]
-PLANS += ["tests/cases/triangle.toml", "tests/cases/values.toml"]
-# Choices on the ring of five after which its arrows have turned.
-MEALS = "4,4,3,3,4,4,0,0,4,4,4,2,1,0,4,2,1,1,3,3"
+# The plans that are stepped to their end, and after how many random choices.
+PLAYED = [(f"plans/{name}.toml", count) for name, counts in {
+    "pair": (0, 4), "pair_asked_first": (3,), "pair_one_sided": (0,), "failing_job": (0, 9), "resigning_site": (0, 9),
+    "balances": (9,), "ring_of_five": (50,), "grid": (1500,), "star_of_64": (1500,)}.items() for count in counts]
+PLAYED += [("tests/cases/triangle.toml", 40), ("tests/cases/values.toml", 9)]
+CASES = tomllib.loads(text_of("tests/tables/page.toml"))
 LONG = plan_of([3] * 40, graph_of("ring:40")[1] + [(it, (it + 7) % 40) for it in range(40)]).decode()
 
 
-def test_beginning(page):
-    """The steps begin by chance, so that sites come to wait for one another. The program is not called unproved."""
-    page.open()
-    begun = [page.value(it) for it in ("#plans", "#pick", "#seed")]
-    assert begun == ["plans/ring_of_five.toml", "random", "1"] and page.count("#unproved[hidden]") == 1
+@pytest.mark.parametrize("name", CASES)
+def test_case(page, name):
+    """What is done and seen is in tests/tables/page.toml."""
+    page.look(*CASES[name].get("window", ()))
+    for step in [{"open": CASES[name]["open"]}, *CASES[name]["steps"]]:
+        if "open" in step:
+            page.open(step["open"])
+        if "again" in step:
+            page.open(page.hash(step["again"]))
+        if "do" in step:
+            page.do(*step["do"])
+        wanted = step.get("see", {})
+        assert {code: page.js(code) for code in wanted} == wanted
 
 
 @pytest.mark.slow
-@pytest.mark.parametrize(("name", "number"), [(name, number) for name in PLAYED for number in range(PLAYED[name])])
-def test_schedule(page, name, number):
-    path = f"plans/{name}.toml"
-    page.open(f"plan={path}&seed={number}")
-    chance = random.Random(f"{path} {number}")
+@pytest.mark.parametrize(("path", "count"), PLAYED)
+def test_schedule(page, path, count):
+    """After random choices, of which some name no event, the buttons lead to an end as the program has it."""
+    chance, plan = random.Random(path), text_of(path)
+    where = f"plan={path}" if path.startswith("plans/") else f"text={urllib.parse.quote(plan)}"
+    page.open(f"{where}&seed={count}&choices={','.join(str(chance.randrange(6)) for _ in range(count))}")
     while page.step_by_chance(chance):
         assert page.texts("#checks .broken") == []
-    page.is_said_by_shell()
-
-
-@pytest.mark.slow
-@pytest.mark.parametrize("path", PLANS)
-def test_logs(page, path):
-    """The logs after many choices, and then the first events, are those of dine replay."""
-    chance, plan = random.Random(path), text_of(path)
-    choices = ",".join(str(chance.randrange(6)) for _ in range(1500))
-    where = f"plan={path}" if path.startswith("plans/") else f"text={urllib.parse.quote(plan)}"
-    page.open(f"{where}&by=first&choices={choices}")
-    page.go_to_end()
-    wanted = dine("replay", "--choices", choices, input=plan.encode())
-    assert Answer(0, f"{page.text('#logs')}\n", "") == wanted
-
-
-def test_back(page):
-    page.open(f"{RING}&choices=4,4,4,4,4,0,0")
-    before, chance = page.said(), random.Random("back")
-    for _ in range(10):
-        page.step_by_chance(chance)
-    assert page.differs(before)
-    page.do(*["#back"] * 10)
-    assert page.differs(before) == []
+    answer = dine("replay", "--choices", ",".join(map(str, page.choices())), input=plan.encode())
+    assert answer == Answer(0, f"{page.text('#logs')}\n", "")
+    if path.startswith("plans/"):
+        page.is_said_by_shell()
 
 
 def test_double_click(page):
@@ -72,53 +60,20 @@ def test_double_click(page):
     assert page.event() == 1
 
 
-@pytest.mark.parametrize(("choices", "counts"), [
-    ("", "43210"), (ASKED, "43210"), (f"{ASKED},0,0,1,1", "43210"), (MEALS, "10203")])
-def test_precedence(page, choices, counts):
-    """Arrows, ranks and tables are as the program says."""
-    page.open(f"{RING}&choices={choices}")
-    edges = page.state()["edges"]
-    assert page.headings() == [edge["preferred"] for edge in edges]
-    assert "".join(page.texts("#picture .rank text")) == "".join(page.texts("#sites td:last-child")) == counts
-    words = [it.startswith("dirty, ") for it in page.texts("#edges td:nth-child(4)")]
-    assert words == [edge["dirty"] for edge in edges]
-    assert [it[0] for it in page.texts("#edges td:nth-child(6)")] == ["abcde"[edge["preferred"]] for edge in edges]
-
-
-def test_switch_of_precedence(page):
+def test_picture_and_tables(page):
+    """Arrows, ranks, tables and marks are as the program says at each event, which is named. A meal turns arrows."""
     page.open(RING)
-    shown = "getComputedStyle(one('#picture .head')).display"
-    assert page.js(shown) != "none"
-    page.do("#ranks")
-    assert page.js(shown) == "none" and page.unseen("#picture .rank")
-
-
-def test_reasons(page):
-    """A click on a site says what it holds, lacks and may do, and of all the rest why not."""
-    page.open(f"{RING}&choices={ASKED}")
-    lines = page.texts("#why li")
-    assert len(lines) == 5 and "d waits: its request to c is on its way" in lines
-    page.do("#picture .site[data-site='4']")
-    site, *edges = page.state()["sites"][4], *(it for it in page.state()["edges"] if 4 in it["ends"])
-    codes = [site["why_not"], *({**it["why_not"][it["ends"].index(4)], "take": None} for it in edges)]
-    assert page.count("#why ul:last-child li") == sum(code is not None for it in codes for code in it.values())
-    words, lacks = page.text("#why"), "Lacks: the fork shared with d (at d); the fork shared with a (at a)"
-    assert [it for it in (lacks, "Goes: before d, a", "May do nownothing") if it not in words] == []
-    assert page.text("#why-name") == "e: hungry, 0 of 2 meals"
-    page.do("Escape")
-    assert page.text("#why-name") == "Who waits, and for what"
-
-
-def test_marks_of_the_last_event(page):
-    """What the last event changed is marked in the picture and in the tables, and named. A meal turns its arrows."""
-    page.open(f"{RING}&choices=0,1,2,3,4")
+    assert "".join(page.texts("#picture .rank text")) == "43210"
     chance, turned = random.Random("marks"), set()
     while page.step_by_chance(chance) and (page.event() < 20 or len(turned) < 2):
         state = page.state()
-        last, arrows = state["last"], page.headings()
-        assert arrows == [edge["preferred"] for edge in state["edges"]]
-        turned.add(str(arrows))
-        assert page.text("#last b") == last["words"]
+        last, edges = state["last"], state["edges"]
+        preferred = [edge["preferred"] for edge in edges]
+        turned.add(str(preferred))
+        assert page.headings() == preferred and page.text("#last b") == last["words"]
+        assert [it[0] for it in page.texts("#edges td:nth-child(6)")] == ["abcde"[it] for it in preferred]
+        assert [it.startswith("dirty") for it in page.texts("#edges td:nth-child(4)")] == [it["dirty"] for it in edges]
+        assert page.texts("#picture .rank text") == page.texts("#sites td:last-child")
         assert page.each("#picture .site.last", "Number(it.dataset.site)") == [last["site"]]
         for where in ("#picture .edge", "#edges tbody tr"):
             marked = [edge for edge, it in enumerate(page.each(where, "it.classList.contains('last')")) if it]
@@ -128,31 +83,13 @@ def test_marks_of_the_last_event(page):
     assert len(turned) > 1
 
 
-def events_by(page, *keys):
-    """Presses keys, and returns the number of events after each."""
-    return [page.do(it) or page.event() for it in keys]
-
-
-def test_keys(page):
-    """Keys do what their buttons do."""
-    page.open(RING)
-    keys = ("ArrowRight", "3", "f", "r", "ArrowLeft", "Home", "End", "ArrowLeft")
-    assert events_by(page, *keys) == [1, 2, 3, 4, 3, 0, 4, 3]
-    page.do("+", " ")
-    assert page.text("#play") == "Pause"
-    page.until("Number(one('#count').textContent.split(' ')[1]) >= 6")
-    page.do(" ", "?")
-    assert page.count("#keys[open]") == 1 and page.text("#play") == "Play"
-
-
 @pytest.mark.parametrize("where", ["#plans", "#pick", "#lessons", "#speed"])
 def test_keys_on_menus(page, where):
     """Arrows, Home, End and space step, though a menu or the slider has the focus, and don't change it."""
-    page.open(RING)
-    page.choose("#plans", "plans/pair.toml")
+    page.open(f"{RING}&seed=2")
     before = page.each("select, #speed", "it.value")
     page.focus(where)
-    assert events_by(page, "Home", "ArrowRight", "ArrowRight", "ArrowLeft", "End", "Home") == [0, 1, 2, 1, 2, 0]
+    assert [page.do(it) for it in ("ArrowRight", "ArrowRight", "ArrowLeft", "End", "Home")] == [1, 2, 1, 2, 0]
     page.do(" ")
     assert page.text("#play") == "Pause"
     page.do(" ")
@@ -167,15 +104,9 @@ def test_address(page):
     page.do("Enter")
     said, before = page.hash("choices=4,4,4,4,4,0,0.*at=5.*by=first.*seed=77.*speed=2"), page.said()
     page.open(said)
-    assert page.differs(before) == []
-    assert (page.value("#seed"), page.value("#pick")) == ("77", "first")
+    assert page.differs(before) == [] and (page.value("#seed"), page.value("#pick")) == ("77", "first")
     page.do("ArrowRight", "ArrowRight")
     assert page.choices() == [4, 4, 4, 4, 4, 0, 0]
-
-
-def test_choices_that_are_left_out(page):
-    page.open(f"{RING}&choices=1,9,9,1")
-    assert "2 of the choices name no event here" in page.text("#last")
 
 
 @pytest.mark.parametrize(("plan", "said"), [
@@ -195,8 +126,7 @@ def test_own_plan(page, plan, said):
 def test_plan_that_is_too_long(page):
     """A plan that is too long for an address leaves it empty, as is said."""
     page.open()
-    dice = random.Random("long")
-    page.write_plan(LONG + "# " + "".join(chr(dice.randrange(0x4E00, 0x9FFF)) for _ in range(26_000)))
+    page.write_plan(LONG + "# " + "".join(map(chr, random.Random(0).choices(range(0x4E00, 0x9FFF), k=26_000))))
     page.until("location.hash === '' && !one('#too-long').hidden", 10)
 
 
@@ -205,7 +135,9 @@ def test_run_on_threads(request, which):
     """What the threads did, or a recorded run, is played and drawn, and kept in the address."""
     page = request.getfixturevalue(which)
     page.open(f"{RING}&speed=5")
-    page.do("#threads", "#play")
+    page.do("#threads")
+    page.until("one('#play').textContent === 'Pause'")
+    page.do("#play")
     held = urllib.parse.parse_qs(page.hash("choices=.*threads=1"))["choices"][0]
     page.open(f"{RING}&choices={held}&at=0&threads=1")
     assert (page.event(), page.text("#timeline-name")) == (0, "What the threads did")
@@ -218,36 +150,22 @@ def test_run_on_threads(request, which):
     page.is_said_by_shell()
 
 
-def test_build_is_shown(served):
-    """The page shows how far the build of the program is that runs threads, and steps meanwhile."""
+def test_late_run(served):
+    """While a run is waited for, as its program may have to be built, the page says so and steps. Then it plays it."""
     served.open(RING)
-    served.js("window.fetch = () => Promise.resolve(new Response(window.isDone ? '' : '3 of 9 left'))")
+    served.js("window.fetch = () => new Promise((then) => { window.answer = (...it) => then(new Response(...it)); })")
     served.do("#threads")
-    assert "is being built: 3 of 9 left" in served.text("#building") and not served.unseen("#building")
-    served.do("ArrowRight")
-    served.js("window.isDone = true")
-    served.until("one('#building').textContent.endsWith('is built.')", 5)
+    assert "the terminal says" in served.text("#building") and not served.unseen("#building")
+    served.do("ArrowRight", "t")
     assert served.event() == 1
-
-
-def test_undo(page):
-    """A choice is taken back by its button and by ctrl-Z. What it did away with is a grey row: a click has it back."""
-    page.open("plan=plans/pair.toml&choices=1,1,0,0,0")
-    page.do("Home", "0", "0", "1")
-    chosen = page.choices()
-    assert (len(chosen), page.count("#timeline .other")) == (3, 1)
-    page.do("^z", "#undo")
-    assert (page.choices(), page.event()) == (chosen[:1], 1)
-    page.chain().move_to_element(page.one("#timeline .other")).click().perform()
-    page.wait()
-    assert (page.event(), page.count("#timeline .other")) == (0, 1)
-    page.do("End")
-    assert page.choices() == [1, 1, 0, 0, 0]
-    page.do("^z")
-    assert (page.choices(), page.event()) == (chosen[:1], 1)
-    page.do("^z", "End")
-    assert page.choices() == [1, 1, 0, 0, 0]
-    assert page.count("#timeline .other, #undo[aria-disabled=false]") == 0
+    served.js("answer('4,4,4,4,4')")
+    served.until("one('#timeline-name').textContent === 'What the threads did'", 5)
+    served.do("End")
+    assert served.choices() == [4] * 5 and served.unseen("#building")
+    served.do("#threads")
+    served.js("answer('it is refused', { status: 500 })")
+    served.until("one('#fault').textContent === 'it is refused'", 5)
+    assert served.unseen("#building")
 
 
 def test_undone_run(page):
@@ -261,26 +179,27 @@ def test_undone_run(page):
     assert page.choices() == [4]
 
 
-def on_timeline(page, part, does):
-    """Moves the pointer so far along the timeline, from 0 at its left to 1 at its right, and does something there."""
+def on_timeline(page, part, drag=0):
+    """Clicks so far along the timeline, from 0 at its left to 1 at its right, and returns how many events are done. Or
+    drags from there."""
     it = page.one("#timeline-scroll")
-    does(page.chain().move_to_element_with_offset(it, round((part - 0.5) * it.size["width"]), 0)).perform()
+    chain = page.chain().move_to_element_with_offset(it, round((part - 0.5) * it.size["width"]), 0).click_and_hold()
+    for _ in range(2 if drag else 0):
+        chain.move_by_offset(round(drag * it.size["width"] / 2), 0)
+    chain.release().perform()
     time.sleep(0.2)
     page.wait()
+    return page.event()
 
 
 def test_timeline(page):
     """A click on the timeline goes behind its event, and says what it was. A drag goes along. What sites do is said."""
     page.open(f"{RING}&choices={ASKED}")
-    wide = page.js("one('#timeline-view').clientWidth")
-    on_timeline(page, 0.04, lambda it: it.click())
-    assert 1 <= page.event() < 4
-    far = round(0.05 * wide)
-    on_timeline(page, 0.04, lambda it: it.click_and_hold().move_by_offset(far, 0).move_by_offset(far, 0).release())
-    assert 6 <= page.event() < 9 and page.text("#timeline-hint") == "c waits, events 3 to 10"
+    assert 1 <= on_timeline(page, 0.04) < 4
+    assert 6 <= on_timeline(page, 0.04, 0.1) < 9 and page.text("#timeline-hint") == "c waits, events 3 to 10"
     # An event is 16 points wide: this is the middle of the third.
-    on_timeline(page, 40 / wide, lambda it: it.click())
-    assert (page.event(), page.text("#timeline-note")) == (3, "3 of 10 events: c grows hungry")
+    assert on_timeline(page, 40 / page.one("#timeline-view").size["width"]) == 3
+    assert page.text("#timeline-note") == "3 of 10 events: c grows hungry"
 
 
 @pytest.mark.slow
@@ -290,32 +209,29 @@ def test_long_run(served):
     served.write_plan(plan_of([500] * 5, graph_of("ring:5")[1]).decode())
     served.one("#threads").click()
     served.until("one('#play').textContent === 'Pause'", 60)
-    served.do(" ", "End")
-    count = served.event()
+    count = served.do(" ", "End")
     assert count >= 7000 and not served.text("#last b").startswith(("After", "The start"))
-    on_timeline(served, 0.5, lambda it: it.click())
-    assert 0.4 * count < served.event() < 0.6 * count
+    assert 0.4 * count < on_timeline(served, 0.5) < 0.6 * count
     width = "one('#timeline-inside').clientWidth"
     wide = served.js(width)
     served.do(*["#zoom-in"] * 4)
     assert 12 < served.js(width) / wide < 20
-    steps_cost_little(served, "long")
+    steps_cost_at_most(served, 2 * 100)
     served.do("PageUp", "#zoom-all")
     assert served.js(width) == wide
 
 
-# What a step may cost until it is drawn: milliseconds of a processor. It is twice what is aimed at, as the caches and
-# the cores are shared with what runs beside. The time itself is not tried: it depends on what else the machine does.
-STEPS = {"few": 2 * 40, "many": 2 * 120, "long": 2 * 100, "large": 2 * 50}
 # How often the page may be laid out for a step: 3 to 5 times were page.
 LAYOUTS = 8
+# What a step may cost until it is drawn: milliseconds of a processor. It is twice what is aimed at, as the caches and
+# the cores are shared with what runs beside. The time itself is not tried: it depends on what else the machine does.
 # 16 sites in a ring with further edges, 64 sites with 512 edges, and 64 sites with 1,000 jobs each.
-LARGE = {"few": ([2] * 16, graph_of("ring:16")[1] + [(it, it + 2) for it in range(14)]),
-         "many": ([2] * 64, graph_of("band:64")[1]), "large": ([1000] * 64, graph_of("ring:64")[1])}
+COSTS = {"few": (2 * 40, [2] * 16, graph_of("ring:16")[1] + [(it, it + 2) for it in range(14)]),
+         "many": (2 * 120, [2] * 64, graph_of("band:64")[1]), "large": (2 * 50, [1000] * 64, graph_of("ring:64")[1])}
 
 
-def steps_cost_little(page, kind):
-    """Does steps of a plan of this kind, and looks at what they cost on average."""
+def steps_cost_at_most(page, milliseconds):
+    """Does steps, and looks at what they cost on average."""
     costs = []
     for count in (0, 20):
         for _ in range(count):
@@ -324,12 +240,12 @@ def steps_cost_little(page, kind):
         found = {it["name"]: it["value"] for it in page.cdp("Performance.getMetrics")["metrics"]}
         costs.append((1000 * found["TaskDuration"], found["LayoutCount"]))
     cost, layouts = ((now - was) / 20 for was, now in zip(*costs))
-    assert cost <= STEPS[kind] and layouts <= LAYOUTS
+    assert cost <= milliseconds and layouts <= LAYOUTS
 
 
 @pytest.mark.slow
-@pytest.mark.parametrize("kind", LARGE)
-def test_cost_of_steps(page, kind):
+@pytest.mark.parametrize(("milliseconds", "jobs", "edges"), COSTS.values(), ids=COSTS)
+def test_cost_of_steps(page, milliseconds, jobs, edges):
     page.open()
-    page.write_plan(plan_of(*LARGE[kind]).decode())
-    steps_cost_little(page, kind)
+    page.write_plan(plan_of(jobs, edges).decode())
+    steps_cost_at_most(page, milliseconds)

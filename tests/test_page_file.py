@@ -9,8 +9,8 @@ from trying import HOME, answer_of
 
 EIGHT = plan_of([2] * 8, graph_of("ring:8")[1]).decode()
 PAIR = "plans/pair.toml"
-LESSON = f'title = "Two"\n[[moment]]\nplan = "{PAIR}"\nchoices = "1,1"\ntitle = "one"\n'
-LESSON += f'[[moment]]\ntext = """{EIGHT}"""\ntitle = "own"\nat = 0\n'
+# What ./show is given for a file of each kind.
+FILES = {"lesson": ["tests/tables/two_moments.toml"], "choices": [PAIR, "--choices", "1,1,0,9,0"], "run": [PAIR]}
 
 
 @contextmanager
@@ -19,13 +19,9 @@ def sent(page):
     page.do("#link")
     page.until("one('#link').textContent === 'Copied'")
     page.do("o", "#text", "^a", "^v")
-    driver = started()
-    try:
-        with opened(driver, page.value("#text")) as other:
-            other.open()
-            yield other
-    finally:
-        driver.quit()
+    with started() as driver, opened(driver, page.value("#text")) as other:
+        other.open()
+        yield other
 
 
 @pytest.mark.slow
@@ -34,8 +30,7 @@ def test_copied_address(page):
     elsewhere."""
     page.open()
     page.write_plan(EIGHT)
-    said = [page.said()]
-    said += [page.do("#step") or page.said() for _ in range(12)]
+    said = [page.said(), *((page.do("#step"), page.said())[1] for _ in range(12))]
     for number in range(11, 4, -1):
         page.do("#back")
         assert page.differs(said[number]) == []
@@ -55,50 +50,36 @@ def test_lesson_in_an_address(page):
         page.do("#keep-it", "ArrowLeft")
     page.do("PageUp")
     with sent(page) as other:
-        shown = other.text("#moment-count"), other.text("#moment-title"), other.event()
-        assert shown == ("Moment 1 of 2", "first", 10)
+        assert other.moment() == ["Moment 1 of 2", "first", 10]
         other.do("PageDown")
         assert other.text("#moment-title") == "second"
 
 
-@pytest.fixture
-def export(page, tmp_path):
-    """Returns a call that opens the page in one file that ./show writes for its arguments."""
-
-    def does(*words):
-        page.address, how = f"file://{tmp_path}/one.html", ["--unproved"] * HOW["is_unproved"]
-        answer = answer_of([*how, *words, "--export", f"{tmp_path}/one.html"], f"{HOME}/show", cwd=HOME)
-        assert answer.status == 0, answer.error
-        page.open()
-
-    return does
-
-
-def test_file_of_a_lesson(export, page, tmp_path):
-    """A file begins with the lesson that it was made for, and keeps its moment."""
-    (tmp_path / "lesson.toml").write_text(LESSON, "utf-8")
-    export(f"{tmp_path}/lesson.toml")
-    assert (page.text("#moment-title"), page.event()) == ("one", 2)
-    page.do("PageDown")
-    page.open(page.hash("packed="))
-    shown = page.text("#moment-title"), page.count("#picture .site"), page.text("#moment-count")
-    assert shown == ("own", 8, "Moment 2 of 2")
-
-
-def test_file_of_a_run(export, page):
-    export(PAIR, "--choices", "1,1,0,9,0")
-    page.do("End")
-    assert page.choices() == [1, 1, 0, 0] and page.unseen("#threads")
-    page.do("f", "ArrowLeft", "t", "o", "Escape")
-    assert page.event() == 4
-
-
 @pytest.mark.built("dine_trace")
-def test_file_of_a_run_on_threads(export, page):
-    export(PAIR)
-    assert (page.event(), page.text("#timeline-name")) == (0, "What the threads did")
-    page.do("End")
-    assert page.count("#enabled button") == 0
+@pytest.mark.parametrize("kind", FILES)
+def test_file(page, tmp_path, kind):
+    """A file that ./show writes begins with the lesson, the choices or the run on threads that it was made for."""
+    words = FILES[kind] + ["--export", f"{tmp_path}/one.html", *["--unproved"] * HOW["is_unproved"]]
+    answer = answer_of(words, f"{HOME}/show", cwd=HOME)
+    assert answer.status == 0, answer.error
+    page.address = f"file://{tmp_path}/one.html"
+    page.open()
+    if kind == "lesson":
+        assert page.moment() == ["Moment 1 of 2", "one", 2]
+        page.do("PageDown")
+        page.open(page.hash("packed="))
+        assert (page.moment(), page.count("#picture .site")) == (["Moment 2 of 2", "own", 0], 3)
+        for address, number in (("moment=2", 2), ("speed=2", 1), ("moment=9", 2)):
+            page.open(address)
+            assert page.text("#moment-count") == f"Moment {number} of 2"
+    elif kind == "choices":
+        page.do("End")
+        assert page.choices() == [1, 1, 0, 0] and page.unseen("#threads")
+        assert page.do("f", "ArrowLeft", "t", "o", "Escape") == 4
+    else:
+        assert (page.event(), page.text("#timeline-name")) == (0, "What the threads did")
+        page.do("End")
+        assert page.count("#enabled button") == 0
 
 
 def test_frame(page, tmp_path):

@@ -1,6 +1,7 @@
 """Tries the texts of tests/texts/, where each is below a line '# check> LINE' with what 'dine check' prints of it; and
-texts at the limits, which are long, so they are made here."""
-import itertools
+texts at the limits, which are long: tests/tables/limits.toml has their parts."""
+import tomllib
+from itertools import combinations
 
 import pytest
 from calls import REFUSED, answer_with, dine, stored_texts
@@ -9,44 +10,23 @@ from trying import Answer, text_of
 pytestmark = pytest.mark.built("dine_cli")
 
 
-def sites(count):
-    """Returns the text of a number of sites without jobs: s0, s1 and so on."""
-    return "".join(f'[[site]]\nname = "s{it}"\n' for it in range(count))
-
-
 def crowd(jobs, name="crowd", job='{{ name = "j{}" }}, '):
     """Returns the text of a site with a number of jobs."""
     return f'[[site]]\nname = "{name}"\njobs = [' + "".join(map(job.format, range(jobs))) + "]\n"
 
 
-def edges(count, wanted):
-    """Returns the text of a number of edges: the first of all pairs of a number of sites, the higher end first."""
-    pairs = itertools.islice(itertools.combinations(range(count), 2), wanted)
+def edges(sites, count):
+    pairs = [*combinations(range(sites), 2)][:count]
     return "".join(f'[[edge]]\nends = ["s{high}", "s{low}"]\n' for low, high in pairs)
 
 
-SLOW = '[[site]]\nname = "slow"\njobs = [{ name = "x", turns = 1000001 }]\n'
-TWICE = '[[site]]\nname = "q"\n' * 2
-AGAIN = '[[edge]]\nends = ["s0", "s1"]\n' * 2
-DENSE = sites(64) + edges(64, 513)
-# What a text is, with the text after its version, and the line.
-LIMITS = {
-    "64 sites": (sites(64), "ok: 64 sites, 0 edges, 0 jobs"),
-    "65 sites": (sites(65), REFUSED + "9 TooManySites"),
-    "1,000 jobs": (sites(63) + crowd(1000), "ok: 64 sites, 0 edges, 1000 jobs"),
-    "1,001 jobs": (sites(2) + crowd(1001), REFUSED + "10 TooManyJobs at site 2"),
-    "512 edges of 64 sites": (sites(64) + edges(64, 512), "ok: 64 sites, 512 edges, 0 jobs"),
-    "513 edges of 64 sites": (DENSE, REFUSED + "15 TooManyEdges"),
-    "512 edges of 33 sites": (sites(33) + edges(33, 512), "ok: 33 sites, 512 edges, 0 jobs"),
-    "528 edges of 33 sites": (sites(33) + edges(33, 528), REFUSED + "15 TooManyEdges"),
-    "a site twice, and 65 others": (TWICE + sites(65), REFUSED + "7 SiteTwice at site 1"),
-    "65 sites, and one twice": (sites(65) + TWICE, REFUSED + "7 SiteTwice at site 66"),
-    "65 sites, and 1,001 jobs": (sites(65) + crowd(1001), REFUSED + "9 TooManySites"),
-    "1,001 jobs, and 65 sites": (crowd(1001) + sites(65), REFUSED + "9 TooManySites"),
-    "1,001 jobs, and too many turns": (crowd(1001) + SLOW, REFUSED + "10 TooManyJobs at site 0"),
-    "too many turns, and 1,001 jobs": (SLOW + crowd(1001), REFUSED + "10 TooManyJobs at site 1"),
-    "an edge twice, and 513 others": (AGAIN + DENSE, REFUSED + "14 EdgeTwice at edge 1"),
-    "513 edges, and one of them twice": (DENSE + AGAIN, REFUSED + "14 EdgeTwice at edge 513"),
+PARTS = {
+    "sites": lambda count: "".join(f'[[site]]\nname = "s{it}"\n' for it in range(count)),
+    "edges": edges,
+    "crowd": crowd,
+    "turns": lambda turns: f'[[site]]\nname = "slow"\njobs = [{{ name = "x", turns = {turns} }}]\n',
+    "same": lambda: '[[site]]\nname = "q"\n' * 2,
+    "again": lambda: '[[edge]]\nends = ["s0", "s1"]\n' * 2,
 }
 
 
@@ -56,10 +36,11 @@ def test_text(line, text):
     assert dine("check", input=text.encode()) == answer_with(line)
 
 
-@pytest.mark.parametrize("name", LIMITS)
-def test_limit(name):
-    text, line = LIMITS[name]
-    assert dine("check", input=b"version = 1\n" + text.encode()) == answer_with(line)
+@pytest.mark.parametrize(("parts", "line"), tomllib.loads(text_of("tests/tables/limits.toml")).items())
+def test_limit(parts, line):
+    named = [it.split() for it in parts.split(", ")]
+    text = "version = 1\n" + "".join(PARTS[kind](*map(int, numbers)) for kind, *numbers in named)
+    assert dine("check", input=text.encode()) == answer_with(line)
 
 
 def test_longest_log_of_two_sites():

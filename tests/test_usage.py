@@ -8,18 +8,12 @@ from trying import HOME, answer_of, paths, text_of
 
 pytestmark = pytest.mark.early
 FOUND = [it for it in ("show", *paths("tools/*"), *paths("bench/*")) if os.path.isfile(f"{HOME}/{it}")]
-TOOLS = [it for it in FOUND if text_of(it).startswith("#!/usr/bin/env python3\n")]
 
 
-@pytest.mark.parametrize("tool", TOOLS)
-def test_help(tool):
-    ran = answer_of(["--help"], f"{HOME}/{tool}")
-    assert (ran.status, ran.error) == (0, "")
-    assert re.match(rf"usage: {os.path.basename(tool)} \[-h\].*\n\n[A-Z]", ran.output, re.S)
-
-
-@pytest.mark.parametrize("tool", TOOLS)
-def test_strange_argument(tool):
-    ran, name = answer_of(["--no-such-word"], f"{HOME}/{tool}"), os.path.basename(tool)
-    assert (ran.status, ran.output) == (2, "")
-    assert re.fullmatch(rf"{name}: .+; usage: {name} .*\n", ran.error)
+@pytest.mark.parametrize("tool", [it for it in FOUND if text_of(it).startswith("#!/usr/bin/env python3\n")])
+def test_help_and_strange_argument(tool):
+    name, tool = os.path.basename(tool), f"{HOME}/{tool}"
+    helped, refused = answer_of(["--help"], tool), answer_of(["--no-such-word"], tool)
+    assert (helped.status, helped.error, refused.status, refused.output) == (0, "", 2, "")
+    assert re.match(rf"usage: {name} \[-h\].*\n\n[A-Z]", helped.output, re.S)
+    assert re.fullmatch(rf"{name}: .+; usage: {name} .*\n", refused.error)

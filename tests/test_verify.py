@@ -2,7 +2,6 @@
 import os
 import re
 import shutil
-from pathlib import Path
 
 import pytest
 from trying import HOME, answer_of
@@ -13,10 +12,9 @@ TESTS = "plans: 3 passed, 0 failed, 0 skipped, 2 seconds\n3 passed, 0 failed"
 
 def script(path, prints, status=0):
     """Writes a program that only prints, except that as python3 it does what -c says and prints nothing."""
-    os.makedirs(os.path.dirname(path), exist_ok=True)
-    text = f"#!/bin/bash\n[[ ${{1:-}} == -c ]] && exit\nprintf '%s\\n' '{prints}'\nexit {status}\n"
-    Path(path).write_text(text, "utf-8")
-    os.chmod(path, 0o755)
+    path.parent.mkdir(exist_ok=True)
+    path.write_text(f"#!/bin/bash\n[[ ${{1:-}} == -c ]] && exit\nprintf '%s\\n' '{prints}'\nexit {status}\n", "utf-8")
+    path.chmod(0o755)
 
 
 @pytest.fixture
@@ -24,9 +22,9 @@ def verified(tmp_path):
     """Calls verify with arguments in a folder whose checks only print, and returns its status and its lines."""
     shutil.copy(f"{HOME}/verify", tmp_path)
     for it in os.listdir(f"{HOME}/tools"):
-        script(f"{tmp_path}/tools/{it}", "1 passed, 0 failed")
-    script(f"{tmp_path}/tools/model", "model: skipped: no spin\n4 passed, 0 failed, 1 skipped")
-    script(f"{tmp_path}/bin/python3", TESTS)
+        script(tmp_path / "tools" / it, "1 passed, 0 failed")
+    script(tmp_path / "tools/model", "model: skipped: no spin\n4 passed, 0 failed, 1 skipped")
+    script(tmp_path / "bin/python3", TESTS)
 
     def call(*words):
         how = {"env": {**os.environ, "PATH": f"{tmp_path}/bin:{os.environ['PATH']}"}}
@@ -36,7 +34,7 @@ def verified(tmp_path):
     return call
 
 
-def test_skip(verified):
+def test_table(verified):
     status, lines = verified()
     end = lines[lines.index("group passed failed skipped seconds") - 2:]
     assert (status, end[0]) == (0, "model: skipped: no spin")
@@ -44,40 +42,34 @@ def test_skip(verified):
     assert any(re.fullmatch(r"model 4 0 1 \d+", it) for it in end) and end.count("plans 3 0 0 2") == 2
 
 
-def test_no_skips(verified):
-    status, lines = verified("--no-skips")
-    assert status == 1 and re.fullmatch(r"\d+ passed, 1 failed", lines[-1])
+@pytest.mark.parametrize(("words", "status", "last"), [
+    (["--no-skips"], 1, r"\d+ passed, 1 failed"), (["--quick"], 0, "5 passed, 0 failed"),
+    (["--slow"], 2, ""), (["--quick", "--no-skips"], 2, ""), ([""], 2, ""),
+])
+def test_arguments(verified, words, status, last):
+    found, lines = verified(*words)
+    assert found == status and re.fullmatch(last, "".join(lines[-1:]))
 
 
 @pytest.mark.slow
 @pytest.mark.parametrize(("prints", "ends"), [("1 passed, 0 failed", 3), ("nothing", 0), ("1 passed, 1 failed", 1)])
 @pytest.mark.parametrize("check", ["bin/python3", "tools/believe", "tools/schedules"])
 def test_failure(verified, tmp_path, check, prints, ends):
-    script(f"{tmp_path}/{check}", prints, ends)
+    script(tmp_path / check, prints, ends)
     status, lines = verified()
     # The tests are run twice.
     assert status == 1 and re.fullmatch(rf"\d+ passed, {1 + (check == 'bin/python3')} failed, 1 skipped", lines[-1])
 
 
-def test_quick(verified):
-    status, lines = verified("--quick")
-    assert status == 0 and lines[-1] == "6 passed, 0 failed"
-
-
-@pytest.mark.parametrize("words", [["--slow"], ["--quick", "--no-skips"], [""]])
-def test_arguments(verified, words):
-    assert verified(*words) == (2, [])
-
-
 def test_ci_installs_what_is_missing(tmp_path):
     """On a machine without Chromium and spin."""
-    shutil.copytree(f"{HOME}/.ci", f"{tmp_path}/.ci")
+    shutil.copytree(f"{HOME}/.ci", tmp_path / ".ci")
+    (tmp_path / "bin").mkdir()
     for it in ("bash", "dirname", "env"):
-        os.makedirs(f"{tmp_path}/bin", exist_ok=True)
-        os.symlink(shutil.which(it), f"{tmp_path}/bin/{it}")
+        (tmp_path / "bin" / it).symlink_to(shutil.which(it))
     for path in ("bin/apt-get", "verify"):
-        Path(f"{tmp_path}/{path}").write_text(f'#!/bin/bash\necho {path} "$@" >>{tmp_path}/called\n', "utf-8")
-        os.chmod(f"{tmp_path}/{path}", 0o755)
+        (tmp_path / path).write_text(f'#!/bin/bash\necho {path} "$@" >>{tmp_path}/called\n', "utf-8")
+        (tmp_path / path).chmod(0o755)
     ran = answer_of([f"{tmp_path}/.ci/run"], "bash", env={"PATH": f"{tmp_path}/bin"})
     wanted = r"bin/apt-get update\nbin/apt-get install -y .*\bflake8 .*\bspin chromium .*\nverify --no-skips\n"
-    assert ran.status == 0 and re.fullmatch(wanted, Path(f"{tmp_path}/called").read_text("utf-8"))
+    assert ran.status == 0 and re.fullmatch(wanted, (tmp_path / "called").read_text("utf-8"))

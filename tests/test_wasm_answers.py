@@ -1,14 +1,13 @@
 """Compares what page/dine.wasm answers with what dine_trace prints: 20,000 states along schedules of 500 random plans,
 the same by page/worker.js in any order, the events of each schedule, and 2,000 texts of which most are refused.
 
-The plans are those of tests/test_random_plans.py. A schedule has up to 120 random choices, some of them with no event.
-The texts are plans with a few bytes changed, and the texts of tests/refused/; each goes to one of the calls. An answer
-has to be what dine_trace prints, byte for byte, and a refusal its line on standard error. tests/answers.mjs asks the
-module, by node."""
+The plans are those of tests/test_plans.py. A schedule has up to 120 random choices, some of them with no event. The
+texts are plans with a few bytes changed, and the texts of tests/refused/. An answer has to be what dine_trace prints,
+byte for byte, and a refusal its line on standard error. tests/answers.mjs asks the module, by node."""
 import base64
-import functools
 import json
 import random
+import re
 import shutil
 from pathlib import Path
 
@@ -25,71 +24,59 @@ CALLS = ("dine_states", "dine_events", "dine_check")
 
 def refusal_of(error):
     """Returns the answer that the line on standard error asks for."""
-    line = error.removeprefix("dine: ").rstrip("\n")
-    number, _, at = line.removeprefix("plan refused: ").partition(" ")
-    place = at.split(" at ")[1].split() if " at " in at else []
-    at = {place[0]: int(place[1])} if place else {}
-    return json.dumps({"refused": {"line": line, "fault": int(number), "at": at}}, separators=(",", ":"))
+    line, fault, kind, number = re.fullmatch(r"dine: (plan refused: (\d+) \w+(?: at (\w+) (\d+).*)?)\n", error).groups()
+    at = {kind: int(number)} if kind else {}
+    return json.dumps({"refused": {"line": line, "fault": int(fault), "at": at}}, separators=(",", ":"))
 
 
-@functools.lru_cache(4)
-def traced(words, given):
-    """Returns the status and output of dine_trace. Some questions have the same answer."""
-    return trace(*words, "-", input=given)
+def wanted_of(plan, choices, places):
+    """Returns the answer to each call, by what dine_trace prints."""
+    given, rising = ",".join(map(str, choices)).encode() + b"\n" + plan, sorted(set(places))
+    states = trace("--states", ",".join(map(str, rising)), "-", input=given)
+    events = trace("--events", "-", input=given)
+    if states.status == 3:
+        return dict.fromkeys(CALLS, refusal_of(events.error))
+    assert (states.status, events.status) == (0, 0), states.error + events.error
+    lines = dict(zip(rising, states.output.splitlines()))
+    return {"dine_check": "{}", "dine_events": events.output.rstrip("\n"),
+            "dine_states": f"[{','.join(lines[it] for it in sorted(places))}]",
+            "worker": f"[{','.join(lines[it] for it in places)}]"}
 
 
-def printed(call, plan, choices, places):
-    """Returns the answer that the program prints to a question."""
-    has_states, rising = call in ("dine_states", "worker"), sorted(set(places))
-    words = ("--states", ",".join(map(str, rising))) if has_states else ("--events",)
-    ran = traced(words, ",".join(map(str, choices)).encode() + b"\n" + plan)
-    if ran.status == 3:
-        return refusal_of(ran.error)
-    assert ran.status == 0, ran.error
-    if call == "dine_check":
-        return "{}"
-    lines = ran.output.splitlines()
-    states = dict(zip(rising, lines))
-    return f"[{','.join(states[it] for it in places)}]" if has_states else lines[0]
-
-
-def compare(questions):
-    """Compares the answers of the module to these questions with what the program prints."""
-    lines = [json.dumps({**it, "plan": base64.b64encode(it["plan"]).decode()}) for it in questions]
-    given = "\n".join(lines).encode()
-    ran = answer_of([f"{HOME}/tests/answers.mjs", f"{HOME}/page/dine.wasm"], "node", input=given)
-    answers = ran.output.splitlines()
-    assert (ran.status, len(answers)) == (0, len(questions)), ran.error
-    for question, answer in zip(questions, answers):
-        if (wanted := printed(**question)) != answer:
-            pytest.fail(f"{question['call']} of {question['plan']!r}: {first_difference(wanted, answer)}", False)
-
-
-def questions_of(seed):
-    """Returns the questions about a random plan: its states along a random schedule, in order and not, and its
-    events."""
-    dice = random.Random(seed)
-    ranges = (4, 12, 1 << 32)
-    choices = [dice.choice([dice.randrange(it) for it in ranges]) for _ in range(dice.randrange(121))]
-    places = sorted(dice.randrange(len(choices) + 2) for _ in range(PLACES))
-    whole = {"plan": plan_of(seed)[0].encode(), "choices": choices, "places": places}
-    return [*({**whole, "call": it} for it in CALLS),
-            {**whole, "call": "worker", "places": dice.sample(places, PLACES)}]
+def compare(cases, *calls):
+    """Compares the answers to these calls for each plan, choices and places."""
+    given, wanted = [], []
+    for plan, choices, places in cases:
+        question = {"plan": base64.b64encode(plan).decode(), "choices": choices}
+        given += [{**question, "call": it, "places": places if it == "worker" else sorted(places)} for it in calls]
+        answers = wanted_of(plan, choices, places)
+        wanted += [answers[it] for it in calls]
+    ran = answer_of([f"{HOME}/tests/answers.mjs", f"{HOME}/page/dine.wasm"], "node",
+                    input="\n".join(map(json.dumps, given)).encode())
+    found = ran.output.splitlines()
+    assert (ran.status, len(found)) == (0, len(given)), ran.error
+    for it, *pair in zip(given, wanted, found):
+        if pair[0] != pair[1]:
+            pytest.fail(f"{it['call']} of {base64.b64decode(it['plan'])!r}: {first_difference(*pair)}", False)
 
 
 @pytest.mark.parametrize("first", range(0, 500, 10))
 def test_ten_plans(first):
-    compare([it for seed in range(first, first + 10) for it in questions_of(seed)])
+    cases = []
+    for seed in range(first, first + 10):
+        dice = random.Random(seed)
+        choices = [dice.randrange(dice.choice((4, 12, 1 << 32))) for _ in range(dice.randrange(121))]
+        cases.append((plan_of(seed)[0].encode(), choices, dice.choices(range(len(choices) + 2), k=PLACES)))
+    compare(cases, *CALLS, "worker")
 
 
 @pytest.mark.parametrize("seed", range(20))
 def test_hundred_texts(seed):
-    dice, questions = random.Random(-1 - seed), []
+    dice, cases = random.Random(-1 - seed), []
     texts = [Path(HOME, it).read_bytes() for it in paths("tests/refused/*.toml")]
     for _ in range(100):
         text = bytearray(dice.choice([dice.choice(texts), plan_of(dice.randrange(500))[0].encode()]))
         for _ in range(dice.randrange(4)):
             text[dice.randrange(len(text))] = dice.choice([dice.randrange(256), *b"0123456789\"=[]{},# \n"])
-        choices = [dice.randrange(3)] * 3
-        questions.append({"call": dice.choice(CALLS), "plan": bytes(text), "choices": choices, "places": [0, 2]})
-    compare(questions)
+        cases.append((bytes(text), [dice.randrange(3)] * 3, [0, 2]))
+    compare(cases, *CALLS)

@@ -10,6 +10,8 @@ const focus = (where) => one(where).focus();
 // How many events are done, and which choices.
 const event = () => Number(/event (\d+)/.exec(text("#count"))[1]);
 const choices = () => text("#choices b").match(/\d+/g)?.map(Number) ?? [];
+// Which moment of a lesson is shown: its number, its title, and how many events are done.
+const moment = () => [text("#moment-count"), text("#moment-title"), event()];
 const isIdle = () => one("main").getAttribute("aria-busy") === "false";
 
 // Calls back once the page is at rest. Waiting costs the page nothing.

@@ -83,6 +83,17 @@ test("the marks of an end are in its own half of the line", () => {
   }
 });
 
+test("long names leave space in a low picture, so that no mark covers a site", () => {
+  for (const edges of [ring(8), star(13), star(9)]) {
+    const count = Math.max(...edges.flatMap(({ ends }) => ends)) + 1;
+    const sites = named(count).map(({ name }) => ({ name: name.repeat(9) }));
+    const { places } = placesOf(sites, edges, 800, 240);
+    for (const { begin, from, to } of linesOf(places, edges)) {
+      assert.ok(begin[0] > 0.8 * from.radius && begin[1] > 0.8 * to.radius, `${begin} ${from.radius} ${to.radius}`);
+    }
+  }
+});
+
 test("names that are cut keep in what they differ", () => {
   assert.deepEqual([8, 5, 1].map((most) => shortened("abcdefgh", most)), ["abcdefgh", "ab…gh", "a…"]);
   assert.deepEqual([commonOf(["fork_1", "fork_12"]), commonOf(["a"]), commonOf(["x", "y"])], [6, 0, 0]);

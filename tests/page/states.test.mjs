@@ -208,7 +208,7 @@ test("plain forks on a ring end in a deadlock, and on a star never", () => {
   const waits = table.said();
   assert.match(waits, /^Deadlock: a waits for (b|e), /);
   assert.equal(table.state().edges.filter(({ isCaught }) => isCaught).length, 5);
-  const start = "the start: all forks are on the table";
+  const start = "The start: all forks are on the table";
   assert.deepEqual([table.go(0).events, table.isCaught(), table.words], [0, false, start]);
   const star = new NaiveTable({ sites: NAMES, edges: [1, 2, 3, 4].map((site) => ({ ends: [0, site] })) });
   assert.match(star.go(5).said(), /Without a ring/);
