@@ -53,6 +53,11 @@ def test_tidy():
     assert [it for it in (output + error).splitlines() if not it.endswith(KNOWN)] == []
 
 
+def test_no_links():
+    """rt ci refuses a repository with a link."""
+    assert [it for it in paths("**") if os.path.islink(f"{HOME}/{it}")] == []
+
+
 def test_layout_of_the_crates(tmp_path):
     copy_crates(" ".join(crates()), tmp_path)
     changed = [it for it in crates() if ran("rt", "fmt", at=f"{tmp_path}/crates/{it}") != Answer(0, "", "")]
