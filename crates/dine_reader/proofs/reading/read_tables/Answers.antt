@@ -18,16 +18,16 @@ returns-in-Some-clause-refused c _ =
 pub returns-then-wrong-clause-refused : goal.returns-then-wrong-clause-refused
 returns-then-wrong-clause-refused c _ =
     first_of_document _
-    ∙ rw (first_inside _ (sym c.first_outer_fault.ensures ∙ c.in_default.is), ← c.items_at-sites.ensures, sym c.in_ok-draft.ensures.wrong ∙ c.if-wrong.true)
+    ∙ rw (first_inside _ (sym c.first_outer_fault.ensures ∙ c.in_default.is), sym c.in_ok-draft.ensures.wrong ∙ c.if-wrong.true)
 
 pub returns-clause-unrefused : goal.returns-clause-unrefused
 returns-clause-unrefused c =
     ok_then c.finish.result
-    (λ none. first_of_document _ ∙ rw (first_inside _ (sym c.first_outer_fault.ensures ∙ c.in_default.is), ← c.items_at-sites.ensures, sym c.in_ok-draft.ensures.wrong ∙ c.if-wrong.false, ← c.items_at-edges.ensures, ← c.version_in.ensures.is, ← c.in_ok-draft.ensures.draft) none)
+    (λ none. first_of_document _ ∙ rw (first_inside _ (sym c.first_outer_fault.ensures ∙ c.in_default.is), sym c.in_ok-draft.ensures.wrong ∙ c.if-wrong.false, ← c.in_ok-draft.ensures.draft) none)
     c.finish.ensures.unrefused
 
 pub returns-clause-refused : goal.returns-clause-refused
 returns-clause-refused c =
     err_then _ _ c.finish.result
-    (λ fault first other. first_of_document _ ∙ rw (first_inside _ (sym c.first_outer_fault.ensures ∙ c.in_default.is), ← c.items_at-sites.ensures, sym c.in_ok-draft.ensures.wrong ∙ c.if-wrong.false, ← c.items_at-edges.ensures, ← c.version_in.ensures.is, ← c.in_ok-draft.ensures.draft) (first other))
+    (λ fault first other. first_of_document _ ∙ rw (first_inside _ (sym c.first_outer_fault.ensures ∙ c.in_default.is), sym c.in_ok-draft.ensures.wrong ∙ c.if-wrong.false, ← c.in_ok-draft.ensures.draft) (first other))
     c.finish.ensures.refused
