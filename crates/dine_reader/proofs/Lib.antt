@@ -2,5 +2,6 @@ pub mod DocumentLemmas
 pub mod FirstLemmas
 pub mod FormLemmas
 pub mod IndexLemmas
+pub mod JobLemmas
 pub mod ReadLemmas
 pub mod VersionLemmas

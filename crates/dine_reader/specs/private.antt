@@ -1,3 +1,4 @@
 -- What no public contract names: what private functions promise one another.
+pub mod Beside
 pub mod Forms
 pub mod Index
