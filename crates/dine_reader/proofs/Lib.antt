@@ -2,6 +2,5 @@ pub mod DocumentLemmas
 pub mod FirstLemmas
 pub mod FormLemmas
 pub mod IndexLemmas
-pub mod JobLemmas
 pub mod ReadLemmas
 pub mod VersionLemmas

@@ -1,4 +1,3 @@
 -- What no public contract names: what private functions promise one another.
-pub mod Beside
 pub mod Forms
 pub mod Index

@@ -5,7 +5,6 @@ ghost use Rattle.toml.specs.View.{view};
 ghost use Rattle.toml.specs.Data.{as_str, as_integer, get};
 ghost use Rattle.dine_reader.specs.Document.{end_in, has_key, is_second, items_at, items_in};
 ghost use Rattle.dine_reader.specs.Document.{natural, number_at, resigns_in, text_at, version_in};
-ghost use Rattle.dine_reader.specs.private.Beside.{IsBeside};
 
 use std::alloc::Global;
 use toml::Value;
@@ -36,8 +35,7 @@ pub(crate) fn items_in(value: &Value) -> &[Value]
 pub(crate) fn take_items(alloc: Global, table: Value, key: &str) -> Vec<Value>
     ensures { map view result.items ≡ items_at key.now (view table) }
 {
-    let (value, _) = take(table, key);
-    match value {
+    match take(table, key) {
         Some(value) => items_of(alloc, value),
         None => Vec::new(alloc),
     }
@@ -53,17 +51,13 @@ fn items_of(alloc: Global, value: Value) -> Vec<Value>
     }
 }
 
-/// Takes the value at a key out of a table, and returns what is left beside it. Another value has none.
-pub(crate) fn take(table: Value, key: &str) -> (Option<Value>, Value)
-    ensures value { option_map view result.0 ≡ get key.now (view table) }
-    ensures rest { IsBeside key.now (view result.1) (view table) }
+/// Takes the value at a key out of a table. Another value has none.
+pub(crate) fn take(table: Value, key: &str) -> Option<Value>
+    ensures { option_map view result ≡ get key.now (view table) }
 {
     match table {
-        Value::Table(mut members) => {
-            let value = members.remove(key);
-            (value, Value::Table(members))
-        }
-        other => (None, other),
+        Value::Table(mut members) => members.remove(key),
+        _ => None,
     }
 }
 

@@ -6,7 +6,6 @@ ghost use Rattle.toml.specs.View.{view};
 ghost use Rattle.dine_graph.specs.Job.{seen_job};
 ghost use Rattle.dine_reader.specs.Document.{act_in, fails_in, name_in, number_at, turns_in};
 ghost use Rattle.dine_reader.specs.PlanOf.{job_in};
-ghost use Rattle.dine_reader.specs.private.Beside.{IsBeside};
 ghost use Rattle.dine_reader.specs.RefusalTests.{is_text, is_truth, is_whole, is_wrong, job_is_wrong};
 
 use crate::documents::{natural_in, take};
@@ -32,68 +31,49 @@ pub(crate) fn jobs_in(alloc: Global, tables: Vec<Value>) -> Result<(Vec<Job>, bo
     Ok((jobs, wrong))
 }
 
-// The job of a table, and whether a value of it is of another kind than the format names for its key. Most jobs have a
-// name and turns alone, so the other keys are looked up in what is left.
+// The job of a table, and whether a value of it is of another kind than the format names for its key.
+#[tactic(auto, unfolding(crate::specs::PlanOf::job_in, crate::specs::RefusalTests::job_is_wrong))]
 fn job_in(alloc: Global, job: Value) -> (Job, bool)
     ensures job { seen_job result.0 ≡ job_in (view job) }
     ensures wrong { result.1 ≡ job_is_wrong (view job) }
 {
-    let (name, no_text, rest) = take_name(alloc, job);
-    let (turns, no_turns, rest) = take_turns(rest);
-    let (fails, no_truth) = fails_in(&rest);
-    let (act, no_act) = act_in(&rest);
+    let (turns, no_turns) = turns_in(&job);
+    let (fails, no_truth) = fails_in(&job);
+    let (act, no_act) = act_in(&job);
+    let (name, no_text) = take_name(alloc, job);
     let job = Job {
         name: JobName::Own(name),
         turns,
         fails,
         act,
     };
-    (job, no_text | no_turns | no_truth | no_act)
+    (job, no_text || no_turns || no_truth || no_act)
 }
 
-// Takes the name out of a job, empty if there is no text. Says whether there is a value that is no text, and returns
-// what is left.
+// Takes the name out of a job, empty if there is no text, and says whether there is a value that is no text.
 #[tactic(auto, unfolding(crate::specs::Document::text_at, crate::specs::RefusalTests::is_wrong))]
-fn take_name(alloc: Global, job: Value) -> (String, bool, Value)
+fn take_name(alloc: Global, job: Value) -> (String, bool)
     ensures name { string_bytes result.0 ≡ name_in (view job) }
     ensures wrong { result.1 ≡ is_wrong is_text (codes "name") (view job) }
-    ensures rest { IsBeside (codes "name") (view result.2) (view job) }
 {
-    let (value, rest) = take(job, "name");
-    match value {
+    match take(job, "name") {
         Some(value) => match value {
-            Value::String(name) => (name, false, rest),
-            _ => (String::new(alloc), true, rest),
+            Value::String(name) => (name, false),
+            _ => (String::new(alloc), true),
         },
-        None => (String::new(alloc), false, rest),
+        None => (String::new(alloc), false),
     }
 }
 
-// Takes the turns out of a job. Says whether there is a value that is no whole number, or one below 0, and returns what
-// is left. A number that no `u32` has is read as the greatest.
+// The turns of a job, and whether there is a value that is no whole number, or one below 0. A number that no `u32` has
+// is read as the greatest.
 #[tactic(auto, unfolding(crate::specs::Document::turns_in))]
-fn take_turns(job: Value) -> (u32, bool, Value)
-    ensures turns { result.0 ≡ turns_in (view job) }
-    ensures wrong { result.1 ≡ is_wrong is_whole (codes "turns") (view job) }
-    ensures rest { IsBeside (codes "turns") (view result.2) (view job) }
+fn turns_in(job: &Value) -> (u32, bool)
+    ensures turns { result.0 ≡ turns_in (view job.now) }
+    ensures wrong { result.1 ≡ is_wrong is_whole (codes "turns") (view job.now) }
 {
-    let (turns, is_wrong, rest) = take_number(job, "turns");
-    (turns.min(u32::MAX as u64) as u32, is_wrong, rest)
-}
-
-// Takes a whole number out of a job, 0 if there is none or one below 0. Says whether there is a value that is none, and
-// returns what is left.
-#[tactic(auto, unfolding(crate::specs::Document::number_at, crate::specs::RefusalTests::is_wrong))]
-fn take_number(job: Value, key: &str) -> (u64, bool, Value)
-    ensures number { result.0 ≡ number_at key.now (view job) }
-    ensures wrong { result.1 ≡ is_wrong is_whole key.now (view job) }
-    ensures rest { IsBeside key.now (view result.2) (view job) }
-{
-    let (value, rest) = take(job, key);
-    match value {
-        Some(value) => (natural_in(&value), !is_whole(&value), rest),
-        None => (0, false, rest),
-    }
+    let (turns, is_wrong) = number_in(job, "turns");
+    (turns.min(u32::MAX as u64) as u32, is_wrong)
 }
 
 // The whole number at a key, 0 if there is none or one below 0, and whether there is a value that is none.
