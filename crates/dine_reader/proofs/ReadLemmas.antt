@@ -9,6 +9,9 @@ use Rattle.toml.specs.declared.value.Value.{Value}
 use Rattle.dine_draft.specs.Draft.{names_of}
 use Rattle.dine_reader.specs.Document.{name_in}
 use Rattle.dine_reader.specs.PlanOf.{site_in}
+use Rattle.dine_reader.specs.RefusalTests.{site_has_other_key, site_is_wrong, site_lacks_key}
+use Rattle.dine_reader.specs.declared.forms.Flaws.{Flaws}
+use Rattle.dine_reader.specs.private.Forms.{flaws_in}
 
 or_false : (b : Bool) → (b || false) ≡ b
 or_false true = refl
@@ -25,6 +28,17 @@ pub any_last : {X Y : Type 0} (p : Y → Bool) (g : X → Y) (before here : Bool
 any_last p g before here xs x first last =
     ap (λ b. b || here) first ∙ ap (λ b. list_any p (map g xs) || b) (last ∙ sym (or_false (p (g x))))
     ∙ sym (list_any-append p (map g xs) (g x ∷ [])) ∙ ap (list_any p) (sym (map_push g xs x))
+
+-- the flaws of some tables, after one more
+pub flaws_last : (second : Bool) (tables : List Value) (table : Value) (flaws : Flaws) (other missing wrong : Bool)
+    → flaws ≡ flaws_in second (map view tables) → other ≡ site_has_other_key second (view table) → missing ≡ site_lacks_key (view table) → wrong ≡ site_is_wrong (view table)
+    → record { other_key = flaws.other_key || other; missing_key = flaws.missing_key || missing; wrong_kind = flaws.wrong_kind || wrong } ≡ flaws_in second (map view (tables ++ table ∷ []))
+flaws_last second tables table flaws other missing wrong was o m w =
+    rw (
+      any_last (site_has_other_key second) view flaws.other_key other tables table (ap (λ (f : Flaws). f.other_key) was) o,
+      any_last site_lacks_key view flaws.missing_key missing tables table (ap (λ (f : Flaws). f.missing_key) was) m,
+      any_last site_is_wrong view flaws.wrong_kind wrong tables table (ap (λ (f : Flaws). f.wrong_kind) was) w,
+    )
 
 -- the names of site tables
 abbrev pub names_in : List Value → List (List ℕ)

@@ -8,7 +8,7 @@ ghost use Rattle.dine_reader.specs.RefusalTests.{first_refusal, first_fault};
 
 use crate::documents::items_at;
 use crate::drafts::draft_in;
-use crate::forms::first_outer_fault;
+use crate::forms::{first_flaw, flaws_outside, has_other_version};
 use dine_draft::PlanFault;
 use dine_graph::Plan;
 use std::alloc::Global;
@@ -39,8 +39,8 @@ fn read_tables(alloc: Global, document: Value) -> Result<Plan, PlanFault>
     ensures plan { IfOk result (λ p. p ≡ plan_of_document (view document)) }
     ensures refused { IfErr result (λ f. f ≢ PlanFault.Memory → first_refusal (view document) ≡ Some f) }
 {
-    if let Some(fault) = first_outer_fault(&document) {
-        return Err(fault);
+    if has_other_version(&document) {
+        return Err(PlanFault::Version);
     }
     // So each position fits the `u32` that a fault carries.
     if items_at(&document, "site").len() > MAX_TABLES
@@ -48,9 +48,10 @@ fn read_tables(alloc: Global, document: Value) -> Result<Plan, PlanFault>
     {
         return Err(PlanFault::Memory);
     }
-    let (draft, wrong) = draft_in(alloc, document)?;
-    if wrong {
-        return Err(PlanFault::WrongKind);
+    let outside = flaws_outside(&document);
+    let (draft, inside) = draft_in(alloc, document)?;
+    if let Some(fault) = first_flaw(outside, inside) {
+        return Err(fault);
     }
     draft.finish(alloc)
 }
