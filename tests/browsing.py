@@ -10,8 +10,7 @@ import sys
 import time
 
 import pytest
-from calls import HOW, trace
-from shown import shown
+from calls import HOW, shown, trace
 from trying import HOME, Answer, answer_of, first_difference, program_of, text_of
 
 # Where Debian has its modules, for a Python that is not Debian's own and has no selenium.

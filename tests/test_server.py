@@ -18,9 +18,8 @@ import catalog
 import exports
 import pytest
 import server
-from calls import check_whole_run, state_after, until
+from calls import check_whole_run, shown, state_after, until
 from graphs import graph_of, plan_of
-from shown import shown
 from trying import HOME, Answer, answer_of, text_of
 
 pytestmark = pytest.mark.built("dine_cli", "dine_trace")
