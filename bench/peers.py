@@ -1,4 +1,4 @@
-"""What the measures share: how ours and the programs by hand are built and called, loops that count, and tables."""
+"""What the measures share: their arguments, how programs are built and called, loops that count, and tables."""
 import contextlib
 import os
 import re
@@ -14,32 +14,18 @@ from trying import BOUND, Words, program_of  # noqa: E402
 middle = statistics.median_high
 
 
-def arguments_of(text, numbers, graphs=()):
-    """Returns the arguments of a measure: its text; numbers, by name, with what is taken if none is said, and what it
-    is; and graphs."""
+def arguments_of(text, **numbers):
+    """Returns the arguments of a measure: its text, and numbers, with what is taken if none is said, and what it is."""
     it = Words(text)
     for name, (default, what) in numbers.items():
-        how = {"metavar": "N"} if name.startswith("--") else {"metavar": name.upper(), "nargs": "?"}
-        it.add_argument(name, type=int, default=default, help=f"{what}; {default}", **how)
-    if graphs:
-        it.add_argument("graphs", metavar="GRAPH", nargs="*", default=graphs, help=f"{' '.join(graphs)}, or others")
+        it.add_argument(f"--{name}", type=int, default=default, metavar="N", help=f"{what}; {default}")
     return it
 
 
-def built(crate, *words):
-    """Proves and builds a program of ours, and returns it. rt runs it once with these arguments, to no effect."""
-    null = subprocess.DEVNULL
-    subprocess.run(["rt", "run", *words], cwd=f"{HOME}/crates/{crate}", stdin=null, stdout=null, check=not words)
+def built(crate):
+    """Has tools/build prove and build a program of ours, and returns it."""
+    subprocess.run([f"{HOME}/tools/build", crate], check=True)
     return program_of(crate)
-
-
-def cargo(folder, *words):
-    """Runs cargo on bench/peer, offline with the packages of Debian. It builds in the folder."""
-    where = ['source.crates-io.replace-with="debian"', 'source.debian.directory="/usr/share/cargo/registry"']
-    command = ["cargo", *words, "--release", "--quiet", "--offline", "--target-dir", folder]
-    command += [word for it in where for word in ("--config", it)]
-    subprocess.run(command, cwd=f"{HOME}/bench/peer", check=True)
-    return f"{folder}/release/peer"
 
 
 @contextlib.contextmanager

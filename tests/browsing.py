@@ -4,30 +4,23 @@ On Debian all of it comes by `apt-get install chromium chromium-driver python3-s
 a Chromium of its own. Each test opens the page anew, in a browser that has stored nothing, and fails if the page notes
 a warning or an error on its console."""
 import contextlib
-import importlib.util
 import json
 import re
-import shutil
 import sys
 import time
 
 import pytest
-from calls import HOW, trace
-from shown import shown
+from calls import HOW, shown, trace
 from trying import HOME, Answer, answer_of, first_difference, program_of, text_of
 
-# Where Debian has its modules, for a Python that is not Debian's own.
-if not importlib.util.find_spec("selenium"):
-    sys.path.append("/usr/lib/python3/dist-packages")
+# Where Debian has its modules, for a Python that is not Debian's own and has no selenium.
+sys.path.append("/usr/lib/python3/dist-packages")
 with contextlib.suppress(ImportError):
     from selenium import webdriver
     from selenium.common.exceptions import WebDriverException
     from selenium.webdriver import ActionChains, Keys
-    from selenium.webdriver.chrome.service import Service
     from selenium.webdriver.support.wait import WebDriverWait
 
-# What is started, by each name that it may have.
-NAMES = (("chromium", "chromium-browser", "google-chrome"), ("chromedriver", "chromium.chromedriver"))
 # A root user gets no sandbox from Chromium, and a container little shared memory. No name leads anywhere, and no
 # address but that of this machine.
 WORDS = ("--headless=new", "--no-sandbox", "--disable-dev-shm-usage", "--disable-gpu", "--no-first-run",
@@ -45,16 +38,13 @@ ASKED = "0,1,2,3,4,5,5,5,4,3"
 def started():
     """Returns a new Chromium. Skips the test if this machine has none."""
     pytest.importorskip("selenium", reason="selenium is not installed")
-    browser, driver = (next(filter(None, map(shutil.which, names)), "") for names in NAMES)
-    if not (browser and driver):
-        pytest.skip(f"{'chromedriver' if browser else 'Chromium'} is not installed")
     options = webdriver.ChromeOptions()
-    options.binary_location = browser
     options.set_capability("goog:loggingPrefs", {"browser": "ALL"})
     for word in WORDS:
         options.add_argument(word)
     try:
-        driver = webdriver.Chrome(service=Service(driver), options=options)
+        # selenium finds chromedriver, and that finds Chromium.
+        driver = webdriver.Chrome(options=options)
     except WebDriverException as fault:
         pytest.skip(f"Chromium does not start here: {fault.msg}")
     driver.set_script_timeout(SECONDS)

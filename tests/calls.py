@@ -1,10 +1,13 @@
-"""How the tests call the programs, what the heads of plans and the pages show, and programs that call the crates."""
+"""How the tests call the programs and ./show, what the heads of plans and the pages show, and programs that call the
+crates."""
 import functools
 import json
 import os
 import re
+import signal
 import subprocess
 import time
+from contextlib import contextmanager
 from pathlib import Path
 
 import fresh
@@ -77,6 +80,19 @@ def stored_texts():
         for part in ("\n" + text_of(path)).split("\n# check> ")[1:]:
             line, _, text = part.partition("\n")
             yield name, line, TWO_SITES * name.endswith("behind_two_sites") + text
+
+
+@contextmanager
+def shown(*words, program=f"{HOME}/show", **how):
+    """Yields the process of a server of ./show, with its address and its port, and ends it by Ctrl-C."""
+    with subprocess.Popen([program, *words], stdout=subprocess.PIPE, text=True, **how) as child:
+        try:
+            child.address = child.stdout.readline().strip()
+            child.port = int(child.address.removeprefix("http://127.0.0.1:").removesuffix("/"))
+            yield child
+        finally:
+            child.send_signal(signal.SIGINT)
+            child.wait(20)
 
 
 def until(what, seconds=15):

@@ -66,14 +66,6 @@ def needs(*tools):
         pytest.skip(f"no {missing[0]}")
 
 
-def python_with(module):
-    """Returns a python that has a module. Skips the test if there is none."""
-    for it in (sys.executable, "python3", "/usr/bin/python3"):
-        if answer_of(["-c", f"import {module}"], it).status == 0:
-            return it
-    return pytest.skip(f"no {module} of Python")
-
-
 class Place:
     """A copy of bindings/ and examples/, the library in it, and commands that are run there."""
 
@@ -149,7 +141,8 @@ def test_rust(place):
 def test_python(place):
     """The package as pip installs it, and its tests."""
     site = f"{place.folder}/site"
-    place.output(python_with("pip"), "-m", "pip", "install", "-q", "--no-index", "--no-build-isolation", "--target",
+    pytest.importorskip("pip")
+    place.output(sys.executable, "-m", "pip", "install", "-q", "--no-index", "--no-build-isolation", "--target",
                  site, "bindings/python")
     tests = [sys.executable, "-m", "pytest", "-q", "-p", "no:cacheprovider", "bindings/python/tests"]
     assert " passed" in place.output(*tests, env={"PYTHONPATH": site})
@@ -228,7 +221,8 @@ def ranks(place, request):
     """Returns the words that run the example over MPI on four ranks."""
     needs("mpirun")
     if request.param == "Python":
-        return ["mpirun", "-n", "4", python_with("mpi4py"), "examples/mpi/dine_mpi.py"]
+        pytest.importorskip("mpi4py")
+        return ["mpirun", "-n", "4", sys.executable, "examples/mpi/dine_mpi.py"]
     needs("mpicc")
     return ["mpirun", "-n", "4", place.program("examples/mpi/dine_mpi.c", "mpicc")]
 

@@ -1,6 +1,5 @@
 """Tries dine as a library: in a repository that tools/vendor has made, each program of docs/LIBRARY.md
-prints what the page says. A program is run by 'rt try', which proves nothing: ./verify proves the crates below. With
-DINE_PROVE=1 each is proved and built by the tools/build of the new repository."""
+prints what the page says. A program is run by 'rt try', which proves nothing: ./verify proves the crates below."""
 import os
 from pathlib import Path
 
@@ -13,7 +12,6 @@ VENDOR = f"{HOME}/tools/vendor"
 BLOCKS = blocks("docs/LIBRARY.md")
 # The programs of the page, each with what it prints, which is the next block.
 PROGRAMS = [two for two in zip(BLOCKS, BLOCKS[1:]) if two[0].startswith("#![")]
-IS_PROVED = os.environ.get("DINE_PROVE") == "1"
 
 
 def test_front_page():
@@ -40,16 +38,12 @@ def test_build_of_a_new_repository(repository):
 
 
 @pytest.mark.slow
-@pytest.mark.timeout(7200 if IS_PROVED else 1000)
+@pytest.mark.timeout(1000)
 @pytest.mark.parametrize("number", range(len(PROGRAMS)))
 def test_program(repository, number):
     (source, prints), name = PROGRAMS[number], f"program_{number + 1}"
     mine = add_program(name, "may_wait=1: dine_run anyhow", source, repository)
-    if IS_PROVED:
-        made = answer_of([name], f"{repository}/tools/build", seconds=7000)
-        assert made.status == 0, made.error
-    words, program = ([], f"{mine}/out/{name}") if IS_PROVED else (["try", name], "rt")
-    ran = answer_of(words, program, seconds=900, cwd=mine)
+    ran = answer_of(["try", name], "rt", seconds=900, cwd=mine)
     # After the output of the program, rt says how it ended.
     assert (ran.status, ran.output.partition("checked: ")[0]) == (0, prints), ran.error
 

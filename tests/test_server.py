@@ -18,9 +18,8 @@ import catalog
 import exports
 import pytest
 import server
-from calls import check_whole_run, state_after, until
+from calls import check_whole_run, shown, state_after, until
 from graphs import graph_of, plan_of
-from shown import shown
 from trying import HOME, Answer, answer_of, text_of
 
 pytestmark = pytest.mark.built("dine_cli", "dine_trace")
@@ -145,15 +144,7 @@ def test_request_that_never_arrives(here, monkeypatch, part):
         assert line.recv(1) == b""
 
 
-# ---- Runs
-
-
-@pytest.mark.parametrize("name", ["ring_of_five", "balances"])
-def test_run_on_threads(here, name):
-    plan = text_of(f"plans/{name}.toml")
-    status, text, _ = asked(here.server_port, run_of(plan))
-    assert status == 200, text
-    check_whole_run(plan, [int(it) for it in text.split(",")])
+# ---- Runs. One that ends is tried in tests/test_page.py.
 
 
 def programs_of(process):

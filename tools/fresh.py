@@ -1,5 +1,5 @@
 """Says whether a program was built from the sources as they are now. What counts is what the sources contain, and not
-their times.
+their times. And it has rt's own library, of which tools/build and tools/wasm build crates.
 
 Beside a program there are two files. NAME.made has a sum of the sources that it was built from and of the program
 itself. NAME.seen has the output of tools/seen at the last time when the two were compared: as long as tools/seen prints
@@ -7,7 +7,9 @@ the same, nothing was touched since then, and ./dine need not read the sources a
 import fcntl
 import hashlib
 import os
+import shutil
 import subprocess
+import sys
 import threading
 from pathlib import Path
 
@@ -38,6 +40,16 @@ def sum_of_sources(name):
                 for path in (f"{at}/{it}" for it in sorted(names)):
                     whole.update(f"{path[len(HOME):]} {sum_of(path)}\n".encode())
     return whole.hexdigest()
+
+
+def library_of_rt():
+    """Returns rt's own library, which promises no interface."""
+    sys.dont_write_bytecode = True
+    sys.path.append(os.path.dirname(os.path.realpath(shutil.which("rt"))))
+    import rtlib
+    if "--statements" not in rtlib.help_of("build"):
+        raise ValueError("rattle build does not take --statements")
+    return rtlib
 
 
 def replace(path, text):

@@ -50,7 +50,7 @@ static int count, is_on, explains;
 
 #define OF_THREAD static __thread __attribute__((tls_model("initial-exec")))
 OF_THREAD struct Thread *me;
-OF_THREAD int inside;     // in the scheduler's own code, where there is no point and memory is not refused
+OF_THREAD int inside;     // in the scheduler's own code, where there is no point
 OF_THREAD int steps_left; // the number of single steps to the next point, or 0 if it does not step
 
 static struct { uint64_t steps, sum; } *report; // how many points the run had, and a sum of what was chosen there
@@ -78,9 +78,8 @@ static uint32_t stepping_chance; // that some single steps after a trap there is
 static uint32_t spurious_chance; // that a wait ends for no reason
 static uint32_t early_chance;    // that a wait with a time ends while others could run
 static int leaves;               // the thread that has the turn yields it in a walk
-static uint64_t refused, asked;  // the number, from 1, of the allocation that gets no memory, and how many there were
 
-static void choose_manner(uint64_t steps_expected, uint64_t allocations) {
+static void choose_manner(uint64_t steps_expected) {
     static const uint32_t often[] = {0x10000, 0x8000, 0x1000, 0x300};
     uint64_t bits = next_random();
     int kind = bits & 7;
@@ -93,7 +92,6 @@ static void choose_manner(uint64_t steps_expected, uint64_t allocations) {
     stepping_chance = (bits >> 24) % 4 == 0 ? 0 : (bits >> 26) % 2 ? 0x1000 : 0x400;
     spurious_chance = (bits >> 28) % 4 == 0 ? 0x400 : 0;
     early_chance = (bits >> 30) % 2 ? 0x2000 : 0;
-    refused = allocations ? 1 + next_random() % allocations : 0;
 }
 
 // ---- Whose turn it is ----
@@ -304,12 +302,6 @@ int sched_yield(void) {
     return 0;
 }
 
-// Whether an allocation gets no memory. Those of the first thread always do.
-static int is_refused(void) { return refused && IS_SCHEDULED && me != threads && ++asked == refused; }
-extern void *__libc_malloc(size_t), *__libc_realloc(void *, size_t);
-void *malloc(size_t size) { return is_refused() ? NULL : __libc_malloc(size); }
-void *realloc(void *block, size_t size) { return is_refused() ? NULL : __libc_realloc(block, size); }
-
 static void *begin_thread(void *given) {
     me = given;
     me->stack = __builtin_frame_address(0);
@@ -369,7 +361,7 @@ static void begin_run(uint64_t seed) {
     alarm((unsigned)number_of("SCHEDULES_SECONDS")); // ends a run that goes on without any point
     memset(report, 0, sizeof *report);
     random_state = seed * 0x9e3779b97f4a7c15ull + 12345;
-    choose_manner(number_of("SCHEDULES_STEPS"), number_of("SCHEDULES_ALLOCATIONS"));
+    choose_manner(number_of("SCHEDULES_STEPS"));
     explains = number_of("SCHEDULES_EXPLAINS") != 0;
     count = 1;
     me = threads;

@@ -104,18 +104,14 @@ def a_line_each(tool, faults):
 
 
 def counted(tries):
-    """Prints reports and their count, and returns the exit status. A check is its report, and whether it passed, or
-    None if it was skipped."""
+    """Prints reports and their count, and returns the exit status: 0 if nothing failed, and something passed or was
+    skipped. A check is its report, and whether it passed, or None if it was skipped."""
     counts = collections.Counter()
     for text, is_right in tries:
         if text:
             print(text, flush=True)
         counts[is_right] += 1
-    return ended(counts[True], counts[False], counts[None])
-
-
-def ended(passed, failed, skipped=0):
-    """Prints the count, and returns the exit status: 0 if nothing failed, and something passed or was skipped."""
+    passed, failed, skipped = counts[True], counts[False], counts[None]
     print(f"{passed} passed, {failed} failed" + (f", {skipped} skipped" if skipped else ""))
     return 0 if passed + skipped and not failed else 1
 

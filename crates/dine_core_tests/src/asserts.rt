@@ -1,5 +1,16 @@
-// `assert_eq!` in a function: its steps are proved here once, and not at each call. What has to be known afterwards is
-// asserted by `assert!`.
-pub fn same<T: PartialEq + std::fmt::Debug>(rt: &impl std::process::Abort, left: &T, right: &T) {
+ghost use Rattle.std.specs.Prelude.{◌≡◌, true};
+
+use std::fmt::Debug;
+use std::process::Abort;
+
+// `assert_eq!` in a function: its steps are proved here once, and not at each call.
+pub fn same<T: PartialEq + Debug>(rt: &impl Abort, left: &T, right: &T) {
     assert_eq!(rt; *left, *right);
+}
+
+// `assert!` in a function: a call is proved in fewer steps than a branch, and the same is known afterwards.
+pub fn holds(rt: &impl Abort, it: bool)
+    ensures { it ≡ true }
+{
+    assert!(rt; it);
 }

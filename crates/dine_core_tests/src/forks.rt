@@ -4,7 +4,7 @@ ghost use Rattle.std.specs.Prelude.{◌≡◌, true, All};
 ghost use Rattle.dine_token.specs.Fork.{IsEnd, MayEat};
 ghost use Rattle.dine_token.specs.Values.{IsAct};
 
-use crate::asserts::same;
+use crate::asserts::{holds, same};
 use dine_token::{Act, Entry, Fork, Held, Meal, Period, Token};
 use std::alloc::Global;
 use std::process::Abort;
@@ -44,10 +44,10 @@ pub(crate) fn opened(
     due: (u32, u32),
     value: u64,
 ) -> Fork {
-    assert!(rt; ends.0 < ends.1);
-    assert!(rt; due.0 <= 1000);
-    assert!(rt; due.1 <= 1000);
-    assert!(rt; value <= 1_000_000);
+    holds(rt, ends.0 < ends.1);
+    holds(rt, due.0 <= 1000);
+    holds(rt, due.1 <= 1000);
+    holds(rt, value <= 1_000_000);
     let fork = Fork::open(alloc, edge, ends.0, ends.1, due.0, due.1, value).expect(rt, "memory");
     same(rt, &fork.edge(), &edge);
     same(rt, &fork.ends(), &ends);
@@ -95,14 +95,14 @@ fn is_act(act: Act) -> bool
 
 // How many meals of the site the fork has.
 fn meals_of(rt: &impl Abort, fork: &Fork, site: u32) -> u32 {
-    assert!(rt; is_end(fork, site));
+    holds(rt, is_end(fork, site));
     fork.meals_of(site)
 }
 
 // Checks the meal, the number of its forks, and the meals so far and the value of each.
 fn is_meal(rt: &impl Abort, meal: &Meal, site: u32, k: u32, values: &[u64]) {
     same(rt, &(meal.site(), meal.k()), &(site, k));
-    assert!(rt; meal.len() as usize == values.len());
+    holds(rt, meal.len() as usize == values.len());
     for i in 0..meal.len() {
         let fork = meal.fork(i);
         same(rt, &meals_of(rt, fork, site), &k);
@@ -111,9 +111,9 @@ fn is_meal(rt: &impl Abort, meal: &Meal, site: u32, k: u32, values: &[u64]) {
 }
 
 fn begin(rt: &impl Abort, hands: Vec<Held>, site: u32, k: u32, act: Act) -> Meal {
-    assert!(rt; hands.len() <= 10);
-    assert!(rt; all_may_eat(hands.as_slice(), site, k));
-    assert!(rt; is_act(act));
+    holds(rt, hands.len() <= 10);
+    holds(rt, all_may_eat(hands.as_slice(), site, k));
+    holds(rt, is_act(act));
     Meal::begin(site, k, act, hands)
 }
 
@@ -134,9 +134,9 @@ fn eat(
 fn give(rt: &impl Abort, held: Held, to: u32) -> Fork {
     let fork = held.fork();
     let (lower, higher) = fork.ends();
-    assert!(rt; to == (if fork.at() == lower { higher } else { lower }));
-    assert!(rt; fork.is_dirty());
-    assert!(rt; fork.meals_of(to) < fork.due_of(to));
+    holds(rt, to == (if fork.at() == lower { higher } else { lower }));
+    holds(rt, fork.is_dirty());
+    holds(rt, fork.meals_of(to) < fork.due_of(to));
     held.give(to)
 }
 
@@ -146,13 +146,13 @@ fn last(rt: &impl Abort, hands: &mut Vec<Held>) -> Held {
 
 // Adds the fork.
 fn comes(rt: &impl Abort, hands: &mut Vec<Held>, fork: Fork) {
-    assert!(rt; hands.len() < hands.capacity());
+    holds(rt, hands.len() < hands.capacity());
     hands.push_reserved(Held::take(fork));
 }
 
 // The fork has exactly this log.
 pub(crate) fn has_log(rt: &impl Abort, fork: &Fork, log: &[Entry]) {
-    assert!(rt; fork.len() as usize == log.len());
+    holds(rt, fork.len() as usize == log.len());
     for i in 0..fork.len() {
         let entry = log.get(i as usize).copied();
         same(rt, &Some(fork.entry(i)), &entry);
@@ -161,7 +161,7 @@ pub(crate) fn has_log(rt: &impl Abort, fork: &Fork, log: &[Entry]) {
 
 // The fork has exactly these periods, and a Move between any two.
 pub(crate) fn has_periods(rt: &impl Abort, fork: &Fork, periods: &[(u32, u32, u32)]) {
-    assert!(rt; fork.periods() as usize == periods.len());
+    holds(rt, fork.periods() as usize == periods.len());
     same(rt, &fork.moves().saturating_add(1), &fork.periods());
     for i in 0..fork.periods() {
         let Period { site, first, count } = fork.period(i);
@@ -223,7 +223,7 @@ fn lay_down(rt: &impl Abort, mut hands: Vec<Held>) {
     for _ in 0..hands.len() {
         let _ = last(rt, &mut hands).keep();
     }
-    assert!(rt; hands.is_empty());
+    holds(rt, hands.is_empty());
     hands.destroy_empty();
 }
 

@@ -2,7 +2,7 @@
 ghost use Rattle.std.specs.Prelude.{◌<◌};
 ghost use Rattle.dine_graph.specs.Plan.{site_count};
 
-use crate::asserts::same;
+use crate::asserts::{holds, same};
 use dine_plan::{Plan, PlanFault, read_plan};
 use dine_token::Act;
 use std::alloc::Global;
@@ -81,7 +81,7 @@ pub(crate) fn read(rt: &impl Abort, alloc: Global, text: &str) -> Plan {
 }
 
 fn has_its_sites(rt: &impl Abort, plan: &Plan) {
-    assert!(rt; plan.sites() == 3);
+    holds(rt, plan.sites() == 3);
     let names = (plan.name(0), plan.name(1), plan.name(2));
     same(rt, &names, &("a", "b", "c"));
     same(rt, &(plan.jobs(0), plan.jobs(1), plan.jobs(2)), &(2, 0, 1));

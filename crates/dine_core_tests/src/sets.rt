@@ -1,11 +1,11 @@
 // Sets of numbers below 64: each public function, with results that were computed by hand.
-use crate::asserts::same;
+use crate::asserts::{holds, same};
 use dine_set::BitSet64;
 
 #[test]
 fn keeps_numbers(rt: HostRuntime) {
     let mut set = BitSet64::empty();
-    assert!(rt; set.is_empty());
+    holds(&rt, set.is_empty());
     same(&rt, &set.first(), &None);
     set.insert(63);
     set.insert(5);
@@ -13,8 +13,12 @@ fn keeps_numbers(rt: HostRuntime) {
     let before = set;
     set.remove(5);
     set.set(63, false);
-    assert!(rt; set.has(40) && !set.has(5) && !set.has(63) && !set.is_empty());
-    assert!(rt; before.has(5) && before.has(63));
+    same(
+        &rt,
+        &(set.has(40), set.has(5), set.has(63), set.is_empty()),
+        &(true, false, false, false),
+    );
+    same(&rt, &(before.has(5), before.has(63)), &(true, true));
     same(&rt, &(before.first(), set.first()), &(Some(5), Some(40)));
 }
 
@@ -25,14 +29,14 @@ fn the_full_set_has_each_number(rt: HostRuntime) {
         same(&rt, &set.first(), &Some(i));
         set.remove(i);
     }
-    assert!(rt; set.is_empty());
+    holds(&rt, set.is_empty());
 }
 
 #[test]
 fn below_has_the_lower_numbers(rt: HostRuntime) {
     let few = BitSet64::below(3);
     same(&rt, &(few.len(), few.nth(2)), &(3, Some(2)));
-    assert!(rt; BitSet64::below(0).is_empty());
+    holds(&rt, BitSet64::below(0).is_empty());
     same(
         &rt,
         &(BitSet64::below(63).len(), BitSet64::below(63).has(63)),

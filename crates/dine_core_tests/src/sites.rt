@@ -3,7 +3,7 @@
 mod breaches;
 mod script;
 
-use crate::asserts::same;
+use crate::asserts::{holds, same};
 use crate::forks::{Step as Way, fork_after, has_log};
 use crate::plans::read;
 use dine_core::site::{fresh_forks, fresh_tokens};
@@ -52,19 +52,19 @@ const BUSY_ROW: &str = "version = 1\n\
 
 // The core of a site, with the forks and tokens that it has at the start.
 fn core_of(rt: &impl Abort, alloc: Global, plan: &Plan, site: u32) -> SiteCore {
-    assert!(rt; site < plan.sites());
+    holds(rt, site < plan.sites());
     let forks = fresh_forks(alloc, plan, site).expect(rt, "memory");
     let tokens = fresh_tokens(alloc, plan, site).expect(rt, "memory");
     SiteCore::open(alloc, plan, site, forks, tokens).expect(rt, "memory")
 }
 
 fn forks_of(rt: &impl Abort, alloc: Global, plan: &Plan, site: u32) -> Vec<Fork> {
-    assert!(rt; site < plan.sites());
+    holds(rt, site < plan.sites());
     fresh_forks(alloc, plan, site).expect(rt, "memory")
 }
 
 fn tokens_of(rt: &impl Abort, alloc: Global, plan: &Plan, site: u32) -> Vec<Token> {
-    assert!(rt; site < plan.sites());
+    holds(rt, site < plan.sites());
     fresh_tokens(alloc, plan, site).expect(rt, "memory")
 }
 
@@ -74,39 +74,39 @@ fn next_is(rt: &impl Abort, core: &SiteCore, kind: Option<EventKind>) {
 }
 
 fn grow_hungry(rt: &impl Abort, core: &mut SiteCore) {
-    assert!(rt; core.may_hungry());
+    holds(rt, core.may_hungry());
     core.hungry();
 }
 
 fn ask_at(rt: &impl Abort, core: &mut SiteCore, i: u32) -> Letter {
-    assert!(rt; i < core.degree());
-    assert!(rt; core.may_ask(i));
+    holds(rt, i < core.degree());
+    holds(rt, core.may_ask(i));
     core.ask(i)
 }
 
 fn give_at(rt: &impl Abort, core: &mut SiteCore, i: u32) -> Letter {
-    assert!(rt; i < core.degree());
-    assert!(rt; core.may_give(i));
+    holds(rt, i < core.degree());
+    holds(rt, core.may_give(i));
     core.give(i)
 }
 
 // A meal that goes well or fails. There is nothing else to do before it ends.
 fn eat(rt: &impl Abort, core: &mut SiteCore, failed: bool) {
-    assert!(rt; core.may_begin());
-    assert!(rt; !core.may_end());
+    holds(rt, core.may_begin());
+    holds(rt, !core.may_end());
     let meal = core.begin();
     next_is(rt, core, Some(EventKind::End));
     core.end(meal, failed);
 }
 
 fn quit(rt: &impl Abort, core: &mut SiteCore) {
-    assert!(rt; core.may_quit());
+    holds(rt, core.may_quit());
     core.quit();
 }
 
 // Whether the site may grow hungry, quit, and say Done at its first place.
 fn may_do(rt: &impl Abort, core: &SiteCore, may: (bool, bool, bool)) {
-    assert!(rt; 0 < core.degree());
+    holds(rt, 0 < core.degree());
     same(
         rt,
         &(core.may_hungry(), core.may_quit(), core.may_done(0)),
@@ -116,33 +116,33 @@ fn may_do(rt: &impl Abort, core: &SiteCore, may: (bool, bool, bool)) {
 
 // The letter that a site puts by breaking off at its first place.
 fn break_off(rt: &impl Abort, core: &mut SiteCore) -> Option<Letter> {
-    assert!(rt; 0 < core.degree());
-    assert!(rt; core.phase() != Phase::Eating);
+    holds(rt, 0 < core.degree());
+    holds(rt, core.phase() != Phase::Eating);
     core.break_off(0)
 }
 
 // The site broke off there before: it puts nothing more, and stays as it is.
 fn is_broken_off(rt: &impl Abort, core: &mut SiteCore) {
     let before = report_of(rt, core, 0);
-    assert!(rt; break_off(rt, core).is_none());
+    holds(rt, break_off(rt, core).is_none());
     same(rt, &report_of(rt, core, 0), &before);
 }
 
 fn say_done_at(rt: &impl Abort, core: &mut SiteCore, i: u32) -> Letter {
-    assert!(rt; i < core.degree());
-    assert!(rt; core.may_done(i));
+    holds(rt, i < core.degree());
+    holds(rt, core.may_done(i));
     core.done(i)
 }
 
 fn close(rt: &impl Abort, core: &mut SiteCore) -> Letter {
-    assert!(rt; 0 < core.degree());
-    assert!(rt; core.may_close(0));
+    holds(rt, 0 < core.degree());
+    holds(rt, core.may_close(0));
     core.close(0)
 }
 
 fn take_at(rt: &impl Abort, core: &mut SiteCore, i: u32, letter: Letter) {
-    assert!(rt; i < core.degree());
-    assert!(rt; core.take(i, letter).is_ok());
+    holds(rt, i < core.degree());
+    holds(rt, core.take(i, letter).is_ok());
 }
 
 // What a core reports of itself and of one of its places.
@@ -159,7 +159,7 @@ struct Report {
 }
 
 fn report_of(rt: &impl Abort, core: &SiteCore, i: u32) -> Report {
-    assert!(rt; i < core.degree());
+    holds(rt, i < core.degree());
     Report {
         site: core.site(),
         phase: core.phase(),
@@ -185,9 +185,9 @@ fn letter_in_short(letter: &Letter) -> (Kind4, Option<u32>, u32) {
 fn refuse(rt: &impl Abort, core: &mut SiteCore, letter: Letter, cause: Breach) -> Letter {
     let before = report_of(rt, core, 0);
     let put = letter_in_short(&letter);
-    assert!(rt; 0 < core.degree());
+    holds(rt, 0 < core.degree());
     let Err((back, breach)) = core.take(0, letter) else {
-        assert!(rt; false);
+        holds(rt, false);
         return Letter::Close;
     };
     same(rt, &breach, &cause);
@@ -197,7 +197,7 @@ fn refuse(rt: &impl Abort, core: &mut SiteCore, letter: Letter, cause: Breach) -
 }
 
 fn spend(rt: &impl Abort, core: SiteCore) -> Parts {
-    assert!(rt; core.phase() != Phase::Eating);
+    holds(rt, core.phase() != Phase::Eating);
     core.into_parts()
 }
 
@@ -434,7 +434,7 @@ fn fresh_forks_are_those_of_the_lower_end(rt: HostRuntime) {
     same(&rt, &forks.len(), &1);
     let fork = forks.first().expect(&rt, "a fork");
     same(&rt, &(fork.edge(), fork.len()), &(1, 0));
-    assert!(&rt; fork.ends() == (1, 2));
+    holds(&rt, fork.ends() == (1, 2));
     same(&rt, &(fork.due_of(1), fork.due_of(2)), &(0, 1));
     same(&rt, &forks_of(&rt, rt.alloc(), &plan, 2).len(), &0);
 }
@@ -451,7 +451,7 @@ fn fresh_tokens_are_those_of_the_higher_end(rt: HostRuntime) {
 
 // The packed core of a site.
 fn packed_site(rt: &impl Abort, alloc: Global, plan: &Plan, site: u32) -> Packed {
-    assert!(rt; site < plan.sites());
+    holds(rt, site < plan.sites());
     let forks = fresh_forks(alloc, plan, site).expect(rt, "memory");
     let tokens = fresh_tokens(alloc, plan, site).expect(rt, "memory");
     SiteCore::open(alloc, plan, site, forks, tokens)
@@ -516,9 +516,9 @@ fn foreign(rt: &impl Abort, alloc: Global, value: u64) -> Letter {
 
 // A meal with a fork that has this value then.
 fn eat_with(rt: &impl Abort, core: &mut SiteCore, value: u64) {
-    assert!(rt; core.may_begin());
+    holds(rt, core.may_begin());
     let meal = core.begin();
-    assert!(rt; 0 < meal.len());
+    holds(rt, 0 < meal.len());
     same(rt, &meal.fork(0).value(), &value);
     core.end(meal, false);
 }

@@ -6,7 +6,7 @@ mod outcomes;
 mod readers;
 mod side_by_side;
 
-use crate::asserts::same;
+use crate::asserts::{holds, same};
 use crate::forks::{has_log, has_periods};
 use crate::plans::read;
 use dine_core::{NotEnabled, World};
@@ -114,12 +114,12 @@ fn opened(rt: &impl Abort, alloc: Global, plan: &Plan) -> World {
 }
 
 fn entry_at(rt: &impl Abort, fork: &Fork, i: u32) -> Entry {
-    assert!(rt; i < fork.len());
+    holds(rt, i < fork.len());
     fork.entry(i)
 }
 
 fn period_at(rt: &impl Abort, fork: &Fork, i: u32) -> Period {
-    assert!(rt; i < fork.periods());
+    holds(rt, i < fork.periods());
     fork.period(i)
 }
 
@@ -156,7 +156,8 @@ fn spend(rt: &impl Abort, plan: &Plan, world: World) -> Vec<Fork> {
 fn has_all_meals(rt: &impl Abort, plan: &Plan, forks: &[Fork]) {
     for fork in forks {
         let (lower, higher) = fork.ends();
-        assert!(rt; lower < plan.sites() && higher < plan.sites());
+        holds(rt, lower < plan.sites());
+        holds(rt, higher < plan.sites());
         same(rt, &fork.meals_of(lower), &plan.jobs(lower));
         same(rt, &fork.meals_of(higher), &plan.jobs(higher));
     }
@@ -167,18 +168,21 @@ fn is_safe(rt: &impl Abort, plan: &Plan, world: &World) {
     let eating = Some(Phase::Eating);
     for edge in 0..plan.edges() {
         let (lower, higher) = plan.ends(edge);
-        assert!(rt; world.phase(lower) != eating || world.phase(higher) != eating);
+        holds(
+            rt,
+            world.phase(lower) != eating || world.phase(higher) != eating,
+        );
         let fork = world.fork(edge).expect(rt, "a fork");
         same(rt, &fork.edge(), &edge);
     }
-    assert!(rt; world.fork(plan.edges()).is_none());
+    holds(rt, world.fork(plan.edges()).is_none());
 }
 
 // Checks that `count` is the number of enabled events.
 fn count_is_exact(rt: &impl Abort, world: &World) -> u32 {
     let count = world.count();
     for n in 0..count {
-        assert!(rt; world.enabled(n).is_some());
+        holds(rt, world.enabled(n).is_some());
     }
     same(rt, &world.enabled(count), &None);
     count
@@ -206,7 +210,7 @@ fn wander_to_the_end(rt: &impl Abort, alloc: Global, plan: &Plan) {
         let mut world = opened(rt, alloc, plan);
         let bound = world.bound();
         let events = wander(rt, plan, &mut world, seed, bound);
-        assert!(rt; events <= bound);
+        holds(rt, events <= bound);
         is_safe(rt, plan, &world);
         is_complete(rt, plan, &world);
         let forks = spend(rt, plan, world);
@@ -522,7 +526,7 @@ fn forks_come_out_at_any_moment(rt: HostRuntime) {
         for seed in 0..4u32 {
             let mut world = opened(&rt, rt.alloc(), &plan);
             let events = wander(&rt, &plan, &mut world, seed, limit);
-            assert!(rt; events <= limit);
+            holds(&rt, events <= limit);
             let _forks = spend(&rt, &plan, world);
         }
     }

@@ -2,14 +2,15 @@
 ghost use Rattle.std.specs.Prelude.{◌≡◌, IfOk, Some, if◌then◌else◌};
 ghost use Rattle.dine_jobs_tests.specs.Refused.{HaveNotedLast};
 
+use crate::asserts::same;
 use crate::plans::band_of;
+use crate::runs::{BOTH, Links, nothing};
 use dine_run::{
-    Job, JobFault, JobsDone, JobsFault, Plan, SiteDone, Table, no_values, on_channels, on_rings,
+    Failure, Job, JobFault, JobsDone, JobsFault, Plan, SiteDone, Table, on_channels, on_rings,
 };
 use std::alloc::Global;
 use std::process::Abort;
 use std::sync::Wait;
-use std::test::Fail;
 use std::thread::Threads;
 
 const SITES: u32 = 5;
@@ -40,12 +41,6 @@ impl Job<()> for Refuser {
     }
 }
 
-#[derive(Clone, Copy)]
-enum Links {
-    Channels,
-    Rings,
-}
-
 // Runs the jobs over links of a kind. If the run returns Ok, each job comes back with the number of the last of its
 // failures or, if it has none, with what it had noted when it was given. This is so for each schedule.
 fn run_refusers<R: Threads + Wait + Copy + Send + 'static>(
@@ -73,30 +68,47 @@ fn refusers(rt: &impl Abort, alloc: Global, plan: &Plan) -> Vec<Refuser> {
     jobs
 }
 
+// The jobs that failed are the first ones.
+fn are_first(rt: &impl Abort, failures: &[Failure<JobFault>]) {
+    let mut k = 1u32;
+    for failure in failures {
+        same(rt, &failure.k, &k);
+        k = k.saturating_add(1);
+    }
+}
+
 // The site did all its jobs. The first ones failed, as many as its number, and its job has noted the last of them.
 fn is_right(rt: &impl Abort, n: u32, site: &SiteDone<Refuser, JobFault>) {
-    assert_eq!(rt;
-        (site.calls().len(), site.failures.len()),
-        (JOBS as usize, n as usize)
+    same(
+        rt,
+        &(site.calls().len(), site.failures.len()),
+        &(JOBS as usize, n as usize),
     );
-    for (failure, k) in site.failures.iter().zip(1..1_001u32) {
-        assert_eq!(rt; failure.k, k);
+    are_first(rt, site.failures.as_slice());
+    same(
+        rt,
+        &site.job.refused,
+        &Some(if n == 0 { BEFORE } else { n }),
+    );
+}
+
+fn are_right(rt: &impl Abort, sites: &[SiteDone<Refuser, JobFault>]) {
+    same(rt, &sites.len(), &(SITES as usize));
+    let mut n = 0u32;
+    for site in sites {
+        is_right(rt, n, site);
+        n = n.saturating_add(1);
     }
-    assert_eq!(rt; site.job.refused, Some(if n == 0 { BEFORE } else { n }));
 }
 
 #[test]
-fn a_job_keeps_the_number_of_its_last_failure(rt: HostRuntime) -> Result<(), Fail> {
+fn a_job_keeps_the_number_of_its_last_failure(rt: HostRuntime) {
     let alloc = rt.alloc();
     let plan = band_of(&rt, alloc, SITES, JOBS);
-    for links in [Links::Channels, Links::Rings] {
-        let values = no_values(alloc, &plan)?;
+    for links in BOTH {
+        let values = nothing(&rt, alloc, &plan);
         let jobs = refusers(&rt, alloc, &plan);
-        let done = run_refusers(&rt, alloc, &plan, links, values, jobs)?;
-        assert_eq!(rt; done.sites.len(), SITES as usize);
-        for (n, site) in (0..64u32).zip(done.sites.as_slice()) {
-            is_right(&rt, n, site);
-        }
+        let done = run_refusers(&rt, alloc, &plan, links, values, jobs).expect(&rt, "a run");
+        are_right(&rt, done.sites.as_slice());
     }
-    Ok(())
 }

@@ -1,6 +1,8 @@
 // Jobs that are cancelled.
+use crate::asserts::{holds, same};
 use crate::plans::{all_resigning, band_of};
-use dine_run::{Cancel, Cancellable, Job, JobFault, Plan, Stopped, Table, no_values, run_jobs};
+use crate::runs::{all_did, nothing, ran_jobs};
+use dine_run::{Cancel, Cancellable, Failure, Job, JobFault, Plan, SiteDone, Stopped, Table};
 use std::alloc::Global;
 use std::process::Abort;
 use std::sync::Wait;
@@ -48,32 +50,49 @@ fn endless_jobs(
     jobs
 }
 
+// Whether a job that had begun is among those that failed.
+fn has_begun(failures: &[Failure<Stopped<JobFault>>]) -> bool {
+    for failure in failures {
+        if failure.fault == Stopped::Failed(JobFault) {
+            return true;
+        }
+    }
+    false
+}
+
+// Each site was stopped at its first job, which had begun or not. Some had, and some had not.
+fn stopped_at_the_first(
+    rt: &impl Abort,
+    sites: &[SiteDone<Cancellable<Endless>, Stopped<JobFault>>],
+) {
+    all_did(rt, sites, 1, 1);
+    let mut begun = 0u32;
+    for site in sites {
+        if has_begun(site.failures.as_slice()) {
+            begun = begun.saturating_add(1);
+        }
+    }
+    holds(rt, 1 <= begun);
+    holds(rt, begun < MANY);
+}
+
 #[test]
 fn a_run_of_64_endless_jobs_ends_within_a_second(rt: HostRuntime) -> Result<(), Fail> {
     let alloc = rt.alloc();
     let plan = all_resigning(&rt, alloc, MANY, 1_000);
     let cancel = Cancel::open(alloc)?;
     let jobs = endless_jobs(&rt, alloc, &plan, &cancel);
+    let values = nothing(&rt, alloc, &plan);
     let clock = rt;
     let setter = thread::spawn(&rt, move || {
         thread::sleep(&clock, Duration::from_millis(100));
         cancel.set();
         Instant::now(&clock)
     })?;
-    let done = run_jobs(&rt, alloc, &plan, no_values(alloc, &plan)?, jobs)?;
+    let done = ran_jobs(&rt, alloc, &plan, values, jobs);
     let took = setter.join(&rt)?.elapsed(&rt)?;
-    assert!(rt; took < Duration::from_secs(1));
-    // Each site was stopped at its first job, which had begun or not.
-    let mut begun = 0usize;
-    for site in done.sites.iter() {
-        assert_eq!(rt; (site.calls().len(), site.failures.len()), (1, 1));
-        if let Some(failure) = site.failures.first() {
-            if failure.fault == Stopped::Failed(JobFault) {
-                begun = begun.saturating_add(1);
-            }
-        }
-    }
-    assert!(rt; 1 <= begun && begun < MANY as usize);
+    holds(&rt, took < Duration::from_secs(1));
+    stopped_at_the_first(&rt, done.sites.as_slice());
     Ok(())
 }
 
@@ -93,39 +112,65 @@ impl Job<()> for Idle {
     }
 }
 
-// Runs three sites with two jobs each, by a flag that is set or not, and returns how many jobs were cancelled, failed
-// and went well.
-fn outcomes<R: Threads + Wait + Abort + Copy + Send + 'static>(
-    rt: &R,
-    alloc: Global,
-    set: bool,
-) -> Result<(usize, usize, usize), Fail> {
-    let plan = band_of(rt, alloc, 3, 2);
-    let cancel = Cancel::open(alloc)?;
-    if set {
-        cancel.set();
-    }
+fn idle_jobs(rt: &impl Abort, alloc: Global, cancel: &Cancel) -> Vec<Cancellable<Idle>> {
     let mut jobs = Vec::new(alloc);
     for _ in 0..3 {
-        jobs.push(Cancellable::new(Idle, cancel.share()?))?;
+        let share = cancel.share().expect(rt, "memory");
+        jobs.push(Cancellable::new(Idle, share))
+            .expect(rt, "memory");
     }
-    let done = run_jobs(rt, alloc, &plan, no_values(alloc, &plan)?, jobs)?;
-    let (mut cancelled, mut failed, mut well) = (0usize, 0usize, 0usize);
-    for site in done.sites.iter() {
-        for failure in site.failures.iter() {
+    jobs
+}
+
+// How many jobs were cancelled, and how many failed.
+fn stops_of(sites: &[SiteDone<Cancellable<Idle>, Stopped<JobFault>>]) -> (u32, u32) {
+    let (mut cancelled, mut failed) = (0u32, 0u32);
+    for site in sites {
+        for failure in site.failures.as_slice() {
             match failure.fault {
                 Stopped::Cancelled => cancelled = cancelled.saturating_add(1),
                 Stopped::Failed(_) => failed = failed.saturating_add(1),
             }
         }
-        well = well.saturating_add(site.calls().iter().filter(|call| call.ok).count());
     }
-    Ok((cancelled, failed, well))
+    (cancelled, failed)
+}
+
+// How many jobs went well.
+fn went_well(sites: &[SiteDone<Cancellable<Idle>, Stopped<JobFault>>]) -> u32 {
+    let mut well = 0u32;
+    for site in sites {
+        for call in site.calls() {
+            if call.ok {
+                well = well.saturating_add(1);
+            }
+        }
+    }
+    well
+}
+
+// Runs three sites with two jobs each, by a flag that is set or not. Checks how many jobs were cancelled, how many
+// failed, and how many went well.
+fn ends_with<R: Threads + Wait + Abort + Copy + Send + 'static>(
+    rt: &R,
+    alloc: Global,
+    set: bool,
+    stops: (u32, u32),
+    well: u32,
+) {
+    let plan = band_of(rt, alloc, 3, 2);
+    let cancel = Cancel::open(alloc).expect(rt, "memory");
+    if set {
+        cancel.set();
+    }
+    let jobs = idle_jobs(rt, alloc, &cancel);
+    let done = ran_jobs(rt, alloc, &plan, nothing(rt, alloc, &plan), jobs);
+    same(rt, &stops_of(done.sites.as_slice()), &stops);
+    same(rt, &went_well(done.sites.as_slice()), &well);
 }
 
 #[test]
-fn a_job_is_not_begun_once_the_flag_is_set(rt: HostRuntime) -> Result<(), Fail> {
-    assert_eq!(rt; outcomes(&rt, rt.alloc(), false)?, (0, 3, 3));
-    assert_eq!(rt; outcomes(&rt, rt.alloc(), true)?, (6, 0, 0));
-    Ok(())
+fn a_job_is_not_begun_once_the_flag_is_set(rt: HostRuntime) {
+    ends_with(&rt, rt.alloc(), false, (0, 3), 3);
+    ends_with(&rt, rt.alloc(), true, (6, 0), 0);
 }

@@ -4,6 +4,8 @@
 #[cfg(test)]
 mod after;
 #[cfg(test)]
+mod asserts;
+#[cfg(test)]
 mod calls;
 #[cfg(test)]
 mod cancelling;
@@ -15,6 +17,8 @@ mod manners;
 mod plans;
 #[cfg(test)]
 mod rounds;
+#[cfg(test)]
+mod runs;
 #[cfg(test)]
 mod sharing;
 #[cfg(test)]

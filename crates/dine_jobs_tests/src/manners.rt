@@ -1,12 +1,14 @@
 // Polite runs of jobs over values.
+use crate::asserts::same;
 use crate::plans::band_of;
+use crate::runs::{Links, all_did};
 use dine_run::{
-    ChannelLane, Job, JobFault, JobsDone, Place, RingLane, RunOptions, Table, run_jobs_with,
+    ChannelLane, EdgeValue, Job, JobFault, JobsDone, Place, Plan, RingLane, RunOptions, Table,
+    run_jobs_with,
 };
 use std::alloc::Global;
 use std::process::Abort;
 use std::sync::Wait;
-use std::test::Fail;
 use std::thread::Threads;
 
 const RUNS: u32 = 10;
@@ -31,64 +33,65 @@ impl Job<u64> for Counter {
     }
 }
 
-#[derive(Clone, Copy)]
-enum Links {
-    Channels,
-    Rings,
-}
-
-// Runs the jobs politely over links of a kind. Each value has what all jobs of both its ends add.
-fn adds_up<R: Threads + Wait + Abort + Copy + Send + 'static>(
-    rt: &R,
-    alloc: Global,
-    links: Links,
-) -> Result<(), Fail> {
-    let plan = band_of(rt, alloc, SITES, JOBS);
-    let mut values = Vec::new(alloc);
-    for _ in 0..plan.edges() {
-        values.push(0u64)?;
-    }
+// A value of 0 for each edge, and a counter for each site.
+fn fresh(rt: &impl Abort, alloc: Global, plan: &Plan) -> (Vec<u64>, Vec<Counter>) {
+    let values = vec![in alloc; 0u64; plan.edges() as usize].expect(rt, "memory");
     let mut jobs = Vec::new(alloc);
     for _ in 0..SITES {
-        jobs.push(Counter)?;
+        jobs.push(Counter).expect(rt, "memory");
     }
+    (values, jobs)
+}
+
+// Runs the jobs politely over links of a kind.
+fn ran_politely<R: Threads + Wait + Abort + Copy + Send + 'static>(
+    rt: &R,
+    alloc: Global,
+    plan: &Plan,
+    links: Links,
+) -> JobsDone<u64, Counter> {
+    let (values, jobs) = fresh(rt, alloc, plan);
     let polite = RunOptions::polite();
-    let done: JobsDone<u64, Counter> = match links {
-        Links::Channels => run_jobs_with::<ChannelLane, u64, Counter>(
-            rt, alloc, &plan, values, jobs, polite,
-        )?,
-        Links::Rings => run_jobs_with::<RingLane, u64, Counter>(
-            rt, alloc, &plan, values, jobs, polite,
-        )?,
+    let done = match links {
+        Links::Channels => {
+            run_jobs_with::<ChannelLane, u64, Counter>(rt, alloc, plan, values, jobs, polite)
+        }
+        Links::Rings => {
+            run_jobs_with::<RingLane, u64, Counter>(rt, alloc, plan, values, jobs, polite)
+        }
     };
-    for value in done.values.iter() {
-        assert_eq!(rt; value.value, 2 * u64::from(JOBS));
+    done.expect(rt, "a run")
+}
+
+// Each value has what all jobs of both its ends add.
+fn are_sums(rt: &impl Abort, values: &[EdgeValue<u64>]) {
+    for value in values {
+        same(rt, &value.value, &(2 * u64::from(JOBS)));
     }
-    for site in done.sites.iter() {
-        assert_eq!(rt;
-            (site.calls().len(), site.failures.len()),
-            (JOBS as usize, 0)
-        );
-    }
-    assert_eq!(rt;
-        (done.values.len(), done.found_open),
-        (plan.edges() as usize, 0)
+}
+
+fn adds_up<R: Threads + Wait + Abort + Copy + Send + 'static>(rt: &R, alloc: Global, links: Links) {
+    let plan = band_of(rt, alloc, SITES, JOBS);
+    let done = ran_politely(rt, alloc, &plan, links);
+    are_sums(rt, done.values.as_slice());
+    all_did(rt, done.sites.as_slice(), JOBS, 0);
+    same(
+        rt,
+        &(done.values.len(), done.found_open),
+        &(plan.edges() as usize, 0),
     );
-    Ok(())
 }
 
 #[test]
-fn polite_jobs_add_up_over_channels(rt: HostRuntime) -> Result<(), Fail> {
+fn polite_jobs_add_up_over_channels(rt: HostRuntime) {
     for _ in 0..RUNS {
-        adds_up(&rt, rt.alloc(), Links::Channels)?;
+        adds_up(&rt, rt.alloc(), Links::Channels);
     }
-    Ok(())
 }
 
 #[test]
-fn polite_jobs_add_up_over_rings(rt: HostRuntime) -> Result<(), Fail> {
+fn polite_jobs_add_up_over_rings(rt: HostRuntime) {
     for _ in 0..RUNS {
-        adds_up(&rt, rt.alloc(), Links::Rings)?;
+        adds_up(&rt, rt.alloc(), Links::Rings);
     }
-    Ok(())
 }

@@ -1,7 +1,10 @@
 // What a job sees in its meal, and what it can open.
+use crate::asserts::same;
 use crate::plans::band_of;
-use dine_run::{EdgeId, Job, JobFault, OpenFault, Place, SiteId, Table, on_rings};
-use std::test::Fail;
+use crate::runs::{Links, all_did, ran};
+use dine_run::{EdgeId, EdgeValue, Job, JobFault, OpenFault, Place, SiteId, Table};
+use std::alloc::Global;
+use std::process::Abort;
 
 // A job that checks each place of its table, and opens each value in every way, and twice.
 #[derive(Drop)]
@@ -28,25 +31,57 @@ fn edges_of(site: SiteId) -> &'static [(u32, u32)] {
     }
 }
 
-// Opens the value at a place in each way, one after the other. The value is the number of its edge. While it is open it
-// can't be opened again.
-fn opens(
-    table: &Table<'_, u32>,
+// A place of a site, with its edge and its neighbour.
+#[derive(Clone, Copy)]
+struct Seat {
     place: Place,
     edge: EdgeId,
     neighbour: SiteId,
-) -> Result<bool, OpenFault> {
-    let by_place = *table.open(place)?;
-    let by_edge = *table.open_edge(edge)?;
-    let by_neighbour = *table.open_with(neighbour)?;
-    let held = table.open(place)?;
-    if held.edge() != edge {
-        return Ok(false);
-    }
-    let is_held = is_refused(table.open(place), OpenFault::Open)
-        && is_refused(table.open_edge(edge), OpenFault::Open)
-        && is_refused(table.open_with(neighbour), OpenFault::Open);
-    Ok((by_place, by_edge, by_neighbour) == (edge.0, edge.0, edge.0) && is_held)
+}
+
+// The value at a place, opened in each way, one after the other.
+fn values_at(table: &Table<'_, u32>, seat: Seat) -> Result<(u32, u32, u32), OpenFault> {
+    let by_place = *table.open(seat.place)?;
+    let by_edge = *table.open_edge(seat.edge)?;
+    let by_neighbour = *table.open_with(seat.neighbour)?;
+    Ok((by_place, by_edge, by_neighbour))
+}
+
+// Whether the value at a place is refused in each way, for this cause.
+fn all_refused(table: &Table<'_, u32>, seat: Seat, why: OpenFault) -> bool {
+    is_refused(table.open(seat.place), why)
+        && is_refused(table.open_edge(seat.edge), why)
+        && is_refused(table.open_with(seat.neighbour), why)
+}
+
+// Whether a value that is open can't be opened again.
+fn is_kept(table: &Table<'_, u32>, seat: Seat) -> Result<bool, OpenFault> {
+    let held = table.open(seat.place)?;
+    Ok(held.edge() == seat.edge && all_refused(table, seat, OpenFault::Open))
+}
+
+// Opens the value at a place in each way, and twice. The value is the number of its edge.
+fn opens(table: &Table<'_, u32>, seat: Seat) -> Result<bool, OpenFault> {
+    let edge = seat.edge.0;
+    let found = values_at(table, seat)?;
+    let is_kept = is_kept(table, seat)?;
+    Ok(found == (edge, edge, edge) && is_kept)
+}
+
+fn sees(table: &Table<'_, u32>, seat: Seat) -> bool {
+    table.edge(seat.place) == Some(seat.edge) && table.neighbour(seat.place) == Some(seat.neighbour)
+}
+
+// Whether there is no place behind the last, and no value of another site can be opened.
+fn has_no_more(table: &Table<'_, u32>) -> bool {
+    let past = Seat {
+        place: Place(table.places()),
+        edge: EdgeId(9),
+        neighbour: table.site(),
+    };
+    all_refused(table, past, OpenFault::NoEdge)
+        && table.edge(past.place).is_none()
+        && table.neighbour(past.place).is_none()
 }
 
 impl Job<u32> for Looker {
@@ -57,20 +92,19 @@ impl Job<u32> for Looker {
         if table.places() as usize != edges.len() {
             return Err(JobFault);
         }
-        for (place, (edge, neighbour)) in (0..8u32).zip(edges) {
-            let (place, edge, neighbour) = (Place(place), EdgeId(*edge), SiteId(*neighbour));
-            if table.edge(place) != Some(edge) || table.neighbour(place) != Some(neighbour) {
+        let mut place = 0u32;
+        for (edge, neighbour) in edges {
+            let seat = Seat {
+                place: Place(place),
+                edge: EdgeId(*edge),
+                neighbour: SiteId(*neighbour),
+            };
+            if !sees(table, seat) || !opens(table, seat)? {
                 return Err(JobFault);
             }
-            if !opens(table, place, edge, neighbour)? {
-                return Err(JobFault);
-            }
+            place = place.saturating_add(1);
         }
-        let past = Place(table.places());
-        let strange = is_refused(table.open(past), OpenFault::NoEdge)
-            && is_refused(table.open_edge(EdgeId(9)), OpenFault::NoEdge)
-            && is_refused(table.open_with(table.site()), OpenFault::NoEdge);
-        if strange && table.edge(past).is_none() && table.neighbour(past).is_none() {
+        if has_no_more(table) {
             Ok(())
         } else {
             Err(JobFault)
@@ -78,24 +112,33 @@ impl Job<u32> for Looker {
     }
 }
 
+// The number of its edge for each edge.
+fn own_numbers(rt: &impl Abort, alloc: Global, edges: u32) -> Vec<u32> {
+    let mut values = Vec::new(alloc);
+    for edge in 0..edges {
+        values.push(edge).expect(rt, "memory");
+    }
+    values
+}
+
+fn have_own_numbers(rt: &impl Abort, values: &[EdgeValue<u32>]) {
+    same(rt, &values.len(), &5);
+    let mut edge = 0u32;
+    for it in values {
+        same(rt, &(it.edge(), it.value), &(EdgeId(edge), edge));
+        edge = edge.saturating_add(1);
+    }
+}
+
 #[test]
-fn a_job_sees_its_own_edges_and_opens_no_other(rt: HostRuntime) -> Result<(), Fail> {
+fn a_job_sees_its_own_edges_and_opens_no_other(rt: HostRuntime) {
     let alloc = rt.alloc();
     let plan = band_of(&rt, alloc, 4, 3);
-    let mut values = Vec::new(alloc);
-    for edge in 0..plan.edges() {
-        values.push(edge)?;
-    }
-    let jobs = vec![in alloc; Looker, Looker, Looker, Looker]?;
-    let done = on_rings(&rt, alloc, &plan, values, jobs)?;
-    for site in done.sites.iter() {
-        assert_eq!(rt; (site.calls().len(), site.failures.len()), (3, 0));
-    }
+    let values = own_numbers(&rt, alloc, plan.edges());
+    let jobs = vec![in alloc; Looker, Looker, Looker, Looker].expect(&rt, "memory");
+    let done = ran(&rt, alloc, &plan, Links::Rings, values, jobs);
+    all_did(&rt, done.sites.as_slice(), 3, 0);
     // Each of ten places was opened thrice while it was open, in three meals.
-    assert_eq!(rt; done.found_open, 90);
-    assert_eq!(rt; done.values.len(), 5);
-    for (edge, it) in (0..5u32).zip(done.values.iter()) {
-        assert_eq!(rt; (it.edge(), it.value), (EdgeId(edge), edge));
-    }
-    Ok(())
+    same(&rt, &done.found_open, &90);
+    have_own_numbers(&rt, done.values.as_slice());
 }

@@ -1,8 +1,10 @@
 // Jobs that are watched: what a watch is told, and what the watches that come with the library keep.
+use crate::asserts::same;
 use crate::plans::{band_of, resigning};
+use crate::runs::{nothing, ran_jobs};
 use dine_run::{
-    Job, JobFault, MealCount, MealPrinter, Plan, PlanBuilder, SiteId, Table, WaitClock, Waits,
-    Watch, Watched, no_values, run_jobs,
+    Job, JobFault, MealCount, MealPrinter, Plan, PlanBuilder, SiteDone, SiteId, Table, WaitClock,
+    Waits, Watch, Watched,
 };
 use std::alloc::Global;
 use std::fmt::Display;
@@ -10,8 +12,8 @@ use std::io;
 use std::process::Abort;
 use std::rt::Clock;
 use std::sync::atomic::{AtomicU64, Ordering};
-use std::sync::{Arc, Mutex};
-use std::test::Fail;
+use std::sync::{Arc, Mutex, Wait};
+use std::thread::Threads;
 use std::time::Duration;
 
 const SITES: u32 = 5;
@@ -61,16 +63,30 @@ impl Watch for Notes {
     }
 }
 
-// What the watch of a site is told that does the jobs 1 to `meals`.
-fn told_of(rt: &impl Abort, alloc: Global, site: SiteId, meals: u32) -> Vec<Told> {
-    let mut told = Vec::new(alloc);
+// The watch of a site that did the jobs 1 to `meals` was told this, and no more.
+fn was_told(rt: &impl Abort, told: &[Told], site: SiteId, meals: u32) {
+    let mut wanted = 0usize;
     for k in 1..meals.saturating_add(1) {
-        told.push(Told::Hungry(site, k)).expect(rt, "memory");
-        told.push(Told::Begin(site, k)).expect(rt, "memory");
-        told.push(Told::End(site, k, k % 3 != 0))
-            .expect(rt, "memory");
+        let all = [
+            Told::Hungry(site, k),
+            Told::Begin(site, k),
+            Told::End(site, k, k % 3 != 0),
+        ];
+        for want in all {
+            same(rt, &told.get(wanted).copied(), &Some(want));
+            wanted = wanted.saturating_add(1);
+        }
     }
-    told
+    same(rt, &told.len(), &wanted);
+}
+
+// Site 0 resigned at its third job, and the others did all.
+fn were_told(rt: &impl Abort, sites: &[SiteDone<Watched<Third, Notes>, JobFault>]) {
+    same(rt, &sites.len(), &(SITES as usize));
+    for site in sites {
+        let meals = if site.site == SiteId(0) { 3 } else { JOBS };
+        was_told(rt, site.job.watch.told.as_slice(), site.site, meals);
+    }
 }
 
 // Watched jobs for all sites of a plan.
@@ -85,46 +101,51 @@ fn noted(rt: &impl Abort, alloc: Global, plan: &Plan) -> Vec<Watched<Third, Note
 }
 
 #[test]
-fn a_watch_is_told_of_each_job_in_turn(rt: HostRuntime) -> Result<(), Fail> {
+fn a_watch_is_told_of_each_job_in_turn(rt: HostRuntime) {
     let alloc = rt.alloc();
-    // Site 0 resigns at its third job.
     let plan = resigning(&rt, alloc, SITES, JOBS);
     let jobs = noted(&rt, alloc, &plan);
-    let done = run_jobs(&rt, alloc, &plan, no_values(alloc, &plan)?, jobs)?;
-    assert_eq!(rt; done.sites.len(), SITES as usize);
-    for site in done.sites.iter() {
-        let meals = if site.site == SiteId(0) { 3 } else { JOBS };
-        let told = told_of(&rt, alloc, site.site, meals);
-        assert_eq!(rt; site.job.watch.told.as_slice(), told.as_slice());
-    }
-    Ok(())
+    let done = ran_jobs(&rt, alloc, &plan, nothing(&rt, alloc, &plan), jobs);
+    were_told(&rt, done.sites.as_slice());
 }
 
 #[test]
-fn a_site_with_no_job_is_never_hungry(rt: HostRuntime) -> Result<(), Fail> {
+fn a_site_with_no_job_is_never_hungry(rt: HostRuntime) {
     let alloc = rt.alloc();
     let plan = band_of(&rt, alloc, SITES, 0);
     let jobs = noted(&rt, alloc, &plan);
-    let done = run_jobs(&rt, alloc, &plan, no_values(alloc, &plan)?, jobs)?;
-    for site in done.sites.iter() {
-        assert_eq!(rt; site.job.watch.told.len(), 0);
+    let done = ran_jobs(&rt, alloc, &plan, nothing(&rt, alloc, &plan), jobs);
+    for site in done.sites.as_slice() {
+        same(&rt, &site.job.watch.told.len(), &0);
     }
-    Ok(())
+}
+
+// Counted jobs for all sites of a plan.
+fn counted(
+    rt: &impl Abort,
+    alloc: Global,
+    plan: &Plan,
+    count: &MealCount,
+) -> Vec<Watched<Third, MealCount>> {
+    let mut jobs = Vec::new(alloc);
+    for n in 0..SITES {
+        let share = count.share().expect(rt, "memory");
+        jobs.push(Watched::new(plan, SiteId(n), Third, share))
+            .expect(rt, "memory");
+    }
+    jobs
 }
 
 #[test]
-fn meals_of_all_sites_are_counted(rt: HostRuntime) -> Result<(), Fail> {
+fn meals_of_all_sites_are_counted(rt: HostRuntime) {
     let alloc = rt.alloc();
     let plan = band_of(&rt, alloc, SITES, JOBS);
-    let count = MealCount::open(alloc)?;
-    let mut jobs = Vec::new(alloc);
-    for n in 0..SITES {
-        jobs.push(Watched::new(&plan, SiteId(n), Third, count.share()?))?;
-    }
-    assert_eq!(rt; count.meals(), 0);
-    run_jobs(&rt, alloc, &plan, no_values(alloc, &plan)?, jobs)?;
-    assert_eq!(rt; count.meals(), u64::from(SITES) * u64::from(JOBS));
-    Ok(())
+    let count = MealCount::open(alloc).expect(&rt, "memory");
+    let jobs = counted(&rt, alloc, &plan, &count);
+    same(&rt, &count.meals(), &0);
+    let _done = ran_jobs(&rt, alloc, &plan, nothing(&rt, alloc, &plan), jobs);
+    let meals = u64::from(SITES) * u64::from(JOBS);
+    same(&rt, &count.meals(), &meals);
 }
 
 // A clock that goes on by one millisecond each time that it is read.
@@ -143,27 +164,33 @@ impl Clock for StepClock {
     }
 }
 
-#[test]
-fn waits_are_kept_by_the_clock(rt: HostRuntime) -> Result<(), Fail> {
-    let alloc = rt.alloc();
-    let plan = band_of(&rt, alloc, SITES, JOBS);
+// Timed jobs for all sites of a plan.
+fn timed(rt: &impl Abort, alloc: Global, plan: &Plan) -> Vec<Watched<Third, WaitClock<StepClock>>> {
     let mut jobs = Vec::new(alloc);
     for n in 0..SITES {
         let reads = AtomicU64::new(0);
         let watch = WaitClock::new(StepClock { reads });
-        jobs.push(Watched::new(&plan, SiteId(n), Third, watch))?;
+        jobs.push(Watched::new(plan, SiteId(n), Third, watch))
+            .expect(rt, "memory");
     }
-    let done = run_jobs(&rt, alloc, &plan, no_values(alloc, &plan)?, jobs)?;
-    for site in done.sites.iter() {
-        // Each wait is from one reading of the site's clock to the next.
-        let want = Waits {
-            count: u64::from(JOBS),
-            sum: u64::from(JOBS) * 1_000_000,
-            longest: 1_000_000,
-        };
-        assert_eq!(rt; site.job.watch.waits, want);
+    jobs
+}
+
+#[test]
+fn waits_are_kept_by_the_clock(rt: HostRuntime) {
+    let alloc = rt.alloc();
+    let plan = band_of(&rt, alloc, SITES, JOBS);
+    let jobs = timed(&rt, alloc, &plan);
+    let done = ran_jobs(&rt, alloc, &plan, nothing(&rt, alloc, &plan), jobs);
+    // Each wait is from one reading of the site's clock to the next.
+    let want = Waits {
+        count: u64::from(JOBS),
+        sum: u64::from(JOBS) * 1_000_000,
+        longest: 1_000_000,
+    };
+    for site in done.sites.as_slice() {
+        same(&rt, &site.job.watch.waits, &want);
     }
-    Ok(())
 }
 
 // Keeps the lines that are printed.
@@ -188,24 +215,36 @@ impl Eprint for Screen {
     }
 }
 
-#[test]
-fn a_printer_prints_each_begin_and_end(rt: HostRuntime) -> Result<(), Fail> {
-    let alloc = rt.alloc();
+// The plan of one site, with three jobs.
+fn alone(rt: &impl Abort, alloc: Global) -> Plan {
     let mut plan = PlanBuilder::open(alloc);
-    plan.site("alone", 3)?;
-    let plan = plan.finish()?;
-    let text = Arc::new(alloc, Mutex::new(String::new(alloc)))?;
-    let screen = Screen {
-        alloc,
-        text: Arc::try_clone(&text)?,
-    };
-    let watch = MealPrinter::new(screen, String::from_str(alloc, "alone")?);
+    plan.site("alone", 3).expect(rt, "memory");
+    plan.finish().expect(rt, "a plan")
+}
+
+// Runs the site alone, with its jobs printed on a screen for this text.
+fn print_jobs<R: Threads + Wait + Abort + Copy + Send + 'static>(
+    rt: &R,
+    alloc: Global,
+    text: &Arc<Mutex<String>>,
+) {
+    let plan = alone(rt, alloc);
+    let text = Arc::try_clone(text).expect(rt, "memory");
+    let name = String::from_str(alloc, "alone").expect(rt, "memory");
+    let watch = MealPrinter::new(Screen { alloc, text }, name);
     let mut jobs = Vec::new(alloc);
-    jobs.push(Watched::new(&plan, SiteId(0), Third, watch))?;
-    run_jobs(&rt, alloc, &plan, no_values(alloc, &plan)?, jobs)?;
-    let lines = text.try_lock().ok_or("the text is free")?;
+    jobs.push(Watched::new(&plan, SiteId(0), Third, watch))
+        .expect(rt, "memory");
+    let _done = ran_jobs(rt, alloc, &plan, nothing(rt, alloc, &plan), jobs);
+}
+
+#[test]
+fn a_printer_prints_each_begin_and_end(rt: HostRuntime) {
+    let alloc = rt.alloc();
+    let text = Arc::new(alloc, Mutex::new(String::new(alloc))).expect(&rt, "memory");
+    print_jobs(&rt, alloc, &text);
+    let lines = text.try_lock().expect(&rt, "the text is free");
     let want =
         "alone begins 1\nalone ends 1\nalone begins 2\nalone ends 2\nalone begins 3\nalone fails 3\n";
-    assert_eq!(rt; lines.as_str(), want);
-    Ok(())
+    same(&rt, &lines.as_str(), &want);
 }

@@ -1,11 +1,12 @@
 -- The index of the sites' names, name by name.
-use Rattle.std.proofs.Common.{◌≡◌, ℕ, suc, ◌+◌, ◌<◌, ◌≤◌, Bool, true, false, not, cond, ltb, List, [], ◌∷◌, ◌++◌, length, take, get_or, option_map, Option, Some, None, unwrap_or, is_some, inl, inr, refl, sym, ap, subst, ◌∙◌, arith}
+use Rattle.std.proofs.Common.{◌≡◌, ℕ, suc, ◌+◌, ◌<◌, ◌≤◌, Bool, true, false, not, cond, ltb, List, [], ◌∷◌, ◌++◌, length, take, get_or, option_map, Option, Some, None, IfSome, unwrap_or, is_some, inl, inr, refl, sym, ap, subst, ◌∙◌, arith}
 use Rattle.std.specs.List.{position, position_or_len}
 use Rattle.std.specs.Map.{update}
 use Rattle.std.specs.Option.{option_or}
 use Rattle.std.specs.Str.{bytes_eq}
 use Rattle.std.proofs.lemmas.Bool.{cases_lt, cases_Bool, lt-ltb, le-ltb, false≢true}
 use Rattle.std.proofs.lemmas.List.{length-take-le, take_more}
+use Rattle.std.proofs.lemmas.List.Quantifiers.{position-Some}
 use Rattle.std.proofs.lemmas.Slice.Eq.{bytes_eq-Decides}
 
 -- the position in a list by the one in its tail
@@ -32,7 +33,7 @@ position_more_by p x y xs false fails rest =
       later None true n = refl
       later None false n = refl
 
-position_more : {X : Type 0} (p : X → Bool) (xs : List X) (y : X) → position p (xs ++ y ∷ []) ≡ option_or (position p xs) (cond (p y) (Some (length xs)) None)
+pub position_more : {X : Type 0} (p : X → Bool) (xs : List X) (y : X) → position p (xs ++ y ∷ []) ≡ option_or (position p xs) (cond (p y) (Some (length xs)) None)
 position_more p [] y = only (p y) refl where
   only : (b : Bool) → p y ≡ b → position p (y ∷ []) ≡ cond (p y) (Some 0) None
   only true passes = rw passes refl
@@ -107,3 +108,10 @@ new_name q name o i unknown =
       nothing : (a : Option ℕ) → a ≡ option_or a None
       nothing (Some x) = refl
       nothing None = refl
+
+-- a first position is one of the list
+pub position_within : {X : Type 0} (p : X → Bool) (xs : List X) (d : X) (n : ℕ) (o : Option ℕ) → o ≡ position p xs → length xs ≤ n → IfSome o (λ i. i ≤ n)
+position_within p xs d n None is most = tt
+position_within p xs d n (Some i) is most =
+    let within : i < length xs = (position-Some p xs i d (sym is)).0 in
+    omega (arith, within, most)

@@ -6,19 +6,8 @@ ghost use Rattle.dine_reader.specs.Document.{has_both, has_other_policy, has_two
 use crate::documents::{has_key, items_at, text_at};
 use toml::Value;
 
-/// Returns the first site with a job that both adds and sets.
-pub(crate) fn first_with_two_acts(sites: &[Value]) -> Option<u32>
-    requires { length sites.now ≤ u32.MAX }
-    ensures { result ≡ position has_two_acts (map view sites.now) }
-{
-    match sites.iter().position(has_two_acts) {
-        Some(site) => Some(site as u32),
-        None => None,
-    }
-}
-
-// Whether a job of the site both adds and sets.
-fn has_two_acts(site: &Value) -> bool
+/// Returns whether a job of the site both adds and sets.
+pub(crate) fn has_two_acts(site: &Value) -> bool
     ensures { result ≡ has_two_acts (view site.now) }
 {
     let jobs = items_at(site, "jobs");

@@ -1,11 +1,12 @@
-//! The values at the keys of a table.
-ghost use Rattle.std.specs.Prelude.{◌≡◌, ◌≤◌, [], map, unwrap_or};
+//! The values at the keys of a table, looked at or taken out.
+ghost use Rattle.std.specs.Prelude.{◌≡◌, ◌≤◌, [], map, option_map, unwrap_or};
 ghost use Rattle.std.specs.Option.{option_map_or};
 ghost use Rattle.toml.specs.View.{view};
-ghost use Rattle.toml.specs.Data.{as_str, as_integer};
+ghost use Rattle.toml.specs.Data.{as_str, as_integer, get};
 ghost use Rattle.dine_reader.specs.Document.{end_in, has_key, is_second, items_at, items_in};
 ghost use Rattle.dine_reader.specs.Document.{natural, number_at, resigns_in, text_at, version_in};
 
+use std::alloc::Global;
 use toml::Value;
 
 /// Returns the items of the array at a key, none if there is no array.
@@ -26,6 +27,37 @@ pub(crate) fn items_in(value: &Value) -> &[Value]
     match value.as_array() {
         Some(items) => items.as_slice(),
         None => &[],
+    }
+}
+
+/// Takes the items of the array at a key out of a table, none if there is no array.
+#[tactic(auto, unfolding(crate::specs::Document::items_at))]
+pub(crate) fn take_items(alloc: Global, table: Value, key: &str) -> Vec<Value>
+    ensures { map view result.items ≡ items_at key.now (view table) }
+{
+    match take(table, key) {
+        Some(value) => items_of(alloc, value),
+        None => Vec::new(alloc),
+    }
+}
+
+// Takes the items out of an array. Another value has none.
+fn items_of(alloc: Global, value: Value) -> Vec<Value>
+    ensures { map view result.items ≡ items_in (view value) }
+{
+    match value {
+        Value::Array(items) => items,
+        _ => Vec::new(alloc),
+    }
+}
+
+/// Takes the value at a key out of a table. Another value has none.
+pub(crate) fn take(table: Value, key: &str) -> Option<Value>
+    ensures { option_map view result ≡ get key.now (view table) }
+{
+    match table {
+        Value::Table(mut members) => members.remove(key),
+        _ => None,
     }
 }
 

@@ -1,18 +1,23 @@
 //! A draft of a plan from the tables of a document whose form is as the format says.
-ghost use Rattle.std.specs.Prelude.{◌≡◌, ◌≤◌, ℕ, List, None, Some, if◌then◌else◌, length, map, IfOk, OnOk};
+ghost use Rattle.std.specs.Prelude.{◌≡◌, ◌≤◌, ℕ, List, None, Some, if◌then◌else◌};
+ghost use Rattle.std.specs.Prelude.{length, map, position, IfOk, IfSome, OnOk};
 ghost use Rattle.std.specs.List.{list_any};
 ghost use Rattle.std.specs.Option.{option_or};
 ghost use Rattle.std.specs.Str.{bytes_eq};
 ghost use Rattle.toml.specs.View.{view};
 ghost use Rattle.dine_graph.specs.Site.{seen_site};
-ghost use Rattle.dine_draft.specs.Draft.{names_of, seen_draft};
-ghost use Rattle.dine_reader.specs.PlanOf.{draft_in, edge_in, number_of, site_in};
+ghost use Rattle.dine_draft.specs.Draft.{seen_draft};
+ghost use Rattle.dine_reader.specs.Document.{has_two_acts, is_second, name_in, sites_in};
+ghost use Rattle.dine_reader.specs.PlanOf.{draft_of, edge_in, number_of, site_in};
 ghost use Rattle.dine_reader.specs.RefusalTests.{site_is_wrong};
+ghost use Rattle.dine_reader.specs.private.Forms.{flaws_in};
 ghost use Rattle.dine_reader.specs.private.Index.{IsIndex, number_under};
 
-use crate::acts::{first_other_policy, first_with_two_acts};
-use crate::documents::{end_in, items_at, number_at, resigns_in, text_at};
-use crate::forms::{has_no_tables, has_no_text};
+use crate::acts::{first_other_policy, has_two_acts};
+use crate::documents::{
+    end_in, is_second, items_at, number_at, resigns_in, take_items, text_at, version_in,
+};
+use crate::forms::{Flaws, has_no_tables, has_no_text, site_has_other_key, site_lacks_key};
 use crate::jobs::jobs_in;
 use dine_draft::{Draft, DraftEdge};
 use dine_graph::Site;
@@ -20,66 +25,112 @@ use std::alloc::{AllocError, Global};
 use std::collections::BTreeMap;
 use toml::Value;
 
-/// Makes the draft of this version, these site tables and these edge tables, and says whether a value of a site or of
-/// one of its jobs is of another kind than the format names for its key.
-pub(crate) fn draft_in(
-    alloc: Global,
-    version: u32,
-    site_tables: &[Value],
-    edge_tables: &[Value],
-) -> Result<(Draft, bool), AllocError>
-    requires { length site_tables.now ≤ u32.MAX }
-    ensures draft { IfOk result (λ read.
-        seen_draft read.0 ≡ draft_in version (map view site_tables.now) (map view edge_tables.now)) }
-    ensures wrong { IfOk result (λ read. read.1 ≡ list_any site_is_wrong (map view site_tables.now)) }
+/// Makes the draft of a document, and says which flaws its sites have.
+pub(crate) fn draft_in(alloc: Global, document: Value) -> Result<(Draft, Flaws), AllocError>
+    requires { length (sites_in (view document)) ≤ u32.MAX }
+    ensures draft { IfOk result (λ read. seen_draft read.0 ≡ draft_of (view document)) }
+    ensures flaws { IfOk result (λ read.
+        read.1 ≡ flaws_in (is_second (view document)) (sites_in (view document))) }
 {
-    let (sites, wrong) = sites_in(alloc, site_tables)?;
-    let edges = edges_in(alloc, sites.as_slice(), edge_tables)?;
+    let tables = items_at(&document, "site");
+    let version = version_in(&document);
+    let other_policy = first_other_policy(tables);
+    let edges = edges_in(alloc, tables, items_at(&document, "edge"))?;
+    // The sites are taken out of the document, so that the names of jobs need not be copied.
+    let second = is_second(&document);
+    let sites = sites_in(alloc, second, take_items(alloc, document, "site"))?;
     let draft = Draft {
         version,
-        sites,
+        sites: sites.sites,
         edges,
-        two_acts: first_with_two_acts(site_tables),
-        other_policy: first_other_policy(site_tables),
+        two_acts: narrow(sites.two_acts),
+        other_policy,
     };
-    Ok((draft, wrong))
+    Ok((draft, sites.flaws))
 }
 
-fn sites_in(alloc: Global, tables: &[Value]) -> Result<(Vec<Site>, bool), AllocError>
-    ensures sites { IfOk result (λ read. map seen_site read.0.items ≡ map site_in (map view tables.now)) }
-    ensures wrong { IfOk result (λ read. read.1 ≡ list_any site_is_wrong (map view tables.now)) }
+// A place that fits a `u32`.
+fn narrow(place: Option<usize>) -> Option<u32>
+    requires { IfSome place (λ i. i ≤ u32.MAX) }
+    ensures { result ≡ place }
+{
+    match place {
+        Some(place) => Some(place as u32),
+        None => None,
+    }
+}
+
+// The sites of some tables, the flaws of these, and the first of them with a job that both adds and sets.
+#[derive(Drop)]
+struct Sites {
+    sites: Vec<Site>,
+    flaws: Flaws,
+    two_acts: Option<usize>,
+}
+
+fn sites_in(alloc: Global, second: bool, tables: Vec<Value>) -> Result<Sites, AllocError>
+    ensures sites { IfOk result (λ read. map seen_site read.sites.items ≡ map site_in (map view tables.items)) }
+    ensures flaws { IfOk result (λ read. read.flaws ≡ flaws_in second (map view tables.items)) }
+    ensures two_acts { IfOk result (λ read. read.two_acts ≡ position has_two_acts (map view tables.items)) }
 {
     let mut sites = Vec::new(alloc);
-    let mut wrong = false;
+    let mut flaws = Flaws {
+        other_key: false,
+        missing_key: false,
+        wrong_kind: false,
+    };
+    let mut two_acts = None;
     for table in tables {
-        let (site, is_wrong) = site_in(alloc, table)?;
+        let other_key = site_has_other_key(second, &table);
+        let missing_key = site_lacks_key(&table);
+        two_acts = first_of(two_acts, has_two_acts(&table), sites.len());
+        let (site, wrong_kind) = site_in(alloc, table)?;
         sites.push(site)?;
-        wrong = wrong | is_wrong;
+        flaws = Flaws {
+            other_key: flaws.other_key | other_key,
+            missing_key: flaws.missing_key | missing_key,
+            wrong_kind: flaws.wrong_kind | wrong_kind,
+        };
     }
-    Ok((sites, wrong))
+    Ok(Sites {
+        sites,
+        flaws,
+        two_acts,
+    })
+}
+
+// What was found, or else this place, if it passes.
+fn first_of(found: Option<usize>, passes: bool, place: usize) -> Option<usize>
+    ensures { result ≡ option_or found (if passes then Some place else None) }
+{
+    match found {
+        Some(first) => Some(first),
+        None => if passes { Some(place) } else { None },
+    }
 }
 
 #[tactic(auto, unfolding(crate::specs::PlanOf::site_in, crate::specs::RefusalTests::site_is_wrong))]
-fn site_in(alloc: Global, site: &Value) -> Result<(Site, bool), AllocError>
-    ensures site { IfOk result (λ read. seen_site read.0 ≡ site_in (view site.now)) }
-    ensures wrong { IfOk result (λ read. read.1 ≡ site_is_wrong (view site.now)) }
+fn site_in(alloc: Global, site: Value) -> Result<(Site, bool), AllocError>
+    ensures site { IfOk result (λ read. seen_site read.0 ≡ site_in (view site)) }
+    ensures wrong { IfOk result (λ read. read.1 ≡ site_is_wrong (view site)) }
 {
-    let (jobs, wrong_jobs) = jobs_in(alloc, items_at(site, "jobs"))?;
-    let name = String::from_str(alloc, text_at(site, "name"))?;
-    let resigns = resigns_in(site);
-    let no_texts = has_no_text(site, "name") || has_no_text(site, "on_fault");
-    let is_wrong = no_texts || has_no_tables(site, "jobs") || wrong_jobs;
+    let name = String::from_str(alloc, text_at(&site, "name"))?;
+    let resigns = resigns_in(&site);
+    let no_texts = has_no_text(&site, "name") || has_no_text(&site, "on_fault");
+    let no_tables = has_no_tables(&site, "jobs");
+    let (jobs, wrong_jobs) = jobs_in(alloc, take_items(alloc, site, "jobs"))?;
     let site = Site {
         name,
         jobs,
         resigns,
     };
-    Ok((site, is_wrong))
+    Ok((site, no_texts || no_tables || wrong_jobs))
 }
 
-fn edges_in(alloc: Global, sites: &[Site], tables: &[Value]) -> Result<Vec<DraftEdge>, AllocError>
+// The edges of these tables, between the sites of those.
+fn edges_in(alloc: Global, sites: &[Value], tables: &[Value]) -> Result<Vec<DraftEdge>, AllocError>
     requires { length sites.now ≤ u32.MAX }
-    ensures { IfOk result (λ v. v.items ≡ map (edge_in (names_of (map seen_site sites.now))) (map view tables.now)) }
+    ensures { IfOk result (λ v. v.items ≡ map (edge_in (map name_in (map view sites.now))) (map view tables.now)) }
 {
     let index = index_of(alloc, sites)?;
     let mut edges = Vec::new(alloc);
@@ -90,13 +141,13 @@ fn edges_in(alloc: Global, sites: &[Site], tables: &[Value]) -> Result<Vec<Draft
 }
 
 // The number of the first site of each name.
-fn index_of(alloc: Global, sites: &[Site]) -> Result<BTreeMap<&str, u32>, AllocError>
+fn index_of(alloc: Global, sites: &[Value]) -> Result<BTreeMap<&str, u32>, AllocError>
     requires { length sites.now ≤ u32.MAX }
-    ensures { IfOk result (λ index. IsIndex index (names_of (map seen_site sites.now))) }
+    ensures { IfOk result (λ index. IsIndex index (map name_in (map view sites.now))) }
 {
     let mut index = BTreeMap::new(alloc);
     for (i, site) in sites.iter().enumerate() {
-        add_name(&mut index, site.name.as_str(), i as u32)?;
+        add_name(&mut index, text_at(site, "name"), i as u32)?;
     }
     Ok(index)
 }

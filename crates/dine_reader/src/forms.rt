@@ -1,44 +1,64 @@
-//! The checks on the form of a document: its version, its keys, and the kinds of its values except those of sites and
-//! jobs, which are checked where they are read.
+//! The checks on the form of a document: its version, its keys, and the kinds of its values. A plan may have many jobs,
+//! so what is in a site is checked where the site is read, while it is at hand.
 ghost use Rattle.std.specs.Prelude.{◌≡◌, codes, map};
 ghost use Rattle.std.specs.List.{list_any};
 ghost use Rattle.std.specs.Str.{bytes_eq};
 ghost use Rattle.toml.specs.View.{view};
+ghost use Rattle.dine_reader.specs.Document.{edges_in};
 ghost use Rattle.dine_reader.specs.RefusalTests.{document_keys, site_keys, job_keys, edge_keys, has_other_key};
 ghost use Rattle.dine_reader.specs.RefusalTests.{lacks_key, is_wrong, is_version, is_text, is_whole};
 ghost use Rattle.dine_reader.specs.RefusalTests.{is_tables, is_two_texts, refuses_version, site_has_other_key};
-ghost use Rattle.dine_reader.specs.RefusalTests.{refuses_unknown_key, site_lacks_key, refuses_missing_key};
-ghost use Rattle.dine_reader.specs.RefusalTests.{edge_is_wrong};
+ghost use Rattle.dine_reader.specs.RefusalTests.{site_lacks_key, edge_is_wrong};
 ghost use Rattle.dine_draft.specs.Refusals.{first_some};
-ghost use Rattle.dine_reader.specs.private.Forms.{has_wrong_kind_outside, outer_refusals};
+ghost use Rattle.dine_reader.specs.private.Forms.{flaw_refusals, has_other_key_outside, has_wrong_kind_outside};
 
 use crate::documents::{is_second, items_at, items_in};
 use dine_draft::PlanFault;
 use toml::Value;
 
-/// Returns the first fault in the form of a document, without the kinds of what its sites and jobs have.
-#[tactic(auto, unfolding(crate::specs::private::Forms::outer_refusals))]
-pub(crate) fn first_outer_fault(document: &Value) -> Option<PlanFault>
-    ensures { result ≡ first_some (outer_refusals (view document.now)) }
+/// What the form of a part of a document has that the format does not allow.
+#[derive(Clone, Copy)]
+pub(crate) struct Flaws {
+    /// A table has a key that the format does not name for it.
+    pub(crate) other_key: bool,
+    /// A table has no name, or no ends.
+    pub(crate) missing_key: bool,
+    /// A value is of another kind than the format names for its key.
+    pub(crate) wrong_kind: bool,
+}
+
+/// Returns the first fault in the form of a document of a known version, by its flaws outside of its sites and in them.
+pub(crate) fn first_flaw(outside: Flaws, inside: Flaws) -> Option<PlanFault>
+    ensures { result ≡ first_some (flaw_refusals outside inside) }
 {
-    if has_other_version(document) {
-        return Some(PlanFault::Version);
-    }
-    if has_unknown_key(document) {
+    if outside.other_key | inside.other_key {
         return Some(PlanFault::UnknownKey);
     }
-    if has_missing_key(document) {
+    if outside.missing_key | inside.missing_key {
         return Some(PlanFault::MissingKey);
     }
-    if has_wrong_kind(document) {
+    if outside.wrong_kind | inside.wrong_kind {
         return Some(PlanFault::WrongKind);
     }
     None
 }
 
-// Whether `version` is absent or is not the whole number 1 or 2.
+/// Returns the flaws of a document outside of its sites.
+pub(crate) fn flaws_outside(document: &Value) -> Flaws
+    ensures other_key { result.other_key ≡ has_other_key_outside (view document.now) }
+    ensures missing_key { result.missing_key ≡ list_any (lacks_key (codes "ends")) (edges_in (view document.now)) }
+    ensures wrong_kind { result.wrong_kind ≡ has_wrong_kind_outside (view document.now) }
+{
+    Flaws {
+        other_key: has_other_key_outside(document),
+        missing_key: lacks_ends(document),
+        wrong_kind: has_wrong_kind(document),
+    }
+}
+
+/// Returns whether `version` is absent or is not the whole number 1 or 2.
 #[tactic(auto, unfolding(crate::specs::RefusalTests::refuses_version))]
-fn has_other_version(document: &Value) -> bool
+pub(crate) fn has_other_version(document: &Value) -> bool
     ensures { result ≡ refuses_version (view document.now) }
 {
     match document.get("version") {
@@ -56,23 +76,21 @@ fn is_version(value: &Value) -> bool
     }
 }
 
-// Whether a table of the document has a key that the format does not name for it.
-fn has_unknown_key(document: &Value) -> bool
-    ensures { result ≡ refuses_unknown_key (view document.now) }
+// Whether the document or an edge has a key that the format does not name for it.
+fn has_other_key_outside(document: &Value) -> bool
+    ensures { result ≡ has_other_key_outside (view document.now) }
 {
     let second = is_second(document);
-    let sites = items_at(document, "site");
     let edges = items_at(document, "edge");
     if has_other_key(document, &["version", "site", "edge"]) {
-        return true;
-    }
-    if sites.iter().any(|site| site_has_other_key(second, site)) {
         return true;
     }
     edges.iter().any(|edge| has_other_edge_key(second, edge))
 }
 
-fn site_has_other_key(second: bool, site: &Value) -> bool
+/// Returns whether a site or one of its jobs has a key that the format does not name for it, in version 2 or in
+/// version 1.
+pub(crate) fn site_has_other_key(second: bool, site: &Value) -> bool
     ensures { result ≡ site_has_other_key second (view site.now) }
 {
     let jobs = items_at(site, "jobs");
@@ -131,19 +149,16 @@ fn is_among(key: &str, known: &[&str]) -> bool
     known.iter().any(|name| key == *name)
 }
 
-// Whether a site or a job has no name, or an edge no ends.
-fn has_missing_key(document: &Value) -> bool
-    ensures { result ≡ refuses_missing_key (view document.now) }
+// Whether an edge has no ends.
+fn lacks_ends(document: &Value) -> bool
+    ensures { result ≡ list_any (lacks_key (codes "ends")) (edges_in (view document.now)) }
 {
-    let sites = items_at(document, "site");
     let edges = items_at(document, "edge");
-    if sites.iter().any(site_lacks_key) {
-        return true;
-    }
     edges.iter().any(|edge| lacks_key(edge, "ends"))
 }
 
-fn site_lacks_key(site: &Value) -> bool
+/// Returns whether a site or one of its jobs has no name.
+pub(crate) fn site_lacks_key(site: &Value) -> bool
     ensures { result ≡ site_lacks_key (view site.now) }
 {
     let jobs = items_at(site, "jobs");

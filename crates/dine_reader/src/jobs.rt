@@ -1,5 +1,6 @@
-//! The jobs of a site table. A plan may have many, so each key of a job is looked up once, for its value and its kind.
-ghost use Rattle.std.specs.Prelude.{◌≡◌, ◌||◌, codes, map, IfOk};
+//! The jobs of a site table. A plan may have many, so each key of a job is looked up once, for its value and its kind,
+//! and its name is not copied.
+ghost use Rattle.std.specs.Prelude.{◌≡◌, ◌||◌, codes, map, string_bytes, IfOk};
 ghost use Rattle.std.specs.List.{list_any};
 ghost use Rattle.toml.specs.View.{view};
 ghost use Rattle.dine_graph.specs.Job.{seen_job};
@@ -7,7 +8,7 @@ ghost use Rattle.dine_reader.specs.Document.{act_in, fails_in, name_in, number_a
 ghost use Rattle.dine_reader.specs.PlanOf.{job_in};
 ghost use Rattle.dine_reader.specs.RefusalTests.{is_text, is_truth, is_whole, is_wrong, job_is_wrong};
 
-use crate::documents::natural_in;
+use crate::documents::{natural_in, take};
 use crate::forms::is_whole;
 use dine_graph::{Job, JobName};
 use dine_token::Act;
@@ -16,14 +17,14 @@ use toml::Value;
 
 /// Makes the jobs of these tables, and says whether a value of one is of another kind than the format names for its
 /// key.
-pub(crate) fn jobs_in(alloc: Global, tables: &[Value]) -> Result<(Vec<Job>, bool), AllocError>
-    ensures jobs { IfOk result (λ read. map seen_job read.0.items ≡ map job_in (map view tables.now)) }
-    ensures wrong { IfOk result (λ read. read.1 ≡ list_any job_is_wrong (map view tables.now)) }
+pub(crate) fn jobs_in(alloc: Global, tables: Vec<Value>) -> Result<(Vec<Job>, bool), AllocError>
+    ensures jobs { IfOk result (λ read. map seen_job read.0.items ≡ map job_in (map view tables.items)) }
+    ensures wrong { IfOk result (λ read. read.1 ≡ list_any job_is_wrong (map view tables.items)) }
 {
     let mut jobs = Vec::with_capacity(alloc, tables.len())?;
     let mut wrong = false;
     for table in tables {
-        let (job, is_wrong) = job_in(alloc, table)?;
+        let (job, is_wrong) = job_in(alloc, table);
         jobs.push(job)?;
         wrong = wrong | is_wrong;
     }
@@ -32,36 +33,35 @@ pub(crate) fn jobs_in(alloc: Global, tables: &[Value]) -> Result<(Vec<Job>, bool
 
 // The job of a table, and whether a value of it is of another kind than the format names for its key.
 #[tactic(auto, unfolding(crate::specs::PlanOf::job_in, crate::specs::RefusalTests::job_is_wrong))]
-fn job_in(alloc: Global, job: &Value) -> Result<(Job, bool), AllocError>
-    ensures job { IfOk result (λ read. seen_job read.0 ≡ job_in (view job.now)) }
-    ensures wrong { IfOk result (λ read. read.1 ≡ job_is_wrong (view job.now)) }
+fn job_in(alloc: Global, job: Value) -> (Job, bool)
+    ensures job { seen_job result.0 ≡ job_in (view job) }
+    ensures wrong { result.1 ≡ job_is_wrong (view job) }
 {
-    let (text, no_text) = name_in(job);
-    let (turns, no_turns) = turns_in(job);
-    let (fails, no_truth) = fails_in(job);
-    let (act, no_act) = act_in(job);
-    let name = String::from_str(alloc, text)?;
+    let (turns, no_turns) = turns_in(&job);
+    let (fails, no_truth) = fails_in(&job);
+    let (act, no_act) = act_in(&job);
+    let (name, no_text) = take_name(alloc, job);
     let job = Job {
         name: JobName::Own(name),
         turns,
         fails,
         act,
     };
-    Ok((job, no_text || no_turns || no_truth || no_act))
+    (job, no_text || no_turns || no_truth || no_act)
 }
 
-// The name of a job, empty if there is no text, and whether there is a value that is no text.
+// Takes the name out of a job, empty if there is no text, and says whether there is a value that is no text.
 #[tactic(auto, unfolding(crate::specs::Document::text_at, crate::specs::RefusalTests::is_wrong))]
-fn name_in(job: &Value) -> (&str, bool)
-    ensures name { result.0.now ≡ name_in (view job.now) }
-    ensures wrong { result.1 ≡ is_wrong is_text (codes "name") (view job.now) }
+fn take_name(alloc: Global, job: Value) -> (String, bool)
+    ensures name { string_bytes result.0 ≡ name_in (view job) }
+    ensures wrong { result.1 ≡ is_wrong is_text (codes "name") (view job) }
 {
-    match job.get("name") {
-        Some(value) => match value.as_str() {
-            Some(text) => (text, false),
-            None => ("", true),
+    match take(job, "name") {
+        Some(value) => match value {
+            Value::String(name) => (name, false),
+            _ => (String::new(alloc), true),
         },
-        None => ("", false),
+        None => (String::new(alloc), false),
     }
 }
 

@@ -6,9 +6,9 @@ ghost use Rattle.toml.specs.View.{view};
 ghost use Rattle.dine_reader.specs.PlanOf.{IsPlanOf, plan_of_document};
 ghost use Rattle.dine_reader.specs.RefusalTests.{first_refusal, first_fault};
 
-use crate::documents::{items_at, version_in};
+use crate::documents::items_at;
 use crate::drafts::draft_in;
-use crate::forms::first_outer_fault;
+use crate::forms::{first_flaw, flaws_outside, has_other_version};
 use dine_draft::PlanFault;
 use dine_graph::Plan;
 use std::alloc::Global;
@@ -30,27 +30,28 @@ pub fn read_plan(alloc: Global, text: &str) -> Result<Plan, PlanFault>
     ensures refused { IfErr result (λ f. f ≢ PlanFault.Memory → first_fault text.now ≡ Some f) }
 {
     let document = read_document(alloc, text)?;
-    read_tables(alloc, &document)
+    read_tables(alloc, document)
 }
 
 // Reads the plan of a TOML document, as `read_plan` does of a text.
-fn read_tables(alloc: Global, document: &Value) -> Result<Plan, PlanFault>
-    ensures unrefused { OnOk result (first_refusal (view document.now) ≡ None) }
-    ensures plan { IfOk result (λ p. p ≡ plan_of_document (view document.now)) }
-    ensures refused { IfErr result (λ f. f ≢ PlanFault.Memory → first_refusal (view document.now) ≡ Some f) }
+fn read_tables(alloc: Global, document: Value) -> Result<Plan, PlanFault>
+    ensures unrefused { OnOk result (first_refusal (view document) ≡ None) }
+    ensures plan { IfOk result (λ p. p ≡ plan_of_document (view document)) }
+    ensures refused { IfErr result (λ f. f ≢ PlanFault.Memory → first_refusal (view document) ≡ Some f) }
 {
-    if let Some(fault) = first_outer_fault(document) {
-        return Err(fault);
+    if has_other_version(&document) {
+        return Err(PlanFault::Version);
     }
-    let sites = items_at(document, "site");
-    let edges = items_at(document, "edge");
     // So each position fits the `u32` that a fault carries.
-    if sites.len() > MAX_TABLES || edges.len() > MAX_TABLES {
+    if items_at(&document, "site").len() > MAX_TABLES
+        || items_at(&document, "edge").len() > MAX_TABLES
+    {
         return Err(PlanFault::Memory);
     }
-    let (draft, wrong) = draft_in(alloc, version_in(document), sites, edges)?;
-    if wrong {
-        return Err(PlanFault::WrongKind);
+    let outside = flaws_outside(&document);
+    let (draft, inside) = draft_in(alloc, document)?;
+    if let Some(fault) = first_flaw(outside, inside) {
+        return Err(fault);
     }
     draft.finish(alloc)
 }

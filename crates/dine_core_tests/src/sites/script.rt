@@ -5,7 +5,7 @@ use super::{
     is_broken_off, is_fork_with, may_do, next_is, quit, refuse, report_of, say_done_at, spend,
     take_at, value_of, waits,
 };
-use crate::asserts::same;
+use crate::asserts::{holds, same};
 use crate::forks::opened;
 use dine_core::{Breach, EventKind, Kind4, Letter, Parts, SiteCore};
 use dine_plan::Plan;
@@ -154,7 +154,7 @@ fn looks(rt: &impl Abort, cores: &[SiteCore], step: Step) {
         Step::Ate(n, k) => same(rt, &seen_at(rt, cores, n).ate(), &k),
         Step::Degree(n, places) => same(rt, &seen_at(rt, cores, n).degree(), &places),
         Step::Reports(n, report) => same(rt, &report_of(rt, seen_at(rt, cores, n), 0), &report),
-        Step::Finished(n) => assert!(rt; seen_at(rt, cores, n).is_finished()),
+        Step::Finished(n) => holds(rt, seen_at(rt, cores, n).is_finished()),
         _ => {}
     }
 }
@@ -191,7 +191,7 @@ fn lands(rt: &impl Abort, cores: &mut Vec<SiteCore>, pile: &mut Vec<Letter>, ste
 
 // Another site joins the script.
 pub fn seat(rt: &impl Abort, cores: &mut Vec<SiteCore>, core: SiteCore) {
-    assert!(rt; cores.len() < cores.capacity());
+    holds(rt, cores.len() < cores.capacity());
     cores.push_reserved(core);
 }
 
@@ -222,7 +222,7 @@ pub fn leave(rt: &impl Abort, alloc: Global, mut cores: Vec<SiteCore>) -> Vec<Pa
         let core = cores.pop().expect(rt, "a site");
         left.push(spend(rt, core)).expect(rt, "memory");
     }
-    assert!(rt; cores.is_empty());
+    holds(rt, cores.is_empty());
     cores.destroy_empty();
     left.as_mut_slice().reverse();
     left

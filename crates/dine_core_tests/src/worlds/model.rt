@@ -4,6 +4,7 @@ use super::graph::Graph;
 use super::letters::{
     Letter, count_of, has, is_dirty, last_log, location_of, meals_of, period_behind,
 };
+use crate::asserts::holds;
 use dine_core::{Said, Whereabouts};
 use dine_rules::{Event, EventKind, Kind4, Phase};
 use dine_token::{Entry, Period};
@@ -208,7 +209,8 @@ impl<'a, R: Abort> Model<'a, R> {
         let (lower, higher) = self.graph.ends(edge);
         let at_lower = self.is_near(lower, self.graph.place_of(lower, edge));
         let at_higher = self.is_near(higher, self.graph.place_of(higher, edge));
-        assert!(self.rt; at_lower != at_higher, "one fork for each edge");
+        // There is one fork for each edge.
+        holds(self.rt, at_lower != at_higher);
         let site = if at_lower { lower } else { higher };
         self.log_near(site, self.graph.place_of(site, edge))
     }
@@ -217,16 +219,11 @@ impl<'a, R: Abort> Model<'a, R> {
     /// last.
     pub(super) fn periods_of(&self, lower: u32, log: &[Entry]) -> Vec<Period> {
         let mut periods = Vec::new(self.alloc);
-        let first = period_behind([].as_slice(), lower);
-        periods.push(first).expect(self.rt, "memory");
-        for (i, entry) in log.iter().enumerate() {
-            if let Entry::Move { to } = entry {
-                let before = log.get(..i).expect(self.rt, "a part");
-                let next = period_behind(before, *to);
-                periods.push(next).expect(self.rt, "memory");
-            } else {
-                let last = periods.last_mut().expect(self.rt, "a period");
-                last.count = last.count.saturating_add(1);
+        self.push_period(&mut periods, &[], lower);
+        for i in 0..log.len() {
+            match log[i] {
+                Entry::Move { to } => self.push_period(&mut periods, &log[..i], to),
+                Entry::Meal { .. } => self.count_meal(&mut periods),
             }
         }
         periods
@@ -271,8 +268,7 @@ impl<'a, R: Abort> Model<'a, R> {
     pub(super) fn is_fork_dirty(&self, edge: u32) -> Option<bool> {
         match self.where_is(edge, Kind4::Fork)? {
             Whereabouts::At(site) => {
-                let log = self.hand(site, self.graph.place_of(site, edge));
-                Some(is_dirty(log.as_slice()))
+                Some(self.is_hand_dirty(site, self.graph.place_of(site, edge)))
             }
             Whereabouts::To(_) => Some(false),
         }
@@ -303,6 +299,18 @@ impl<'a, R: Abort> Model<'a, R> {
             }
         }
         true
+    }
+
+    // A period begins at the site after these entries.
+    fn push_period(&self, periods: &mut Vec<Period>, before: &[Entry], site: u32) {
+        let next = period_behind(before, site);
+        periods.push(next).expect(self.rt, "memory");
+    }
+
+    // The last period has one more meal.
+    fn count_meal(&self, periods: &mut Vec<Period>) {
+        let last = periods.last_mut().expect(self.rt, "a period");
+        last.count = last.count.saturating_add(1);
     }
 
     // Does the n-th enabled event, if there is one.
@@ -382,6 +390,10 @@ impl<'a, R: Abort> Model<'a, R> {
             }
         }
         log
+    }
+
+    fn is_hand_dirty(&self, site: u32, place: u32) -> bool {
+        is_dirty(self.hand(site, place).as_slice())
     }
 
     fn copy_of(&self, log: &[Entry]) -> Vec<Entry> {
@@ -475,7 +487,7 @@ impl<'a, R: Abort> Model<'a, R> {
         self.phase(site) != Phase::Eating
             && self.forks_held(site, place) == 1
             && self.tokens_held(site, place) == 1
-            && is_dirty(self.hand(site, place).as_slice())
+            && self.is_hand_dirty(site, place)
             && self.is_open(site, place)
     }
 
@@ -508,7 +520,7 @@ impl<'a, R: Abort> Model<'a, R> {
     // Whether the fork is held, and is clean or was not asked for.
     fn is_ready(&self, site: u32, place: u32) -> bool {
         self.forks_held(site, place) == 1
-            && (!is_dirty(self.hand(site, place).as_slice()) || self.tokens_held(site, place) == 0)
+            && (!self.is_hand_dirty(site, place) || self.tokens_held(site, place) == 0)
     }
 
     fn may_ask(&self, site: u32, place: u32) -> bool {
@@ -532,10 +544,14 @@ impl<'a, R: Abort> Model<'a, R> {
             && self.is_open(site, place)
     }
 
+    fn next_copy(&self, site: u32, place: u32) -> Letter {
+        let next = self.next_letter(site, place).expect(self.rt, "a letter");
+        next.clone().expect(self.rt, "memory")
+    }
+
     fn take(&mut self, site: u32, place: u32) {
         let rt = self.rt;
-        let next = self.next_letter(site, place).expect(rt, "a letter");
-        let letter = next.clone().expect(rt, "memory");
+        let letter = self.next_copy(site, place);
         let traffic = self.traffic_mut(site, place);
         traffic.taken.push(letter).expect(rt, "memory");
     }

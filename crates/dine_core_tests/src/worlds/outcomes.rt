@@ -4,7 +4,7 @@ ghost use Rattle.dine_core.specs.Worlds.{AreOutcomesFor, lists_of};
 
 use super::graph::Graph;
 use super::{RESIGNING, entry_at, opened, plan_by, spend};
-use crate::asserts::same;
+use crate::asserts::{holds, same};
 use crate::plans::read;
 use dine_core::World;
 use dine_plan::Plan;
@@ -46,7 +46,7 @@ fn outcomes_of(rt: &impl Abort, alloc: Global, graph: Graph) -> Vec<Vec<bool>> {
 pub(super) fn opened_with(rt: &impl Abort, alloc: Global, plan: &Plan, graph: Graph) -> World {
     let fails = outcomes_of(rt, alloc, graph);
     let fails = fails.as_slice();
-    assert!(rt; fits_the_jobs(plan, fails));
+    holds(rt, fits_the_jobs(plan, fails));
     World::open_with(alloc, plan, fails).expect(rt, "memory")
 }
 

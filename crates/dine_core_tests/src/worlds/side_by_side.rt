@@ -6,7 +6,7 @@ use super::model::{Model, events_at};
 use super::outcomes::opened_with;
 use super::readers::same_readers;
 use super::{act_of, entry_at, first_value, opened, period_at, plan_by};
-use crate::asserts::same;
+use crate::asserts::{holds, same};
 use dine_core::{NotEnabled, World};
 use dine_plan::Plan;
 use dine_rules::{Event, EventKind, Kind4};
@@ -82,7 +82,7 @@ fn same_forks<R: Abort>(rt: &R, model: &Model<R>, world: &World) {
         let fork = world.fork(edge).expect(rt, "a fork");
         same_fork(rt, model, edge, fork);
     }
-    assert!(rt; world.fork(edges).is_none());
+    holds(rt, world.fork(edges).is_none());
 }
 
 // Checks that the world is as the model says after a number of events, and its enabled events too.
@@ -134,7 +134,7 @@ fn step_both<R: Abort>(rt: &R, model: &mut Model<R>, world: &mut World, event: E
 fn end_both<R: Abort>(rt: &R, model: &Model<R>, world: World) {
     same(rt, &world.count(), &0);
     same(rt, &world.enabled(u32::MAX), &None);
-    assert!(rt; model.is_complete());
+    holds(rt, model.is_complete());
     let forks = world.into_forks();
     same(rt, &forks.len(), &model.graph.edges.len());
     for edge in 0..model.graph.edge_count() {

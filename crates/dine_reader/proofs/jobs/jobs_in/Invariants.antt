@@ -1,4 +1,4 @@
-use Rattle.std.proofs.Common.{◌≡◌, map, take}
+use Rattle.std.proofs.Common.{◌≡◌, map}
 use Rattle.std.specs.List.{list_any}
 use Rattle.toml.specs.View.{view}
 use Rattle.dine_graph.specs.Job.{seen_job}
@@ -8,5 +8,4 @@ use Rattle.dine_reader.proofs.jobs.jobs_in.Given as goal
 
 abbrev pub invariant-loop-table : goal.invariant-loop-table
 invariant-loop-table l =
-    (map seen_job l.jobs.items ≡ map job_in (map view (take l.table-index l.tables)))
-    × (l.wrong ≡ list_any job_is_wrong (map view (take l.table-index l.tables)))
+    (map seen_job l.jobs.items ≡ map job_in (map view l.yielded)) × (l.wrong ≡ list_any job_is_wrong (map view l.yielded))
